@@ -1,0 +1,6 @@
+-- Counts of faults (this project's choice).
+use Rattle.std.specs.Prelude.{ℕ, ◌+◌, ◌-◌, ◌^◌, ◌≤◌, min}
+
+-- a count of faults rose in a call; at 2^64 - 1, its last value, a count stands still and counts as risen
+abbrev pub HasNewFault : ℕ → ℕ → Type 0
+HasNewFault before now = min (before + 1) (2 ^ 64 - 1) ≤ now
