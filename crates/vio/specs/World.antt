@@ -1,0 +1,117 @@
+-- What a world tells, and how each call may change it (this project's choice).
+use Rattle.std.specs.Prelude.{◌≡◌, ◌≢◌, ℕ, ◌<◌, ◌≤◌, Bool, true, false, IsTrue, List, [], ◌++◌, length, Option, Some}
+use Rattle.std.specs.Fmt.{codes}
+use Rattle.log_model.specs.Faults.{HasNewFault}
+
+-- the kinds of call that may fail
+pub data CallKind : Type 0 where
+  Opening : CallKind
+  Reading : CallKind
+  Writing : CallKind
+
+-- what a world tells in one state
+pub record Seen : Type 0 where
+  -- the bytes that a file of this name holds, where told
+  pub held : List ℕ → Option (List ℕ)
+  -- the bytes that a handle has left to read, where told
+  pub left : ℕ → Option (List ℕ)
+  -- the bytes that were written to a handle, where told
+  pub written : ℕ → Option (List ℕ)
+  -- how many calls of a kind failed, by the name of their object
+  pub faults : CallKind → List ℕ → ℕ
+  -- whether a handle names a file or stream in calls of a kind
+  pub names : CallKind → ℕ → List ℕ → Bool
+  -- whether a handle was ever given
+  pub given : ℕ → Bool
+
+-- no count of faults fell
+pub record NoCountFalls (before now : Seen) : Type 0 where
+  pub each : (k : CallKind) (name : List ℕ) → before.faults k name ≤ now.faults k name
+
+-- no fault was counted
+pub record NoNewFaults (before now : Seen) : Type 0 where
+  pub each : (k : CallKind) (name : List ℕ) → now.faults k name ≡ before.faults k name
+
+-- the count of faults rose for each name that the handle has in calls of this kind
+pub record FaultsRose (k : CallKind) (h : ℕ) (before now : Seen) : Type 0 where
+  pub each : (name : List ℕ) → IsTrue (before.names k h name) → HasNewFault (before.faults k name) (now.faults k name)
+
+-- what was told gained these bytes at its end; where nothing is told nothing is claimed
+abbrev pub Gains : Option (List ℕ) → Option (List ℕ) → List ℕ → Type 0
+Gains before now bytes = (a : List ℕ) → before ≡ Some a → now ≡ Some (a ++ bytes)
+
+-- what was told lost these bytes at its front; where nothing is told nothing is claimed
+abbrev pub Loses : Option (List ℕ) → Option (List ℕ) → List ℕ → Type 0
+Loses before now bytes = (a : List ℕ) → before ≡ Some a → (rest : List ℕ) × (a ≡ bytes ++ rest) × (now ≡ Some rest)
+
+-- where the handle tells what it has left, nothing is left
+abbrev pub IsAtEnd : ℕ → Seen → Type 0
+IsAtEnd h now = (a : List ℕ) → now.left h ≡ Some a → a ≡ []
+
+-- a file was opened: the handle is new, has the file's name and has the bytes that the file held
+pub record Opened (name : List ℕ) (h : ℕ) (before now : Seen) : Type 0 where
+  pub counts : NoCountFalls before now
+  pub fresh : before.given h ≡ false
+  pub given : now.given h ≡ true
+  pub is_named : now.names Reading h name ≡ true
+  pub left : now.left h ≡ before.held name
+  pub held : (n : List ℕ) → now.held n ≡ before.held n
+  pub written : (i : ℕ) → now.written i ≡ before.written i
+  pub other_left : (i : ℕ) → i ≢ h → now.left i ≡ before.left i
+  pub other_names : (k : CallKind) (i : ℕ) (n : List ℕ) → i ≢ h → now.names k i n ≡ before.names k i n
+  pub other_given : (i : ℕ) → i ≢ h → now.given i ≡ before.given i
+
+-- these bytes were read from a handle
+pub record Read (h : ℕ) (bytes : List ℕ) (before now : Seen) : Type 0 where
+  pub counts : NoCountFalls before now
+  pub loses : Loses (before.left h) (now.left h) bytes
+  pub held : (n : List ℕ) → now.held n ≡ before.held n
+  pub written : (i : ℕ) → now.written i ≡ before.written i
+  pub other_left : (i : ℕ) → i ≢ h → now.left i ≡ before.left i
+  pub names : (k : CallKind) (i : ℕ) (n : List ℕ) → now.names k i n ≡ before.names k i n
+  pub given : (i : ℕ) → now.given i ≡ before.given i
+
+-- these bytes were written to a handle
+pub record Wrote (h : ℕ) (bytes : List ℕ) (before now : Seen) : Type 0 where
+  pub counts : NoCountFalls before now
+  pub gains : Gains (before.written h) (now.written h) bytes
+  pub left : (i : ℕ) → now.left i ≡ before.left i
+  pub other_written : (i : ℕ) → i ≢ h → now.written i ≡ before.written i
+  pub names : (k : CallKind) (i : ℕ) (n : List ℕ) → now.names k i n ≡ before.names k i n
+  pub given : (i : ℕ) → now.given i ≡ before.given i
+
+-- nothing changed but counts, of which none fell
+pub record OnlyCounts (before now : Seen) : Type 0 where
+  pub counts : NoCountFalls before now
+  pub held : (n : List ℕ) → now.held n ≡ before.held n
+  pub left : (i : ℕ) → now.left i ≡ before.left i
+  pub written : (i : ℕ) → now.written i ≡ before.written i
+  pub names : (k : CallKind) (i : ℕ) (n : List ℕ) → now.names k i n ≡ before.names k i n
+  pub given : (i : ℕ) → now.given i ≡ before.given i
+
+-- handles 0, 1 and 2 are given, and have the names of standard input, output and error
+pub record HasStreams (now : Seen) : Type 0 where
+  pub input_given : now.given 0 ≡ true
+  pub output_given : now.given 1 ≡ true
+  pub error_given : now.given 2 ≡ true
+  pub input : now.names Reading 0 (codes "-") ≡ true
+  pub output : now.names Writing 1 (codes "-") ≡ true
+  pub error : now.names Writing 2 (codes "stderr") ≡ true
+
+-- a part of the bytes was written to a handle, from their front
+pub record WrotePart (h : ℕ) (bytes : List ℕ) (before now : Seen) : Type 0 where
+  pub done : List ℕ
+  pub rest : List ℕ
+  pub whole : bytes ≡ done ++ rest
+  pub wrote : Wrote h done before now
+
+-- some bytes were read from a handle
+pub record ReadSome (h : ℕ) (before now : Seen) : Type 0 where
+  pub bytes : List ℕ
+  pub read : Read h bytes before now
+
+-- more bytes than the limit were read from a handle
+pub record ReadPast (limit h : ℕ) (before now : Seen) : Type 0 where
+  pub bytes : List ℕ
+  pub read : Read h bytes before now
+  pub more : limit < length bytes
