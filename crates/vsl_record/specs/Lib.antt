@@ -1,0 +1,5 @@
+pub mod Payload
+pub mod Unit
+pub mod Words
+pub mod RawLine
+pub mod Reading

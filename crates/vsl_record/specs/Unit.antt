@@ -1,0 +1,27 @@
+-- Records, units and logs (vsl(7)).
+use Rattle.std.specs.Prelude.{◌≡◌, ℕ, ◌<◌, ◌≤◌, List, length}
+use Rattle.std.specs.List.{AllByRecursion}
+use Rattle.vsl_tags.specs.Tags.{IsTag}
+use Rattle.vsl_record.specs.declared.mark.Mark.{Mark}
+use Rattle.vsl_record.specs.declared.record_type.Record.{Record}
+use Rattle.vsl_record.specs.Payload.{IsPayload}
+
+-- one more than the highest transaction number (VXID); the bound is this project's choice
+abbrev pub vxid_end : ℕ
+vxid_end = 1073741824
+
+-- a unit: what a worker writes at once, records of one transaction number (VXID) and one side
+pub record LogUnit : Type 0 where
+  pub vxid : ℕ
+  pub mark : Mark
+  pub records : List Record
+
+-- a log is the list of its units
+abbrev pub Log : Type 0
+Log = List LogUnit
+
+-- a record of a unit on this side
+pub record IsRecordOf (mark : Mark) (rec : Record) : Type 0 where
+  pub tag : IsTag rec.tag
+  pub on_side : rec.mark ≡ mark
+  pub payload : IsPayload rec.payload

@@ -1,0 +1,42 @@
+//! Why a record, a unit or words are refused.
+
+use thiserror::Error;
+
+/// Why a record is refused.
+#[derive(Clone, Copy, Debug, PartialEq, Eq, Error)]
+pub enum RecordFault {
+    /// The payload has so many bytes, more than 4,000.
+    #[error("payload of {bytes} bytes")]
+    TooLong {
+        /// How many bytes the payload has.
+        bytes: u64,
+    },
+    /// There was no memory for the payload.
+    #[error("out of memory")]
+    NoMemory,
+}
+
+/// Why a unit is refused.
+#[derive(Clone, Copy, Debug, PartialEq, Eq, Error)]
+pub enum UnitFault {
+    /// The unit has no record.
+    #[error("unit without a record")]
+    Empty,
+    /// The unit has so many words, more than 1,048,576.
+    #[error("unit of {words} words")]
+    TooLong {
+        /// How many words the unit has, or 2^64 - 1 where it has more than that.
+        words: u64,
+    },
+}
+
+/// Why words are no unit.
+#[derive(Clone, Copy, Debug, PartialEq, Eq, Error)]
+pub enum WordFault {
+    /// No front of the words is the words of a unit.
+    #[error("no unit")]
+    Bad,
+    /// There was no memory for the unit.
+    #[error("out of memory")]
+    NoMemory,
+}
