@@ -1,6 +1,5 @@
 -- What a world tells, and how each call may change it (this project's choice).
-use Rattle.std.specs.Prelude.{◌≡◌, ◌≢◌, ℕ, ◌<◌, ◌≤◌, Bool, true, false, IsTrue, List, [], ◌++◌, length, Option, Some}
-use Rattle.std.specs.Fmt.{codes}
+use Rattle.std.specs.Prelude.{◌≡◌, ◌≢◌, ℕ, ◌<◌, ◌≤◌, Bool, true, false, IsTrue, List, [], ◌++◌, length, codes, Option, Some}
 use Rattle.log_model.specs.Faults.{HasNewFault}
 
 -- the kinds of call that may fail

@@ -30,7 +30,12 @@ pub fn write_all<W: World>(world: &mut W, h: u32, piece: &[u8]) -> Result<(), Wo
 ///
 /// Where the world tells what the handle has left, `TooLarge` comes exactly where that is more than
 /// `limit` bytes and no read failed and there was memory. After a refusal some bytes were read.
-pub fn read_whole<W: World>(alloc: Global, world: &mut W, h: u32, limit: u64) -> Result<Vec<u8>, WholeFault>
+pub fn read_whole<W: World>(
+    alloc: Global,
+    world: &mut W,
+    h: u32,
+    limit: u64,
+) -> Result<Vec<u8>, WholeFault>
     ensures ok { IfOk result (λ v. Read h v.items (W.seen world.old) (W.seen world.new)) }
     ensures end { OnOk result (IsAtEnd h (W.seen world.new)) }
     ensures within { IfOk result (λ v. vec_len v ≤ limit) }
@@ -46,7 +51,8 @@ pub fn read_whole<W: World>(alloc: Global, world: &mut W, h: u32, limit: u64) ->
         if n == 0 {
             return Ok(bytes);
         }
-        bytes.extend_from_slice(&buffer[..n])?;
+        let (front, _) = buffer.split_at(n);
+        bytes.extend_from_slice(front)?;
     }
     Err(WholeFault::TooLarge)
 }

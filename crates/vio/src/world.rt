@@ -28,6 +28,7 @@ pub trait World: Send {
         ensures fits { IfOk result (λ n. n ≤ length buf.old) }
         ensures ok { IfOk result (λ n. Read h (take n buf.new) (seen self.old) (seen self.new)) }
         ensures some { IfOk result (λ n. n ≡ 0 → 0 < length buf.old → IsAtEnd h (seen self.old)) }
+        ensures end { IfOk result (λ n. n ≡ 0 → 0 < length buf.old → IsAtEnd h (seen self.new)) }
 
         ensures err { OnErr result (OnlyCounts (seen self.old) (seen self.new)) }
         ensures failed { OnErr result (FaultsRose Reading h (seen self.old) (seen self.new)) };

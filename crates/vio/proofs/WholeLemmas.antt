@@ -1,0 +1,141 @@
+-- What several reads or writes of one handle come to, for `write_all` and `read_whole`.
+use Rattle.std.proofs.Common.{◌≡◌, ℕ, List, [], ◌++◌, take, drop, refl, sym, ◌∙◌, ap, subst, arith, rules, Some, append_assoc, Result, OnErr, Ok, Err}
+use Rattle.std.proofs.lemmas.List.{append-nil, take-append-drop}
+use Rattle.vio.specs.World.{Seen, CallKind, Reading, Writing, NoCountFalls, FaultsRose, Loses, Read, Wrote, OnlyCounts, WrotePart, ReadSome}
+
+-- what a call leaves where it has no value
+pub OnErr-always : {T E P : Type 0} (r : Result T E) → P → OnErr r P
+OnErr-always (Ok x) p = Prim.search rules
+OnErr-always (Err e) p = p
+
+-- counts of faults
+
+pub NoCountFalls-none : (s : Seen) → NoCountFalls s s
+NoCountFalls-none s = record { each = λ k name. omega arith }
+
+pub NoCountFalls-then : {s t u : Seen} → NoCountFalls s t → NoCountFalls t u → NoCountFalls s u
+NoCountFalls-then p q = record { each = λ k name. omega (arith, p.each k name, q.each k name) }
+
+-- a fault after calls that leave the handle's names
+pub FaultsRose-later : (k : CallKind) (h : ℕ) (s t u : Seen)
+    → NoCountFalls s t → ((kind : CallKind) (i : ℕ) (n : List ℕ) → t.names kind i n ≡ s.names kind i n)
+    → FaultsRose k h t u → FaultsRose k h s u
+FaultsRose-later k h s t u p names q =
+    record { each = λ name is_named. omega (arith, p.each k name, q.each name (rw (names k h name) is_named)) }
+
+-- writes
+
+pub Wrote-none : (h : ℕ) (s : Seen) → Wrote h [] s s
+Wrote-none h s = record {
+  counts = NoCountFalls-none s;
+  gains = λ a told. rw append-nil told;
+  left = λ i. refl;
+  other_written = λ i other. refl;
+  names = λ k i n. refl;
+  given = λ i. refl;
+}
+
+pub Wrote-then : {h : ℕ} {s t u : Seen} (a b : List ℕ) → Wrote h a s t → Wrote h b t u → Wrote h (a ++ b) s u
+Wrote-then a b p q = record {
+  counts = NoCountFalls-then p.counts q.counts;
+  gains = λ front told. q.gains (front ++ a) (p.gains front told) ∙ ap Some (append_assoc front a b);
+  left = λ i. q.left i ∙ p.left i;
+  other_written = λ i other. q.other_written i other ∙ p.other_written i other;
+  names = λ k i n. q.names k i n ∙ p.names k i n;
+  given = λ i. q.given i ∙ p.given i;
+}
+
+pub Wrote-fault : {h : ℕ} {bytes : List ℕ} {s t u : Seen} → Wrote h bytes s t → OnlyCounts t u → Wrote h bytes s u
+Wrote-fault p q = record {
+  counts = NoCountFalls-then p.counts q.counts;
+  gains = λ front told. q.written _ ∙ p.gains front told;
+  left = λ i. q.left i ∙ p.left i;
+  other_written = λ i other. q.written i ∙ p.other_written i other;
+  names = λ k i n. q.names k i n ∙ p.names k i n;
+  given = λ i. q.given i ∙ p.given i;
+}
+
+-- a front of the piece was written, and the rest was not
+pub record IsPartlyWritten (h : ℕ) (piece rest : List ℕ) (before now : Seen) : Type 0 where
+  pub done : List ℕ
+  pub whole : piece ≡ done ++ rest
+  pub wrote : Wrote h done before now
+
+pub IsPartlyWritten-none : (h : ℕ) (piece : List ℕ) (s : Seen) → IsPartlyWritten h piece piece s s
+IsPartlyWritten-none h piece s = record { done = []; whole = refl; wrote = Wrote-none h s }
+
+pub IsPartlyWritten-then : {h : ℕ} {piece : List ℕ} {s t u : Seen} (n : ℕ) (rest : List ℕ)
+    → IsPartlyWritten h piece rest s t → Wrote h (take n rest) t u → IsPartlyWritten h piece (drop n rest) s u
+IsPartlyWritten-then n rest p q = record {
+  done = p.done ++ take n rest;
+  whole = p.whole ∙ ap (λ ys. p.done ++ ys) (sym (take-append-drop n rest)) ∙ sym (append_assoc p.done (take n rest) (drop n rest));
+  wrote = Wrote-then p.done (take n rest) p.wrote q;
+}
+
+pub IsPartlyWritten-done : {h : ℕ} {piece rest : List ℕ} {s t : Seen}
+    → IsPartlyWritten h piece rest s t → rest ≡ [] → Wrote h piece s t
+IsPartlyWritten-done {h = h} {piece = piece} {s = s} {t = t} p e =
+    let whole : piece ≡ p.done = p.whole ∙ ap (λ ys. p.done ++ ys) e ∙ append-nil p.done in
+    subst (λ (ys : List ℕ). Wrote h ys s t) (sym whole) p.wrote
+
+pub IsPartlyWritten-fault : {h : ℕ} {piece rest : List ℕ} {s t u : Seen}
+    → IsPartlyWritten h piece rest s t → OnlyCounts t u → WrotePart h piece s u
+IsPartlyWritten-fault p q = record { done = p.done; rest = _; whole = p.whole; wrote = Wrote-fault p.wrote q }
+
+pub IsPartlyWritten-failed : {h : ℕ} {piece rest : List ℕ} {s t u : Seen}
+    → IsPartlyWritten h piece rest s t → FaultsRose Writing h t u → FaultsRose Writing h s u
+IsPartlyWritten-failed p q = FaultsRose-later Writing _ _ _ _ p.wrote.counts p.wrote.names q
+
+-- reads
+
+pub Read-none : (h : ℕ) (s : Seen) → Read h [] s s
+Read-none h s = record {
+  counts = NoCountFalls-none s;
+  loses = λ a told. (a, refl, told);
+  held = λ n. refl;
+  written = λ i. refl;
+  other_left = λ i other. refl;
+  names = λ k i n. refl;
+  given = λ i. refl;
+}
+
+pub Loses-then : (x y z : _) (a b : List ℕ) → Loses x y a → Loses y z b → Loses x z (a ++ b)
+Loses-then x y z a b p q whole told =
+    let first = p whole told in
+    let second = q first.0 first.2 in
+    (second.0, first.1 ∙ ap (λ ys. a ++ ys) second.1 ∙ sym (append_assoc a b second.0), second.2)
+
+pub Read-then : {h : ℕ} {s t u : Seen} (a b : List ℕ) → Read h a s t → Read h b t u → Read h (a ++ b) s u
+Read-then a b p q = record {
+  counts = NoCountFalls-then p.counts q.counts;
+  loses = Loses-then _ _ _ a b p.loses q.loses;
+  held = λ n. q.held n ∙ p.held n;
+  written = λ i. q.written i ∙ p.written i;
+  other_left = λ i other. q.other_left i other ∙ p.other_left i other;
+  names = λ k i n. q.names k i n ∙ p.names k i n;
+  given = λ i. q.given i ∙ p.given i;
+}
+
+-- a read that gave nothing adds nothing
+pub Read-nothing : {h : ℕ} {s t u : Seen} (bytes : List ℕ) → Read h bytes s t → Read h [] t u → Read h bytes s u
+Read-nothing {h = h} {s = s} {u = u} bytes p q = subst (λ (ys : List ℕ). Read h ys s u) (append-nil bytes) (Read-then bytes [] p q)
+
+pub ReadSome-then : {h : ℕ} {s t u : Seen} (a b : List ℕ) → Read h a s t → Read h b t u → ReadSome h s u
+ReadSome-then a b p q = record { bytes = a ++ b; read = Read-then a b p q }
+
+pub Read-fault : {h : ℕ} {s t u : Seen} (bytes : List ℕ) → Read h bytes s t → OnlyCounts t u → ReadSome h s u
+Read-fault bytes p q = record {
+  bytes = bytes;
+  read = record {
+    counts = NoCountFalls-then p.counts q.counts;
+    loses = λ a told. let lost = p.loses a told in (lost.0, lost.1, q.left _ ∙ lost.2);
+    held = λ n. q.held n ∙ p.held n;
+    written = λ i. q.written i ∙ p.written i;
+    other_left = λ i other. q.left i ∙ p.other_left i other;
+    names = λ k i n. q.names k i n ∙ p.names k i n;
+    given = λ i. q.given i ∙ p.given i;
+  };
+}
+
+pub Read-failed : {h : ℕ} {s t u : Seen} (bytes : List ℕ) → Read h bytes s t → FaultsRose Reading h t u → FaultsRose Reading h s u
+Read-failed bytes p q = FaultsRose-later Reading _ _ _ _ p.counts p.names q
