@@ -1,5 +1,7 @@
 -- The tags of log records: their numbers and names (vsl(7), in this project's subset).
-use Rattle.std.specs.Prelude.{ℕ, ◌-◌, ◌≤◌, List, [], ◌∷◌, ◌++◌, map, slice_index_or, codes}
+use Rattle.std.specs.Prelude.{ℕ, ◌+◌, ◌-◌, ◌≤◌, List, [], ◌∷◌, ◌++◌, map, slice_index_or, codes}
+use Rattle.std.specs.List.{position_or_len}
+use Rattle.std.specs.Str.{bytes_eq, str_to_ascii_lowercase}
 
 -- the lowest number of a tag (this project's choice)
 abbrev pub first_tag : ℕ
@@ -88,3 +90,11 @@ tag_names =
 -- the name of the tag with this number
 abbrev pub tag_name : ℕ → List ℕ
 tag_name n = slice_index_or tag_names (n - first_tag) []
+
+-- the names of all tags in lower case, in the order of their numbers
+abbrev pub lower_names : List (List ℕ)
+lower_names = map str_to_ascii_lowercase tag_names
+
+-- the number of the first tag whose name in lower case is this text, or 93 where there is none
+abbrev pub number_of_lower : List ℕ → ℕ
+number_of_lower text = first_tag + position_or_len (λ name. bytes_eq name text) lower_names

@@ -11,5 +11,5 @@
 mod names;
 mod number;
 
-pub use names::name_of;
+pub use names::{name_of, names_differ};
 pub use number::Tag;

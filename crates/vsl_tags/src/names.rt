@@ -1,5 +1,6 @@
-ghost use Rattle.std.specs.Prelude.{◌≡◌, ◌≤◌, length};
-ghost use Rattle.vsl_tags.specs.Tags.{tag_name};
+ghost use Rattle.std.specs.Prelude.{◌≡◌, ℕ};
+ghost use Rattle.std.specs.Str.{str_to_ascii_lowercase};
+ghost use Rattle.vsl_tags.specs.Tags.{IsTag, number_of_lower, tag_name};
 
 use crate::number::Tag;
 
@@ -106,4 +107,12 @@ pub fn name_of(tag: Tag) -> &'static str
     ensures name { result.now ≡ tag_name tag }
 {
     NAMES[usize::from(tag.number()) - 1]
+}
+
+/// A law, with no code: a name in lower case finds its tag, and so no two names are alike, also
+/// without regard to case.
+pub fn names_differ()
+    ensures found { (n : ℕ) → IsTag n → number_of_lower (str_to_ascii_lowercase (tag_name n)) ≡ n }
+    ensures differ { (m n : ℕ) → IsTag m → IsTag n → str_to_ascii_lowercase (tag_name m) ≡ str_to_ascii_lowercase (tag_name n) → m ≡ n }
+{
 }
