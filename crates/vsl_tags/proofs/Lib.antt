@@ -1,0 +1,2 @@
+mod TableChecks
+pub mod NameLemmas

@@ -1,0 +1,29 @@
+-- No two tags have one name, also without regard to case: each name finds its own number.
+use Rattle.std.proofs.Common.{◌≡◌, ℕ, ◌+◌, ◌-◌, ◌<◌, [], length, get_or, map, refl, ap, sym, ◌∙◌, arith}
+use Rattle.std.proofs.Math.ListN as whole
+use Rattle.std.proofs.lemmas.List.{get_or-map}
+use Rattle.std.proofs.lemmas.List.FromFn.{get_or-range_with_len}
+use Rattle.std.specs.List.{range_with_len}
+use Rattle.std.specs.Str.{str_to_ascii_lowercase}
+use Rattle.vsl_tags.specs.Tags.{IsTag, first_tag, last_tag, tag_names, tag_name, lower_names, number_of_lower}
+
+-- the names in lower case find the numbers from 1 to 92, in order
+numbers_in_order : map number_of_lower lower_names ≡ range_with_len first_tag last_tag
+numbers_in_order = refl
+
+-- a tag's name in lower case finds the tag's number
+pub name_finds_tag : (n : ℕ) → IsTag n → number_of_lower (str_to_ascii_lowercase (tag_name n)) ≡ n
+name_finds_tag n tag =
+    let within : n - 1 < length lower_names = omega arith in
+    let place : n - 1 < last_tag = omega arith in
+    let number : first_tag + (n - 1) ≡ n = omega arith in
+    ap number_of_lower (sym (whole.get_or-map str_to_ascii_lowercase tag_names (n - 1) []))
+    ∙ sym (get_or-map number_of_lower lower_names (n - 1) [] 0 within)
+    ∙ ap (λ numbers. get_or numbers (n - 1) 0) numbers_in_order
+    ∙ get_or-range_with_len first_tag last_tag (n - 1) 0 place
+    ∙ number
+
+-- two tags whose names differ in case at most are one tag
+pub names_are_different
+    : (m n : ℕ) → IsTag m → IsTag n → str_to_ascii_lowercase (tag_name m) ≡ str_to_ascii_lowercase (tag_name n) → m ≡ n
+names_are_different m n at_m at_n same = sym (name_finds_tag m at_m) ∙ ap number_of_lower same ∙ name_finds_tag n at_n

@@ -1,0 +1,100 @@
+-- The tags of log records: their numbers and names (vsl(7), in this project's subset).
+use Rattle.std.specs.Prelude.{ℕ, ◌+◌, ◌-◌, ◌≤◌, List, [], ◌∷◌, ◌++◌, map, slice_index_or, codes}
+use Rattle.std.specs.List.{position_or_len}
+use Rattle.std.specs.Str.{bytes_eq, str_to_ascii_lowercase}
+
+-- the lowest number of a tag (this project's choice)
+abbrev pub first_tag : ℕ
+first_tag = 1
+
+-- the highest number of a tag (this project's choice)
+abbrev pub last_tag : ℕ
+last_tag = 92
+
+-- a number is a tag from the lowest to the highest
+abbrev pub IsTag : ℕ → Type 0
+IsTag n = (first_tag ≤ n) × (n ≤ last_tag)
+
+-- the names of tags 1 to 52, in order (names: vsl(7); order: this project's choice)
+abbrev pub single_names : List (List ℕ)
+single_names =
+    codes "Debug" ∷
+    codes "Error" ∷
+    codes "CLI" ∷
+    codes "SessOpen" ∷
+    codes "SessClose" ∷
+    codes "SessError" ∷
+    codes "BackendOpen" ∷
+    codes "BackendClose" ∷
+    codes "Backend_health" ∷
+    codes "HttpGarbage" ∷
+    codes "Proxy" ∷
+    codes "ProxyGarbage" ∷
+    codes "Length" ∷
+    codes "FetchError" ∷
+    codes "Fetch_Body" ∷
+    codes "BogoHeader" ∷
+    codes "LostHeader" ∷
+    codes "TTL" ∷
+    codes "VCL_acl" ∷
+    codes "VCL_call" ∷
+    codes "VCL_trace" ∷
+    codes "VCL_return" ∷
+    codes "VCL_use" ∷
+    codes "VCL_Log" ∷
+    codes "VCL_Error" ∷
+    codes "ReqStart" ∷
+    codes "ReqAcct" ∷
+    codes "BereqAcct" ∷
+    codes "PipeAcct" ∷
+    codes "VfpAcct" ∷
+    codes "Hit" ∷
+    codes "HitMiss" ∷
+    codes "HitPass" ∷
+    codes "ExpBan" ∷
+    codes "ExpKill" ∷
+    codes "WorkThread" ∷
+    codes "ESI_xmlerror" ∷
+    codes "Hash" ∷
+    codes "Gzip" ∷
+    codes "Storage" ∷
+    codes "Timestamp" ∷
+    codes "Begin" ∷
+    codes "Link" ∷
+    codes "End" ∷
+    codes "VSL" ∷
+    codes "Witness" ∷
+    codes "Filters" ∷
+    codes "Notice" ∷
+    codes "H2RxHdr" ∷
+    codes "H2RxBody" ∷
+    codes "H2TxHdr" ∷
+    codes "H2TxBody" ∷
+    []
+
+-- the endings of a message's eight tags, in order (names: vsl(7); order: this project's choice)
+abbrev pub message_endings : List (List ℕ)
+message_endings =
+    codes "Method" ∷ codes "URL" ∷ codes "Status" ∷ codes "Reason" ∷ codes "Protocol" ∷ codes "Header" ∷ codes "Unset" ∷ codes "Lost" ∷ []
+
+-- a message's eight tags are its name before each ending
+abbrev pub message_names : List ℕ → List (List ℕ)
+message_names message = map (λ ending. message ++ ending) message_endings
+
+-- the names of all tags, in the order of their numbers: the single ones, then those of the five messages
+abbrev pub tag_names : List (List ℕ)
+tag_names =
+    single_names ++ message_names (codes "Req") ++ message_names (codes "Resp") ++ message_names (codes "Bereq") ++ message_names (codes "Beresp")
+    ++ message_names (codes "Obj")
+
+-- the name of the tag with this number
+abbrev pub tag_name : ℕ → List ℕ
+tag_name n = slice_index_or tag_names (n - first_tag) []
+
+-- the names of all tags in lower case, in the order of their numbers
+abbrev pub lower_names : List (List ℕ)
+lower_names = map str_to_ascii_lowercase tag_names
+
+-- the number of the first tag whose name in lower case is this text, or 93 where there is none
+abbrev pub number_of_lower : List ℕ → ℕ
+number_of_lower text = first_tag + position_or_len (λ name. bytes_eq name text) lower_names

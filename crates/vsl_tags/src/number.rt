@@ -1,0 +1,50 @@
+ghost use Rattle.std.specs.Prelude.{◌≡◌, IfSome, IfNone};
+ghost use Rattle.vsl_tags.specs.Tags.{IsTag, last_tag};
+
+use std::marker::Model;
+
+/// The number of the last tag; the first is 1.
+const LAST: u8 = 92;
+
+/// What a record is about, as `Begin` or `ReqMethod`. Contracts see it as its number, from 1 to 92.
+///
+/// Source: vsl(7), in this project's subset. The numbers are this project's choice.
+#[derive(Clone, Copy, PartialEq, Eq, PartialOrd, Ord, Debug, Drop)]
+pub struct Tag {
+    /// From 1 to 92.
+    number: u8,
+}
+
+impl Model for Tag {
+    ghost use Rattle.std.specs.Prelude.{ℕ};
+    ghost use Rattle.vsl_tags.specs.Tags.{IsTag};
+
+    ghost Value = { ℕ };
+
+    ghost view = { λ t. t.number };
+
+    ghost invariant = { λ t. IsTag t.number };
+
+    ghost inverse = { λ n. record { number = n } };
+}
+
+impl Tag {
+    /// The tag with this number, as 42 for `Begin`.
+    pub fn from_number(n: u8) -> Option<Tag>
+        ensures tag { IfSome result (λ t. (t ≡ n) × IsTag n) }
+        ensures refused { IfNone result (¬ (IsTag n)) }
+    {
+        if n == 0 || n > LAST {
+            return None;
+        }
+        Some(Tag { number: n })
+    }
+
+    /// The number, as 42 for `Begin`.
+    pub fn number(self) -> u8
+        ensures same { result ≡ self }
+        ensures tag { IsTag result }
+    {
+        self.number
+    }
+}
