@@ -1,5 +1,5 @@
 -- Worked examples of log files, computed from the definitions.
-use Rattle.std.proofs.Common.{◌≡◌, ◌≢◌, ℕ, ◌++◌, ◌≤◌, List, [], ◌∷◌, length, refl, arith}
+use Rattle.std.proofs.Common.{◌≡◌, true, false, ◌≢◌, ℕ, ◌++◌, ◌≤◌, List, [], ◌∷◌, length, refl, arith}
 use Rattle.std.specs.Prelude.{codes}
 use Rattle.vsl_record.specs.Words.{IsUnit}
 use Rattle.vsl_record.proofs.Examples.{one_ping, fetch, request}

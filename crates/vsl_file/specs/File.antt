@@ -50,7 +50,7 @@ pub record DiffersFirst (at : ℕ) (bytes : List ℕ) : Type 0 where
 
 -- the bytes are the header, these units, and the rest
 pub record IsSplit (bytes : List ℕ) (units : Log) (rest : List ℕ) : Type 0 where
-  pub units : AllByRecursion IsUnit units
+  pub are_units : AllByRecursion IsUnit units
   pub parts : bytes ≡ file_header ++ log_bytes units ++ rest
 
 -- the bytes of no unit stand at the front

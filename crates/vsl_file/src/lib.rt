@@ -6,6 +6,6 @@
 //! Start with `specs/File.antt`. The format is this project's choice; it is not Varnish's own.
 #![tactic(auto)]
 
-mod units;
+mod reading;
 
-pub use units::FileUnits;
+pub use reading::{FileUnits, read_file};

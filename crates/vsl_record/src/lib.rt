@@ -14,13 +14,16 @@ mod payload;
 mod reading;
 mod record_type;
 mod unit;
+mod units;
 
 pub use fault::{RecordFault, UnitFault, WordFault};
 pub use mark::Mark;
 pub use payload::{MAX_PAYLOAD, Payload};
 
+pub use reading::read_unit;
 pub use record_type::Record;
 pub use unit::{MAX_UNIT_WORDS, Unit, VXID_END, Vxid};
+pub use units::Units;
 
 
 

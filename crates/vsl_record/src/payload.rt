@@ -24,3 +24,15 @@ impl Model for Payload {
 
     ghost invariant = { λ p. IsPayload p.bytes.items };
 }
+
+impl Payload {
+    ghost use Rattle.vsl_record.specs.Payload.{IsPayload};
+
+    /// The bytes.
+    pub fn as_slice(&self) -> &[u8]
+        ensures same { result.now ≡ self.now }
+        ensures valid { IsPayload self.now }
+    {
+        &self.bytes
+    }
+}

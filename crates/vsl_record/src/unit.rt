@@ -33,3 +33,29 @@ impl Model for Unit {
 
     ghost invariant = { λ u. IsUnit (record { vxid = u.vxid; mark = u.mark; records = u.records.items }) };
 }
+
+impl Unit {
+    ghost use Rattle.vsl_record.specs.Words.{IsUnit};
+
+    /// The number of the transaction.
+    pub fn vxid(&self) -> Vxid
+        ensures same { result ≡ self.now.vxid }
+        ensures valid { IsUnit self.now }
+    {
+        self.vxid
+    }
+
+    /// The side of the transaction.
+    pub fn mark(&self) -> Mark
+        ensures { result ≡ self.now.mark }
+    {
+        self.mark
+    }
+
+    /// The records, in order.
+    pub fn records(&self) -> &[Record]
+        ensures { result.now ≡ self.now.records }
+    {
+        &self.records
+    }
+}
