@@ -1,0 +1,49 @@
+//! Writing what was taken to standard output.
+
+ghost use Rattle.std.specs.Prelude.{◌≡◌, length, IfErr, OnOk};
+ghost use Rattle.std.specs.List.{flat_map};
+ghost use Rattle.vio.specs.World.{Writing, Wrote, FaultsRose};
+ghost use Rattle.vsl_record.specs.RawLine.{raw_lines};
+ghost use Rattle.varnish_tools.specs.Steps.{PartPrinted};
+
+use crate::line::put_lines;
+use std::alloc::Global;
+use vio::{World, WorldFault, write_all};
+use vsl_record::Unit;
+
+/// The handle of standard output.
+const OUTPUT: u32 = 1;
+
+/// Why printing stopped, and how many units' text was begun.
+#[derive(Clone, Copy)]
+pub struct Stopped {
+    pub fault: WorldFault,
+    pub units: u64,
+}
+
+/// Writes the raw lines of units to standard output, in one write for each unit.
+pub fn print_units<W: World>(alloc: Global, world: &mut W, units: &[Unit]) -> Result<(), Stopped>
+    ensures ok { OnOk result (Wrote 1 (flat_map raw_lines units.now) (W.seen world.old) (W.seen world.new)) }
+    ensures part { IfErr result (λ s. PartPrinted units.now s.units (W.seen world.old) (W.seen world.new)) }
+    ensures cause { IfErr result (λ s. s.fault ≡ WorldFault.Failed → FaultsRose Writing 1 (W.seen world.old) (W.seen world.new)) }
+{
+    let mut text = Vec::new(alloc);
+    let mut begun = 0;
+    for unit in units {
+        begun += 1;
+        text.clear();
+        if put_lines(&mut text, unit).is_err() {
+            return Err(Stopped {
+                fault: WorldFault::NoMemory,
+                units: begun,
+            });
+        }
+        if let Err(fault) = write_all(world, OUTPUT, &text) {
+            return Err(Stopped {
+                fault,
+                units: begun,
+            });
+        }
+    }
+    Ok(())
+}
