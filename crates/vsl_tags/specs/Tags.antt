@@ -91,6 +91,10 @@ tag_names =
 abbrev pub tag_name : ℕ → List ℕ
 tag_name n = slice_index_or tag_names (n - first_tag) []
 
+-- the most bytes that a name has
+abbrev pub longest_name : ℕ
+longest_name = 14
+
 -- the names of all tags in lower case, in the order of their numbers
 abbrev pub lower_names : List (List ℕ)
 lower_names = map str_to_ascii_lowercase tag_names
