@@ -1,5 +1,5 @@
 ghost use Rattle.std.specs.Prelude.{◌≡◌, IfSome, OnSome, IfNone};
-ghost use Rattle.vsl_tags.specs.Tags.{IsTag, last_tag};
+ghost use Rattle.vsl_tags.specs.Tags.{IsTag};
 
 use std::marker::Model;
 
