@@ -5,6 +5,7 @@ ghost use Rattle.std.specs.String.{string_bytes};
 ghost use Rattle.varnish_tools.specs.Job.{job_of};
 
 /// What a command line asks for: the raw lines of a log file.
+#[derive(Clone, Copy)]
 pub struct Job<'a> {
     /// The name of the log file.
     pub file: &'a str,
