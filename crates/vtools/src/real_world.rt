@@ -1,7 +1,7 @@
 //! The files and streams of the system, as a world. It tells no bytes, and has one count for all
 //! faults.
 
-ghost use Rattle.std.specs.Prelude.{◌≡◌, ◌≤◌, length, IfOk};
+ghost use Rattle.std.specs.Prelude.{◌≡◌, ◌≢◌, ◌+◌, ◌<◌, ◌≤◌, length, IfOk, IsErr};
 ghost use Rattle.log_model.specs.Faults.{HasNewFault};
 ghost use Rattle.vtools.specs.RealWorld.{real_seen, HasStreams-real};
 
@@ -19,8 +19,8 @@ const MOST_FILES: usize = 4_294_967_292;
 
 /// The system's files and streams. The file of handle `h` stands at `h - 3`.
 ///
-/// A call that the system refuses is counted, also one that a signal cut short: `vtools` handles no
-/// signal, so the system goes on with such a call by itself.
+/// Each call that the system refuses is counted, and none is tried again: also one that a signal cut
+/// short, which the system does to no program that handles no signal.
 #[derive(Drop)]
 pub struct RealWorld {
     rt: HostRuntime,
@@ -47,9 +47,13 @@ impl RealWorld {
         self.faults = self.faults.saturating_add(1);
     }
 
-    /// Reads from standard input or from an opened file.
+    /// Reads from standard input or from an opened file; other handles are refused.
     fn read_from(&self, h: u32, buf: &mut [u8]) -> io::Result<usize>
-        ensures { IfOk result (λ n. n ≤ length buf.new) }
+        ensures fits { IfOk result (λ n. n ≤ length buf.new) }
+        ensures kept { length buf.new ≡ length buf.old }
+
+        ensures no_stream { 0 < h → h < 3 → IsErr result }
+        ensures no_file { 3 + length self.now.files.items ≤ h → IsErr result }
     {
         if h == 0 {
             return self.rt.stdin().read(buf);
@@ -63,9 +67,11 @@ impl RealWorld {
         }
     }
 
-    /// Writes to standard output or standard error.
+    /// Writes to standard output or standard error; other handles are refused.
     fn write_to(&self, h: u32, piece: &[u8]) -> io::Result<usize>
-        ensures { IfOk result (λ n. n ≤ length piece.now) }
+        ensures fits { IfOk result (λ n. n ≤ length piece.now) }
+
+        ensures no_stream { h ≢ 1 → h ≢ 2 → IsErr result }
     {
         match h {
             1 => self.rt.stdout().write(piece),
