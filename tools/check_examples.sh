@@ -27,6 +27,17 @@ run() {
     echo "$status" >"$work/status"
 }
 
+# Runs the program on words, with standard output a pipe whose reader has gone.
+closed_pipe() {
+    local status=0
+    rm -f "$work/pipe"
+    mkfifo "$work/pipe"
+    exec 3<>"$work/pipe" 4>"$work/pipe" 3>&-
+    "$program" "$@" >&4 2>"$work/err" </dev/null || status=$?
+    exec 4>&-
+    echo "$status" >"$work/status"
+}
+
 # Checks the status and the messages of the last run: expect WHAT STATUS MESSAGES
 expect() {
     local status
@@ -52,26 +63,6 @@ for word in --help --version; do
     [ -s "$work/out" ] || fail "$word: standard output is empty"
 done
 
-# The reader has gone before the program starts, so each write to the pipe fails. The program begins
-# with the default action for a closed pipe, which an interactive shell has.
-closed_pipe() {
-    python3 - "$work" "$program" "$@" <<'PYTHON'
-import os
-import subprocess
-import sys
-
-work, program = sys.argv[1:3]
-reader, writer = os.pipe()
-os.close(reader)
-with open(os.path.join(work, "err"), "wb") as errors:
-    ended = subprocess.run(
-        [program] + sys.argv[3:], stdin=subprocess.DEVNULL, stdout=writer, stderr=errors, restore_signals=True
-    )
-with open(os.path.join(work, "status"), "w") as status:
-    status.write(f"{ended.returncode}\n")
-PYTHON
-}
-
 closed_pipe varnishlog -g raw -r "$log"
 expect "closed pipe" 1 "vtools: -: write failed$newline"
 closed_pipe --help
@@ -85,11 +76,22 @@ run varnishlog -g raw -r "$work/missing"
 expect "missing file" 1 "vtools: $work/missing: cannot open$newline"
 silent "missing file"
 
-for words in "" "varnishlog" "varnishlog -g raw -r -" "varnishlog -g raw -r $log more" "--help --version" "varnishtop"; do
-    # shellcheck disable=SC2086  # the words are to be split
-    run $words
-    expect "other words ($words)" 2 "vtools: not built yet$newline"
-    silent "other words ($words)"
-done
+head -c -4 "$log" >"$work/cut"
+run varnishlog -g raw -r "$work/cut"
+expect "log cut short" 1 "vtools: $work/cut: bad log$newline"
+head -c "$(wc -c <"$work/out")" "$lines" | cmp -s - "$work/out" || fail "log cut short: no front of the lines"
+
+# Words of no form that is built: other WORD..
+other() {
+    run "$@"
+    expect "other words: $*" 2 "vtools: not built yet$newline"
+    silent "other words: $*"
+}
+
+other
+other varnishlog
+other varnishlog -g raw -r -
+other varnishlog -g raw -r "$log" more
+other --help --version
 
 echo "examples: ok"
