@@ -1,6 +1,7 @@
 //! Reading a whole file.
 
 ghost use Rattle.std.specs.Prelude.{◌≡◌, IfOk};
+ghost use Rattle.vsl_record.specs.Unit.{Log};
 ghost use Rattle.vsl_file.specs.File.{FileEnding, IsFile, is_whole};
 
 use std::alloc::Global;
@@ -21,7 +22,9 @@ pub struct FileUnits {
 /// The units are those before the first that isn't whole and correct. Of more than 2^40 bytes the
 /// first 2^40 are read, and the file isn't whole.
 pub fn read_file(alloc: Global, bytes: &[u8]) -> Result<FileUnits, NoMemory>
-    ensures { IfOk result (λ f. (ending : FileEnding) × IsFile bytes.now f.units ending × (f.whole ≡ is_whole ending)) }
+    ensures found { IfOk result (λ f. (ending : FileEnding) × IsFile bytes.now f.units ending × (f.whole ≡ is_whole ending)) }
+    ensures only { (units : Log) (ending : FileEnding) → IsFile bytes.now units ending →
+        IfOk result (λ f. (f.units ≡ units) × (f.whole ≡ is_whole ending)) }
 {
     let _bytes = bytes;
     let _alloc = alloc;
