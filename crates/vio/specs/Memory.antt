@@ -1,5 +1,5 @@
 -- What a world in memory tells (this project's choice).
-use Rattle.std.specs.Prelude.{◌≡◌, ◌≢◌, ℕ, ◌+◌, ◌-◌, Bool, true, false, List, [], length, codes, Option, Some, None, nat_lt, nat_eq, if◌then◌else◌}
+use Rattle.std.specs.Prelude.{◌≡◌, ◌≢◌, ℕ, ◌+◌, ◌-◌, Bool, true, false, List, [], length, codes, Option, Some, None, nat_lt, nat_eq, min, ◌^◌, ◌∷◌, ◌++◌, if◌then◌else◌}
 use Rattle.std.specs.List.{slice_get}
 use Rattle.std.specs.Option.{option_map}
 use Rattle.std.specs.Str.{bytes_eq}
@@ -111,3 +111,33 @@ pub record TellsAll (now : Seen) : Type 0 where
 -- the count of faults rose, for every kind of call and every name
 pub record CountsFault (before now : Seen) : Type 0 where
   pub each : (k : CallKind) (name : List ℕ) → HasNewFault (before.faults k name) (now.faults k name)
+
+-- no call was made, none is to fail, and a call moves all that it can
+pub record HasNoPlan (now : MemWorld) : Type 0 where
+  pub calls : now.calls ≡ 0
+  pub failing : now.failing.items ≡ []
+  pub most : now.most ≡ 2 ^ 64 - 1
+
+-- the calls that were made, those that are to fail, and the size of a piece are as before
+pub record KeepsPlan (before now : MemWorld) : Type 0 where
+  pub calls : now.calls ≡ before.calls
+  pub failing : now.failing.items ≡ before.failing.items
+  pub most : now.most ≡ before.most
+
+-- the call of one more number is to fail
+pub record FailsToo (call : ℕ) (before now : MemWorld) : Type 0 where
+  pub failing : now.failing.items ≡ before.failing.items ++ call ∷ []
+  pub calls : now.calls ≡ before.calls
+  pub most : now.most ≡ before.most
+
+-- a call moves at most so many bytes
+pub record MovesAtMost (most : ℕ) (before now : MemWorld) : Type 0 where
+  pub piece : now.most ≡ most
+  pub calls : now.calls ≡ before.calls
+  pub failing : now.failing.items ≡ before.failing.items
+
+-- a call was counted; at 2^64 - 1, its last value, the count of calls stands still
+pub record CountsCall (before now : MemWorld) : Type 0 where
+  pub calls : now.calls ≡ min (before.calls + 1) (2 ^ 64 - 1)
+  pub failing : now.failing.items ≡ before.failing.items
+  pub most : now.most ≡ before.most

@@ -1,6 +1,6 @@
 //! The parts of a world in memory.
 
-ghost use Rattle.std.specs.Prelude.{◌≡◌, ℕ, ◌<◌, ◌≤◌, [], take, drop, length, MatchOption, Some, None};
+ghost use Rattle.std.specs.Prelude.{◌≡◌, ℕ, ◌<◌, ◌≤◌, min, max, [], take, drop, length, MatchOption, Some, None};
 ghost use Rattle.std.specs.Str.{bytes_eq};
 
 /// A file: its name and its bytes.
@@ -31,7 +31,7 @@ impl Source {
     pub fn take_piece(&mut self, buf: &mut [u8], most: usize) -> usize
         ensures fits { result ≤ length buf.old }
         ensures moved { take result buf.new ≡ take result (left_of self.old) }
-        ensures within { result ≤ length (left_of self.old) }
+        ensures count { result ≡ min (min (length (left_of self.old)) (length buf.old)) (max most 1) }
         ensures left { left_of self.new ≡ drop result (left_of self.old) }
         ensures bytes { self.new.bytes ≡ self.old.bytes }
         ensures some { result ≡ 0 → 0 < length buf.old → left_of self.old ≡ [] }

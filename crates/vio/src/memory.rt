@@ -1,6 +1,6 @@
 //! A world in memory, for tests: it tells every byte.
 
-ghost use Rattle.std.specs.Prelude.{◌≡◌, ◌≢◌, ◌<◌, ◌≤◌, ◌+◌, ℕ, List, length, take, codes, Some, IfOk, OnOk, OnErr};
+ghost use Rattle.std.specs.Prelude.{◌≡◌, ◌≢◌, ◌<◌, ◌≤◌, ◌+◌, ◌==◌, ℕ, List, length, take, codes, Some, IfOk, OnOk, OnErr};
 
 use crate::fault::{Failed, NoMemory, WorldFault};
 use crate::file::{MemFile, OpenFile, Source, find_bytes};
@@ -11,7 +11,7 @@ use std::alloc::Global;
 const FIRST_ROOM: usize = 4096;
 
 /// The handle of the first file that is opened.
-const FIRST_HANDLE: usize = 3;
+const FIRST_HANDLE: u32 = 3;
 
 /// Files and standard streams in memory. Handles are given from 3 upwards, one for each `open` that
 /// succeeds. It keeps one count, which is its count of faults for every kind of call and every name.
@@ -34,13 +34,15 @@ pub struct MemWorld {
 }
 
 impl MemWorld {
-    ghost use Rattle.vio.specs.Memory.{memory_seen, content_of, IsNew, Holds, HasInput, IsSame, TellsAll, CountsFault};
+    ghost use Rattle.std.specs.List.{list_any};
+    ghost use Rattle.vio.specs.Memory.{memory_seen, content_of, IsNew, Holds, HasInput, IsSame, TellsAll, CountsFault, HasNoPlan, KeepsPlan, FailsToo, MovesAtMost, CountsCall};
     ghost use Rattle.vio.specs.Sources.{held_in};
     ghost use Rattle.vio.specs.World.{OnlyCounts, Opened, Read, Wrote, IsAtEnd};
 
     /// A world with no file, an empty standard input, and nothing written. Calls move all they can.
     pub fn new(alloc: Global) -> Result<MemWorld, NoMemory>
-        ensures { IfOk result (λ m. IsNew (memory_seen m)) }
+        ensures new { IfOk result (λ m. IsNew (memory_seen m)) }
+        ensures plan { IfOk result HasNoPlan }
     {
         let output = Vec::with_capacity(alloc, FIRST_ROOM)?;
         Ok(MemWorld {
@@ -66,6 +68,7 @@ impl MemWorld {
         ensures file { OnOk result (name.now ≢ codes "-" → Holds name.now bytes.now (memory_seen self.old) (memory_seen self.new)) }
         ensures input { OnOk result (name.now ≡ codes "-" → HasInput bytes.now (memory_seen self.old) (memory_seen self.new)) }
         ensures err { OnErr result (IsSame (memory_seen self.old) (memory_seen self.new)) }
+        ensures plan { KeepsPlan self.old self.new }
     {
         let bytes = Vec::from_slice(self.alloc, bytes)?;
         if name == "-" {
@@ -80,7 +83,9 @@ impl MemWorld {
 
     /// Lets the call of this number fail, counted from 1 over `open`, `read` and `write`.
     pub fn fail(&mut self, call: u64) -> Result<(), NoMemory>
-        ensures { IsSame (memory_seen self.old) (memory_seen self.new) }
+        ensures same { IsSame (memory_seen self.old) (memory_seen self.new) }
+        ensures ok { OnOk result (FailsToo call self.old self.new) }
+        ensures err { OnErr result (KeepsPlan self.old self.new) }
     {
         self.failing.push(call)?;
         Ok(())
@@ -88,7 +93,8 @@ impl MemWorld {
 
     /// Lets each read and each write move at most so many bytes; 0 counts as 1.
     pub fn piece(&mut self, most: usize)
-        ensures { IsSame (memory_seen self.old) (memory_seen self.new) }
+        ensures same { IsSame (memory_seen self.old) (memory_seen self.new) }
+        ensures piece { MovesAtMost most self.old self.new }
     {
         self.most = most;
     }
@@ -109,7 +115,7 @@ impl MemWorld {
         if h == 2 {
             return self.errors.as_slice();
         }
-        let place = h as usize - FIRST_HANDLE;
+        let place = (h - FIRST_HANDLE) as usize;
         if place < self.opened.len() {
             return self.opened[place].source.bytes.as_slice();
         }
@@ -118,7 +124,9 @@ impl MemWorld {
 
     /// Counts a call, and says whether it is one that fails.
     fn is_failing_call(&mut self) -> bool
-        ensures { IsSame (memory_seen self.old) (memory_seen self.new) }
+        ensures same { IsSame (memory_seen self.old) (memory_seen self.new) }
+        ensures counted { CountsCall self.old self.new }
+        ensures fails { result ≡ list_any (λ call. call == self.new.calls) self.old.failing.items }
     {
         self.calls = self.calls.saturating_add(1);
         self.failing.contains(&self.calls)
@@ -138,7 +146,7 @@ impl MemWorld {
         ensures ok { IfOk result (λ h. Opened name.items h (memory_seen self.old) (memory_seen self.new)) }
         ensures err { OnErr result (IsSame (memory_seen self.old) (memory_seen self.new)) }
     {
-        let Ok(handle) = u32::try_from(self.opened.len() + FIRST_HANDLE) else {
+        let Ok(handle) = u32::try_from(self.opened.len() + FIRST_HANDLE as usize) else {
             return Err(NoMemory);
         };
         let file = OpenFile {
@@ -220,11 +228,11 @@ impl World for MemWorld {
         if h == 0 {
             return Ok(self.read_input(buf));
         }
-        if h < 3 {
+        if h < FIRST_HANDLE {
             self.count_fault();
             return Err(Failed);
         }
-        let place = h as usize - FIRST_HANDLE;
+        let place = (h - FIRST_HANDLE) as usize;
         if place >= self.opened.len() {
             self.count_fault();
             return Err(Failed);
