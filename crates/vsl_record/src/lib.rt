@@ -18,9 +18,5 @@ mod unit;
 pub use fault::{RecordFault, UnitFault, WordFault};
 pub use mark::Mark;
 pub use payload::{MAX_PAYLOAD, Payload};
-
 pub use record_type::Record;
 pub use unit::{MAX_UNIT_WORDS, Unit, VXID_END, Vxid};
-
-
-
