@@ -1,17 +1,8 @@
--- How many words payloads and records take.
+-- How many words a list of records takes.
 use Rattle.std.proofs.Common.{◌≡◌, ℕ, ◌+◌, ◌/◌, ◌<◌, List, [], ◌∷◌, ◌++◌, length, take, get_or, arith, length-append}
 use Rattle.std.specs.List.{flat_map}
 use Rattle.std.proofs.lemmas.List.{take_more}
 use Rattle.std.proofs.lemmas.List.Concat.{flat_map-append}
-use Rattle.vsl_record.specs.Words.{packed}
-
--- a word for each four bytes or less
-pub length-packed : (bytes : List ℕ) → length (packed bytes) ≡ (length bytes + 3) / 4
-length-packed [] = omega arith
-length-packed (a ∷ []) = omega arith
-length-packed (a ∷ b ∷ []) = omega arith
-length-packed (a ∷ b ∷ c ∷ []) = omega arith
-length-packed (a ∷ b ∷ c ∷ d ∷ bytes) = omega (arith, length-packed bytes)
 
 -- what one more piece adds
 pub length-one_more : {X : Type 0} (f : X → List ℕ) (xs : List X) (i : ℕ) (x : X) → i < length xs → x ≡ get_or xs i x

@@ -1,5 +1,5 @@
 use Rattle.std.proofs.Common.{arith}
-use Rattle.vsl_record.proofs.CountLemmas.{length-packed}
+use Rattle.vsl_record.proofs.PayloadLemmas.{length-packed}
 use Rattle.vsl_record.proofs.record_type.Record.words.Goals as goal
 
 pub returns-clause-words : goal.returns-clause-words
