@@ -6,3 +6,4 @@ pub mod PayloadLemmas
 pub mod MarkLemmas
 pub mod RecordLemmas
 pub mod ReadingLemmas
+pub mod FrontLemmas

@@ -18,5 +18,6 @@ mod unit;
 pub use fault::{RecordFault, UnitFault, WordFault};
 pub use mark::Mark;
 pub use payload::{MAX_PAYLOAD, Payload};
+pub use reading::{one_spelling, read_unit};
 pub use record_type::Record;
 pub use unit::{MAX_UNIT_WORDS, Unit, VXID_END, Vxid};

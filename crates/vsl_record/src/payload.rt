@@ -36,7 +36,7 @@ impl Payload {
     }
 
     /// The payload of these bytes, with no copy.
-    pub fn from_vec(bytes: Vec<u8>) -> Payload
+    pub(crate) fn from_vec(bytes: Vec<u8>) -> Payload
         requires { length bytes.items ≤ most_payload }
         ensures { result ≡ bytes.items }
     {

@@ -1,6 +1,6 @@
 //! Reading a unit from words.
 
-ghost use Rattle.std.specs.Prelude.{◌≡◌, ◌+◌, ◌-◌, ◌*◌, ◌^◌, ◌<◌, ◌≤◌, ◌++◌, ℕ, List, length, take, drop, Ok, IfOk};
+ghost use Rattle.std.specs.Prelude.{◌≡◌, ◌⊎◌, ◌+◌, ◌-◌, ◌*◌, ◌^◌, ◌<◌, ◌≤◌, ◌++◌, ℕ, List, length, take, drop, IfOk, IsErrOf};
 ghost use Rattle.vsl_record.specs.Payload.{most_payload};
 ghost use Rattle.vsl_record.specs.Unit.{LogUnit};
 ghost use Rattle.vsl_record.specs.Words.{IsUnit, most_words, unit_words};
@@ -144,7 +144,8 @@ struct Front {
 /// Reads a unit from the front of the words.
 #[tactic(auto, unfolding(crate::specs::Reading::unit_at, crate::specs::Reading::unit_of))]
 fn read_front(alloc: Global, words: &[u32]) -> Result<Front, WordFault>
-    ensures { Gives (front_of words.now) result (unit_at words.now) }
+    ensures read { Gives (front_of words.now) result (unit_at words.now) }
+    ensures within { IfOk result (λ front. front.words ≤ length words.now) }
 {
     let [head, after @ ..] = words else {
         return Err(WordFault::Bad);
@@ -172,3 +173,25 @@ fn read_front(alloc: Global, words: &[u32]) -> Result<Front, WordFault>
         words: count,
     })
 }
+
+/// Reads the unit at the front of the words, and says how many words it took. It does not look past
+/// the words that the unit's header counts.
+pub fn read_unit(alloc: Global, words: &[u32]) -> Result<(Unit, usize), WordFault>
+    ensures found { IfOk result (λ x. IsUnit x.0 × (x.1 ≤ length words.now) × (take x.1 words.now ≡ unit_words x.0)) }
+    ensures only { (u : LogUnit) (rest : List ℕ) → IsUnit u → words.now ≡ unit_words u ++ rest →
+        (result ≡ Ok (u, length (unit_words u))) ⊎ (result ≡ Err WordFault.NoMemory) }
+    ensures refused { IsErrOf result WordFault.Bad → (u : LogUnit) (rest : List ℕ) → IsUnit u → words.now ≡ unit_words u ++ rest → ⊥ }
+{
+    let Front {
+        vxid,
+        mark,
+        records,
+        words: taken,
+    } = read_front(alloc, words)?;
+    Ok((Unit::from_parts(vxid, mark, records), taken))
+}
+
+/// Each unit has one spelling, and no spelling begins another.
+pub fn one_spelling()
+    ensures { (u v : LogUnit) (a b : List ℕ) → IsUnit u → IsUnit v → unit_words u ++ a ≡ unit_words v ++ b → (u ≡ v) × (a ≡ b) }
+{}
