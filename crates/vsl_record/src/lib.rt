@@ -21,3 +21,6 @@ pub use payload::{MAX_PAYLOAD, Payload};
 pub use reading::{one_spelling, read_unit};
 pub use record_type::Record;
 pub use unit::{MAX_UNIT_WORDS, Unit, VXID_END, Vxid};
+
+#[cfg(test)]
+mod tests;
