@@ -1,9 +1,8 @@
 -- Worked examples of words and lines, computed from the definitions.
-use Rattle.std.proofs.Common.{◌≡◌, ℕ, ◌++◌, List, [], ◌∷◌, refl}
+use Rattle.std.proofs.Common.{◌≡◌, ◌++◌, [], ◌∷◌, refl}
 use Rattle.std.specs.Prelude.{codes}
 use Rattle.std.specs.Fmt.{digits}
 use Rattle.vsl_record.specs.declared.mark.Mark.TheVariants.{Client, Backend, Plain}
-use Rattle.vsl_record.specs.declared.record_type.Record.{Record}
 use Rattle.vsl_record.specs.Unit.{LogUnit}
 use Rattle.vsl_record.specs.Words.{unit_words, word_bytes}
 use Rattle.vsl_record.specs.RawLine.{raw_lines}

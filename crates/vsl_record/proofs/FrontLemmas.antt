@@ -1,6 +1,5 @@
 -- A unit that was read from the front of words, and the words that it took.
-use Rattle.std.proofs.Common.{◌≡◌, ℕ, ◌≤◌, List, ◌++◌, length, take, drop, Result, Ok, refl, sym, ap, ◌∙◌}
-use Rattle.std.specs.Prelude.{IsErr}
+use Rattle.std.proofs.Common.{◌≡◌, ℕ, ◌≤◌, List, ◌++◌, length, take, drop, Ok, refl, sym, ap, ◌∙◌}
 use Rattle.std.proofs.lemmas.List.{append_cancel_right, take-append-drop, length-take-le}
 use Rattle.vsl_record.specs.declared.fault.WordFault.{WordFault}
 use Rattle.vsl_record.specs.declared.fault.WordFault.TheVariants as faults
