@@ -3,6 +3,8 @@
 ghost use Rattle.std.specs.Prelude.{◌≡◌};
 ghost use Rattle.vsl_record.specs.Reading.{mark_of};
 
+use crate::unit::VXID_END;
+
 /// The side that a transaction belongs to (vsl(7)).
 #[derive(Clone, Copy, Debug, PartialEq, Eq)]
 pub enum Mark {
@@ -20,7 +22,7 @@ impl Mark {
     pub(crate) fn of_id(id: u32) -> Mark
         ensures { result ≡ mark_of id }
     {
-        match id / 1_073_741_824 {
+        match id / VXID_END {
             1 => Mark::Client,
             2 => Mark::Backend,
             _ => Mark::Plain,

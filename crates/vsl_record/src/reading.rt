@@ -1,10 +1,10 @@
 //! Reading a unit from words.
 
-ghost use Rattle.std.specs.Prelude.{◌≡◌, ◌⊎◌, ◌+◌, ◌-◌, ◌*◌, ◌^◌, ◌<◌, ◌≤◌, ◌++◌, ℕ, List, length, take, drop, IfOk, IsErrOf};
+ghost use Rattle.std.specs.Prelude.{◌≡◌, ◌⊎◌, ◌+◌, ◌^◌, ◌<◌, ◌≤◌, ◌++◌, ℕ, List, length, take, IfOk, IsErrOf};
 ghost use Rattle.vsl_record.specs.Payload.{most_payload};
 ghost use Rattle.vsl_record.specs.Unit.{LogUnit};
-ghost use Rattle.vsl_record.specs.Words.{IsUnit, most_words, unit_words};
-ghost use Rattle.vsl_record.specs.Reading.{Gives, unpacked, payload_at, record_at, records_at, unit_of, unit_at};
+ghost use Rattle.vsl_record.specs.Words.{IsUnit, unit_words};
+ghost use Rattle.vsl_record.specs.Reading.{Gives, unpacked, payload_at, record_at, records_at, unit_at};
 ghost use Rattle.vsl_record.specs.ReadingSteps.{front_of, with_bytes};
 
 use crate::fault::WordFault;
@@ -15,7 +15,13 @@ use crate::unit::{MAX_UNIT_WORDS, Unit, VXID_END, Vxid};
 use std::alloc::Global;
 use vsl_tags::Tag;
 
-/// One more than the highest word whose bytes are zero from this one on.
+/// A head word is its top byte so many times, and a length or a count below that.
+const TOP_BYTE: u32 = 16_777_216;
+
+/// The top byte of a unit's header; a record's is its tag.
+const UNIT_MARK: u32 = 0xfe;
+
+/// One more than the highest word whose bytes after the first so many are zero.
 fn limit_of(bytes: usize) -> u32
     requires some { 0 < bytes }
     requires few { bytes < 4 }
@@ -79,10 +85,10 @@ fn read_record(alloc: Global, id: u32, words: &[u32]) -> Result<(Record, &[u32])
     let [head, after @ ..] = words else {
         return Err(WordFault::Bad);
     };
-    let Some(tag) = Tag::from_number((*head / 16_777_216) as u8) else {
+    let Some(tag) = Tag::from_number((*head / TOP_BYTE) as u8) else {
         return Err(WordFault::Bad);
     };
-    let count = (*head % 16_777_216) as usize;
+    let count = (*head % TOP_BYTE) as usize;
     if count > MAX_PAYLOAD {
         return Err(WordFault::Bad);
     }
@@ -111,7 +117,7 @@ fn read_marked(
     if *word != id {
         return Err(WordFault::Bad);
     }
-    if id / 1_073_741_824 >= 3 {
+    if id / VXID_END >= 3 {
         return Err(WordFault::Bad);
     }
     let (payload, rest) = read_payload(alloc, count, after)?;
@@ -150,10 +156,10 @@ fn read_front(alloc: Global, words: &[u32]) -> Result<Front, WordFault>
     let [head, after @ ..] = words else {
         return Err(WordFault::Bad);
     };
-    if *head / 16_777_216 != 254 {
+    if *head / TOP_BYTE != UNIT_MARK {
         return Err(WordFault::Bad);
     }
-    let count = (*head % 16_777_216) as usize;
+    let count = (*head % TOP_BYTE) as usize;
     if count < 3 {
         return Err(WordFault::Bad);
     }

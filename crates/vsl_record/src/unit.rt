@@ -1,6 +1,6 @@
 //! A unit of a log.
 
-ghost use Rattle.std.specs.Prelude.{◌≡◌, ◌+◌, ◌-◌, ◌^◌, ◌<◌, ◌≤◌, ◌↔◌, ℕ, min, length, IfOk, OnOk};
+ghost use Rattle.std.specs.Prelude.{◌≡◌, ◌+◌, ◌-◌, ◌^◌, ◌<◌, ◌↔◌, ℕ, min, length, IfOk};
 ghost use Rattle.std.specs.List.{All, flat_map};
 ghost use Rattle.vsl_tags.specs.Tags.{IsTag};
 ghost use Rattle.vsl_record.specs.Payload.{IsPayload};
