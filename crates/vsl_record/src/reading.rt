@@ -77,7 +77,7 @@ fn read_payload(alloc: Global, count: usize, words: &[u32]) -> Result<(Payload, 
 }
 
 /// Reads one record of a unit whose records have this word for their transaction and side.
-#[tactic(auto, unfolding(crate::specs::Reading::record_at, crate::specs::Reading::payload_at))]
+#[tactic(auto, unfolding(crate::specs::Reading::record_at))]
 fn read_record(alloc: Global, id: u32, words: &[u32]) -> Result<(Record, &[u32]), WordFault>
     ensures read { (at : ℕ) → Gives (λ x. (x.0, x.1.now)) result (record_at id at words.now) }
     ensures shorter { IfOk result (λ x. length x.1.now < length words.now) }
@@ -180,8 +180,7 @@ fn read_front(alloc: Global, words: &[u32]) -> Result<Front, WordFault>
     })
 }
 
-/// Reads the unit at the front of the words, and says how many words it took. It does not look past
-/// the words that the unit's header counts.
+/// Reads the unit at the front of the words, whatever stands behind it, and says how many words it took.
 pub fn read_unit(alloc: Global, words: &[u32]) -> Result<(Unit, usize), WordFault>
     ensures found { IfOk result (λ x. IsUnit x.0 × (x.1 ≤ length words.now) × (take x.1 words.now ≡ unit_words x.0)) }
     ensures only { (u : LogUnit) (rest : List ℕ) → IsUnit u → words.now ≡ unit_words u ++ rest →
