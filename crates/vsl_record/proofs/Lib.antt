@@ -1,1 +1,4 @@
 pub mod Examples
+pub mod Steps
+pub mod PayloadLemmas
+pub mod RecordLemmas
