@@ -2,3 +2,4 @@ pub mod Examples
 pub mod Steps
 pub mod PayloadLemmas
 pub mod RecordLemmas
+pub mod ReadingLemmas

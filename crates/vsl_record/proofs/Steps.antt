@@ -16,13 +16,21 @@ IsWords words = (i : ℕ) → get_or words i 0 < 2 ^ 32
 pub IsBytes-nil : IsBytes []
 IsBytes-nil i = omega arith
 
+-- the first numbers of a list whose numbers are all below a limit
+take_below : (limit n : ℕ) (xs : List ℕ) → 0 < limit → ((i : ℕ) → get_or xs i 0 < limit) → (i : ℕ) → get_or (take n xs) i 0 < limit
+take_below limit n xs some all i =
+    elim (cases_lt i n) [
+      | inl lt ↦ rw (get_or-take n xs i 0 lt) (all i)
+      | inr le ↦ rw (get_or_past (take n xs) i 0 (omega (arith, length-take n xs))) some
+    ]
+
 -- the first bytes of bytes
 pub IsBytes-take : (n : ℕ) (bytes : List ℕ) → IsBytes bytes → IsBytes (take n bytes)
-IsBytes-take n bytes all i =
-    elim (cases_lt i n) [
-      | inl lt ↦ rw (get_or-take n bytes i 0 lt) (all i)
-      | inr le ↦ rw (get_or_past (take n bytes) i 0 (omega (arith, length-take n bytes))) (omega arith)
-    ]
+IsBytes-take n bytes all = take_below 256 n bytes (omega arith) all
+
+-- the first words of words
+pub IsWords-take : (n : ℕ) (words : List ℕ) → IsWords words → IsWords (take n words)
+IsWords-take n words all = take_below (2 ^ 32) n words (omega arith) all
 
 -- no words are words
 pub IsWords-nil : IsWords []
