@@ -1,1 +1,4 @@
 pub mod Examples
+mod WordLemmas
+mod UnitLemmas
+mod FileLemmas
