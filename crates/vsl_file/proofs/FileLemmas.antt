@@ -1,9 +1,9 @@
 -- A file's units and ending: one content for each list of bytes, and the ending that follows from what was read.
-use Rattle.std.proofs.Common.{◌≡◌, ◌≢◌, ℕ, zero, suc, ◌+◌, ◌-◌, ◌*◌, ◌<◌, ◌≤◌, Bool, true, false, ltb, leb, eqb, ◌&&◌, ◌⊎◌, inl, inr, Option, Some, None, List, [], ◌∷◌, ◌++◌, length, take, drop, refl, sym, ap, subst, ◌∙◌, append_assoc, arith}
+use Rattle.std.proofs.Common.{◌≡◌, ◌≢◌, ℕ, zero, suc, ◌+◌, ◌-◌, ◌*◌, ◌<◌, ◌≤◌, Bool, true, false, ltb, leb, eqb, ◌&&◌, ◌⊎◌, inl, inr, Option, Some, None, unwrap_or, List, [], ◌∷◌, ◌++◌, length, take, drop, refl, sym, ap, subst, ◌∙◌, append_assoc, arith}
 use Rattle.std.specs.Prelude.{slice_get}
 use Rattle.std.specs.List.{AllByRecursion}
-use Rattle.std.proofs.lemmas.Bool.{cases_lt, cases_eq, cases_order}
-use Rattle.std.proofs.lemmas.List.{take_all, append-nil, append_cancel_left, take-append-drop, length-take, nil_from_length}
+use Rattle.std.proofs.lemmas.Bool.{cases_lt, cases_eq, cases_order, ne_eqb, lt-leb, le-leb, both_ways, and_right}
+use Rattle.std.proofs.lemmas.List.{take_all, append-nil, append_cancel_left, take-append-drop, length-append}
 use Rattle.vsl_record.specs.Unit.{LogUnit, Log}
 use Rattle.vsl_record.specs.Words.{IsUnit}
 use Rattle.vsl_file.specs.File.{FileEnding, Whole, NotALog, Damaged, TooLarge, IsFile, IsSplit, DiffersFirst, BeginsNoUnit, stops_early, is_whole, most_bytes, bytes_read, file_header, log_bytes}
@@ -52,8 +52,10 @@ is_file bytes units (NotALog at) rest log = absurd log.ends
 is_file bytes units (Damaged at) rest log = (rest, log.ends.0, log.no_more, log.split, log.ends.1, log.ends.2)
 is_file bytes units TooLarge rest log = (log.ends.0, (rest, log.split, log.ends.1))
 
-differ : {b : Bool} → b ≡ false → b ≡ true → ⊥
-differ p q = absurd cc
+-- a test beside one that holds
+and_true : (b : Bool) → (b && true) ≡ b
+and_true true = refl
+and_true false = refl
 
 -- what is left determines how a log ends
 one_ending : (bytes rest : List ℕ) (d e : FileEnding) → EndsSo bytes rest d → EndsSo bytes rest e → d ≡ e
@@ -64,9 +66,9 @@ one_ending bytes rest Whole (Damaged at) p q = absurd (q.0 p.1)
 one_ending bytes rest Whole TooLarge p q = absurd (omega (arith, p.0, q.0))
 one_ending bytes rest (Damaged at) Whole p q = absurd (p.0 q.1)
 one_ending bytes rest (Damaged at) (Damaged other) p q = ap Damaged (omega (arith, p.1, q.1))
-one_ending bytes rest (Damaged at) TooLarge p q = absurd (differ (p.2 q.0) q.1)
+one_ending bytes rest (Damaged at) TooLarge p q = absurd (both_ways (stops_early rest) (p.2 q.0) q.1)
 one_ending bytes rest TooLarge Whole p q = absurd (omega (arith, p.0, q.0))
-one_ending bytes rest TooLarge (Damaged at) p q = absurd (differ (q.2 p.0) p.1)
+one_ending bytes rest TooLarge (Damaged at) p q = absurd (both_ways (stops_early rest) (q.2 p.0) p.1)
 one_ending bytes rest TooLarge TooLarge p q = refl
 
 -- bytes that go on after the header differ from it nowhere
@@ -123,3 +125,58 @@ one_content_of bytes us vs d e file other =
           | inr (left, q) ↦ same_logs bytes us vs d e rest left p q
         ]
     ]
+
+-- where a list doesn't begin with another there is a first difference
+differs_in : (header bytes : List ℕ) → ((more : List ℕ) → bytes ≢ header ++ more) → (at : ℕ) × (at < length header) × (take at bytes ≡ take at header) × (slice_get bytes at ≢ slice_get header at)
+differs_in [] bytes other = absurd (other bytes refl)
+differs_in (h ∷ header) [] other = (0, omega arith, refl, λ e. cc)
+differs_in (h ∷ header) (b ∷ bytes) other =
+    elim (cases_eq b h) [
+      | inl same ↦
+          let after = differs_in header bytes (λ more e. other more (ap (λ (x : ℕ). x ∷ bytes) same ∙ ap (λ (x : List ℕ). h ∷ x) e)) in
+          (suc after.0, omega (arith, after.1), ap (λ (x : ℕ). x ∷ take after.0 bytes) same ∙ ap (λ (x : List ℕ). h ∷ x) after.2, after.3)
+      | inr different ↦ (0, omega arith, refl, λ e. different (ap (λ (o : Option ℕ). unwrap_or o b) e))
+    ]
+
+-- a file that doesn't begin with the header is no log
+pub no_log : (bytes : List ℕ) → ((more : List ℕ) → bytes_read bytes ≢ file_header ++ more) → (ending : FileEnding) × IsFile bytes [] ending × (false ≡ is_whole ending)
+unfolding most_bytes
+no_log bytes other =
+    let first = differs_in file_header bytes (λ more e. other (take (most_bytes - 8) more) (ap (take most_bytes) e ∙ refl)) in
+    (NotALog first.0, (refl, record { inside = first.1; front = first.2; differs = first.3 }), refl)
+
+-- the bytes that follow a log's units are no more than all
+rest_within : (bytes : List ℕ) (units : Log) (rest : List ℕ) → IsSplit bytes units rest → length rest ≤ length bytes
+rest_within bytes units rest split = omega (arith, ap length split.parts, length-append (file_header ++ log_bytes units) rest)
+
+damaged : (bytes : List ℕ) (units : Log) (rest : List ℕ) → IsSplit (bytes_read bytes) units rest → BeginsNoUnit rest → rest ≢ [] → (most_bytes < length bytes → stops_early rest ≡ false) → IsFile bytes units (Damaged (length (bytes_read bytes) - length rest))
+damaged bytes units rest split none some stops =
+    (rest, some, none, split, omega (arith, rest_within (bytes_read bytes) units rest split), stops)
+
+stops_or_not : (bytes : List ℕ) (units : Log) (rest : List ℕ) (b : Bool) → stops_early rest ≡ b → IsSplit (bytes_read bytes) units rest → BeginsNoUnit rest → most_bytes < length bytes → (ending : FileEnding) × IsFile bytes units ending × (false ≡ is_whole ending)
+stops_or_not bytes units rest true e split none large = (TooLarge, (large, (rest, split, e)), refl)
+stops_or_not bytes units rest false e split none large =
+    (Damaged (length (bytes_read bytes) - length rest), damaged bytes units rest split none (λ empty. both_ways (stops_early rest) e (ap stops_early empty)) (λ _. e), refl)
+
+-- a log of no more bytes than are read is whole where nothing is left
+small_log : (bytes : List ℕ) (units : Log) (rest : List ℕ) → IsSplit (bytes_read bytes) units rest → BeginsNoUnit rest → length bytes ≤ most_bytes → (ending : FileEnding) × IsFile bytes units ending × (eqb (length rest) 0 ≡ is_whole ending)
+small_log bytes units [] split none small =
+    (Whole, (small, subst (λ (x : List ℕ). IsSplit x units []) (take_all most_bytes bytes small) split), refl)
+small_log bytes units (r ∷ rest) split none small =
+    (Damaged (length (bytes_read bytes) - length (r ∷ rest)), damaged bytes units (r ∷ rest) split none (λ e. cc) (λ large. absurd (omega arith)), ne_eqb (length (r ∷ rest)) 0 (λ e. omega arith))
+
+-- a log that was read has an ending, and is whole where nothing is left and all was read
+log_ending : (bytes : List ℕ) (units : Log) (rest : List ℕ) → IsSplit (bytes_read bytes) units rest → BeginsNoUnit rest
+    → (ending : FileEnding) × IsFile bytes units ending × ((eqb (length rest) 0 && leb (length bytes) most_bytes) ≡ is_whole ending)
+log_ending bytes units rest split none =
+    elim (cases_lt most_bytes (length bytes)) [
+      | inl large ↦ rw (and_right (eqb (length rest) 0) (leb (length bytes) most_bytes) (lt-leb (length bytes) most_bytes large)) (stops_or_not bytes units rest (stops_early rest) refl split none large)
+      | inr small ↦ rw (le-leb (length bytes) most_bytes small) (rw (and_true (eqb (length rest) 0)) (small_log bytes units rest split none small))
+    ]
+
+-- a file that begins with the header, and was read up, has an ending
+pub read_ending : (bytes body : List ℕ) (units : Log) (rest : List ℕ) → bytes_read bytes ≡ file_header ++ body → IsReadUp body units rest
+    → (ending : FileEnding) × IsFile bytes units ending × ((eqb (length rest) 0 && leb (length bytes) most_bytes) ≡ is_whole ending)
+read_ending bytes body units rest is up =
+    let parts : bytes_read bytes ≡ file_header ++ log_bytes units ++ rest = is ∙ ap (λ (x : List ℕ). file_header ++ x) up.begins.parts ∙ sym (append_assoc file_header (log_bytes units) rest) in
+    log_ending bytes units rest (record { are_units = up.begins.are_units; parts = parts }) up.no_more

@@ -1,4 +1,5 @@
 pub mod Examples
 mod WordLemmas
 mod UnitLemmas
+mod StepLemmas
 mod FileLemmas

@@ -1,15 +1,16 @@
 -- The bytes of units: what their first four count, and that no unit's bytes begin another's.
-use Rattle.std.proofs.Common.{◌≡◌, ◌≢◌, ℕ, ◌+◌, ◌*◌, ◌/◌, ◌%◌, ◌<◌, ◌≤◌, Bool, true, false, ltb, ◌&&◌, List, [], ◌∷◌, ◌++◌, length, get_or, take, drop, refl, sym, ap, ◌∙◌, append_assoc, arith}
+use Rattle.std.proofs.Common.{◌≡◌, ◌≢◌, ℕ, ◌+◌, ◌*◌, ◌/◌, ◌%◌, ◌<◌, ◌≤◌, Bool, true, false, eqb, ltb, leb, ◌&&◌, List, [], ◌∷◌, ◌++◌, length, get_or, take, drop, refl, sym, ap, ◌∙◌, append_assoc, arith}
 use Rattle.std.specs.Int.{w32, from_le_bytes}
 use Rattle.std.specs.List.{AllByRecursion}
-use Rattle.std.proofs.lemmas.Bool.{ltb-true}
+use Rattle.std.proofs.lemmas.Bool.{ltb-true, and_parts}
 use Rattle.std.proofs.lemmas.List.{length-append, append_cancel_left}
 use Rattle.std.proofs.lemmas.List.Concat.{flat_map-cons}
+use Rattle.std.proofs.lemmas.Nat.{from_le_bytes-to_le_bytes_4}
 use Rattle.vsl_record.specs.Unit.{LogUnit, Log}
 use Rattle.vsl_record.specs.Words.{IsUnit, unit_words, word_of, header_mark, body_words, most_words}
 use Rattle.vsl_record.proofs.ReadingLemmas.{unit_prefix_free, unit_words_small, length_unit_words-at_least}
 use Rattle.vsl_file.specs.File.{unit_bytes, log_bytes, BeginsNoUnit, stops_early}
-use Rattle.vsl_file.specs.Reading.{words_in}
+use Rattle.vsl_file.specs.Reading.{words_in, IsUnitSize}
 use Rattle.vsl_file.proofs.WordLemmas.{length-word_bytes, words_in-word_bytes}
 
 -- no unit's bytes are the front of another's
@@ -30,28 +31,27 @@ pub short_begins_none : (bytes : List ℕ) → length bytes < 4 → BeginsNoUnit
 short_begins_none bytes short = λ u more fits e. omega (arith, length_with_unit bytes u more e, length_unit_words-at_least u fits)
 
 -- the first word of a unit's bytes is its header
-head_is : (a b c d : ℕ) (bytes : List ℕ) (u : LogUnit) (more : List ℕ) → IsUnit u → a ∷ b ∷ c ∷ d ∷ bytes ≡ unit_bytes u ++ more → from_le_bytes w32 (a ∷ b ∷ c ∷ d ∷ []) ≡ header_mark + (1 + length (body_words u))
-head_is a b c d bytes u more fits e =
-    let words : from_le_bytes w32 (a ∷ b ∷ c ∷ d ∷ []) ∷ words_in bytes ≡ unit_words u ++ words_in more = ap words_in e ∙ words_in-word_bytes (unit_words u) more (unit_words_small u fits) in
-    ap (λ (ws : List ℕ). get_or ws 0 0) words
+head_is : (bytes : List ℕ) (u : LogUnit) (more : List ℕ) → IsUnit u → bytes ≡ unit_bytes u ++ more → from_le_bytes w32 bytes ≡ header_mark + (1 + length (body_words u))
+head_is bytes u more fits e = ap (from_le_bytes w32) e ∙ from_le_bytes-to_le_bytes_4 (header_mark + (1 + length (body_words u))) (unit_words_small u fits 0)
 
 -- the low three bytes of the first word of a unit's bytes count the unit's words
-pub head_counts : (a b c d : ℕ) (bytes : List ℕ) (u : LogUnit) (more : List ℕ) → IsUnit u → a ∷ b ∷ c ∷ d ∷ bytes ≡ unit_bytes u ++ more → from_le_bytes w32 (a ∷ b ∷ c ∷ d ∷ []) % 16777216 ≡ length (unit_words u)
-head_counts a b c d bytes u more fits e =
-    let head = head_is a b c d bytes u more fits e in
+pub head_counts : (bytes : List ℕ) (u : LogUnit) (more : List ℕ) → IsUnit u → bytes ≡ unit_bytes u ++ more → from_le_bytes w32 bytes % 16777216 ≡ length (unit_words u)
+head_counts bytes u more fits e =
     let size : 1 + length (body_words u) ≤ 1048576 = omega (arith, fits.size) in
     let low : (header_mark + (1 + length (body_words u))) % 16777216 ≡ 1 + length (body_words u) = omega arith in
-    ap (λ (w : ℕ). w % 16777216) head ∙ low ∙ omega arith
+    ap (λ (w : ℕ). w % 16777216) (head_is bytes u more fits e) ∙ low ∙ omega arith
 
 -- bytes with fewer than their first word counts begin no unit
-pub cut_begins_none : (a b c d : ℕ) (bytes : List ℕ) → 4 + length bytes < 4 * (from_le_bytes w32 (a ∷ b ∷ c ∷ d ∷ []) % 16777216) → BeginsNoUnit (a ∷ b ∷ c ∷ d ∷ bytes)
-cut_begins_none a b c d bytes cut = λ u more fits e.
-    omega (arith, head_counts a b c d bytes u more fits e, length_with_unit (a ∷ b ∷ c ∷ d ∷ bytes) u more e)
+pub cut_begins_none : (bytes : List ℕ) → length bytes < 4 * (from_le_bytes w32 bytes % 16777216) → BeginsNoUnit bytes
+cut_begins_none bytes cut = λ u more fits e. omega (arith, head_counts bytes u more fits e, length_with_unit bytes u more e)
 
--- two tests that both hold
-and_last : (p q : Bool) → (p && q) ≡ true → q ≡ true
-and_last true q e = e
-and_last false q e = absurd cc
+-- four times what the first word counts is the size of a unit at the front
+pub size_of : (bytes : List ℕ) → 4 * (from_le_bytes w32 bytes % 16777216) ≤ length bytes → IsUnitSize (4 * (from_le_bytes w32 bytes % 16777216)) bytes
+size_of bytes long = record {
+  words = (from_le_bytes w32 bytes % 16777216, refl);
+  within = long;
+  only = λ u more fits e. length-word_bytes (unit_words u) ∙ ap (λ (n : ℕ). 4 * n) (sym (head_counts bytes u more fits e));
+}
 
 -- bytes that stop early begin no unit
 pub stopped_begins_none : (bytes : List ℕ) → stops_early bytes ≡ true → BeginsNoUnit bytes
@@ -60,10 +60,10 @@ stopped_begins_none (a ∷ []) e = short_begins_none (a ∷ []) (omega arith)
 stopped_begins_none (a ∷ b ∷ []) e = short_begins_none (a ∷ b ∷ []) (omega arith)
 stopped_begins_none (a ∷ b ∷ c ∷ []) e = short_begins_none (a ∷ b ∷ c ∷ []) (omega arith)
 stopped_begins_none (a ∷ b ∷ c ∷ d ∷ bytes) e =
-    let test : ltb (4 + length bytes) (4 * (word_of a b c d % 16777216)) ≡ true = and_last _ _ e in
+    let test : ltb (4 + length bytes) (4 * (word_of a b c d % 16777216)) ≡ true = (and_parts (eqb (word_of a b c d / 16777216) 254 && leb 3 (word_of a b c d % 16777216) && leb (word_of a b c d % 16777216) most_words) (ltb (4 + length bytes) (4 * (word_of a b c d % 16777216))) e).1 in
     let cut : 4 + length bytes < 4 * (word_of a b c d % 16777216) = ltb-true _ _ test in
-    let same : from_le_bytes w32 (a ∷ b ∷ c ∷ d ∷ []) ≡ word_of a b c d = omega arith in
-    cut_begins_none a b c d bytes (omega (arith, cut, ap (λ (w : ℕ). w % 16777216) same))
+    let same : from_le_bytes w32 (a ∷ b ∷ c ∷ d ∷ bytes) ≡ word_of a b c d = omega arith in
+    cut_begins_none (a ∷ b ∷ c ∷ d ∷ bytes) (omega (arith, cut, ap (λ (w : ℕ). w % 16777216) same))
 
 regroup : (u : LogUnit) (us : Log) (a : List ℕ) → log_bytes (u ∷ us) ++ a ≡ unit_bytes u ++ (log_bytes us ++ a)
 regroup u us a = ap (λ (x : List ℕ). x ++ a) (flat_map-cons unit_bytes u us) ∙ append_assoc (unit_bytes u) (log_bytes us) a
