@@ -3,3 +3,4 @@ mod WordLemmas
 mod UnitLemmas
 mod StepLemmas
 mod FileLemmas
+mod EveryFileLemmas

@@ -65,7 +65,8 @@ stopped_begins_none (a ∷ b ∷ c ∷ d ∷ bytes) e =
     let same : from_le_bytes w32 (a ∷ b ∷ c ∷ d ∷ bytes) ≡ word_of a b c d = omega arith in
     cut_begins_none (a ∷ b ∷ c ∷ d ∷ bytes) (omega (arith, cut, ap (λ (w : ℕ). w % 16777216) same))
 
-regroup : (u : LogUnit) (us : Log) (a : List ℕ) → log_bytes (u ∷ us) ++ a ≡ unit_bytes u ++ (log_bytes us ++ a)
+-- the bytes of a unit, those of others, and what follows
+pub regroup : (u : LogUnit) (us : Log) (a : List ℕ) → log_bytes (u ∷ us) ++ a ≡ unit_bytes u ++ (log_bytes us ++ a)
 regroup u us a = ap (λ (x : List ℕ). x ++ a) (flat_map-cons unit_bytes u us) ∙ append_assoc (unit_bytes u) (log_bytes us) a
 
 -- units followed by no unit's bytes are determined by their bytes, and so is what follows

@@ -8,4 +8,4 @@
 
 mod reading;
 
-pub use reading::{FileUnits, one_content, read_file};
+pub use reading::{FileUnits, every_file, one_content, read_file};

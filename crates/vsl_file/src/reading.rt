@@ -1,8 +1,8 @@
 //! Reading a whole file.
 
-ghost use Rattle.std.specs.Prelude.{◌≡◌, ◌++◌, ◌↔◌, ℕ, List, MatchOption, take, IsTrue, IfOk, IfSome, IfNone};
+ghost use Rattle.std.specs.Prelude.{◌≡◌, ◌<◌, ℕ, List, slice_index, IfOk, IfSome, IfNone};
 ghost use Rattle.vsl_record.specs.Unit.{Log};
-ghost use Rattle.vsl_file.specs.File.{FileEnding, IsFile, is_whole, file_header, bytes_read, BeginsNoUnit};
+ghost use Rattle.vsl_file.specs.File.{FileEnding, IsFile, is_whole, bytes_read, BeginsNoUnit};
 ghost use Rattle.vsl_file.specs.Reading.{words_in, IsUnitSize, BeginsWithUnit, IsReadUp};
 
 use std::alloc::Global;
@@ -27,6 +27,12 @@ pub struct FileUnits {
 /// The law that a file's bytes determine its units and its ending. It does nothing.
 pub fn one_content()
     ensures { (bytes : List ℕ) (us vs : Log) (d e : FileEnding) → IsFile bytes us d → IsFile bytes vs e → (us ≡ vs) × (d ≡ e) }
+{
+}
+
+/// The law that every list of bytes has units and an ending as a file. It does nothing.
+pub fn every_file()
+    ensures { (bytes : List ℕ) → ((i : ℕ) → slice_index bytes i < 256) → (units : Log) × (ending : FileEnding) × IsFile bytes units ending }
 {
 }
 
