@@ -89,9 +89,9 @@ begins_or_not (h ∷ header) [] = inr (λ more e. cc)
 begins_or_not (h ∷ header) (b ∷ bytes) =
     elim (begins_or_not header bytes) [
       | inl (more, is) ↦ elim (cases_eq b h) [
-          | inl same ↦ inl (more, ap (λ (x : ℕ). x ∷ bytes) same ∙ ap (λ (x : List ℕ). h ∷ x) is)
-          | inr other ↦ inr (λ rest e. other (ap (λ (x : List ℕ). get_or x 0 b) e))
-        ]
+        | inl same ↦ inl (more, ap (λ (x : ℕ). x ∷ bytes) same ∙ ap (λ (x : List ℕ). h ∷ x) is)
+        | inr other ↦ inr (λ rest e. other (ap (λ (x : List ℕ). get_or x 0 b) e))
+      ]
       | inr other ↦ inr (λ rest e. other rest (ap (drop 1) e))
     ]
 

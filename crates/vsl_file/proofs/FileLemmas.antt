@@ -108,7 +108,7 @@ one_place bytes at other p q =
 same_logs : (bytes : List ℕ) (us vs : Log) (d e : FileEnding) (rest left : List ℕ) → IsLogFile bytes us d rest → IsLogFile bytes vs e left → (us ≡ vs) × (d ≡ e)
 same_logs bytes us vs d e rest left p q =
     let parts : file_header ++ (log_bytes us ++ rest) ≡ file_header ++ (log_bytes vs ++ left) =
-            sym (append_assoc file_header (log_bytes us) rest) ∙ sym p.split.parts ∙ q.split.parts ∙ append_assoc file_header (log_bytes vs) left in
+    sym (append_assoc file_header (log_bytes us) rest) ∙ sym p.split.parts ∙ q.split.parts ∙ append_assoc file_header (log_bytes vs) left in
     let same = one_log us vs rest left p.split.are_units q.split.are_units p.no_more q.no_more (append_cancel_left file_header (log_bytes us ++ rest) (log_bytes vs ++ left) parts) in
     (same.0, one_ending bytes left d e (subst (λ (x : List ℕ). EndsSo bytes x d) same.1 p.ends) q.ends)
 
@@ -117,13 +117,13 @@ pub one_content_of : (bytes : List ℕ) (us vs : Log) (d e : FileEnding) → IsF
 one_content_of bytes us vs d e file other =
     elim (opened bytes us d file) [
       | inl (at, p) ↦ elim (opened bytes vs e other) [
-          | inl (place, q) ↦ (p.none ∙ sym q.none, p.is ∙ ap NotALog (one_place bytes at place p.differs q.differs) ∙ sym q.is)
-          | inr (rest, q) ↦ absurd (not_both bytes vs rest at q.split p.differs)
-        ]
+        | inl (place, q) ↦ (p.none ∙ sym q.none, p.is ∙ ap NotALog (one_place bytes at place p.differs q.differs) ∙ sym q.is)
+        | inr (rest, q) ↦ absurd (not_both bytes vs rest at q.split p.differs)
+      ]
       | inr (rest, p) ↦ elim (opened bytes vs e other) [
-          | inl (at, q) ↦ absurd (not_both bytes us rest at p.split q.differs)
-          | inr (left, q) ↦ same_logs bytes us vs d e rest left p q
-        ]
+        | inl (at, q) ↦ absurd (not_both bytes us rest at p.split q.differs)
+        | inr (left, q) ↦ same_logs bytes us vs d e rest left p q
+      ]
     ]
 
 -- where a list doesn't begin with another there is a first difference

@@ -9,3 +9,6 @@
 mod reading;
 
 pub use reading::{FileUnits, every_file, one_content, read_file};
+
+#[cfg(test)]
+mod tests;

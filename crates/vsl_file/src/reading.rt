@@ -27,14 +27,12 @@ pub struct FileUnits {
 /// The law that a file's bytes determine its units and its ending. It does nothing.
 pub fn one_content()
     ensures { (bytes : List ℕ) (us vs : Log) (d e : FileEnding) → IsFile bytes us d → IsFile bytes vs e → (us ≡ vs) × (d ≡ e) }
-{
-}
+{}
 
 /// The law that every list of bytes has units and an ending as a file. It does nothing.
 pub fn every_file()
     ensures { (bytes : List ℕ) → ((i : ℕ) → slice_index bytes i < 256) → (units : Log) × (ending : FileEnding) × IsFile bytes units ending }
-{
-}
+{}
 
 /// Reads the units of a log file from all its bytes.
 ///
@@ -82,7 +80,11 @@ fn read_units(alloc: Global, bytes: &[u8]) -> Result<(Units, &[u8]), NoMemory>
 
 /// Reads the unit at the front of the bytes, and what is left. The words are a buffer: what they
 /// were is lost.
-fn next_unit<'a>(alloc: Global, words: &mut Vec<u32>, bytes: &'a [u8]) -> Result<Option<(Unit, &'a [u8])>, NoMemory>
+fn next_unit<'a>(
+    alloc: Global,
+    words: &mut Vec<u32>,
+    bytes: &'a [u8],
+) -> Result<Option<(Unit, &'a [u8])>, NoMemory>
     ensures some { IfOk result (λ o. IfSome o (λ x. BeginsWithUnit bytes.now x.0 x.1.now)) }
     ensures none { IfOk result (λ o. IfNone o (BeginsNoUnit bytes.now)) }
 {

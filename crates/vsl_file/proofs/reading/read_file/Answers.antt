@@ -16,5 +16,5 @@ unfolding most_bytes
 returns c =
     let body : c.first_bytes.result.now ≡ file_header ++ c.in-Some.body.now = strip_prefix_is (λ a b. (eqb-true a b, eq-eqb a b)) c.first_bytes.result.now file_header (Some c.in-Some.body) c.in-Some.ensures.cases in
     let whole : c.if-is_empty.result ≡ (eqb (length c.in_ok-units.rest.now) 0 && leb (length c.args.bytes.now) most_bytes) =
-            elim c.if-is_empty.branch [ then-is_empty w ↦ rw (sym c.is_empty.ensures ∙ w.if-is_empty.true) w.result-is | else-is_empty w ↦ rw (sym c.is_empty.ensures ∙ w.if-is_empty.false) (w.result-is ∙ w.if-is_empty.false) ] in
+    elim c.if-is_empty.branch [ then-is_empty w ↦ rw (sym c.is_empty.ensures ∙ w.if-is_empty.true) w.result-is | else-is_empty w ↦ rw (sym c.is_empty.ensures ∙ w.if-is_empty.false) (w.result-is ∙ w.if-is_empty.false) ] in
     rw whole (read_ending c.args.bytes.now c.in-Some.body.now c.in_ok-units.units c.in_ok-units.rest.now (sym c.first_bytes.ensures ∙ body) c.in_ok-units.ensures)

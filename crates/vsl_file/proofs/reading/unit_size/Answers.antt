@@ -10,4 +10,4 @@ returns-then-bytes-size-clause-none c =
 pub returns-clause-some : goal.returns-clause-some
 returns-clause-some c =
     subst (λ (head : ℕ). IsUnitSize (4 * (head % 16777216)) c.args.bytes.now) (sym c.from_le_bytes-head.ensures)
-      (size_of c.args.bytes.now (subst (λ (head : ℕ). 4 * (head % 16777216) ≤ length c.args.bytes.now) c.from_le_bytes-head.ensures c.if-bytes-size.false))
+    (size_of c.args.bytes.now (subst (λ (head : ℕ). 4 * (head % 16777216) ≤ length c.args.bytes.now) c.from_le_bytes-head.ensures c.if-bytes-size.false))
