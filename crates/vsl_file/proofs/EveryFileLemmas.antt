@@ -1,5 +1,5 @@
 -- Every list of bytes has units and an ending.
-use Rattle.std.proofs.Common.{◌≡◌, ◌≢◌, ℕ, zero, suc, ◌+◌, ◌*◌, ◌%◌, ◌^◌, ◌<◌, ◌≤◌, ◌⊎◌, inl, inr, List, [], ◌∷◌, ◌++◌, length, get_or, take, drop, Result, Ok, Err, refl, sym, ap, subst, ◌∙◌, arith}
+use Rattle.std.proofs.Common.{◌≡◌, ◌≢◌, ℕ, zero, suc, ◌+◌, ◌*◌, ◌%◌, ◌<◌, ◌⊎◌, inl, inr, List, [], ◌∷◌, ◌++◌, length, get_or, take, drop, Result, Ok, Err, refl, sym, ap, subst, ◌∙◌, arith}
 use Rattle.std.specs.Int.{w32, from_le_bytes}
 use Rattle.std.proofs.lemmas.Bool.{cases_lt, cases_eq}
 use Rattle.std.proofs.lemmas.List.{take_at, drop_at, get_or-drop}
@@ -9,7 +9,7 @@ use Rattle.vsl_record.specs.Words.{IsUnit, unit_words}
 use Rattle.vsl_record.proofs.ReadingLemmas.{unit_takes, unit_again}
 use Rattle.vsl_record.proofs.Steps.{IsBytes, IsWords, IsBytes-take, IsWords-nil, IsWords-cons}
 use Rattle.vsl_file.specs.File.{FileEnding, IsFile, BeginsNoUnit, unit_bytes, bytes_read, file_header, most_bytes}
-use Rattle.vsl_file.specs.Reading.{words_in, IsUnitSize, BeginsWithUnit, BeginsWithUnits, IsReadUp}
+use Rattle.vsl_file.specs.Reading.{words_in, IsUnitSize, BeginsWithUnit, IsReadUp}
 use Rattle.vsl_file.proofs.UnitLemmas.{cut_begins_none, size_of, regroup}
 use Rattle.vsl_file.proofs.StepLemmas.{unit_found, unit_refused, unit_takes_bytes, begins_with_none}
 use Rattle.vsl_file.proofs.FileLemmas.{no_log, read_ending}

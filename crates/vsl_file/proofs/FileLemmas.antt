@@ -1,13 +1,11 @@
 -- A file's units and ending: one content for each list of bytes, and the ending that follows from what was read.
-use Rattle.std.proofs.Common.{◌≡◌, ◌≢◌, ℕ, zero, suc, ◌+◌, ◌-◌, ◌*◌, ◌<◌, ◌≤◌, Bool, true, false, ltb, leb, eqb, ◌&&◌, ◌⊎◌, inl, inr, Option, Some, None, unwrap_or, List, [], ◌∷◌, ◌++◌, length, take, drop, refl, sym, ap, subst, ◌∙◌, append_assoc, arith}
+use Rattle.std.proofs.Common.{◌≡◌, ◌≢◌, ℕ, zero, suc, ◌+◌, ◌-◌, ◌<◌, ◌≤◌, Bool, true, false, leb, eqb, ◌&&◌, ◌⊎◌, inl, inr, Option, unwrap_or, List, [], ◌∷◌, ◌++◌, length, take, drop, refl, sym, ap, subst, ◌∙◌, append_assoc, arith}
 use Rattle.std.specs.Prelude.{slice_get}
-use Rattle.std.specs.List.{AllByRecursion}
 use Rattle.std.proofs.lemmas.Bool.{cases_lt, cases_eq, cases_order, ne_eqb, lt-leb, le-leb, both_ways, and_right}
-use Rattle.std.proofs.lemmas.List.{take_all, append-nil, append_cancel_left, take-append-drop, length-append}
-use Rattle.vsl_record.specs.Unit.{LogUnit, Log}
-use Rattle.vsl_record.specs.Words.{IsUnit}
+use Rattle.std.proofs.lemmas.List.{take_all, append_cancel_left, take-append-drop, length-append}
+use Rattle.vsl_record.specs.Unit.{Log}
 use Rattle.vsl_file.specs.File.{FileEnding, Whole, NotALog, Damaged, TooLarge, IsFile, IsSplit, DiffersFirst, BeginsNoUnit, stops_early, is_whole, most_bytes, bytes_read, file_header, log_bytes}
-use Rattle.vsl_file.specs.Reading.{BeginsWithUnits, IsReadUp}
+use Rattle.vsl_file.specs.Reading.{IsReadUp}
 use Rattle.vsl_file.proofs.UnitLemmas.{short_begins_none, stopped_begins_none, one_log}
 
 -- how a log ends, by what is left after its units

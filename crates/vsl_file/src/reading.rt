@@ -1,8 +1,8 @@
 //! Reading a whole file.
 
-ghost use Rattle.std.specs.Prelude.{◌≡◌, ◌<◌, ℕ, List, slice_index, IfOk, IfSome, IfNone};
+ghost use Rattle.std.specs.Prelude.{◌≡◌, ◌≢◌, ◌==◌, ◌&&◌, ◌<◌, ◌++◌, ℕ, List, length, slice_index, nat_le, IfOk, IfSome, IfNone};
 ghost use Rattle.vsl_record.specs.Unit.{Log};
-ghost use Rattle.vsl_file.specs.File.{FileEnding, IsFile, is_whole, bytes_read, BeginsNoUnit};
+ghost use Rattle.vsl_file.specs.File.{FileEnding, IsFile, is_whole, file_header, bytes_read, most_bytes, BeginsNoUnit};
 ghost use Rattle.vsl_file.specs.Reading.{words_in, IsUnitSize, BeginsWithUnit, IsReadUp};
 
 use std::alloc::Global;
@@ -41,17 +41,16 @@ pub fn every_file()
 pub fn read_file(alloc: Global, bytes: &[u8]) -> Result<FileUnits, NoMemory>
     ensures { IfOk result (λ f. (ending : FileEnding) × IsFile bytes.now f.units ending × (f.whole ≡ is_whole ending)) }
 {
-    let Some(body) = first_bytes(bytes).strip_prefix(&HEADER) else {
+    let first = first_bytes(bytes);
+    let Some(body) = after_header(first) else {
         return Ok(FileUnits {
             units: Units::new(alloc),
             whole: false,
         });
     };
     let (units, rest) = read_units(alloc, body)?;
-    Ok(FileUnits {
-        units,
-        whole: rest.is_empty() && bytes.len() <= MOST_BYTES,
-    })
+    let whole = is_read_whole(bytes, rest);
+    Ok(FileUnits { units, whole })
 }
 
 /// The bytes that are read of a file.
@@ -62,6 +61,23 @@ fn first_bytes(bytes: &[u8]) -> &[u8]
         Some((first, _)) => first,
         None => bytes,
     }
+}
+
+/// The bytes after the header, where the bytes begin with it.
+#[tactic(auto, using(std::proofs::lemmas::Slice::Eq::strip_prefix_is))]
+fn after_header(bytes: &[u8]) -> Option<&[u8]>
+    ensures some { IfSome result (λ body. bytes.now ≡ file_header ++ body.now) }
+    ensures none { IfNone result ((body : List ℕ) → bytes.now ≢ file_header ++ body) }
+{
+    bytes.strip_prefix(&HEADER)
+}
+
+/// Whether a log of these bytes was read to its end, where this is left after its units.
+#[tactic(auto, unfolding(crate::specs::File::most_bytes))]
+fn is_read_whole(bytes: &[u8], rest: &[u8]) -> bool
+    ensures { result ≡ (length rest.now == 0 && nat_le (length bytes.now) most_bytes) }
+{
+    rest.is_empty() && bytes.len() <= MOST_BYTES
 }
 
 /// Reads all units at the front of the bytes, and what is left.

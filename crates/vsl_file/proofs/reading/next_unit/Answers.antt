@@ -1,5 +1,5 @@
-use Rattle.std.proofs.Common.{◌≡◌, ℕ, List, Err, ap, subst, ◌∙◌, take, arith}
-use Rattle.vsl_file.specs.Reading.{words_in, BeginsWithUnit}
+use Rattle.std.proofs.Common.{◌≡◌, Err, ap, ◌∙◌, take, arith}
+use Rattle.vsl_file.specs.Reading.{words_in}
 use Rattle.vsl_file.proofs.StepLemmas.{unit_found, unit_refused}
 use Rattle.vsl_file.proofs.reading.next_unit.Goals as goal
 
