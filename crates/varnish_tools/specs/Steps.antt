@@ -1,5 +1,5 @@
 -- What the steps of the top call do; the main theorem joins them.
-use Rattle.std.specs.Prelude.{◌≡◌, ◌≢◌, ℕ, ◌-◌, ◌<◌, ◌≤◌, List, ◌++◌, length, take, Option, Some, None, ◌⊎◌, codes}
+use Rattle.std.specs.Prelude.{◌≡◌, ◌≢◌, ℕ, ◌-◌, ◌<◌, ◌≤◌, List, ◌++◌, length, take, Option, Some, None, ◌⊎◌, ◌↔◌, codes}
 use Rattle.std.specs.List.{flat_map}
 use Rattle.log_model.specs.Faults.{HasNewFault}
 use Rattle.vio.specs.World.{Seen, Writing, NoCountFalls, Wrote, Gains}
@@ -10,7 +10,7 @@ use Rattle.vsl_file.specs.File as file
 use Rattle.varnish_tools.specs.declared.fault.ToolFault.{ToolFault}
 use Rattle.varnish_tools.specs.declared.fault.ToolFault.TheVariants.{NotBuilt, NoOpen, ReadFault, WriteFault, BadFile}
 use Rattle.varnish_tools.specs.declared.outcome.RunRecord.{RunRecord}
-use Rattle.varnish_tools.specs.Job.{Job}
+use Rattle.varnish_tools.specs.Job.{Job, job_of}
 use Rattle.varnish_tools.specs.Run.{Run, Ending, Whole, fault_of, IsRecordOf}
 use Rattle.varnish_tools.specs.Output.{output_of, fault_message}
 use Rattle.varnish_tools.specs.Theorem.{Input, IsInput, HasCause, Takes, WritesSink, GainsFront, whole_run, sink_name, log_limit}
@@ -27,24 +27,23 @@ pub record PartPrinted (units : Log) (n : ℕ) (before now : Seen) : Type 0 wher
 -- nothing changed but counts, handles and what standard output gained
 pub record ChangesOutput (before now : Seen) : Type 0 where
   pub counts : NoCountFalls before now
-  pub held : (name : List ℕ) → now.held name ≡ before.held name
   pub other_written : (i : ℕ) → i ≢ 1 → now.written i ≡ before.written i
 
 -- for this input, a run was taken, it ended and its text was written
-pub record PrintsText (job : Job) (input : Input) (fault : Option ToolFault) (taken : RunRecord) (before now : Seen) : Type 0 where
+pub record PrintsText (job : Option Job) (input : Input) (fault : Option ToolFault) (taken : RunRecord) (before now : Seen) : Type 0 where
   pub run : Run
   pub ending : Ending
   pub is_run : IsRecordOf taken input.units run
   pub is_ending : fault_of ending ≡ fault
   pub takes : Takes input run ending
-  pub sink : WritesSink (Some job) input run ending before now
+  pub sink : WritesSink job input run ending before now
 
 -- the job was worked off, but for the fault's message
 pub record RunsJob (job : Job) (fault : Option ToolFault) (taken : RunRecord) (before now : Seen) : Type 0 where
   pub built : fault ≢ Some NotBuilt
   pub causes : (f : ToolFault) → fault ≡ Some f → HasCause (Some job) f before now
   pub changes : ChangesOutput before now
-  pub prints : (input : Input) → IsInput (Some job) before input → PrintsText job input fault taken before now
+  pub prints : (input : Input) → IsInput (Some job) before input → PrintsText (Some job) input fault taken before now
 
 -- the job was stopped for want of memory
 pub record IsStopped (job : Job) (before now : Seen) : Type 0 where
@@ -61,17 +60,23 @@ HasPrintCause job bytes fault before now = ⊥
 pub record PrintsFile (job : Job) (bytes : List ℕ) (fault : Option ToolFault) (taken : RunRecord) (before now : Seen) : Type 0 where
   pub causes : (f : ToolFault) → fault ≡ Some f → HasPrintCause job bytes f before now
   pub changes : ChangesOutput before now
-  pub prints : (input : Input) → input.bytes ≡ bytes → length bytes ≤ log_limit → IsFile bytes input.units input.file_ending → PrintsText job input fault taken before now
+  pub prints : (input : Input) → input.bytes ≡ bytes → length bytes ≤ log_limit → IsFile bytes input.units input.file_ending → PrintsText (Some job) input fault taken before now
 
 -- printing these bytes was stopped for want of memory
 pub record IsPrintStopped (job : Job) (bytes : List ℕ) (before now : Seen) : Type 0 where
   pub changes : ChangesOutput before now
   pub sink : (units : Log) (ending : FileEnding) → IsFile bytes units ending → GainsFront (before.written 1) (now.written 1) (flat_map raw_lines units)
 
+-- the words were worked off, but for the fault's message
+pub record RunsWords (words : List (List ℕ)) (fault : Option ToolFault) (taken : RunRecord) (before now : Seen) : Type 0 where
+  pub not_built : (fault ≡ Some NotBuilt) ↔ (job_of words ≡ None)
+  pub causes : (f : ToolFault) → fault ≡ Some f → HasCause (job_of words) f before now
+  pub changes : ChangesOutput before now
+  pub prints : (input : Input) → IsInput (job_of words) before input → PrintsText (job_of words) input fault taken before now
+
 -- nothing changed but counts and what standard error gained
 pub record ChangesErrors (before now : Seen) : Type 0 where
   pub counts : NoCountFalls before now
-  pub held : (name : List ℕ) → now.held name ≡ before.held name
   pub other_written : (i : ℕ) → i ≢ 2 → now.written i ≡ before.written i
 
 -- the message of a fault was written, or a front of it where a write failed

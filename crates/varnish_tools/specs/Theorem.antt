@@ -104,7 +104,6 @@ pub record IsFaithful (words : List (List ℕ)) (outcome : Outcome) (before now 
   pub not_built : (outcome.fault ≡ Some NotBuilt) ↔ (job_of words ≡ None)
   pub causes : (fault : ToolFault) → outcome.fault ≡ Some fault → HasCause (job_of words) fault before now
   pub counts : NoCountFalls before now
-  pub held : (name : List ℕ) → now.held name ≡ before.held name
   pub other_written : (i : ℕ) → i ≢ 1 → i ≢ 2 → now.written i ≡ before.written i
   -- where the world tells what the sources hold
   pub writes : (input : Input) → IsInput (job_of words) before input → WritesOutput (job_of words) input outcome before now
@@ -129,7 +128,6 @@ whole_run input = if nat_le (length input.bytes) log_limit then run_of input.uni
 -- where the call answers want of memory: what was written until then
 pub record IsCutShort (words : List (List ℕ)) (before now : Seen) : Type 0 where
   pub counts : NoCountFalls before now
-  pub held : (name : List ℕ) → now.held name ≡ before.held name
   pub other_written : (i : ℕ) → i ≢ 1 → i ≢ 2 → now.written i ≡ before.written i
   pub sink : (input : Input) → IsInput (job_of words) before input → GainsFront (before.written 1) (now.written 1) (output_of (job_of words) (whole_run input) Whole).sink
   pub messages : Gains (before.written 2) (now.written 2) []

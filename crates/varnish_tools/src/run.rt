@@ -7,10 +7,10 @@ use crate::fault::ToolFault;
 use crate::job::Job;
 use crate::name::Name;
 use crate::outcome::RunRecord;
-use crate::print::{Stopped, print_units};
+use crate::print::print_units;
 use std::alloc::Global;
 use vio::{NoMemory, WholeFault, World, WorldFault, read_whole};
-use vsl_file::{FileUnits, read_file};
+use vsl_file::read_file;
 
 /// The most bytes of a log file that are read.
 const LOG_LIMIT: u64 = 16_777_216;
@@ -23,7 +23,7 @@ pub struct Ran {
 }
 
 /// What a run answers where nothing was taken.
-fn refused(fault: ToolFault) -> Ran
+pub fn refused(fault: ToolFault) -> Ran
     ensures fault { result.fault ≡ Some fault }
     ensures run { result.run ≡ RunRecord.Nothing }
 {
@@ -49,18 +49,23 @@ fn print_file<W: World>(alloc: Global, job: &Job<'_>, world: &mut W, bytes: &[u8
     ensures printed { IfOk result (λ r. PrintsFile (record { file = job.now.file.now }) bytes.now r.fault r.run (W.seen world.old) (W.seen world.new)) }
     ensures memory { OnErr result (IsPrintStopped (record { file = job.now.file.now }) bytes.now (W.seen world.old) (W.seen world.new)) }
 {
-    let FileUnits { units, whole } = read_file(alloc, bytes)?;
-    match print_units(alloc, world, units.as_slice()) {
-        Ok(()) if whole => Ok(counted(None, units.as_slice().len() as u64)),
+    let file = read_file(alloc, bytes)?;
+    let units = file.units.as_slice();
+    match print_units(alloc, world, units) {
+        Ok(()) if file.whole => Ok(counted(None, units.len() as u64)),
         Ok(()) => {
             let name = Name::new(alloc, job.file)?;
-            Ok(counted(Some(ToolFault::BadFile { name }), units.as_slice().len() as u64))
+            let fault = ToolFault::BadFile { name };
+            Ok(counted(Some(fault), units.len() as u64))
         }
-        Err(Stopped { fault: WorldFault::Failed, units }) => {
-            let name = Name::new(alloc, "-")?;
-            Ok(counted(Some(ToolFault::WriteFault { name }), units))
-        }
-        Err(Stopped { fault: WorldFault::NoMemory, .. }) => Err(NoMemory),
+        Err(stopped) => match stopped.fault {
+            WorldFault::Failed => {
+                let name = Name::new(alloc, "-")?;
+                let fault = ToolFault::WriteFault { name };
+                Ok(counted(Some(fault), stopped.units))
+            }
+            WorldFault::NoMemory => Err(NoMemory),
+        },
     }
 }
 

@@ -1,15 +1,15 @@
 //! The top call.
 
 ghost use Rattle.std.specs.Prelude.{map, IfOk, OnOk, OnErr};
-ghost use Rattle.varnish_tools.specs.Steps.{Reports, ReportsPart};
+ghost use Rattle.varnish_tools.specs.Steps.{RunsWords, Reports, ReportsPart};
 ghost use Rattle.std.specs.String.{string_bytes};
 ghost use Rattle.varnish_tools.specs.Theorem.{IsFaithful, IsComplete, IsCutShort};
 
 use crate::fault::ToolFault;
 use crate::job::read_job;
 use crate::message::{message_of, status_of};
-use crate::outcome::{Outcome, RunRecord};
-use crate::run::{Ran, run_job};
+use crate::outcome::Outcome;
+use crate::run::{Ran, refused, run_job};
 use std::alloc::Global;
 use vio::{NoMemory, World, WorldFault, write_all};
 
@@ -26,8 +26,20 @@ fn report<W: World>(alloc: Global, world: &mut W, fault: &Option<ToolFault>) -> 
     };
     let text = message_of(alloc, fault)?;
     match write_all(world, ERRORS, &text) {
-        Ok(()) | Err(WorldFault::Failed) => Ok(()),
+        Ok(()) => Ok(()),
+        Err(WorldFault::Failed) => Ok(()),
         Err(WorldFault::NoMemory) => Err(NoMemory),
+    }
+}
+
+/// Works off the words, but for the message of a fault.
+fn run_words<W: World>(alloc: Global, words: &[String], world: &mut W) -> Result<Ran, NoMemory>
+    ensures ran { IfOk result (λ r. RunsWords (map string_bytes words.now) r.fault r.run (W.seen world.old) (W.seen world.new)) }
+    ensures memory { OnErr result (IsCutShort (map string_bytes words.now) (W.seen world.old) (W.seen world.new)) }
+{
+    match read_job(words) {
+        Some(job) => run_job(alloc, &job, world),
+        None => Ok(refused(ToolFault::NotBuilt)),
     }
 }
 
@@ -44,13 +56,7 @@ pub fn run_tools<W: World>(alloc: Global, words: &[String], world: &mut W) -> Re
     ensures complete { IfOk result (λ o. IsComplete (map string_bytes words.now) o (W.seen world.old) (W.seen world.new)) }
     ensures memory { OnErr result (IsCutShort (map string_bytes words.now) (W.seen world.old) (W.seen world.new)) }
 {
-    let Ran { fault, run } = match read_job(words) {
-        Some(job) => run_job(alloc, &job, world)?,
-        None => Ran {
-            fault: Some(ToolFault::NotBuilt),
-            run: RunRecord::Nothing,
-        },
-    };
+    let Ran { fault, run } = run_words(alloc, words, world)?;
     report(alloc, world, &fault)?;
     let status = status_of(&fault);
     Ok(Outcome { status, fault, run })

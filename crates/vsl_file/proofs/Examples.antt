@@ -1,9 +1,8 @@
 -- Worked examples of log files, computed from the definitions.
-use Rattle.std.proofs.Common.{◌≡◌, true, false, ◌≢◌, ℕ, ◌++◌, ◌≤◌, List, [], ◌∷◌, length, refl, arith}
+use Rattle.std.proofs.Common.{◌≡◌, true, false, ◌++◌, [], ◌∷◌, length, refl, arith}
 use Rattle.std.specs.Prelude.{codes}
-use Rattle.vsl_record.specs.Words.{IsUnit}
 use Rattle.vsl_record.proofs.Examples.{one_ping, fetch, request}
-use Rattle.vsl_file.specs.File.{FileEnding, file_header, log_bytes, DiffersFirst, stops_early}
+use Rattle.vsl_file.specs.File.{file_header, log_bytes, DiffersFirst, stops_early}
 
 ping_file : file_header ++ log_bytes (one_ping ∷ []) ≡
     0x56 ∷ 0x53 ∷ 0x4c ∷ 0x4f ∷ 0x47 ∷ 0x2d ∷ 0x31 ∷ 0x0a ∷

@@ -1,1 +1,6 @@
 pub mod Examples
+mod WordLemmas
+mod UnitLemmas
+mod StepLemmas
+mod FileLemmas
+mod EveryFileLemmas

@@ -8,4 +8,7 @@
 
 mod reading;
 
-pub use reading::{FileUnits, read_file};
+pub use reading::{FileUnits, every_file, one_content, read_file};
+
+#[cfg(test)]
+mod tests;
