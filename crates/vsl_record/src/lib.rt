@@ -13,6 +13,7 @@ mod mark;
 mod payload;
 mod reading;
 mod record_type;
+mod records;
 mod unit;
 mod units;
 
@@ -21,6 +22,7 @@ pub use mark::Mark;
 pub use payload::{MAX_PAYLOAD, Payload};
 pub use reading::{one_spelling, read_unit};
 pub use record_type::Record;
+pub use records::Records;
 pub use unit::{MAX_UNIT_WORDS, Unit, VXID_END, Vxid};
 pub use units::Units;
 

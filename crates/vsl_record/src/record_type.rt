@@ -8,7 +8,7 @@ ghost use Rattle.vsl_record.specs.Words.{record_words};
 use crate::fault::RecordFault;
 use crate::mark::Mark;
 use crate::payload::{MAX_PAYLOAD, Payload};
-use std::alloc::Global;
+use std::alloc::{AllocError, Global};
 use vsl_tags::Tag;
 
 /// One line of a log: what it is about, whose side it belongs to, and its bytes (vsl(7)).
@@ -51,5 +51,16 @@ impl Record {
     {
         let _tag = self.tag.number();
         2 + self.payload.as_slice().len().div_ceil(4)
+    }
+
+    /// A copy of the record.
+    pub fn to_owned(&self, alloc: Global) -> Result<Record, AllocError>
+        ensures { IfOk result (λ r. r ≡ self.now) }
+    {
+        Ok(Record {
+            tag: self.tag,
+            mark: self.mark,
+            payload: Payload::from_slice(alloc, self.payload.as_slice())?,
+        })
     }
 }

@@ -1,0 +1,4 @@
+pub mod Claim
+pub mod Transaction
+pub mod Grouping
+pub mod Table

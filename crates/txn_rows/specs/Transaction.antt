@@ -1,0 +1,101 @@
+-- Pending transactions, and the rules by which a record changes them. Each rule is a function of the whole list,
+-- in the order in which transactions began, and asks its questions by a search.
+use Rattle.std.specs.Prelude.{ℕ, ◌==◌, ◌&&◌, not, if◌then◌else◌, Bool, true, false, List, [], ◌∷◌, ◌++◌, Option, Some, None, codes}
+use Rattle.std.specs.List.{filter, list_any}
+use Rattle.vsl_record.specs.declared.mark.Mark.{Mark}
+use Rattle.vsl_record.specs.declared.mark.Mark.TheVariants.{Plain}
+use Rattle.vsl_record.specs.declared.record_type.Record.{Record}
+use Rattle.txn_rows.specs.declared.group.Kind.{Kind}
+use Rattle.txn_rows.specs.declared.group.Kind.TheVariants as kinds
+use Rattle.txn_rows.specs.declared.group.Reason.{Reason}
+use Rattle.txn_rows.specs.declared.group.Reason.TheVariants.{Other}
+use Rattle.txn_rows.specs.declared.group.Cause.{Cause}
+use Rattle.txn_rows.specs.declared.group.Cause.TheVariants.{Flush}
+use Rattle.txn_rows.specs.declared.claim.Claim.{Claim}
+use Rattle.txn_rows.specs.Claim.{claim_of}
+
+-- a pending transaction
+pub record Transaction : Type 0 where
+  pub vxid : ℕ
+  pub kind : Kind
+  pub reason : Reason
+  pub records : List Record
+  -- whether its End was seen, or it was force-completed
+  pub ended : Bool
+
+-- the numbers of the tags that change a transaction
+abbrev pub begin_tag : ℕ
+begin_tag = 42
+
+abbrev pub end_tag : ℕ
+end_tag = 44
+
+abbrev pub vsl_tag : ℕ
+vsl_tag = 45
+
+-- a transaction of which no record was seen
+abbrev pub empty_transaction : ℕ → Transaction
+empty_transaction vxid = record { vxid = vxid; kind = kinds.Unknown; reason = Other; records = []; ended = false }
+
+-- whether a transaction of this VXID is pending
+abbrev pub is_pending : ℕ → List Transaction → Bool
+is_pending vxid pending = list_any (λ t. t.vxid == vxid) pending
+
+-- whether the newest transaction of this VXID is there and has not ended
+abbrev pub is_open : ℕ → List Transaction → Bool
+is_open vxid [] = false
+is_open vxid (t ∷ pending) = if is_pending vxid pending then is_open vxid pending else ((t.vxid == vxid) && not t.ended)
+
+-- the newest transaction of this VXID is changed, and all others stay
+abbrev pub with_newest : ℕ → (Transaction → Transaction) → List Transaction → List Transaction
+with_newest vxid change [] = []
+with_newest vxid change (t ∷ pending) =
+    if is_pending vxid pending then t ∷ with_newest vxid change pending else (if t.vxid == vxid then change t ∷ pending else t ∷ pending)
+
+-- a record whose VXID has no open transaction begins a new one, the newest of all (vsl(7), "Begin")
+abbrev pub with_transaction : ℕ → List Transaction → List Transaction
+with_transaction vxid pending = if is_open vxid pending then pending else pending ++ empty_transaction vxid ∷ []
+
+-- a record goes to the newest transaction of its VXID, at its end
+abbrev pub with_record : ℕ → Record → List Transaction → List Transaction
+with_record vxid rec pending = with_newest vxid (λ t. record t { records = t.records ++ rec ∷ [] }) pending
+
+-- a claim gives a transaction of unknown kind its kind and reason; it changes no other
+abbrev pub claimed_kind : Option Claim → Transaction → Transaction
+claimed_kind None t = t
+claimed_kind (Some claim) (record { vxid = vxid; kind = kinds.Unknown; reason = reason; records = records; ended = ended }) =
+    record { vxid = vxid; kind = claim.kind; reason = claim.reason; records = records; ended = ended }
+claimed_kind (Some claim) t = t
+
+-- a well-formed Begin gives a transaction of unknown kind its kind and reason (vsl(7), "Begin")
+abbrev pub with_kind : ℕ → Record → List Transaction → List Transaction
+with_kind vxid rec pending = if rec.tag == begin_tag then with_newest vxid (claimed_kind (claim_of rec.payload)) pending else pending
+
+-- End ends a transaction (vsl(7), "End")
+abbrev pub with_end : ℕ → Record → List Transaction → List Transaction
+with_end vxid rec pending = if rec.tag == end_tag then with_newest vxid (λ t. record t { ended = true }) pending else pending
+
+-- the pending transactions after a record: the rules in their order
+abbrev pub after_record : ℕ → Record → List Transaction → List Transaction
+after_record vxid rec pending = with_end vxid rec (with_kind vxid rec (with_record vxid rec (with_transaction vxid pending)))
+
+-- the text of a cause (this project's choice)
+abbrev pub cause_text : Cause → List ℕ
+cause_text Flush = codes "flush"
+
+-- the side of a transaction's first record, or none
+abbrev pub first_mark : List Record → Mark
+first_mark [] = Plain
+first_mark (rec ∷ records) = rec.mark
+
+-- a transaction is force-completed: it gets a VSL record with the cause and an End `synth`, and has ended (varnishlog(1); texts are this project's choice)
+abbrev pub forced : Cause → Transaction → Transaction
+forced cause t = record t {
+  records = t.records ++ record { tag = vsl_tag; mark = first_mark t.records; payload = cause_text cause } ∷ record { tag = end_tag; mark = first_mark t.records; payload = codes "synth" } ∷ [];
+  ended = true
+}
+
+-- the oldest transaction that has not ended is force-completed
+abbrev pub with_oldest_forced : Cause → List Transaction → List Transaction
+with_oldest_forced cause [] = []
+with_oldest_forced cause (t ∷ pending) = if t.ended then t ∷ with_oldest_forced cause pending else forced cause t ∷ pending

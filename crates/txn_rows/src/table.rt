@@ -1,0 +1,65 @@
+//! The table of pending transactions.
+
+ghost use Rattle.std.specs.Prelude.{◌≡◌, ◌⊎◌, ◌<◌, ◌++◌, ℕ, List, true, false, length, IfOk, OnOk, OnErr, IsErr};
+ghost use Rattle.txn_rows.specs.Grouping.{no_state, unit_step, unfinished, flush};
+ghost use Rattle.txn_rows.specs.Table.{TableState, Steps, StepsPart};
+
+use crate::group::{Group, GroupOptions, Grouping, Kind, Reason};
+use std::alloc::Global;
+use std::marker::Model;
+use vio::NoMemory;
+use vsl_record::{Records, Unit, Vxid};
+
+/// A pending transaction; none of these has ended.
+#[derive(Drop)]
+struct Row {
+    vxid: Vxid,
+    kind: Kind,
+    reason: Reason,
+    records: Records,
+}
+
+/// The pending transactions of a log, in the order in which they began. Contracts see the options, the
+/// state, and whether it failed for want of memory; from then on it answers that.
+#[derive(Drop)]
+pub struct Table {
+    alloc: Global,
+    options: GroupOptions,
+    rows: Vec<Row>,
+    failed: bool,
+}
+
+impl Model for Table {
+    ghost use Rattle.txn_rows.specs.TableState.{TableState, state_of};
+
+    ghost Value = { TableState };
+
+    ghost view = { λ t. record { options = t.options; state = state_of t.rows.items; failed = t.failed } };
+}
+
+impl Table {
+    pub fn new(alloc: Global, options: GroupOptions) -> Result<Table, NoMemory>
+        requires grouping { (options.grouping ≡ Grouping.Raw) ⊎ (options.grouping ≡ Grouping.Vxid) }
+        requires limit { 0 < options.limit }
+        ensures { IfOk result (λ t. t ≡ record { options = options; state = no_state; failed = false }) }
+
+    /// Takes the records of a unit in order, and adds the groups that they complete.
+    pub fn step(&mut self, unit: &Unit, out: &mut Vec<Group>) -> Result<(), NoMemory>
+        ensures ok { OnOk result (Steps (unit_step self.old.options.grouping unit.now self.old.state) self.old self.new out.old.items out.new.items) }
+        ensures err { OnErr result (StepsPart (unit_step self.old.options.grouping unit.now self.old.state) self.old self.new out.old.items out.new.items) }
+        ensures failed { self.old.failed ≡ true → IsErr result }
+
+    /// Force-completes every transaction that has not ended, the oldest first, and adds their groups.
+    pub fn flush(&mut self, out: &mut Vec<Group>) -> Result<(), NoMemory>
+        ensures ok { OnOk result (Steps (flush self.old.state) self.old self.new out.old.items out.new.items) }
+        ensures err { OnErr result (StepsPart (flush self.old.state) self.old self.new out.old.items out.new.items) }
+        ensures failed { self.old.failed ≡ true → IsErr result }
+
+    /// How many transactions are pending.
+    pub fn rows(&self) -> usize
+        ensures { result ≡ length self.now.state.pending }
+
+    /// How many pending transactions have not ended.
+    pub fn unfinished(&self) -> usize
+        ensures { result ≡ unfinished self.now.state }
+}

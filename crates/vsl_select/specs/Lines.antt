@@ -1,0 +1,60 @@
+-- The text of a group (varnishlog(1)). Columns, escapes and the header's titles are this project's choice.
+use Rattle.std.specs.Prelude.{ℕ, ◌==◌, ◌&&◌, ◌||◌, not, nat_le, if◌then◌else◌, Bool, true, false, List, [], ◌∷◌, ◌++◌, replicate, codes, decimal}
+use Rattle.std.specs.List.{flat_map, filter, list_all, list_any}
+use Rattle.vsl_tags.specs.Tags.{tag_name}
+use Rattle.vsl_record.specs.declared.record_type.Record.{Record}
+use Rattle.vsl_record.specs.RawLine.{at_left, escaped, raw_line}
+use Rattle.txn_rows.specs.declared.group.Kind.{Kind}
+use Rattle.txn_rows.specs.declared.group.Kind.TheVariants as kinds
+use Rattle.txn_rows.specs.declared.group.Member.{Member}
+use Rattle.txn_rows.specs.declared.group.Group.{Group}
+use Rattle.vsl_select.specs.declared.selection.Sides.{Sides}
+
+-- the level field: for 1 to 3 as many characters, left in 3 columns; above, the level between two; then a space
+abbrev pub level_field : ℕ → ℕ → List ℕ
+level_field character level =
+    if nat_le level 3 then at_left 3 (replicate level character) ++ codes " " else character ∷ decimal level ++ character ∷ codes " "
+
+-- the title of a transaction of this kind
+abbrev pub title : Kind → List ℕ
+title kinds.Session = codes "<< Session  >>"
+title kinds.Request = codes "<< Request  >>"
+title kinds.BeReq = codes "<< BeReq    >>"
+title kinds.Unknown = codes "<< Unknown  >>"
+title kinds.Record = codes "<< Record   >>"
+
+-- the header of a transaction: the level in stars, the title, and the VXID left in 10 columns
+abbrev pub header : Member → List ℕ
+header m = level_field 42 m.level ++ title m.kind ++ codes " " ++ at_left 10 (decimal m.vxid) ++ codes "\n"
+
+-- the line of a record in its transaction: the level in dashes, the tag left in 14 columns, and the payload; verbose, the level and the raw line
+abbrev pub record_line : Bool → Member → Record → List ℕ
+record_line verbose m rec =
+    level_field 45 m.level ++ (if verbose then raw_line m.vxid rec else at_left 14 (tag_name rec.tag) ++ codes " " ++ escaped rec.payload ++ codes "\n")
+
+-- whether a list has an element
+abbrev pub is_some_of : {A : Type 0} → List A → Bool
+is_some_of [] = false
+is_some_of (x ∷ xs) = true
+
+-- the text of a transaction: its header and the lines of its records, where it has any
+abbrev pub member_text : Bool → Member → List ℕ
+member_text verbose m = if is_some_of m.records then header m ++ flat_map (record_line verbose m) m.records else []
+
+-- whether a group is of records by themselves, which stand at level 0
+abbrev pub is_raw : Group → Bool
+is_raw group = list_all (λ m. m.level == 0) group.members
+
+-- the text of records by themselves: their raw lines
+abbrev pub raw_text : Member → List ℕ
+raw_text m = flat_map (raw_line m.vxid) m.records
+
+-- whether any of the transactions has a record
+abbrev pub is_shown : Group → Bool
+is_shown group = list_any (λ m. is_some_of m.records) group.members
+
+-- the text of a group: the texts of its transactions, and an empty line where anything was printed; records by themselves have their raw lines alone
+abbrev pub group_text : Bool → Group → List ℕ
+group_text verbose group =
+    if is_raw group then flat_map raw_text group.members
+    else flat_map (member_text verbose) group.members ++ (if is_shown group then codes "\n" else [])
