@@ -1,1 +1,4 @@
 pub mod World
+pub mod Sources
+pub mod Memory
+pub mod Streams

@@ -70,6 +70,14 @@ impl<T: Drop> From<AllocFailed<T>> for WorldFault {
     }
 }
 
+impl From<NoMemory> for WorldFault {
+    ghost from_gives = { λ _ e. e ≡ world_faults.NoMemory };
+
+    fn from(_e: NoMemory) -> WorldFault {
+        WorldFault::NoMemory
+    }
+}
+
 impl From<AllocError> for WholeFault {
     ghost from_gives = { λ _ e. e ≡ whole_faults.NoMemory };
 

@@ -2,16 +2,22 @@
 //!
 //! `World` has the calls that the tools make, with all rules that an implementation keeps. A world
 //! counts its faults by kind of call and by name, so that a caller who answers a fault can show its
-//! cause. `write_all` and `read_whole` move a whole text.
+//! cause. `MemWorld` keeps files in memory, for tests. `write_all` and `read_whole` move a whole text.
 //!
 //! A world never says what a file holds unless it wants to: every byte that it tells is optional.
 //! Start with `specs/World.antt`. All rules are this project's choice.
 #![tactic(auto)]
 
 mod fault;
+mod file;
+mod memory;
 mod whole;
 mod world;
 
 pub use fault::{Failed, NoMemory, WholeFault, WorldFault};
+pub use memory::MemWorld;
 pub use whole::{read_whole, write_all};
 pub use world::World;
+
+#[cfg(test)]
+mod tests;

@@ -39,6 +39,15 @@ pub fn every_file()
 /// The units are those before the first that isn't whole and correct. Of more than 2^40 bytes the
 /// first 2^40 are read, and the file isn't whole.
 pub fn read_file(alloc: Global, bytes: &[u8]) -> Result<FileUnits, NoMemory>
+    ensures found { IfOk result (λ f. (ending : FileEnding) × IsFile bytes.now f.units ending × (f.whole ≡ is_whole ending)) }
+    ensures only { (units : Log) (ending : FileEnding) → IsFile bytes.now units ending →
+        IfOk result (λ f. (f.units ≡ units) × (f.whole ≡ is_whole ending)) }
+{
+    read_content(alloc, bytes)
+}
+
+/// Reads the header and the units.
+fn read_content(alloc: Global, bytes: &[u8]) -> Result<FileUnits, NoMemory>
     ensures { IfOk result (λ f. (ending : FileEnding) × IsFile bytes.now f.units ending × (f.whole ≡ is_whole ending)) }
 {
     let first = first_bytes(bytes);

@@ -1,9 +1,8 @@
 -- Worked examples of words and lines, computed from the definitions.
-use Rattle.std.proofs.Common.{◌≡◌, ℕ, ◌++◌, List, [], ◌∷◌, refl}
+use Rattle.std.proofs.Common.{◌≡◌, ◌++◌, [], ◌∷◌, refl}
 use Rattle.std.specs.Prelude.{codes}
 use Rattle.std.specs.Fmt.{digits}
 use Rattle.vsl_record.specs.declared.mark.Mark.TheVariants.{Client, Backend, Plain}
-use Rattle.vsl_record.specs.declared.record_type.Record.{Record}
 use Rattle.vsl_record.specs.Unit.{LogUnit}
 use Rattle.vsl_record.specs.Words.{unit_words, word_bytes}
 use Rattle.vsl_record.specs.RawLine.{raw_lines}
@@ -14,16 +13,24 @@ one_ping = record { vxid = 0; mark = Plain; records = record { tag = 3; mark = P
 
 -- a backend request that only begins and ends
 abbrev pub fetch : LogUnit
-fetch = record { vxid = 3; mark = Backend; records =
-    record { tag = 42; mark = Backend; payload = codes "bereq 2 fetch" } ∷
-    record { tag = 44; mark = Backend; payload = [] } ∷ [] }
+fetch = record {
+  vxid = 3;
+  mark = Backend;
+  records =
+      record { tag = 42; mark = Backend; payload = codes "bereq 2 fetch" } ∷
+      record { tag = 44; mark = Backend; payload = [] } ∷ [];
+}
 
 -- the client's request that links to it
 abbrev pub request : LogUnit
-request = record { vxid = 2; mark = Client; records =
-    record { tag = 42; mark = Client; payload = codes "req 1 rxreq" } ∷
-    record { tag = 43; mark = Client; payload = codes "bereq 3 fetch" } ∷
-    record { tag = 44; mark = Client; payload = [] } ∷ [] }
+request = record {
+  vxid = 2;
+  mark = Client;
+  records =
+      record { tag = 42; mark = Client; payload = codes "req 1 rxreq" } ∷
+      record { tag = 43; mark = Client; payload = codes "bereq 3 fetch" } ∷
+      record { tag = 44; mark = Client; payload = [] } ∷ [];
+}
 
 ping_words : unit_words one_ping ≡ 0xfe000005 ∷ 0x03000007 ∷ 0x00000000 ∷ 0x70206452 ∷ 0x00676e69 ∷ []
 ping_words = refl

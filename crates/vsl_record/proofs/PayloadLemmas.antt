@@ -1,8 +1,8 @@
 -- A payload that is read is the payload whose words they are, and a payload's words are read again.
-use Rattle.std.proofs.Common.{◌≡◌, ℕ, zero, suc, ◌+◌, ◌*◌, ◌/◌, ◌%◌, ◌^◌, ◌<◌, ◌≤◌, Bool, true, false, ltb, List, [], ◌∷◌, ◌++◌, length, take, get_or, Result, Ok, Err, refl, sym, ap, subst, ◌∙◌, arith}
+use Rattle.std.proofs.Common.{◌≡◌, ℕ, zero, suc, ◌+◌, ◌/◌, ◌%◌, ◌^◌, ◌<◌, true, ltb, List, [], ◌∷◌, ◌++◌, length, take, Ok, refl, ap, subst, ◌∙◌, arith}
 use Rattle.std.proofs.lemmas.Bool.{ltb-true, lt-ltb}
 use Rattle.vsl_record.specs.Words.{word_of, packed}
-use Rattle.vsl_record.specs.Reading.{ReadingFault, BadPadding, ◌>>=◌, wanted, four, unpacked, payload_words}
+use Rattle.vsl_record.specs.Reading.{BadPadding, four, unpacked, payload_words}
 use Rattle.vsl_record.proofs.Steps.{IsBytes, IsWords, IsBytes-nil, IsBytes-take, IsWords-nil, IsWords-cons, bind_ok, wanted_ok, ok_is}
 
 -- what reading so many bytes took from the front of the words

@@ -1,15 +1,16 @@
 -- A unit that is read is the unit whose words they are, and a unit's words are read again.
-use Rattle.std.proofs.Common.{◌≡◌, ℕ, zero, suc, ◌+◌, ◌-◌, ◌*◌, ◌/◌, ◌%◌, ◌^◌, ◌<◌, ◌≤◌, Bool, true, false, ◌&&◌, eqb, leb, List, [], ◌∷◌, ◌++◌, length, take, drop, get_or, Result, Ok, Err, refl, sym, ap, subst, ◌∙◌, arith}
+use Rattle.std.proofs.Common.{◌≡◌, ℕ, zero, suc, ◌+◌, ◌-◌, ◌/◌, ◌%◌, ◌<◌, ◌≤◌, true, ◌&&◌, eqb, leb, List, [], ◌∷◌, ◌++◌, length, take, drop, get_or, Result, Ok, refl, sym, ap, subst, ◌∙◌, arith}
+use Rattle.std.specs.Prelude.{IsErr}
 use Rattle.std.specs.List.{flat_map, AllByRecursion}
-use Rattle.std.proofs.lemmas.Bool.{eqb-true, eq-eqb, leb-true, le-leb, and_parts, and_from}
+use Rattle.std.proofs.lemmas.Bool.{eqb-true, leb-true, le-leb, and_parts, and_from}
 use Rattle.std.proofs.lemmas.List.{length-append, length-take-le, take-append-drop, take_at, drop_at}
-use Rattle.vsl_record.specs.declared.mark.Mark.{Mark}
 use Rattle.vsl_record.specs.declared.record_type.Record.{Record}
 use Rattle.vsl_record.specs.Unit.{LogUnit, IsRecordOf}
-use Rattle.vsl_record.specs.Words.{mark_bits, most_words, header_mark, record_words, body_words, unit_words, IsUnit}
-use Rattle.vsl_record.specs.Reading.{ReadingFault, Short, BadTag, BadLength, ◌>>=◌, wanted, mark_of, records_at, unit_of, unit_at}
-use Rattle.vsl_record.proofs.Steps.{IsWords, IsWords-cons, IsWords-take, bind_ok, wanted_ok, ok_is}
-use Rattle.vsl_record.proofs.RecordLemmas.{id_vxid, mark_again, AllTaken, records_take, records_again, records_small, records_marked, second_word, two_words, some_record}
+use Rattle.vsl_record.specs.Words.{most_words, header_mark, record_words, body_words, unit_words, IsUnit}
+use Rattle.vsl_record.specs.Reading.{ReadingFault, Short, BadTag, BadLength, wanted, mark_of, records_at, unit_of, unit_at}
+use Rattle.vsl_record.proofs.Steps.{IsWords, IsWords-cons, IsWords-take, bind_ok, wanted_ok, ok_is, err_unless}
+use Rattle.vsl_record.proofs.MarkLemmas.{mark_again, id_vxid}
+use Rattle.vsl_record.proofs.RecordLemmas.{records_take, records_again, records_small, records_marked, second_word, two_words, some_record}
 
 -- ---- the words after the header
 
@@ -43,12 +44,14 @@ unit_of_takes count words x all some enough e =
 unit_of_again : (u : LogUnit) (rest : List ℕ) → IsUnit u → unit_of (length (body_words u)) (body_words u ++ rest) ≡ Ok (u, rest)
 unfolding unit_of
 unit_of_again u rest fits =
-    rw (second_word u.vxid u.mark u.records rest fits.some fits.records,
-        take_at (body_words u) rest (length (body_words u)) refl,
-        drop_at (body_words u) rest (length (body_words u)) refl,
-        records_again (length (body_words u)) u.vxid 1 u.mark u.records fits.vxid fits.records (omega arith),
-        mark_again u.vxid u.mark fits.vxid,
-        id_vxid u.vxid u.mark fits.vxid) refl
+    rw (
+      second_word u.vxid u.mark u.records rest fits.some fits.records,
+      take_at (body_words u) rest (length (body_words u)) refl,
+      drop_at (body_words u) rest (length (body_words u)) refl,
+      records_again (length (body_words u)) u.vxid 1 u.mark u.records fits.vxid fits.records (omega arith),
+      mark_again u.vxid u.mark fits.vxid,
+      id_vxid u.vxid u.mark fits.vxid,
+    ) refl
 
 -- a unit that was read has a side
 unit_of_marked : (count : ℕ) (words : List ℕ) (x : LogUnit × List ℕ) → 0 < count → 0 < length words → unit_of count words ≡ Ok x → get_or words 1 0 / 1073741824 < 3
@@ -84,9 +87,10 @@ unit_takes (head ∷ words) u rest all e =
     let tests = unit_tests head words (u, rest) e in
     let taken = unit_of_takes (head % 16777216 - 1) words (u, rest) (λ i. all (suc i)) (omega arith) (omega arith) tests.4 in
     let count_is : length (body_words u) ≡ head % 16777216 - 1 = taken.count_is in
-    let head_is : head ≡ header_mark + (1 + length (body_words u)) = omega arith in
-    (record { vxid = taken.vxid; some = taken.some; records = taken.records; size = omega arith },
-     ap (λ (k : ℕ). k ∷ words) head_is ∙ ap (λ (t : List ℕ). (header_mark + (1 + length (body_words u))) ∷ t) taken.parts)
+    let head_is : head ≡ header_mark + (1 + length (body_words u)) = omega arith in (
+      record { vxid = taken.vxid; some = taken.some; records = taken.records; size = omega arith },
+      ap (λ (k : ℕ). k ∷ words) head_is ∙ ap (λ (t : List ℕ). (header_mark + (1 + length (body_words u))) ∷ t) taken.parts,
+    )
 
 -- a unit's words are read as that unit
 pub unit_again : (u : LogUnit) (rest : List ℕ) → IsUnit u → unit_at (unit_words u ++ rest) ≡ Ok (u, rest)
@@ -115,6 +119,10 @@ pub marked : (head : ℕ) (words : List ℕ) (x : LogUnit × List ℕ) → unit_
 marked head words x e =
     let tests = unit_tests head words x e in
     unit_of_marked (head % 16777216 - 1) words x (omega arith) (omega arith) tests.4
+
+-- where that word has both bits, no unit is read
+pub unmarked : (head : ℕ) (words : List ℕ) → 3 ≤ get_or words 1 0 / 1073741824 → IsErr (unit_at (head ∷ words))
+unmarked head words both = err_unless (unit_at (head ∷ words)) (λ x e. let side = marked head words x e in omega arith)
 
 -- a unit has three words or more
 pub length_unit_words-at_least : (u : LogUnit) → IsUnit u → 3 ≤ length (unit_words u)

@@ -1,62 +1,18 @@
 -- A record that is read is the record whose words they are, and a record's words are read again.
-use Rattle.std.proofs.Common.{◌≡◌, ℕ, zero, suc, ◌+◌, ◌-◌, ◌*◌, ◌/◌, ◌%◌, ◌^◌, ◌<◌, ◌≤◌, Bool, true, false, ◌&&◌, cond, eqb, ltb, leb, List, [], ◌∷◌, ◌++◌, length, get_or, Result, Ok, Err, refl, sym, ap, subst, ◌∙◌, append_assoc, arith, inl, inr}
+use Rattle.std.proofs.Common.{◌≡◌, ℕ, zero, suc, ◌+◌, ◌-◌, ◌*◌, ◌/◌, ◌%◌, ◌<◌, ◌≤◌, true, ◌&&◌, eqb, ltb, leb, List, [], ◌∷◌, ◌++◌, length, get_or, Result, Ok, refl, sym, ap, subst, ◌∙◌, arith}
 use Rattle.std.specs.List.{flat_map, AllByRecursion}
-use Rattle.std.proofs.lemmas.Bool.{eqb-true, eqb-false, eq-eqb, ne_eqb, ltb-true, lt-ltb, leb-true, le-leb, and_parts, and_from, cond_both}
+use Rattle.std.proofs.lemmas.Bool.{eqb-true, eq-eqb, ltb-true, lt-ltb, leb-true, le-leb, and_parts, and_from}
 use Rattle.std.proofs.lemmas.List.{length-append}
-use Rattle.std.proofs.lemmas.List.Concat.{flat_map-cons}
 use Rattle.vsl_tags.specs.Tags.{first_tag, last_tag}
 use Rattle.vsl_record.specs.declared.mark.Mark.{Mark}
-use Rattle.vsl_record.specs.declared.mark.Mark.TheVariants.{Client, Backend, Plain}
 use Rattle.vsl_record.specs.declared.record_type.Record.{Record}
-use Rattle.vsl_record.specs.Payload.{IsPayload, most_payload}
-use Rattle.vsl_record.specs.Unit.{IsRecordOf, vxid_end}
+use Rattle.vsl_record.specs.Payload.{most_payload}
+use Rattle.vsl_record.specs.Unit.{IsRecordOf}
 use Rattle.vsl_record.specs.Words.{mark_bits, packed, record_words}
-use Rattle.vsl_record.specs.Reading.{ReadingFault, Short, BadTag, BadLength, BadMark, Mixed, ◌>>=◌, wanted, payload_words, mark_of, unpacked, payload_at, record_at, records_at}
-use Rattle.vsl_record.proofs.Steps.{IsBytes, IsWords, IsWords-nil, IsWords-cons, IsWords-append, bind_ok, wanted_ok, wanted_true, ok_is}
+use Rattle.vsl_record.specs.Reading.{ReadingFault, BadTag, BadLength, BadMark, Mixed, ◌>>=◌, wanted, payload_words, mark_of, unpacked, payload_at, record_at, records_at}
+use Rattle.vsl_record.proofs.Steps.{IsBytes, IsWords, IsWords-nil, IsWords-cons, IsWords-append, bind_ok, wanted_ok, ok_is}
+use Rattle.vsl_record.proofs.MarkLemmas.{id_parts, mark_again, id_side, id_small}
 use Rattle.vsl_record.proofs.PayloadLemmas.{unpacked_takes, unpacked_again, length-packed, packed_small}
-
--- ---- the word with a transaction number and a side
-
--- such a word is its number and what its side adds
-pub id_parts : (id : ℕ) → id / 1073741824 < 3 → id ≡ id % 1073741824 + mark_bits (mark_of id)
-id_parts id small =
-    cond_both (eqb (id / 1073741824) 1) Client (cond (eqb (id / 1073741824) 2) Backend Plain) (λ m. id ≡ id % 1073741824 + mark_bits m)
-    (λ one. omega (arith, eqb-true _ _ one))
-    (λ not_one. cond_both (eqb (id / 1073741824) 2) Backend Plain (λ m. id ≡ id % 1073741824 + mark_bits m)
-      (λ two. omega (arith, eqb-true _ _ two))
-      (λ not_two. omega (arith, eqb-false _ _ not_one, eqb-false _ _ not_two)))
-
--- a word of a number and a side is on that side
-pub mark_again : (vxid : ℕ) (m : Mark) → vxid < 1073741824 → mark_of (vxid + mark_bits m) ≡ m
-mark_again vxid Client small =
-    let one : eqb ((vxid + 1073741824) / 1073741824) 1 ≡ true = eq-eqb _ _ (omega arith) in
-    rw one refl
-mark_again vxid Backend small =
-    let not_one : eqb ((vxid + 2147483648) / 1073741824) 1 ≡ false = ne_eqb _ _ (omega arith) in
-    let two : eqb ((vxid + 2147483648) / 1073741824) 2 ≡ true = eq-eqb _ _ (omega arith) in
-    rw (not_one, two) refl
-mark_again vxid Plain small =
-    let not_one : eqb ((vxid + 0) / 1073741824) 1 ≡ false = ne_eqb _ _ (omega arith) in
-    let not_two : eqb ((vxid + 0) / 1073741824) 2 ≡ false = ne_eqb _ _ (omega arith) in
-    rw (not_one, not_two) refl
-
--- its top bits are a side
-pub id_side : (vxid : ℕ) (m : Mark) → vxid < 1073741824 → (vxid + mark_bits m) / 1073741824 < 3
-id_side vxid Client small = omega arith
-id_side vxid Backend small = omega arith
-id_side vxid Plain small = omega arith
-
--- its other bits are the number
-pub id_vxid : (vxid : ℕ) (m : Mark) → vxid < 1073741824 → (vxid + mark_bits m) % 1073741824 ≡ vxid
-id_vxid vxid Client small = omega arith
-id_vxid vxid Backend small = omega arith
-id_vxid vxid Plain small = omega arith
-
--- it is a word
-pub id_small : (vxid : ℕ) (m : Mark) → vxid < 1073741824 → vxid + mark_bits m < 2 ^ 32
-id_small vxid Client small = omega arith
-id_small vxid Backend small = omega arith
-id_small vxid Plain small = omega arith
 
 -- ---- the second word and the payload
 

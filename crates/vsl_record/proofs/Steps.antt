@@ -1,5 +1,6 @@
 -- Lists of bytes and of words, and steps of a reading that did not fail.
-use Rattle.std.proofs.Common.{◌≡◌, ℕ, zero, suc, ◌^◌, ◌<◌, Bool, true, false, List, [], ◌∷◌, ◌++◌, length, take, get_or, Result, Ok, Err, refl, arith, inl, inr}
+use Rattle.std.proofs.Common.{◌≡◌, ℕ, zero, suc, ◌^◌, ◌<◌, Bool, true, false, List, [], ◌∷◌, ◌++◌, take, get_or, Result, Ok, Err, refl, arith, inl, inr}
+use Rattle.std.specs.Prelude.{IsErr}
 use Rattle.std.proofs.lemmas.Bool.{cases_lt}
 use Rattle.std.proofs.lemmas.List.{length-take, get_or-take, get_or_past}
 use Rattle.vsl_record.specs.Reading.{ReadingFault, ◌>>=◌, wanted}
@@ -56,14 +57,14 @@ pub wanted_ok : {A : Type 0} (test : Bool) (fault : ReadingFault) (next : Result
 wanted_ok true fault next y e = (refl, e)
 wanted_ok false fault next y e = absurd cc
 
--- a test that holds
-pub wanted_true : {A : Type 0} (test : Bool) (fault : ReadingFault) (next : Result A ReadingFault) → test ≡ true → wanted test fault next ≡ next
-wanted_true true fault next e = refl
-wanted_true false fault next e = absurd cc
-
 abbrev done : {A : Type 0} → A → Result A ReadingFault
 done x = Ok x
 
 -- two readings that are one gave one value
 pub ok_is : {A : Type 0} (x y : A) → done x ≡ done y → x ≡ y
 ok_is x y e = cc
+
+-- a reading with no value has a fault
+pub err_unless : {A : Type 0} (r : Result A ReadingFault) → ((x : A) → r ≡ Ok x → ⊥) → IsErr r
+err_unless (Ok x) never = absurd (never x refl)
+err_unless (Err d) never = refl

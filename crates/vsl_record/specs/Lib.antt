@@ -3,3 +3,4 @@ pub mod Unit
 pub mod Words
 pub mod RawLine
 pub mod Reading
+pub mod ReadingSteps

@@ -1,5 +1,10 @@
 //! Why a record, a unit or words are refused.
 
+ghost use Rattle.std.specs.Prelude.{◌≡◌};
+ghost use Rattle.vsl_record.specs.declared.fault.RecordFault.TheVariants as record_faults;
+ghost use Rattle.vsl_record.specs.declared.fault.WordFault.TheVariants as word_faults;
+
+use std::alloc::{AllocError, AllocFailed};
 use thiserror::Error;
 
 /// Why a record is refused.
@@ -39,4 +44,28 @@ pub enum WordFault {
     /// There was no memory for the unit.
     #[error("out of memory")]
     NoMemory,
+}
+
+impl From<AllocError> for RecordFault {
+    ghost from_gives = { λ _ fault. fault ≡ record_faults.NoMemory };
+
+    fn from(_error: AllocError) -> RecordFault {
+        RecordFault::NoMemory
+    }
+}
+
+impl From<AllocError> for WordFault {
+    ghost from_gives = { λ _ fault. fault ≡ word_faults.NoMemory };
+
+    fn from(_error: AllocError) -> WordFault {
+        WordFault::NoMemory
+    }
+}
+
+impl<T: Drop> From<AllocFailed<T>> for WordFault {
+    ghost from_gives = { λ _ fault. fault ≡ word_faults.NoMemory };
+
+    fn from(_failed: AllocFailed<T>) -> WordFault {
+        WordFault::NoMemory
+    }
 }

@@ -19,11 +19,10 @@ mod units;
 pub use fault::{RecordFault, UnitFault, WordFault};
 pub use mark::Mark;
 pub use payload::{MAX_PAYLOAD, Payload};
-
-pub use reading::read_unit;
+pub use reading::{one_spelling, read_unit};
 pub use record_type::Record;
 pub use unit::{MAX_UNIT_WORDS, Unit, VXID_END, Vxid};
 pub use units::Units;
 
-
-
+#[cfg(test)]
+mod tests;

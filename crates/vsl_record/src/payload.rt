@@ -1,6 +1,7 @@
 //! The bytes of a record.
 
-ghost use Rattle.std.specs.Prelude.{◌≡◌, ◌<◌, ◌≤◌, ℕ, List, length, IfOk};
+ghost use Rattle.std.specs.Prelude.{◌≡◌, ◌≤◌, length, IfOk};
+ghost use Rattle.vsl_record.specs.Payload.{most_payload, IsPayload};
 
 use std::alloc::{AllocError, Global};
 use std::marker::Model;
@@ -8,7 +9,7 @@ use std::marker::Model;
 /// The most bytes that a record's payload has. This project's choice.
 pub const MAX_PAYLOAD: usize = 4000;
 
-/// What a record says: 0 to 4,000 bytes of any value.
+/// What a record says: 0 to 4,000 bytes of any value. Contracts see it as the list of its bytes.
 #[derive(Debug, Drop)]
 pub struct Payload {
     bytes: Vec<u8>,
@@ -26,12 +27,26 @@ impl Model for Payload {
 }
 
 impl Payload {
-    ghost use Rattle.vsl_record.specs.Payload.{IsPayload};
+    /// A payload of a copy of these bytes.
+    pub fn from_slice(alloc: Global, bytes: &[u8]) -> Result<Payload, AllocError>
+        requires { length bytes.now ≤ most_payload }
+        ensures { IfOk result (λ payload. payload ≡ bytes.now) }
+    {
+        Ok(Payload::from_vec(Vec::from_slice(alloc, bytes)?))
+    }
 
-    /// The bytes.
+    /// The payload of these bytes, with no copy.
+    pub(crate) fn from_vec(bytes: Vec<u8>) -> Payload
+        requires { length bytes.items ≤ most_payload }
+        ensures { result ≡ bytes.items }
+    {
+        Payload { bytes }
+    }
+
+    /// The bytes, of which there are at most 4,000.
     pub fn as_slice(&self) -> &[u8]
-        ensures same { result.now ≡ self.now }
-        ensures valid { IsPayload self.now }
+        ensures bytes { result.now ≡ self.now }
+        ensures payload { IsPayload self.now }
     {
         &self.bytes
     }

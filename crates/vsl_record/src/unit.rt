@@ -1,7 +1,13 @@
 //! A unit of a log.
 
-ghost use Rattle.std.specs.Prelude.{◌≡◌, ℕ, List};
+ghost use Rattle.std.specs.Prelude.{◌≡◌, ◌+◌, ◌-◌, ◌^◌, ◌<◌, ◌↔◌, ℕ, min, length, IfOk};
+ghost use Rattle.std.specs.List.{All, flat_map};
+ghost use Rattle.vsl_tags.specs.Tags.{IsTag};
+ghost use Rattle.vsl_record.specs.Payload.{IsPayload};
+ghost use Rattle.vsl_record.specs.Unit.{vxid_end};
+ghost use Rattle.vsl_record.specs.Words.{IsUnit, most_words, record_words, unit_words};
 
+use crate::fault::UnitFault;
 use crate::mark::Mark;
 use crate::record_type::Record;
 use std::marker::Model;
@@ -35,27 +41,71 @@ impl Model for Unit {
 }
 
 impl Unit {
-    ghost use Rattle.vsl_record.specs.Words.{IsUnit};
+    /// The unit of these records, which are all on this side.
+    pub fn new(vxid: Vxid, mark: Mark, records: Vec<Record>) -> Result<Unit, UnitFault>
+        requires in_range { vxid < vxid_end }
+        requires on_side { All (λ r. r.mark ≡ mark) records.items }
+        ensures made { IfOk result (λ u. (u.vxid ≡ vxid) × (u.mark ≡ mark) × (u.records ≡ records.items)) }
+        ensures empty { result ≡ Err UnitFault.Empty ↔ length records.items ≡ 0 }
+        ensures too_long { let size = length (unit_words (record { vxid = vxid; mark = mark; records = records.items })) in
+            most_words < size → result ≡ Err (UnitFault.TooLong (min size (2 ^ 64 - 1))) }
+        ensures refused { let size = length (unit_words (record { vxid = vxid; mark = mark; records = records.items })) in
+            (words : ℕ) → result ≡ Err (UnitFault.TooLong words) → (most_words < size) × (words ≡ min size (2 ^ 64 - 1)) }
+    {
+        if records.is_empty() {
+            return Err(UnitFault::Empty);
+        }
+        let words = count_words(&records);
+        if words > MAX_UNIT_WORDS as u64 {
+            return Err(UnitFault::TooLong { words });
+        }
+        Ok(Unit::from_parts(vxid, mark, records))
+    }
+
+    /// The unit of parts that are known to be one.
+    pub(crate) fn from_parts(vxid: Vxid, mark: Mark, records: Vec<Record>) -> Unit
+        requires { IsUnit (record { vxid = vxid; mark = mark; records = records.items }) }
+        ensures { result ≡ record { vxid = vxid; mark = mark; records = records.items } }
+    {
+        Unit {
+            vxid,
+            mark,
+            records,
+        }
+    }
 
     /// The number of the transaction.
     pub fn vxid(&self) -> Vxid
-        ensures same { result ≡ self.now.vxid }
-        ensures valid { IsUnit self.now }
+        ensures { result ≡ self.now.vxid }
     {
         self.vxid
     }
 
-    /// The side of the transaction.
+    /// The side of every record.
     pub fn mark(&self) -> Mark
         ensures { result ≡ self.now.mark }
     {
         self.mark
     }
 
-    /// The records, in order.
+    /// The records, in order: at least one.
     pub fn records(&self) -> &[Record]
-        ensures { result.now ≡ self.now.records }
+        ensures records { result.now ≡ self.now.records }
+        ensures unit { IsUnit self.now }
     {
         &self.records
     }
+}
+
+/// How many words the records and a unit's header take, or 2^64 - 1 where that is greater.
+fn count_words(records: &[Record]) -> u64
+    ensures words { (vxid : ℕ) → result ≡ min (1 + length (flat_map (record_words vxid) records.now)) (2 ^ 64 - 1) }
+    ensures tags { All (λ r. IsTag r.tag) records.now }
+    ensures payloads { All (λ r. IsPayload r.payload) records.now }
+{
+    let mut words: u64 = 1;
+    for one in records {
+        words = words.saturating_add(one.words() as u64);
+    }
+    words
 }

@@ -1,2 +1,2 @@
 mod TableChecks
-pub mod NameLemmas
+mod NameLemmas

@@ -1,11 +1,13 @@
--- No two tags have one name, also without regard to case: each name finds its own number.
-use Rattle.std.proofs.Common.{◌≡◌, ℕ, ◌+◌, ◌-◌, ◌<◌, [], length, get_or, map, refl, ap, sym, ◌∙◌, arith}
+-- The lengths of the names, and that no two are alike, also without regard to case: each finds its own number.
+use Rattle.std.proofs.Common.{◌≡◌, ℕ, ◌+◌, ◌-◌, ◌<◌, ◌≤◌, Bool, true, leb, ◌&&◌, List, [], length, get_or, map, refl, ap, sym, ◌∙◌, arith}
 use Rattle.std.proofs.Math.ListN as whole
 use Rattle.std.proofs.lemmas.List.{get_or-map}
 use Rattle.std.proofs.lemmas.List.FromFn.{get_or-range_with_len}
-use Rattle.std.specs.List.{range_with_len}
+use Rattle.std.proofs.lemmas.List.Sums.{AllPass-from_list_all}
+use Rattle.std.proofs.lemmas.Bool.{and_parts, leb-true}
+use Rattle.std.specs.List.{list_all, range_with_len}
 use Rattle.std.specs.Str.{str_to_ascii_lowercase}
-use Rattle.vsl_tags.specs.Tags.{IsTag, first_tag, last_tag, tag_names, tag_name, lower_names, number_of_lower}
+use Rattle.vsl_tags.specs.Tags.{IsTag, first_tag, last_tag, tag_names, tag_name, longest_name, lower_names, number_of_lower}
 
 -- the names in lower case find the numbers from 1 to 92, in order
 numbers_in_order : map number_of_lower lower_names ≡ range_with_len first_tag last_tag
@@ -27,3 +29,19 @@ name_finds_tag n tag =
 pub names_are_different
     : (m n : ℕ) → IsTag m → IsTag n → str_to_ascii_lowercase (tag_name m) ≡ str_to_ascii_lowercase (tag_name n) → m ≡ n
 names_are_different m n at_m at_n same = sym (name_finds_tag m at_m) ∙ ap number_of_lower same ∙ name_finds_tag n at_n
+
+-- whether a name has 1 to 14 bytes
+abbrev has_good_length : List ℕ → Bool
+has_good_length name = leb 1 (length name) && leb (length name) longest_name
+
+-- each name of the table has 1 to 14 bytes
+lengths_are_good : list_all has_good_length tag_names ≡ true
+lengths_are_good = refl
+
+-- a tag's name has 1 to 14 bytes
+pub name_length : (n : ℕ) → IsTag n → (1 ≤ length (tag_name n)) × (length (tag_name n) ≤ longest_name)
+name_length n tag =
+    let within : n - 1 < length tag_names = omega arith in
+    let good = AllPass-from_list_all has_good_length tag_names lengths_are_good (n - 1) [] within in
+    let parts = and_parts _ _ good in
+    (leb-true _ _ parts.0, leb-true _ _ parts.1)

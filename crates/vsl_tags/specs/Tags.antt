@@ -11,7 +11,7 @@ first_tag = 1
 abbrev pub last_tag : ℕ
 last_tag = 92
 
--- a number is a tag from the lowest to the highest
+-- the tags are the numbers from the lowest to the highest (this project's choice)
 abbrev pub IsTag : ℕ → Type 0
 IsTag n = (first_tag ≤ n) × (n ≤ last_tag)
 
@@ -77,19 +77,23 @@ abbrev pub message_endings : List (List ℕ)
 message_endings =
     codes "Method" ∷ codes "URL" ∷ codes "Status" ∷ codes "Reason" ∷ codes "Protocol" ∷ codes "Header" ∷ codes "Unset" ∷ codes "Lost" ∷ []
 
--- a message's eight tags are its name before each ending
+-- a message's eight tags are its name before each ending (vsl(7))
 abbrev pub message_names : List ℕ → List (List ℕ)
 message_names message = map (λ ending. message ++ ending) message_endings
 
--- the names of all tags, in the order of their numbers: the single ones, then those of the five messages
+-- the names of all tags, in the order of their numbers: the single ones, then those of the five messages (names: vsl(7); order: this project's choice)
 abbrev pub tag_names : List (List ℕ)
 tag_names =
     single_names ++ message_names (codes "Req") ++ message_names (codes "Resp") ++ message_names (codes "Bereq") ++ message_names (codes "Beresp")
     ++ message_names (codes "Obj")
 
--- the name of the tag with this number
+-- the name of the tag with this number, where the first name is that of the lowest number (this project's choice)
 abbrev pub tag_name : ℕ → List ℕ
 tag_name n = slice_index_or tag_names (n - first_tag) []
+
+-- the most bytes that a name has, as `Backend_health` (vsl(7))
+abbrev pub longest_name : ℕ
+longest_name = 14
 
 -- the names of all tags in lower case, in the order of their numbers
 abbrev pub lower_names : List (List ℕ)

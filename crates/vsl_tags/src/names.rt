@@ -1,6 +1,6 @@
-ghost use Rattle.std.specs.Prelude.{◌≡◌, ℕ};
+ghost use Rattle.std.specs.Prelude.{◌≡◌, ℕ, ◌≤◌, length};
 ghost use Rattle.std.specs.Str.{str_to_ascii_lowercase};
-ghost use Rattle.vsl_tags.specs.Tags.{IsTag, number_of_lower, tag_name};
+ghost use Rattle.vsl_tags.specs.Tags.{IsTag, longest_name, number_of_lower, tag_name};
 
 use crate::number::Tag;
 
@@ -105,6 +105,8 @@ static NAMES: [&str; 92] = [
 /// Source: vsl(7), in this project's subset.
 pub fn name_of(tag: Tag) -> &'static str
     ensures name { result.now ≡ tag_name tag }
+    ensures nonempty { 1 ≤ length result.now }
+    ensures longest { length result.now ≤ longest_name }
 {
     NAMES[usize::from(tag.number()) - 1]
 }
@@ -114,5 +116,4 @@ pub fn name_of(tag: Tag) -> &'static str
 pub fn names_differ()
     ensures found { (n : ℕ) → IsTag n → number_of_lower (str_to_ascii_lowercase (tag_name n)) ≡ n }
     ensures differ { (m n : ℕ) → IsTag m → IsTag n → str_to_ascii_lowercase (tag_name m) ≡ str_to_ascii_lowercase (tag_name n) → m ≡ n }
-{
-}
+{}

@@ -1,5 +1,5 @@
-ghost use Rattle.std.specs.Prelude.{◌≡◌, IfSome, IfNone};
-ghost use Rattle.vsl_tags.specs.Tags.{IsTag, last_tag};
+ghost use Rattle.std.specs.Prelude.{◌≡◌, IfSome, OnSome, IfNone};
+ghost use Rattle.vsl_tags.specs.Tags.{IsTag};
 
 use std::marker::Model;
 
@@ -31,7 +31,8 @@ impl Model for Tag {
 impl Tag {
     /// The tag with this number, as 42 for `Begin`.
     pub fn from_number(n: u8) -> Option<Tag>
-        ensures tag { IfSome result (λ t. (t ≡ n) × IsTag n) }
+        ensures number { IfSome result (λ tag. tag ≡ n) }
+        ensures accepted { OnSome result (IsTag n) }
         ensures refused { IfNone result (¬ (IsTag n)) }
     {
         if n == 0 || n > LAST {

@@ -1,0 +1,4 @@
+mod WritingLemmas
+mod PrintingLemmas
+mod RunLemmas
+mod ToolLemmas

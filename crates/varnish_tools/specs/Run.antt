@@ -1,0 +1,45 @@
+-- What a tool takes of its input, and how it ends (this project's choice).
+use Rattle.std.specs.Prelude.{◌≡◌, ℕ, ◌-◌, ◌≤◌, List, [], ◌∷◌, ◌++◌, length, take, Option, Some, None}
+use Rattle.vsl_record.specs.Unit.{Log}
+use Rattle.varnish_tools.specs.declared.fault.ToolFault.{ToolFault}
+use Rattle.varnish_tools.specs.declared.outcome.RunRecord.{RunRecord}
+use Rattle.varnish_tools.specs.declared.outcome.RunRecord.TheVariants.{Nothing, Counted}
+
+-- an item of what a cursor took: units that follow one another in the log
+pub data HistoryItem : Type 0 where
+  UnitRun : Log → HistoryItem
+
+-- a run: the log, and what the tool's cursor took of it, in order
+pub record Run : Type 0 where
+  pub log : Log
+  pub history : List HistoryItem
+
+-- how a run ends: with the whole input, with the number of groups to keep, or with a fault
+pub data Ending : Type 0 where
+  Whole : Ending
+  Kept : Ending
+  Faulted : ToolFault → Ending
+
+-- the fault of an ending
+abbrev pub fault_of : Ending → Option ToolFault
+fault_of Whole = None
+fault_of Kept = None
+fault_of (Faulted fault) = Some fault
+
+-- the units that were taken, in order
+abbrev pub taken : List HistoryItem → Log
+taken [] = []
+taken (UnitRun units ∷ items) = units ++ taken items
+
+-- the run that takes nothing of an empty log
+abbrev pub no_run : Run
+no_run = record { log = []; history = [] }
+
+-- the run that takes these units, which are the log, as one item
+abbrev pub run_of : Log → Run
+run_of units = record { log = units; history = UnitRun units ∷ [] }
+
+-- a record of a run over an input of these units: the run takes the first of them
+abbrev pub IsRecordOf : RunRecord → Log → Run → Type 0
+IsRecordOf Nothing input run = run ≡ no_run
+IsRecordOf (Counted units items) input run = (units ≤ length input) × (items ≡ 1) × (run ≡ run_of (take units input))

@@ -1,0 +1,63 @@
+//! The top call.
+
+ghost use Rattle.std.specs.Prelude.{map, IfOk, OnOk, OnErr};
+ghost use Rattle.varnish_tools.specs.Steps.{RunsWords, Reports, ReportsPart};
+ghost use Rattle.std.specs.String.{string_bytes};
+ghost use Rattle.varnish_tools.specs.Theorem.{IsFaithful, IsComplete, IsCutShort};
+
+use crate::fault::ToolFault;
+use crate::job::read_job;
+use crate::message::{message_of, status_of};
+use crate::outcome::Outcome;
+use crate::run::{Ran, refused, run_job};
+use std::alloc::Global;
+use vio::{NoMemory, World, WorldFault, write_all};
+
+/// The handle of standard error.
+const ERRORS: u32 = 2;
+
+/// Writes the message of a fault to standard error. That this write fails changes nothing else.
+fn report<W: World>(alloc: Global, world: &mut W, fault: &Option<ToolFault>) -> Result<(), NoMemory>
+    ensures ok { OnOk result (Reports fault.now (W.seen world.old) (W.seen world.new)) }
+    ensures memory { OnErr result (ReportsPart fault.now (W.seen world.old) (W.seen world.new)) }
+{
+    let Some(fault) = fault else {
+        return Ok(());
+    };
+    let text = message_of(alloc, fault)?;
+    match write_all(world, ERRORS, &text) {
+        Ok(()) => Ok(()),
+        Err(WorldFault::Failed) => Ok(()),
+        Err(WorldFault::NoMemory) => Err(NoMemory),
+    }
+}
+
+/// Works off the words, but for the message of a fault.
+fn run_words<W: World>(alloc: Global, words: &[String], world: &mut W) -> Result<Ran, NoMemory>
+    ensures ran { IfOk result (λ r. RunsWords (map string_bytes words.now) r.fault r.run (W.seen world.old) (W.seen world.new)) }
+    ensures memory { OnErr result (IsCutShort (map string_bytes words.now) (W.seen world.old) (W.seen world.new)) }
+{
+    match read_job(words) {
+        Some(job) => run_job(alloc, &job, world),
+        None => Ok(refused(ToolFault::NotBuilt)),
+    }
+}
+
+/// Does what the words of a command line ask for, without the program's name.
+///
+/// The words are `varnishlog -g raw -r FILE`, with any FILE but `-`; others are not built. The log file
+/// is read whole, and the raw line of each record is written to standard output, in one write for each
+/// unit; then a fault's message to standard error. The status is 0 without a fault, 2 for words that
+/// are not built, and else 1. After `NoMemory` a part of the output was written.
+///
+/// Source: varnishlog(1); messages and statuses are this project's choice.
+pub fn run_tools<W: World>(alloc: Global, words: &[String], world: &mut W) -> Result<Outcome, NoMemory>
+    ensures faithful { IfOk result (λ o. IsFaithful (map string_bytes words.now) o (W.seen world.old) (W.seen world.new)) }
+    ensures complete { IfOk result (λ o. IsComplete (map string_bytes words.now) o (W.seen world.old) (W.seen world.new)) }
+    ensures memory { OnErr result (IsCutShort (map string_bytes words.now) (W.seen world.old) (W.seen world.new)) }
+{
+    let Ran { fault, run } = run_words(alloc, words, world)?;
+    report(alloc, world, &fault)?;
+    let status = status_of(&fault);
+    Ok(Outcome { status, fault, run })
+}

@@ -1,0 +1,143 @@
+-- What a world in memory tells (this project's choice).
+use Rattle.std.specs.Prelude.{◌≡◌, ◌≢◌, ℕ, ◌+◌, ◌-◌, Bool, true, false, List, [], length, codes, Option, Some, None, nat_lt, nat_eq, min, ◌^◌, ◌∷◌, ◌++◌, if◌then◌else◌}
+use Rattle.std.specs.List.{slice_get}
+use Rattle.std.specs.Option.{option_map}
+use Rattle.std.specs.Str.{bytes_eq}
+use Rattle.log_model.specs.Faults.{HasNewFault}
+use Rattle.vio.specs.declared.file.Source.{Source}
+use Rattle.vio.specs.declared.file.MemFile.{MemFile}
+use Rattle.vio.specs.declared.file.OpenFile.{OpenFile}
+use Rattle.vio.specs.declared.memory.MemWorld.{MemWorld}
+use Rattle.vio.specs.Sources.{left_of, held_in}
+use Rattle.vio.specs.World.{Seen, CallKind, Opening, Reading, Writing}
+
+-- the opened file of a handle: handles from 3 upwards are given in order
+abbrev pub opened_at : List OpenFile → ℕ → Option OpenFile
+opened_at opened h = if nat_lt h 3 then None else slice_get opened (h - 3)
+
+-- what a handle has left: of 0 the rest of standard input, of an opened handle the rest of its file
+abbrev pub left_at : List OpenFile → Source → ℕ → Option (List ℕ)
+left_at opened input h =
+    if nat_eq h 0 then Some (left_of input) else option_map (λ file. left_of file.source) (opened_at opened h)
+
+-- what was written to a handle: 1 and 2 tell it
+abbrev pub written_at : List ℕ → List ℕ → ℕ → Option (List ℕ)
+written_at output errors h = if nat_eq h 1 then Some output else (if nat_eq h 2 then Some errors else None)
+
+-- whether an opened file has this name
+abbrev pub has_name : Option OpenFile → List ℕ → Bool
+has_name None name = false
+has_name (Some file) name = bytes_eq file.name.items name
+
+-- the names of handles, by kind of call
+abbrev pub names_at : List OpenFile → CallKind → ℕ → List ℕ → Bool
+names_at opened Opening h name = false
+names_at opened Reading h name = if nat_eq h 0 then bytes_eq (codes "-") name else has_name (opened_at opened h) name
+names_at opened Writing h name =
+    if nat_eq h 1 then bytes_eq (codes "-") name else (if nat_eq h 2 then bytes_eq (codes "stderr") name else false)
+
+-- what a world of these parts tells
+abbrev pub tells : List MemFile → List OpenFile → Source → List ℕ → List ℕ → ℕ → Seen
+tells files opened input output errors faults = record {
+  held = held_in files;
+  left = left_at opened input;
+  written = written_at output errors;
+  faults = λ kind name. faults;
+  names = names_at opened;
+  given = λ h. nat_lt h (3 + length opened);
+}
+
+-- what a world in memory tells
+abbrev pub memory_seen : MemWorld → Seen
+memory_seen m = tells m.files.items m.opened.items m.input m.output.items m.errors.items m.faults
+
+-- all bytes of an opened file
+abbrev pub file_bytes : Option OpenFile → List ℕ
+file_bytes None = []
+file_bytes (Some file) = file.source.bytes.items
+
+-- the whole content behind a handle; of a handle never given nothing
+abbrev pub content_of : MemWorld → ℕ → List ℕ
+content_of m h =
+    if nat_eq h 0 then m.input.bytes.items else (if nat_eq h 1 then m.output.items else
+    (if nat_eq h 2 then m.errors.items else file_bytes (opened_at m.opened.items h)))
+
+-- no file is held, standard input is empty, nothing was written, no fault was counted, and only the
+-- standard streams are given
+pub record IsNew (now : Seen) : Type 0 where
+  pub held : (name : List ℕ) → now.held name ≡ None
+  pub input : now.left 0 ≡ Some []
+  pub output : now.written 1 ≡ Some []
+  pub error : now.written 2 ≡ Some []
+  pub faults : (k : CallKind) (name : List ℕ) → now.faults k name ≡ 0
+  pub given : (h : ℕ) → now.given h ≡ nat_lt h 3
+
+-- nothing that is told changed
+pub record IsSame (before now : Seen) : Type 0 where
+  pub held : (name : List ℕ) → now.held name ≡ before.held name
+  pub left : (h : ℕ) → now.left h ≡ before.left h
+  pub written : (h : ℕ) → now.written h ≡ before.written h
+  pub faults : (k : CallKind) (name : List ℕ) → now.faults k name ≡ before.faults k name
+  pub names : (k : CallKind) (h : ℕ) (name : List ℕ) → now.names k h name ≡ before.names k h name
+  pub given : (h : ℕ) → now.given h ≡ before.given h
+
+-- a name holds these bytes, and all else that is told is as before
+pub record Holds (name bytes : List ℕ) (before now : Seen) : Type 0 where
+  pub held : now.held name ≡ Some bytes
+  pub other_held : (other : List ℕ) → other ≢ name → now.held other ≡ before.held other
+  pub left : (h : ℕ) → now.left h ≡ before.left h
+  pub written : (h : ℕ) → now.written h ≡ before.written h
+  pub faults : (k : CallKind) (n : List ℕ) → now.faults k n ≡ before.faults k n
+  pub names : (k : CallKind) (h : ℕ) (n : List ℕ) → now.names k h n ≡ before.names k h n
+  pub given : (h : ℕ) → now.given h ≡ before.given h
+
+-- standard input has these bytes left, and all else that is told is as before
+pub record HasInput (bytes : List ℕ) (before now : Seen) : Type 0 where
+  pub input : now.left 0 ≡ Some bytes
+  pub other_left : (h : ℕ) → h ≢ 0 → now.left h ≡ before.left h
+  pub held : (name : List ℕ) → now.held name ≡ before.held name
+  pub written : (h : ℕ) → now.written h ≡ before.written h
+  pub faults : (k : CallKind) (name : List ℕ) → now.faults k name ≡ before.faults k name
+  pub names : (k : CallKind) (h : ℕ) (name : List ℕ) → now.names k h name ≡ before.names k h name
+  pub given : (h : ℕ) → now.given h ≡ before.given h
+
+-- output and errors, and what each given handle that can be read has left, are told
+pub record TellsAll (now : Seen) : Type 0 where
+  pub output : (a : List ℕ) × (now.written 1 ≡ Some a)
+  pub error : (a : List ℕ) × (now.written 2 ≡ Some a)
+  pub input : (a : List ℕ) × (now.left 0 ≡ Some a)
+  pub left : (h : ℕ) → now.given h ≡ true → h ≢ 1 → h ≢ 2 → (a : List ℕ) × (now.left h ≡ Some a)
+
+-- the count of faults rose, for every kind of call and every name
+pub record CountsFault (before now : Seen) : Type 0 where
+  pub each : (k : CallKind) (name : List ℕ) → HasNewFault (before.faults k name) (now.faults k name)
+
+-- no call was made, none is to fail, and a call moves all that it can
+pub record HasNoPlan (now : MemWorld) : Type 0 where
+  pub calls : now.calls ≡ 0
+  pub failing : now.failing.items ≡ []
+  pub most : now.most ≡ 2 ^ 64 - 1
+
+-- the calls that were made, those that are to fail, and the size of a piece are as before
+pub record KeepsPlan (before now : MemWorld) : Type 0 where
+  pub calls : now.calls ≡ before.calls
+  pub failing : now.failing.items ≡ before.failing.items
+  pub most : now.most ≡ before.most
+
+-- the call of one more number is to fail
+pub record FailsToo (call : ℕ) (before now : MemWorld) : Type 0 where
+  pub failing : now.failing.items ≡ before.failing.items ++ call ∷ []
+  pub calls : now.calls ≡ before.calls
+  pub most : now.most ≡ before.most
+
+-- a call moves at most so many bytes
+pub record MovesAtMost (most : ℕ) (before now : MemWorld) : Type 0 where
+  pub piece : now.most ≡ most
+  pub calls : now.calls ≡ before.calls
+  pub failing : now.failing.items ≡ before.failing.items
+
+-- a call was counted; at 2^64 - 1, its last value, the count of calls stands still
+pub record CountsCall (before now : MemWorld) : Type 0 where
+  pub calls : now.calls ≡ min (before.calls + 1) (2 ^ 64 - 1)
+  pub failing : now.failing.items ≡ before.failing.items
+  pub most : now.most ≡ before.most

@@ -1,0 +1,60 @@
+//! The words of the command line.
+
+use std::alloc::{AllocError, Global};
+use std::env::{Env, FillError};
+
+/// How many bytes of an argument are tried first.
+const FIRST_TRY: usize = 256;
+
+/// Why the words can't be read.
+#[derive(Clone, Copy, Debug, PartialEq, Eq)]
+pub enum WordFault {
+    /// An argument isn't UTF-8.
+    NotText {
+        /// The argument's place, from 1 on.
+        place: usize,
+    },
+    /// There was no memory for the words.
+    NoMemory,
+}
+
+impl From<AllocError> for WordFault {
+    fn from(_e: AllocError) -> WordFault {
+        WordFault::NoMemory
+    }
+}
+
+/// The bytes of the argument at a place, or `None` after the last one.
+fn argument(alloc: Global, env: &impl Env, place: usize) -> Result<Option<Vec<u8>>, AllocError> {
+    let mut bytes = Vec::new(alloc);
+    let mut size = FIRST_TRY;
+    for _ in 0..usize::BITS {
+        bytes.resize(size, 0)?;
+        match env.arg(place, bytes.as_mut_slice()) {
+            Ok(n) => {
+                bytes.truncate(n);
+                return Ok(Some(bytes));
+            }
+            Err(FillError::NotPresent) => return Ok(None),
+            Err(FillError::TooLong) => size = size.saturating_mul(2),
+        }
+    }
+    Err(AllocError)
+}
+
+/// The arguments after the program's name. The first one that isn't UTF-8 is answered by its place.
+pub fn read_words(alloc: Global, env: &impl Env) -> Result<Vec<String>, WordFault> {
+    let mut words = Vec::new(alloc);
+    for place in 1..usize::MAX {
+        let Some(bytes) = argument(alloc, env, place)? else {
+            break;
+        };
+        let Ok(word) = String::from_utf8(bytes) else {
+            return Err(WordFault::NotText { place });
+        };
+        if words.push(word).is_err() {
+            return Err(WordFault::NoMemory);
+        }
+    }
+    Ok(words)
+}
