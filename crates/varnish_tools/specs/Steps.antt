@@ -24,12 +24,12 @@ pub record PartPrinted (units : Log) (n : ℕ) (before now : Seen) : Type 0 wher
   pub begun : flat_map raw_lines (take n units) ≡ flat_map raw_lines (take (n - 1) units) ++ more ++ rest
   pub wrote : Wrote 1 (flat_map raw_lines (take (n - 1) units) ++ more) before now
 
--- nothing changed but counts, handles and what standard output gained
+-- no count fell, and nothing was written but to standard output
 pub record ChangesOutput (before now : Seen) : Type 0 where
   pub counts : NoCountFalls before now
   pub other_written : (i : ℕ) → i ≢ 1 → now.written i ≡ before.written i
 
--- for this input, a run was taken, it ended and its text was written
+-- for this input, a run was taken, it ended, and its text was written, or a front of it after a failed write
 pub record PrintsText (job : Option Job) (input : Input) (fault : Option ToolFault) (taken : RunRecord) (before now : Seen) : Type 0 where
   pub run : Run
   pub ending : Ending
@@ -74,7 +74,7 @@ pub record RunsWords (words : List (List ℕ)) (fault : Option ToolFault) (taken
   pub changes : ChangesOutput before now
   pub prints : (input : Input) → IsInput (job_of words) before input → PrintsText (job_of words) input fault taken before now
 
--- nothing changed but counts and what standard error gained
+-- no count fell, and nothing was written but to standard error
 pub record ChangesErrors (before now : Seen) : Type 0 where
   pub counts : NoCountFalls before now
   pub other_written : (i : ℕ) → i ≢ 2 → now.written i ≡ before.written i

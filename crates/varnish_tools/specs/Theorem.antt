@@ -71,7 +71,7 @@ GainsFront before now text = (a : List ℕ) → before ≡ Some a → (done rest
 abbrev pub GainsBetween : Option (List ℕ) → Option (List ℕ) → List ℕ → List ℕ → Type 0
 GainsBetween before now least most = (a : List ℕ) → before ≡ Some a → (more rest : List ℕ) × (most ≡ least ++ more ++ rest) × (now ≡ Some (a ++ least ++ more))
 
--- the ending that the text has whose write failed: whole where the run took the whole input
+-- the ending of the text whose write failed: whole where the run took all units of the input
 abbrev pub ending_begun : Input → Run → ToolFault → Ending
 ending_begun input run fault = if length run.log == length input.units then Whole else Faulted fault
 
@@ -125,7 +125,7 @@ IsComplete words outcome before now =
 abbrev pub whole_run : Input → Run
 whole_run input = if nat_le (length input.bytes) log_limit then run_of input.units else no_run
 
--- where the call answers want of memory: what was written until then
+-- where the call answers want of memory: a front of the output was written, and of a fault's message nothing or a front
 pub record IsCutShort (words : List (List ℕ)) (before now : Seen) : Type 0 where
   pub counts : NoCountFalls before now
   pub other_written : (i : ℕ) → i ≢ 1 → i ≢ 2 → now.written i ≡ before.written i
