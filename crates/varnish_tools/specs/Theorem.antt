@@ -14,7 +14,7 @@ use Rattle.varnish_tools.specs.Job.{Job, job_of}
 use Rattle.varnish_tools.specs.Run.{Run, Ending, Whole, Kept, Faulted, HistoryItem, fault_of, no_run, run_of, IsRecordOf}
 use Rattle.varnish_tools.specs.Output.{Output, output_of, message, status_of}
 
--- the most bytes of a log file that are read
+-- the most bytes of a log file that a tool reads
 abbrev pub log_limit : ℕ
 log_limit = 16777216
 
@@ -67,7 +67,7 @@ without_last run = run_of (take (length run.log - 1) run.log)
 abbrev pub GainsFront : Option (List ℕ) → Option (List ℕ) → List ℕ → Type 0
 GainsFront before now text = (a : List ℕ) → before ≡ Some a → (done rest : List ℕ) × (text ≡ done ++ rest) × (now ≡ Some (a ++ done))
 
--- what was told gained a front of the most, and at least the least
+-- what was told gained the lesser text, and after it a front of what the greater one has more; where nothing is told nothing is claimed
 abbrev pub GainsBetween : Option (List ℕ) → Option (List ℕ) → List ℕ → List ℕ → Type 0
 GainsBetween before now least most = (a : List ℕ) → before ≡ Some a → (more rest : List ℕ) × (most ≡ least ++ more ++ rest) × (now ≡ Some (a ++ least ++ more))
 
@@ -121,7 +121,7 @@ IsComplete words outcome before now =
     (job : Job) (input : Input) → job_of words ≡ Some job → IsInput (Some job) before input → IsGood input → NoFaultOf job before now →
     (outcome.fault ≡ None) × (outcome.status ≡ 0) × Gains (before.written 1) (now.written 1) (output_of (Some job) (run_of input.units) Whole).sink
 
--- the run and the ending that an input defines where no fault of the world comes
+-- the run that an input defines where no fault of the world comes
 abbrev pub whole_run : Input → Run
 whole_run input = if nat_le (length input.bytes) log_limit then run_of input.units else no_run
 
