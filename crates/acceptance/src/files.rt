@@ -115,7 +115,7 @@ fn zeros(alloc: Global, size: usize) -> Result<Vec<u8>, Fail> {
 }
 
 #[test]
-fn a_file_over_the_limit_is_refused_unread(rt: HostRuntime) -> Result<(), Fail> {
+fn a_file_over_the_limit_prints_nothing(rt: HostRuntime) -> Result<(), Fail> {
     for (size, run) in [(LOG_LIMIT, counted(0)), (LOG_LIMIT + 1, RunRecord::Nothing)] {
         let mut world = world_with(rt.alloc(), &zeros(rt.alloc(), size)?)?;
         expect_run(

@@ -8,10 +8,10 @@ use Rattle.vsl_record.specs.RawLine.{raw_lines}
 use Rattle.vsl_file.specs.File.{FileEnding, IsFile}
 use Rattle.vsl_file.specs.File as file
 use Rattle.varnish_tools.specs.declared.fault.ToolFault.{ToolFault}
-use Rattle.varnish_tools.specs.declared.fault.ToolFault.TheVariants.{NotBuilt, NoOpen, ReadFault, WriteFault, BadFile}
+use Rattle.varnish_tools.specs.declared.fault.ToolFault.TheVariants.{NotBuilt, WriteFault, BadFile}
 use Rattle.varnish_tools.specs.declared.outcome.RunRecord.{RunRecord}
 use Rattle.varnish_tools.specs.Job.{Job, job_of}
-use Rattle.varnish_tools.specs.Run.{Run, Ending, Whole, fault_of, IsRecordOf}
+use Rattle.varnish_tools.specs.Run.{Run, Ending, Whole, fault_of, IsRunOf}
 use Rattle.varnish_tools.specs.Output.{output_of, fault_message}
 use Rattle.varnish_tools.specs.Theorem.{Input, IsInput, HasCause, Takes, WritesSink, GainsFront, whole_run, sink_name, log_limit}
 
@@ -33,7 +33,7 @@ pub record ChangesOutput (before now : Seen) : Type 0 where
 pub record PrintsText (job : Option Job) (input : Input) (fault : Option ToolFault) (taken : RunRecord) (before now : Seen) : Type 0 where
   pub run : Run
   pub ending : Ending
-  pub is_run : IsRecordOf taken input.units run
+  pub is_run : IsRunOf taken input.units run
   pub is_ending : fault_of ending ≡ fault
   pub takes : Takes input run ending
   pub sink : WritesSink job input run ending before now
