@@ -1,8 +1,7 @@
 -- What the system's files and streams tell: no bytes, and one count for all faults (this project's choice).
-use Rattle.std.specs.Prelude.{refl, ◌≡◌, ℕ, ◌+◌, ◌<◌, true, None, nat_lt}
+use Rattle.std.specs.Prelude.{refl, ℕ, ◌+◌, true, None, nat_lt}
 use Rattle.std.proofs.Common.{lit<}
-use Rattle.std.proofs.Math.Nat.{lt_of_lt_of_le, le-add_right}
-use Rattle.std.proofs.lemmas.Bool.{lt-ltb}
+use Rattle.vio.specs.Streams.{below_more_than_three}
 use Rattle.vio.specs.World.{Seen, HasStreams}
 
 -- what the system tells where so many files were opened and so many calls failed
@@ -16,16 +15,12 @@ real_seen opened failed = record {
   given = λ h. nat_lt h (3 + opened);
 }
 
--- a handle below 3 is given
-is_given_below_three : (h opened : ℕ) → h < 3 → nat_lt h (3 + opened) ≡ true
-is_given_below_three h opened below = lt-ltb h (3 + opened) (lt_of_lt_of_le below (le-add_right 3 opened))
-
 -- the system has the standard streams, whatever was called
 pub HasStreams-real : (opened failed : ℕ) → HasStreams (real_seen opened failed)
 HasStreams-real opened failed = record {
-  input_given = is_given_below_three 0 opened (lit< tt);
-  output_given = is_given_below_three 1 opened (lit< tt);
-  error_given = is_given_below_three 2 opened (lit< tt);
+  input_given = below_more_than_three 0 opened (lit< tt);
+  output_given = below_more_than_three 1 opened (lit< tt);
+  error_given = below_more_than_three 2 opened (lit< tt);
   input = refl;
   output = refl;
   error = refl;
