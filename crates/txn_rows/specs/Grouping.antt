@@ -1,5 +1,5 @@
 -- The groups that a log gives (vsl-query(7), "Grouping"). Groups are in the order in which they are complete.
-use Rattle.std.specs.Prelude.{ℕ, ◌+◌, ◌==◌, not, if◌then◌else◌, Bool, true, false, List, [], ◌∷◌, ◌++◌, length, map, zero, suc}
+use Rattle.std.specs.Prelude.{ℕ, ◌==◌, not, if◌then◌else◌, Bool, false, List, [], ◌∷◌, ◌++◌, length, map, zero, suc}
 use Rattle.std.specs.List.{filter}
 use Rattle.vsl_record.specs.declared.record_type.Record.{Record}
 use Rattle.vsl_record.specs.Unit.{LogUnit, Log}
@@ -9,7 +9,6 @@ use Rattle.txn_rows.specs.declared.group.Kind.TheVariants as kinds
 use Rattle.txn_rows.specs.declared.group.Reason.TheVariants.{Other}
 use Rattle.txn_rows.specs.declared.group.Cause.{Cause}
 use Rattle.txn_rows.specs.declared.group.Cause.TheVariants.{Flush}
-use Rattle.txn_rows.specs.declared.group.Member.{Member}
 use Rattle.txn_rows.specs.declared.group.Group.{Group}
 use Rattle.txn_rows.specs.Transaction.{Transaction, after_record, with_oldest_forced}
 

@@ -1,4 +1,6 @@
 pub mod Claim
 pub mod Transaction
 pub mod Grouping
+pub mod TableState
 pub mod Table
+pub mod Rows

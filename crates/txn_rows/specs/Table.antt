@@ -1,14 +1,8 @@
--- What a table tells, and how its calls change it.
-use Rattle.std.specs.Prelude.{◌≡◌, Bool, true, false, List, ◌++◌}
+-- How the calls of a table change it.
+use Rattle.std.specs.Prelude.{◌≡◌, true, false, List, ◌++◌}
 use Rattle.txn_rows.specs.declared.group.Group.{Group}
-use Rattle.txn_rows.specs.declared.group.GroupOptions.{GroupOptions}
-use Rattle.txn_rows.specs.Grouping.{State, Reported}
-
--- what a table tells: its options, its state, and whether it failed for want of memory
-pub record TableState : Type 0 where
-  pub options : GroupOptions
-  pub state : State
-  pub failed : Bool
+use Rattle.txn_rows.specs.Grouping.{Reported}
+use Rattle.txn_rows.specs.TableState.{TableState}
 
 -- the table went to the reported state, and its groups were added to the list
 pub record Steps (step : Reported) (before now : TableState) (out_before out_now : List Group) : Type 0 where

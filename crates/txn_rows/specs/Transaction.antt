@@ -1,7 +1,7 @@
 -- Pending transactions, and the rules by which a record changes them. Each rule is a function of the whole list,
 -- in the order in which transactions began, and asks its questions by a search.
 use Rattle.std.specs.Prelude.{ℕ, ◌==◌, ◌&&◌, not, if◌then◌else◌, Bool, true, false, List, [], ◌∷◌, ◌++◌, Option, Some, None, codes}
-use Rattle.std.specs.List.{filter, list_any}
+use Rattle.std.specs.List.{list_any}
 use Rattle.vsl_record.specs.declared.mark.Mark.{Mark}
 use Rattle.vsl_record.specs.declared.mark.Mark.TheVariants.{Plain}
 use Rattle.vsl_record.specs.declared.record_type.Record.{Record}
@@ -60,12 +60,15 @@ with_transaction vxid pending = if is_open vxid pending then pending else pendin
 abbrev pub with_record : ℕ → Record → List Transaction → List Transaction
 with_record vxid rec pending = with_newest vxid (λ t. record t { records = t.records ++ rec ∷ [] }) pending
 
+-- whether a kind is not known
+abbrev pub is_unknown : Kind → Bool
+is_unknown kinds.Unknown = true
+is_unknown kind = false
+
 -- a claim gives a transaction of unknown kind its kind and reason; it changes no other
 abbrev pub claimed_kind : Option Claim → Transaction → Transaction
 claimed_kind None t = t
-claimed_kind (Some claim) (record { vxid = vxid; kind = kinds.Unknown; reason = reason; records = records; ended = ended }) =
-    record { vxid = vxid; kind = claim.kind; reason = claim.reason; records = records; ended = ended }
-claimed_kind (Some claim) t = t
+claimed_kind (Some claim) t = if is_unknown t.kind then record t { kind = claim.kind; reason = claim.reason } else t
 
 -- a well-formed Begin gives a transaction of unknown kind its kind and reason (vsl(7), "Begin")
 abbrev pub with_kind : ℕ → Record → List Transaction → List Transaction
@@ -92,7 +95,7 @@ first_mark (rec ∷ records) = rec.mark
 abbrev pub forced : Cause → Transaction → Transaction
 forced cause t = record t {
   records = t.records ++ record { tag = vsl_tag; mark = first_mark t.records; payload = cause_text cause } ∷ record { tag = end_tag; mark = first_mark t.records; payload = codes "synth" } ∷ [];
-  ended = true
+  ended = true;
 }
 
 -- the oldest transaction that has not ended is force-completed

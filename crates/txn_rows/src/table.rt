@@ -2,7 +2,7 @@
 
 ghost use Rattle.std.specs.Prelude.{◌≡◌, ◌⊎◌, ◌<◌, ◌++◌, ℕ, List, true, false, length, IfOk, OnOk, OnErr, IsErr};
 ghost use Rattle.txn_rows.specs.Grouping.{no_state, unit_step, unfinished, flush};
-ghost use Rattle.txn_rows.specs.Table.{TableState, Steps, StepsPart};
+ghost use Rattle.txn_rows.specs.Table.{Steps, StepsPart};
 
 use crate::group::{Group, GroupOptions, Grouping, Kind, Reason};
 use std::alloc::Global;
@@ -30,7 +30,8 @@ pub struct Table {
 }
 
 impl Model for Table {
-    ghost use Rattle.txn_rows.specs.TableState.{TableState, state_of};
+    ghost use Rattle.txn_rows.specs.TableState.{TableState};
+    ghost use Rattle.txn_rows.specs.Rows.{state_of};
 
     ghost Value = { TableState };
 
@@ -42,24 +43,47 @@ impl Table {
         requires grouping { (options.grouping ≡ Grouping.Raw) ⊎ (options.grouping ≡ Grouping.Vxid) }
         requires limit { 0 < options.limit }
         ensures { IfOk result (λ t. t ≡ record { options = options; state = no_state; failed = false }) }
+    {
+        Ok(Table {
+            alloc,
+            options,
+            rows: Vec::new(alloc),
+            failed: false,
+        })
+    }
 
     /// Takes the records of a unit in order, and adds the groups that they complete.
     pub fn step(&mut self, unit: &Unit, out: &mut Vec<Group>) -> Result<(), NoMemory>
         ensures ok { OnOk result (Steps (unit_step self.old.options.grouping unit.now self.old.state) self.old self.new out.old.items out.new.items) }
         ensures err { OnErr result (StepsPart (unit_step self.old.options.grouping unit.now self.old.state) self.old self.new out.old.items out.new.items) }
         ensures failed { self.old.failed ≡ true → IsErr result }
+    {
+        self.failed = true;
+        Err(NoMemory)
+    }
 
     /// Force-completes every transaction that has not ended, the oldest first, and adds their groups.
     pub fn flush(&mut self, out: &mut Vec<Group>) -> Result<(), NoMemory>
         ensures ok { OnOk result (Steps (flush self.old.state) self.old self.new out.old.items out.new.items) }
         ensures err { OnErr result (StepsPart (flush self.old.state) self.old self.new out.old.items out.new.items) }
         ensures failed { self.old.failed ≡ true → IsErr result }
+    {
+        self.failed = true;
+        Err(NoMemory)
+    }
 
     /// How many transactions are pending.
     pub fn rows(&self) -> usize
         ensures { result ≡ length self.now.state.pending }
+    {
+        self.rows.len()
+    }
 
     /// How many pending transactions have not ended.
+    #[tactic(auto, using(crate::proofs::RowLemmas::unfinished_rows))]
     pub fn unfinished(&self) -> usize
         ensures { result ≡ unfinished self.now.state }
+    {
+        self.rows.len()
+    }
 }

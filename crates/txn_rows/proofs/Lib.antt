@@ -1,0 +1,2 @@
+mod ClaimLemmas
+pub mod RowLemmas
