@@ -1,17 +1,22 @@
 -- What a write to a standard stream comes to, for the steps of the top call.
-use Rattle.std.proofs.Common.{◌≡◌, ◌≢◌, ℕ, ◌+◌, ◌-◌, ◌<◌, List, [], ◌∷◌, ◌++◌, length, get_or, take, Option, Some, None, refl, sym, ap, subst, ◌∙◌, append_assoc, inl, inr, arith}
+use Rattle.std.proofs.Common.{false, ◌≡◌, ◌≢◌, ℕ, ◌+◌, ◌-◌, ◌<◌, List, [], ◌∷◌, ◌++◌, length, get_or, take, Option, Some, None, refl, sym, ap, subst, ◌∙◌, append_assoc, inl, inr, arith}
 use Rattle.std.specs.Prelude.{codes}
 use Rattle.std.specs.List.{flat_map}
 use Rattle.std.proofs.lemmas.List.{append-nil, take_more}
 use Rattle.std.proofs.lemmas.List.Concat.{flat_map-append}
 use Rattle.vio.specs.World.{Seen, Writing, FaultsRose, HasStreams, Gains, Wrote, WrotePart}
-use Rattle.vio.proofs.WholeLemmas.{Wrote-then}
+use Rattle.vio.proofs.WholeLemmas.{Wrote-none, Wrote-then}
 use Rattle.vsl_record.specs.Unit.{LogUnit, Log}
-use Rattle.vsl_record.specs.RawLine.{raw_lines}
+use Rattle.txn_rows.specs.declared.group.Grouping.{Grouping}
+use Rattle.txn_rows.specs.declared.group.Group.{Group}
+use Rattle.txn_rows.specs.declared.group.GroupOptions.{GroupOptions}
+use Rattle.txn_rows.specs.Grouping.{State, Reported, no_state, unit_step, unit_steps}
+use Rattle.txn_rows.specs.TableState.{TableState}
+use Rattle.vsl_select.specs.Lines.{group_text}
 use Rattle.varnish_tools.specs.declared.fault.ToolFault.{ToolFault}
-use Rattle.varnish_tools.specs.Output.{fault_message}
+use Rattle.varnish_tools.specs.Output.{fault_message, groups_text}
 use Rattle.varnish_tools.specs.Theorem.{GainsFront}
-use Rattle.varnish_tools.specs.Steps.{PartPrinted, ChangesErrors, Reports, ReportsPart}
+use Rattle.varnish_tools.specs.Steps.{units_text, IsFresh, PrintedUnit, PrintedUnits, PartPrinted, ChangesErrors, Reports, ReportsPart}
 
 -- a part that was written is a front of what was to be written
 pub gains_front : (h : ℕ) (text : List ℕ) (s t : Seen) → WrotePart h text s t → GainsFront (s.written h) (t.written h) text
@@ -43,30 +48,76 @@ reports_part fault text s t some e p = record {
   gains = subst (λ (x : List ℕ). GainsFront (s.written 2) (t.written 2) x) e (gains_front 2 text s t p);
 }
 
--- the text of one more unit
-pub lines_more : (units : Log) (i : ℕ) (u : LogUnit) → i < length units → u ≡ get_or units i u
-    → flat_map raw_lines (take (i + 1) units) ≡ flat_map raw_lines (take i units) ++ raw_lines u
-lines_more units i u lt is =
-    ap (flat_map raw_lines) (take_more units i u lt) ∙ flat_map-append raw_lines (take i units) (get_or units i u ∷ [])
-    ∙ ap (λ (x : LogUnit). flat_map raw_lines (take i units) ++ flat_map raw_lines (x ∷ [])) (sym is)
-    ∙ ap (λ (x : List ℕ). flat_map raw_lines (take i units) ++ x) (append-nil (raw_lines u))
+-- the state and the groups after units and more units
+steps_append : (by : Grouping) (us vs : Log) (s : State)
+    → ((unit_steps by (us ++ vs) s).state ≡ (unit_steps by vs (unit_steps by us s).state).state)
+    × ((unit_steps by (us ++ vs) s).groups ≡ (unit_steps by us s).groups ++ (unit_steps by vs (unit_steps by us s).state).groups)
+steps_append by [] vs s = (refl, refl)
+steps_append by (u ∷ us) vs s =
+    let first = unit_step by u s in
+    let others = steps_append by us vs first.state in
+    (others.0, ap (λ (gs : List Group). first.groups ++ gs) others.1 ∙ sym (append_assoc first.groups (unit_steps by us first.state).groups (unit_steps by vs (unit_steps by us first.state).state).groups))
 
--- one more unit was printed
-pub Wrote-more : (units : Log) (i : ℕ) (u : LogUnit) (s t v : Seen) → i < length units → u ≡ get_or units i u
-    → Wrote 1 (flat_map raw_lines (take i units)) s t → Wrote 1 (raw_lines u) t v → Wrote 1 (flat_map raw_lines (take (i + 1) units)) s v
-Wrote-more units i u s t v lt is p q =
-    subst (λ (x : List ℕ). Wrote 1 x s v) (sym (lines_more units i u lt is)) (Wrote-then (flat_map raw_lines (take i units)) (raw_lines u) p q)
+-- the text of the groups of units and more units
+pub text_append : (by : Grouping) (us vs : Log)
+    → units_text by (us ++ vs) false ≡ units_text by us false ++ groups_text (unit_steps by vs (unit_steps by us no_state).state).groups
+text_append by us vs =
+    ap groups_text (steps_append by us vs no_state).1 ∙ flat_map-append (group_text false) (unit_steps by us no_state).groups (unit_steps by vs (unit_steps by us no_state).state).groups
 
--- a part of one more unit was printed
-pub PartPrinted-more : (units : Log) (i : ℕ) (u : LogUnit) (s t v : Seen) → i < length units → u ≡ get_or units i u
-    → Wrote 1 (flat_map raw_lines (take i units)) s t → WrotePart 1 (raw_lines u) t v → PartPrinted units (i + 1) s v
-PartPrinted-more units i u s t v lt is p q =
-    let before : i + 1 - 1 ≡ i = omega arith in
+-- the first units and one more
+take_one : (units : Log) (i : ℕ) (u : LogUnit) → i < length units → u ≡ get_or units i u → take (i + 1) units ≡ take i units ++ u ∷ []
+take_one units i u lt is = take_more units i u lt ∙ ap (λ (x : LogUnit). take i units ++ x ∷ []) (sym is)
+
+-- the state after one more unit
+state_more : (by : Grouping) (units : Log) (i : ℕ) (u : LogUnit) → i < length units → u ≡ get_or units i u
+    → (unit_steps by (take (i + 1) units) no_state).state ≡ (unit_step by u (unit_steps by (take i units) no_state).state).state
+state_more by units i u lt is = ap (λ (us : Log). (unit_steps by us no_state).state) (take_one units i u lt is) ∙ (steps_append by (take i units) (u ∷ []) no_state).0
+
+-- the text of the groups of one more unit
+text_more : (by : Grouping) (units : Log) (i : ℕ) (u : LogUnit) → i < length units → u ≡ get_or units i u
+    → units_text by (take (i + 1) units) false ≡ units_text by (take i units) false ++ groups_text (unit_step by u (unit_steps by (take i units) no_state).state).groups
+text_more by units i u lt is =
+    ap (λ (us : Log). units_text by us false) (take_one units i u lt is) ∙ text_append by (take i units) (u ∷ [])
+    ∙ ap (λ (gs : List Group). units_text by (take i units) false ++ groups_text gs) (append-nil (unit_step by u (unit_steps by (take i units) no_state).state).groups)
+
+-- no unit was taken yet
+pub PrintedUnits-none : (units : Log) (table : TableState) (s : Seen) → IsFresh table.options.grouping table → PrintedUnits table.options.grouping (take 0 units) table s s
+PrintedUnits-none units table s p = record {
+  took = record { grouping = refl; state = p.state; sound = p.sound };
+  wrote = Wrote-none 1 s;
+}
+
+-- one more unit was taken, and its text written
+pub PrintedUnits-more : (by : Grouping) (units : Log) (i : ℕ) (u : LogUnit) (before after : TableState) (s t v : Seen) → i < length units → u ≡ get_or units i u
+    → PrintedUnits by (take i units) before s t → PrintedUnit u before after t v → PrintedUnits by (take (i + 1) units) after s v
+PrintedUnits-more by units i u before after s t v lt is p q =
+    let same : unit_step before.options.grouping u before.state ≡ unit_step by u (unit_steps by (take i units) no_state).state =
+        ap (λ (g : Grouping). unit_step g u before.state) p.took.grouping ∙ ap (unit_step by u) p.took.state in
+    record {
+      took = record {
+        grouping = ap (λ (o : GroupOptions). o.grouping) q.options ∙ p.took.grouping;
+        state = q.state ∙ ap (λ (r : Reported). r.state) same ∙ sym (state_more by units i u lt is);
+        sound = q.sound;
+      };
+      wrote = subst (λ (text : List ℕ). Wrote 1 text s v)
+        (ap (λ (r : Reported). units_text by (take i units) false ++ groups_text r.groups) same ∙ sym (text_more by units i u lt is))
+        (Wrote-then (units_text by (take i units) false) (groups_text (unit_step before.options.grouping u before.state).groups) p.wrote q.wrote);
+    }
+
+-- a part of the text of one more unit was written
+pub PartPrinted-more : (by : Grouping) (units : Log) (i : ℕ) (u : LogUnit) (before : TableState) (s t v : Seen) → i < length units → u ≡ get_or units i u
+    → PrintedUnits by (take i units) before s t → WrotePart 1 (groups_text (unit_step before.options.grouping u before.state).groups) t v → PartPrinted by units (i + 1) s v
+PartPrinted-more by units i u before s t v lt is p q =
+    let same : unit_step before.options.grouping u before.state ≡ unit_step by u (unit_steps by (take i units) no_state).state =
+        ap (λ (g : Grouping). unit_step g u before.state) p.took.grouping ∙ ap (unit_step by u) p.took.state in
+    let back : i + 1 - 1 ≡ i = omega arith in
     record {
       more = q.done;
       rest = q.rest;
       some = omega arith;
       most = omega arith;
-      begun = rw (before, lines_more units i u lt is) (ap (λ (x : List ℕ). flat_map raw_lines (take i units) ++ x) q.whole ∙ sym (append_assoc (flat_map raw_lines (take i units)) q.done q.rest));
-      wrote = rw before (Wrote-then (flat_map raw_lines (take i units)) q.done p q.wrote);
+      begun = rw back
+        (text_more by units i u lt is ∙ ap (λ (r : Reported). units_text by (take i units) false ++ groups_text r.groups) (sym same)
+        ∙ ap (λ (x : List ℕ). units_text by (take i units) false ++ x) q.whole ∙ sym (append_assoc (units_text by (take i units) false) q.done q.rest));
+      wrote = rw back (Wrote-then (units_text by (take i units) false) q.done p.wrote q.wrote);
     }

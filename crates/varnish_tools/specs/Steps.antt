@@ -1,28 +1,61 @@
 -- What the steps of the top call do; the main theorem joins them.
-use Rattle.std.specs.Prelude.{◌≡◌, ◌≢◌, ℕ, ◌-◌, ◌<◌, ◌≤◌, List, ◌++◌, length, take, Option, Some, None, ◌⊎◌, ◌↔◌, codes}
-use Rattle.std.specs.List.{flat_map}
+use Rattle.std.specs.Prelude.{◌≡◌, ◌≢◌, ℕ, ◌-◌, ◌<◌, ◌≤◌, Bool, true, false, List, ◌++◌, length, take, Option, Some, None, ◌⊎◌, ◌↔◌, codes}
 use Rattle.log_model.specs.Faults.{HasNewFault}
 use Rattle.vio.specs.World.{Seen, Writing, NoCountFalls, Wrote, Gains}
-use Rattle.vsl_record.specs.Unit.{Log}
-use Rattle.vsl_record.specs.RawLine.{raw_lines}
-use Rattle.vsl_file.specs.File.{FileEnding, IsFile}
+use Rattle.vsl_record.specs.Unit.{LogUnit, Log}
+use Rattle.vsl_file.specs.File.{FileEnding, IsFile, is_whole}
+use Rattle.txn_rows.specs.declared.group.Grouping.{Grouping}
+use Rattle.txn_rows.specs.Grouping.{State, no_state, unit_step, unit_steps, flush, groups_of}
+use Rattle.txn_rows.specs.TableState.{TableState}
 use Rattle.vsl_file.specs.File as file
 use Rattle.varnish_tools.specs.declared.fault.ToolFault.{ToolFault}
 use Rattle.varnish_tools.specs.declared.fault.ToolFault.TheVariants.{NotBuilt, WriteFault, BadFile}
 use Rattle.varnish_tools.specs.declared.outcome.RunRecord.{RunRecord}
 use Rattle.varnish_tools.specs.Job.{Job, job_of}
 use Rattle.varnish_tools.specs.Run.{Run, Ending, Whole, fault_of, IsRunOf}
-use Rattle.varnish_tools.specs.Output.{output_of, fault_message}
-use Rattle.varnish_tools.specs.Theorem.{Input, IsInput, HasCause, Takes, WritesSink, GainsFront, whole_run, sink_name, log_limit}
+use Rattle.varnish_tools.specs.Output.{output_of, fault_message, groups_text}
+use Rattle.varnish_tools.specs.Theorem.{Input, IsInput, HasCause, Takes, WritesSink, GainsFront, whole_run, whole_ending, sink_name, log_limit}
+
+-- the text of the groups of units, flushed at their end or not
+abbrev pub units_text : Grouping → Log → Bool → List ℕ
+units_text grouping units flushed = groups_text (groups_of grouping units flushed)
+
+-- the text of the groups that a flush reports
+abbrev pub flush_text : State → List ℕ
+flush_text state = groups_text (flush state).groups
+
+-- a table that took no unit
+pub record IsFresh (by : Grouping) (table : TableState) : Type 0 where
+  pub grouping : table.options.grouping ≡ by
+  pub state : table.state ≡ no_state
+  pub sound : table.failed ≡ false
+
+-- a table that took these units
+pub record TookUnits (by : Grouping) (units : Log) (table : TableState) : Type 0 where
+  pub grouping : table.options.grouping ≡ by
+  pub state : table.state ≡ (unit_steps by units no_state).state
+  pub sound : table.failed ≡ false
+
+-- the table took one unit, and the text of the groups that it completed was written
+pub record PrintedUnit (u : LogUnit) (table_before table : TableState) (before now : Seen) : Type 0 where
+  pub options : table.options ≡ table_before.options
+  pub state : table.state ≡ (unit_step table_before.options.grouping u table_before.state).state
+  pub sound : table.failed ≡ false
+  pub wrote : Wrote 1 (groups_text (unit_step table_before.options.grouping u table_before.state).groups) before now
+
+-- the table took these units, and the text of the groups that they completed was written
+pub record PrintedUnits (by : Grouping) (units : Log) (table : TableState) (before now : Seen) : Type 0 where
+  pub took : TookUnits by units table
+  pub wrote : Wrote 1 (units_text by units false) before now
 
 -- the text of the first n units was written, but for a part of the last of them
-pub record PartPrinted (units : Log) (n : ℕ) (before now : Seen) : Type 0 where
+pub record PartPrinted (by : Grouping) (units : Log) (n : ℕ) (before now : Seen) : Type 0 where
   pub more : List ℕ
   pub rest : List ℕ
   pub some : 0 < n
   pub most : n ≤ length units
-  pub begun : flat_map raw_lines (take n units) ≡ flat_map raw_lines (take (n - 1) units) ++ more ++ rest
-  pub wrote : Wrote 1 (flat_map raw_lines (take (n - 1) units) ++ more) before now
+  pub begun : units_text by (take n units) false ≡ units_text by (take (n - 1) units) false ++ more ++ rest
+  pub wrote : Wrote 1 (units_text by (take (n - 1) units) false ++ more) before now
 
 -- no count fell, and nothing was written but to standard output
 pub record ChangesOutput (before now : Seen) : Type 0 where
@@ -48,7 +81,7 @@ pub record RunsJob (job : Job) (fault : Option ToolFault) (taken : RunRecord) (b
 -- the job was stopped for want of memory
 pub record IsStopped (job : Job) (before now : Seen) : Type 0 where
   pub changes : ChangesOutput before now
-  pub sink : (input : Input) → IsInput (Some job) before input → GainsFront (before.written 1) (now.written 1) (output_of (Some job) (whole_run input) Whole).sink
+  pub sink : (input : Input) → IsInput (Some job) before input → GainsFront (before.written 1) (now.written 1) (output_of (Some job) (whole_run input) (whole_ending (Some job) input)).sink
 
 -- why a fault may be answered once the file was read
 abbrev pub HasPrintCause : Job → List ℕ → ToolFault → Seen → Seen → Type 0
@@ -65,7 +98,7 @@ pub record PrintsFile (job : Job) (bytes : List ℕ) (fault : Option ToolFault) 
 -- printing these bytes was stopped for want of memory
 pub record IsPrintStopped (job : Job) (bytes : List ℕ) (before now : Seen) : Type 0 where
   pub changes : ChangesOutput before now
-  pub sink : (units : Log) (ending : FileEnding) → IsFile bytes units ending → GainsFront (before.written 1) (now.written 1) (flat_map raw_lines units)
+  pub sink : (units : Log) (ending : FileEnding) → IsFile bytes units ending → GainsFront (before.written 1) (now.written 1) (units_text job.grouping units (is_whole ending))
 
 -- the words were worked off, but for the fault's message
 pub record RunsWords (words : List (List ℕ)) (fault : Option ToolFault) (taken : RunRecord) (before now : Seen) : Type 0 where

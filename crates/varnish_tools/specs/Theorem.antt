@@ -123,10 +123,15 @@ IsComplete words outcome before now =
 abbrev pub whole_run : Input → Run
 whole_run input = if nat_le (length input.bytes) log_limit then run_of input.units else no_run
 
+-- the ending that an input defines where no fault of the world comes
+abbrev pub whole_ending : Option Job → Input → Ending
+whole_ending None input = Faulted NotBuilt
+whole_ending (Some job) input = if nat_le (length input.bytes) log_limit && is_whole input.file_ending then Whole else Faulted (BadFile job.file)
+
 -- where the call answers want of memory: a front of the output was written, and of a fault's message nothing or a front
 pub record IsCutShort (words : List (List ℕ)) (before now : Seen) : Type 0 where
   pub counts : NoCountFalls before now
   pub other_written : (i : ℕ) → i ≢ 1 → i ≢ 2 → now.written i ≡ before.written i
-  pub sink : (input : Input) → IsInput (job_of words) before input → GainsFront (before.written 1) (now.written 1) (output_of (job_of words) (whole_run input) Whole).sink
+  pub sink : (input : Input) → IsInput (job_of words) before input → GainsFront (before.written 1) (now.written 1) (output_of (job_of words) (whole_run input) (whole_ending (job_of words) input)).sink
   pub messages : Gains (before.written 2) (now.written 2) []
       ⊎ ((fault : ToolFault) × HasCause (job_of words) fault before now × GainsFront (before.written 2) (now.written 2) (message fault))

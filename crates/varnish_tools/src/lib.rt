@@ -10,7 +10,6 @@
 
 mod fault;
 mod job;
-mod line;
 mod message;
 mod name;
 mod outcome;

@@ -1,13 +1,14 @@
-//! A run over a log file: it is opened, read whole, and its units are printed.
+//! A run over a log file: it is opened and read whole, and the groups of its units are printed.
 
-ghost use Rattle.std.specs.Prelude.{◌≡◌, Some, IfOk, OnErr};
+ghost use Rattle.std.specs.Prelude.{◌≡◌, ◌⊎◌, IfOk, OnErr};
+ghost use Rattle.varnish_tools.specs.Theorem.{sink_name};
 ghost use Rattle.varnish_tools.specs.Steps.{RunsJob, IsStopped, PrintsFile, IsPrintStopped};
 
 use crate::fault::ToolFault;
 use crate::job::Job;
 use crate::name::Name;
 use crate::outcome::RunRecord;
-use crate::print::print_units;
+use crate::print::{Reporter, print_flush, print_units};
 use std::alloc::Global;
 use vio::{NoMemory, WholeFault, World, WorldFault, read_whole};
 use vsl_file::read_file;
@@ -44,40 +45,48 @@ fn counted(fault: Option<ToolFault>, units: u64) -> Ran
     }
 }
 
-/// Prints the units of the job's log file, whose bytes these are.
-fn print_file<W: World>(
-    alloc: Global,
-    job: &Job<'_>,
-    world: &mut W,
-    bytes: &[u8],
-) -> Result<Ran, NoMemory>
-    ensures printed { IfOk result (λ r. PrintsFile (record { file = job.now.file.now }) bytes.now r.fault r.run (W.seen world.old) (W.seen world.new)) }
-    ensures memory { OnErr result (IsPrintStopped (record { file = job.now.file.now }) bytes.now (W.seen world.old) (W.seen world.new)) }
+/// What a run answers where a write of the text failed, and so many units' text was begun.
+fn unwritten(alloc: Global, fault: WorldFault, units: u64) -> Result<Ran, NoMemory>
+    ensures { IfOk result (λ r. (fault ≡ WorldFault.Failed)
+        × (r.fault ≡ Some (ToolFault.WriteFault sink_name)) × (r.run ≡ RunRecord.Counted units 1)) }
 {
-    let file = read_file(alloc, bytes)?;
-    let units = file.units.as_slice();
-    match print_units(alloc, world, units) {
-        Ok(()) if file.whole => Ok(counted(None, units.len() as u64)),
-        Ok(()) => {
-            let name = Name::new(alloc, job.file)?;
-            let fault = ToolFault::BadFile { name };
-            Ok(counted(Some(fault), units.len() as u64))
+    match fault {
+        WorldFault::Failed => {
+            let name = Name::new(alloc, "-")?;
+            Ok(counted(Some(ToolFault::WriteFault { name }), units))
         }
-        Err(stopped) => match stopped.fault {
-            WorldFault::Failed => {
-                let name = Name::new(alloc, "-")?;
-                let fault = ToolFault::WriteFault { name };
-                Ok(counted(Some(fault), stopped.units))
-            }
-            WorldFault::NoMemory => Err(NoMemory),
-        },
+        WorldFault::NoMemory => Err(NoMemory),
     }
 }
 
-/// Prints the raw lines of the job's log file.
+/// Prints the groups of the units of the job's log file, whose bytes these are.
+fn print_file<W: World>(alloc: Global, job: &Job<'_>, world: &mut W, bytes: &[u8]) -> Result<Ran, NoMemory>
+    requires { (job.now.grouping ≡ Grouping.Raw) ⊎ (job.now.grouping ≡ Grouping.Vxid) }
+    ensures printed { IfOk result (λ r. PrintsFile (record { grouping = job.now.grouping; file = job.now.file.now }) bytes.now r.fault r.run (W.seen world.old) (W.seen world.new)) }
+    ensures memory { OnErr result (IsPrintStopped (record { grouping = job.now.grouping; file = job.now.file.now }) bytes.now (W.seen world.old) (W.seen world.new)) }
+{
+    let file = read_file(alloc, bytes)?;
+    let units = file.units.as_slice();
+    let mut reporter = Reporter::new(alloc, job.grouping)?;
+    if let Err(stopped) = print_units(world, &mut reporter, units) {
+        return unwritten(alloc, stopped.fault, stopped.units);
+    }
+    if !file.whole {
+        let name = Name::new(alloc, job.file)?;
+        let fault = ToolFault::BadFile { name };
+        return Ok(counted(Some(fault), units.len() as u64));
+    }
+    if let Err(fault) = print_flush(world, &mut reporter) {
+        return unwritten(alloc, fault, units.len() as u64);
+    }
+    Ok(counted(None, units.len() as u64))
+}
+
+/// Prints the groups of the job's log file.
 pub fn run_job<W: World>(alloc: Global, job: &Job<'_>, world: &mut W) -> Result<Ran, NoMemory>
-    ensures ran { IfOk result (λ r. RunsJob (record { file = job.now.file.now }) r.fault r.run (W.seen world.old) (W.seen world.new)) }
-    ensures memory { OnErr result (IsStopped (record { file = job.now.file.now }) (W.seen world.old) (W.seen world.new)) }
+    requires { (job.now.grouping ≡ Grouping.Raw) ⊎ (job.now.grouping ≡ Grouping.Vxid) }
+    ensures ran { IfOk result (λ r. RunsJob (record { grouping = job.now.grouping; file = job.now.file.now }) r.fault r.run (W.seen world.old) (W.seen world.new)) }
+    ensures memory { OnErr result (IsStopped (record { grouping = job.now.grouping; file = job.now.file.now }) (W.seen world.old) (W.seen world.new)) }
 {
     let handle = match world.open(job.file) {
         Ok(handle) => handle,
