@@ -1,10 +1,12 @@
 //! What is shown.
 
-ghost use Rattle.std.specs.Prelude.{◌≡◌, [], true, false, IfOk};
+ghost use Rattle.std.specs.Prelude.{◌≡◌, length, false, IfOk, IsOk};
+ghost use Rattle.vsl_select.specs.Shown.{is_shown_member, is_shown_record};
 
 use std::alloc::Global;
 use thiserror::Error;
 use txn_rows::Member;
+use vio::NoMemory;
 use vsl_record::Record;
 
 /// Whose transactions are shown (varnishlog(1), `-b`, `-c`, `-E`).
@@ -37,4 +39,33 @@ pub enum SelectFault {
 #[derive(Debug, Drop)]
 pub struct Selection {
     sides: Sides,
+}
+
+impl Selection {
+    /// What these sides and rules show. For now no rule and no side is taken, so all is shown.
+    pub fn new(alloc: Global, sides: Sides, rules: Vec<RuleText>, caseless: bool) -> Result<Selection, SelectFault>
+        requires rules { length rules.items ≡ 0 }
+        requires backend { sides.backend ≡ false }
+        requires client { sides.client ≡ false }
+        requires esi { sides.esi ≡ false }
+        ensures taken { IsOk result }
+        ensures sides { IfOk result (λ s. s.sides ≡ sides) }
+    {
+        Ok(Selection { sides })
+    }
+
+    /// Whether the transaction is shown.
+    pub fn shows_member(&self, member: &Member) -> bool
+        ensures { result ≡ is_shown_member member.now }
+    {
+        true
+    }
+
+    /// Whether the record is shown, in a transaction that is.
+    pub fn shows(&self, line: &Record) -> Result<bool, NoMemory>
+        ensures shown { IfOk result (λ b. b ≡ is_shown_record line.now) }
+        ensures answered { IsOk result }
+    {
+        Ok(true)
+    }
 }
