@@ -1,25 +1,23 @@
 -- What opening and reading a file before printing it comes to.
-use Rattle.std.proofs.Common.{◌≡◌, ◌≢◌, ℕ, ◌<◌, ◌≤◌, false, cond, leb, List, [], ◌++◌, length, Option, Some, refl, sym, ap, subst, ◌∙◌, arith, length-append}
-use Rattle.std.specs.List.{flat_map}
+use Rattle.std.proofs.Common.{Bool, true, ◌≡◌, ◌≢◌, ℕ, ◌<◌, ◌≤◌, false, cond, leb, List, [], ◌++◌, length, Option, Some, refl, sym, ap, subst, ◌∙◌, arith, length-append}
 use Rattle.std.proofs.lemmas.List.{append-nil}
-use Rattle.std.proofs.lemmas.Bool.{lt-leb}
+use Rattle.std.proofs.lemmas.Bool.{lt-leb, le-leb}
 use Rattle.log_model.specs.Faults.{HasNewFault}
 use Rattle.vio.specs.World.{Seen, CallKind, Opening, Reading, Writing, NoCountFalls, FaultsRose, Gains, IsAtEnd, Opened, Read, ReadSome, ReadPast, OnlyCounts}
 use Rattle.vio.proofs.WholeLemmas.{NoCountFalls-then}
 use Rattle.vsl_record.specs.Unit.{Log}
-use Rattle.vsl_record.specs.RawLine.{raw_lines}
-use Rattle.vsl_file.specs.File.{IsFile}
+use Rattle.vsl_file.specs.File.{IsFile, is_whole}
 use Rattle.varnish_tools.specs.declared.fault.ToolFault.{ToolFault}
 use Rattle.varnish_tools.specs.declared.fault.ToolFault.TheVariants.{NotBuilt, NoOpen, ReadFault, WriteFault, BadFile}
 use Rattle.varnish_tools.specs.declared.outcome.RunRecord.{RunRecord}
 use Rattle.varnish_tools.specs.declared.outcome.RunRecord.TheVariants.{Nothing}
 use Rattle.varnish_tools.specs.Job.{Job}
 use Rattle.varnish_tools.specs.Run.{Run, Ending, Whole, Kept, Faulted, no_run, run_of, taken}
-use Rattle.varnish_tools.specs.Output.{output_of}
-use Rattle.varnish_tools.specs.Theorem.{Input, HasCause, WritesSink, whole_run, log_limit}
-use Rattle.varnish_tools.specs.Steps.{ChangesOutput, RunsJob, IsStopped, HasPrintCause, PrintsFile, IsPrintStopped}
+use Rattle.varnish_tools.specs.Output.{output_of, sink_text}
+use Rattle.varnish_tools.specs.Theorem.{Input, HasCause, WritesSink, whole_run, whole_ending, log_limit}
+use Rattle.varnish_tools.specs.Steps.{units_text, ChangesOutput, RunsJob, IsStopped, HasPrintCause, PrintsFile, IsPrintStopped}
 use Rattle.varnish_tools.proofs.WritingLemmas.{gains_none}
-use Rattle.varnish_tools.proofs.PrintingLemmas.{text_of_run, run_within}
+use Rattle.varnish_tools.proofs.PrintingLemmas.{text_of_run, run_within, later_fault}
 
 -- nothing was written
 pub record IsSilent (before now : Seen) : Type 0 where
@@ -51,7 +49,7 @@ silent_gains s t p = λ a told. p.written 1 ∙ told ∙ ap Some (sym (append-ni
 pub stops_silent : (job : Job) (s t : Seen) → IsSilent s t → IsStopped job s t
 stops_silent job s t p = record {
   changes = silent_changes s t p;
-  sink = λ input is_input. rw (p.written 1) (gains_none (s.written 1) (output_of (Some job) (whole_run input) Whole).sink);
+  sink = λ input is_input. rw (p.written 1) (gains_none (s.written 1) (output_of (Some job) (whole_run input) (whole_ending (Some job) input)).sink);
 }
 
 pub runs_unopened : (job : Job) (name : List ℕ) (s t : Seen) → name ≡ job.file → OnlyCounts s t
@@ -71,10 +69,6 @@ runs_unopened job name s t is p rose = record {
     sink = silent_gains s t (silent_counts s t p);
   };
 }
-
--- a fault of a later call is one since before
-later_fault : (k : CallKind) (name : List ℕ) (s t u : Seen) → NoCountFalls s t → HasNewFault (t.faults k name) (u.faults k name) → HasNewFault (s.faults k name) (u.faults k name)
-later_fault k name s t u p rose = omega (arith, p.each k name)
 
 pub runs_unread : (job : Job) (name : List ℕ) (h : ℕ) (s t u : Seen) → name ≡ job.file → Opened job.file h s t → ReadSome h t u → FaultsRose Reading h t u
     → RunsJob job (Some (ReadFault name)) Nothing s u
@@ -186,14 +180,24 @@ runs_printed job bytes fault taken s t u r p =
           };
     }
 
+-- the text of a run of units, flushed where a test says so
+pub text_at : (job : Job) (units : Log) (b : Bool) → sink_text (Some job) (run_of units) (cond b Whole (Faulted (BadFile job.file))) ≡ units_text job.grouping units b
+text_at job units true = text_of_run job units Whole
+text_at job units false = text_of_run job units (Faulted (BadFile job.file))
+
+-- the whole run and the whole ending of an input within the limit
+pub whole_text_of : (job : Job) (input : Input) → length input.bytes ≤ log_limit
+    → (output_of (Some job) (whole_run input) (whole_ending (Some job) input)).sink ≡ units_text job.grouping input.units (is_whole input.file_ending)
+whole_text_of job input within =
+    let test : leb (length input.bytes) log_limit ≡ true = le-leb _ _ within in
+    rw test (text_at job input.units (is_whole input.file_ending))
+
 pub stops_printed : (job : Job) (bytes : List ℕ) (s t u : Seen) → IsReadWhole job bytes s t → IsPrintStopped job bytes t u → IsStopped job s u
 stops_printed job bytes s t u r p = record {
   changes = changes_since s t u r.silent p.changes;
   sink = λ input is_input.
-      let same = r.all input.bytes is_input.0 in
-      let within : length input.bytes ≤ log_limit = omega (arith, ap length same, r.within) in
-      let front = p.sink input.units input.file_ending (subst (λ (b : List ℕ). IsFile b input.units input.file_ending) same is_input.1) in
-      let text : flat_map raw_lines (taken (whole_run input).history) ≡ flat_map raw_lines input.units =
-      ap (λ (x : Run). flat_map raw_lines (taken x.history)) (sym (run_within input.bytes input.units within)) ∙ text_of_run input.units in
-      rw (text, ← r.silent.written 1) front;
+    let same = r.all input.bytes is_input.0 in
+    let within : length input.bytes ≤ log_limit = omega (arith, ap length same, r.within) in
+    let front = p.sink input.units input.file_ending (subst (λ (b : List ℕ). IsFile b input.units input.file_ending) same is_input.1) in
+    rw (whole_text_of job input within, ← r.silent.written 1) front;
 }

@@ -1,12 +1,13 @@
 -- The main theorem from its steps: the run, and then the message of its fault.
-use Rattle.std.proofs.Common.{◌≡◌, ℕ, ◌≤◌, List, [], ◌++◌, length, take, drop, Option, Some, None, refl, sym, ap, subst, ◌∙◌, append_assoc, inl, inr, ⊎_elim, arith}
+use Rattle.std.proofs.Common.{◌≡◌, ℕ, ◌≤◌, ◌<◌, Bool, true, false, cond, eqb, leb, ◌&&◌, List, [], ◌++◌, length, take, drop, Option, Some, None, refl, sym, ap, subst, ◌∙◌, append_assoc, inl, inr, ⊎_elim, arith}
 use Rattle.std.specs.Prelude.{codes}
-use Rattle.std.specs.List.{flat_map}
-use Rattle.std.proofs.lemmas.List.{append-nil}
+use Rattle.std.proofs.lemmas.List.{append-nil, take_all, length-take}
+use Rattle.std.proofs.lemmas.Bool.{lt-leb, eqb-true, cases_lt}
 use Rattle.log_model.specs.Faults.{HasNewFault}
 use Rattle.vio.specs.World.{Seen, CallKind, Opening, Reading, Writing, NoCountFalls, Gains}
 use Rattle.vio.proofs.WholeLemmas.{NoCountFalls-then, NoCountFalls-none}
-use Rattle.vsl_record.specs.RawLine.{raw_lines}
+use Rattle.vsl_record.specs.Unit.{Log}
+use Rattle.vsl_file.specs.File.{is_whole}
 use Rattle.varnish_tools.specs.declared.fault.ToolFault.{ToolFault}
 use Rattle.varnish_tools.specs.declared.fault.ToolFault.TheVariants.{NotBuilt, NoOpen, ReadFault, WriteFault, BadFile}
 use Rattle.varnish_tools.specs.declared.outcome.RunRecord.{RunRecord}
@@ -14,10 +15,11 @@ use Rattle.varnish_tools.specs.declared.outcome.RunRecord.TheVariants.{Nothing}
 use Rattle.varnish_tools.specs.declared.outcome.Outcome.{Outcome}
 use Rattle.varnish_tools.specs.Job.{Job, job_of}
 use Rattle.varnish_tools.specs.Run.{Run, Ending, Whole, Kept, Faulted, no_run, run_of, taken, fault_of}
-use Rattle.varnish_tools.specs.Output.{output_of, message, fault_message, status_of}
-use Rattle.varnish_tools.specs.Theorem.{Input, IsInput, IsGood, HasCause, Takes, WritesSink, WritesMessages, WritesOutput, GainsFront, GainsBetween, IsFaithful, IsComplete, IsCutShort, NoFaultOf, whole_run, without_last, log_limit}
-use Rattle.varnish_tools.specs.Steps.{RunsJob, RunsWords, IsStopped, Reports, ReportsPart}
-use Rattle.varnish_tools.proofs.PrintingLemmas.{text_of_run, run_within, lines_split}
+use Rattle.varnish_tools.specs.Output.{output_of, sink_text, message, fault_message, status_of}
+use Rattle.varnish_tools.specs.Theorem.{Input, IsInput, IsGood, HasCause, Takes, WritesSink, WritesMessages, WritesOutput, GainsFront, GainsBetween, IsFaithful, IsComplete, IsCutShort, NoFaultOf, whole_run, whole_ending, ending_begun, without_last, log_limit}
+use Rattle.varnish_tools.specs.Steps.{units_text, RunsJob, RunsWords, IsStopped, Reports, ReportsPart}
+use Rattle.varnish_tools.proofs.PrintingLemmas.{text_of_run, run_within, first_text}
+use Rattle.varnish_tools.proofs.RunLemmas.{whole_text_of, text_at}
 
 -- the words state a job, which was worked off
 pub runs_words : (words : List (List ℕ)) (job : Job) (fault : Option ToolFault) (taken : RunRecord) (s t : Seen)
@@ -119,7 +121,7 @@ no_fault job input (Some f) s u is_input good none causes = absurd (no_cause job
 -- without a fault the text of the whole input was written
 whole_text : (job : Job) (input : Input) (run : Run) (ending : Ending) (s u : Seen) → fault_of ending ≡ None → Takes input run ending → WritesSink (Some job) input run ending s u
     → Gains (s.written 1) (u.written 1) (output_of (Some job) (run_of input.units) Whole).sink
-whole_text job input run Whole s u e t p = subst (λ (r : Run). Gains (s.written 1) (u.written 1) (flat_map raw_lines (taken r.history))) t.1 p
+whole_text job input run Whole s u e t p = subst (λ (r : Run). Gains (s.written 1) (u.written 1) (sink_text (Some job) r Whole)) t.1 p
 whole_text job input run Kept s u e t p = absurd t
 whole_text job input run (Faulted f) s u e t p = absurd cc
 
@@ -138,33 +140,88 @@ front_of x y part text rest e p = λ a told. (part, rest, e, p a told)
 front_same : (x y : Option (List ℕ)) (part text : List ℕ) → part ≡ text → Gains x y part → GainsFront x y text
 front_same x y part text e p = front_of x y part text [] (sym e ∙ sym (append-nil part)) p
 
--- the text of a run that is the whole run
-text_whole : (run : Run) (input : Input) → run ≡ whole_run input → flat_map raw_lines (taken run.history) ≡ flat_map raw_lines (taken (whole_run input).history)
-text_whole run input e = ap (λ (r : Run). flat_map raw_lines (taken r.history)) e
-
-text_none : (run : Run) → run ≡ no_run → flat_map raw_lines (taken run.history) ≡ []
-text_none run e = ap (λ (r : Run). flat_map raw_lines (taken r.history)) e
-
 -- what was gained between two texts is a front of a text that goes on after the second
 between_front : (x y : Option (List ℕ)) (least most text after : List ℕ) → text ≡ most ++ after → GainsBetween x y least most → GainsFront x y text
 between_front x y least most text after e p = λ a told.
-    let g = p a told in (
-      least ++ g.0,
-      g.1 ++ after,
-      e ∙ ap (λ (t : List ℕ). t ++ after) g.2 ∙ append_assoc (least ++ g.0) g.1 after,
-      g.3 ∙ ap Some (append_assoc a least g.0),
-    )
+    let g = p a told in
+    (least ++ g.0, g.1 ++ after,
+    e ∙ ap (λ (t : List ℕ). t ++ after) g.2 ∙ append_assoc (least ++ g.0) g.1 after,
+    g.3 ∙ ap Some (append_assoc a least g.0))
 
--- the text of the first units is a front of the text of all
-first_lines : (job : Job) (input : Input) (run : Run) (n : ℕ) → length input.bytes ≤ log_limit → run ≡ run_of (take n input.units)
-    → (output_of (Some job) (whole_run input) Whole).sink ≡ flat_map raw_lines (taken run.history) ++ flat_map raw_lines (drop n input.units)
-first_lines job input run n within e =
-    sym (text_whole (run_of input.units) input (run_within input.bytes input.units within)) ∙ text_of_run input.units ∙ lines_split input.units n
-    ∙ ap (λ (t : List ℕ). t ++ flat_map raw_lines (drop n input.units)) (sym (ap (λ (r : Run). flat_map raw_lines (taken r.history)) e ∙ text_of_run (take n input.units)))
+-- the text that an input within the limit defines goes on after that of its first units
+defined_text : (job : Job) (input : Input) (n : ℕ) → length input.bytes ≤ log_limit
+    → (after : List ℕ) × ((output_of (Some job) (whole_run input) (whole_ending (Some job) input)).sink ≡ units_text job.grouping (take n input.units) false ++ after)
+defined_text job input n within =
+    let first = first_text job.grouping input.units n (is_whole input.file_ending) in
+    (first.0, whole_text_of job input within ∙ first.1)
 
--- what the sink gained is a front of what the whole input would give
+-- the text of a run with a fault, which isn't flushed
+faulted_text : (job : Job) (fault : ToolFault) (run : Run) (units : Log) → run ≡ run_of units → sink_text (Some job) run (Faulted fault) ≡ units_text job.grouping units false
+faulted_text job fault run units e = ap (λ (r : Run). sink_text (Some job) r (Faulted fault)) e ∙ text_of_run job units (Faulted fault)
+
+-- the text that an input past the limit defines
+past_text : (job : Job) (input : Input) → log_limit < length input.bytes → (output_of (Some job) (whole_run input) (whole_ending (Some job) input)).sink ≡ []
+past_text job input past = let test : leb (length input.bytes) log_limit ≡ false = lt-leb _ _ past in rw test refl
+
+-- the text that a good input defines
+good_text : (job : Job) (input : Input) (run : Run) → IsGood input → run ≡ run_of input.units
+    → (output_of (Some job) (whole_run input) (whole_ending (Some job) input)).sink ≡ sink_text (Some job) run Whole
+good_text job input run good e =
+    whole_text_of job input good.within ∙ ap (λ (b : Bool). units_text job.grouping input.units b) (ap is_whole good.whole)
+    ∙ sym (ap (λ (r : Run). sink_text (Some job) r Whole) e ∙ text_of_run job input.units Whole)
+
+-- nothing was gained, as the text of no run
+none_front : (job : Job) (fault : ToolFault) (run : Run) (x y : Option (List ℕ)) (text : List ℕ) → run ≡ no_run → Gains x y (sink_text (Some job) run (Faulted fault)) → GainsFront x y text
+none_front job fault run x y text e p = front_of x y [] text text refl (subst (λ (r : Run). Gains x y (sink_text (Some job) r (Faulted fault))) e p)
+
+-- a bad file within the limit, or past it
+bad_front : (job : Job) (fault : ToolFault) (input : Input) (run : Run) (x y : Option (List ℕ)) → run ≡ whole_run input → Gains x y (sink_text (Some job) run (Faulted fault))
+    → GainsFront x y (output_of (Some job) (whole_run input) (whole_ending (Some job) input)).sink
+bad_front job fault input run x y e p = ⊎_elim
+    (λ (past : log_limit < length input.bytes).
+      let test : leb (length input.bytes) log_limit ≡ false = lt-leb _ _ past in
+      let none : whole_run input ≡ no_run = rw test refl in
+      none_front job fault run x y (output_of (Some job) (whole_run input) (whole_ending (Some job) input)).sink (e ∙ none) p)
+    (λ (within : length input.bytes ≤ log_limit).
+      let is : run ≡ run_of input.units = e ∙ sym (run_within input.bytes input.units within) in
+      let all : take (length input.units) input.units ≡ input.units = take_all (length input.units) input.units (omega arith) in
+      let text = defined_text job input (length input.units) within in
+      front_of x y (sink_text (Some job) run (Faulted fault)) (output_of (Some job) (whole_run input) (whole_ending (Some job) input)).sink text.0
+      (text.1 ∙ ap (λ (t : List ℕ). t ++ text.0) (ap (λ (us : Log). units_text job.grouping us false) all ∙ sym (faulted_text job fault run input.units is))) p)
+    (cases_lt log_limit (length input.bytes))
+
+-- a part of the text of the first units
+part_front : (job : Job) (ending : Ending) (input : Input) (run : Run) (least : List ℕ) (x y : Option (List ℕ)) (n : ℕ)
+    → (after : List ℕ) × ((output_of (Some job) (whole_run input) (whole_ending (Some job) input)).sink ≡ sink_text (Some job) run ending ++ after)
+    → GainsBetween x y least (sink_text (Some job) run ending) → GainsFront x y (output_of (Some job) (whole_run input) (whole_ending (Some job) input)).sink
+part_front job ending input run least x y n text p = between_front x y least (sink_text (Some job) run ending) _ text.0 text.1 p
+
+both_true : (a b : Bool) → (a && b) ≡ true → (a ≡ true) × (b ≡ true)
+both_true true b e = (refl, e)
+both_true false b e = absurd cc
+
+-- the defined text goes on after the text whose write failed
+begun_at : (job : Job) (input : Input) (run : Run) (fault : ToolFault) (n : ℕ) (b : Bool) → length input.bytes ≤ log_limit → n ≤ length input.units → run ≡ run_of (take n input.units)
+    → (eqb (length run.log) (length input.units) && is_whole input.file_ending) ≡ b
+    → (after : List ℕ) × ((output_of (Some job) (whole_run input) (whole_ending (Some job) input)).sink ≡ sink_text (Some job) run (cond b Whole (Faulted fault)) ++ after)
+begun_at job input run fault n true within le e is =
+    let both = both_true (eqb (length run.log) (length input.units)) (is_whole input.file_ending) is in
+    let same : length run.log ≡ length input.units = eqb-true _ _ both.0 in
+    let taken : length run.log ≡ length (take n input.units) = ap (λ (r : Run). length r.log) e in
+    let all : take n input.units ≡ input.units = take_all n input.units (omega (arith, same, taken, length-take n input.units)) in
+    ([], whole_text_of job input within ∙ ap (λ (b : Bool). units_text job.grouping input.units b) both.1
+    ∙ sym (ap (λ (r : Run). sink_text (Some job) r Whole) (e ∙ ap run_of all) ∙ text_of_run job input.units Whole) ∙ sym (append-nil (sink_text (Some job) run Whole)))
+begun_at job input run fault n false within le e is =
+    let text = defined_text job input n within in
+    (text.0, text.1 ∙ ap (λ (t : List ℕ). t ++ text.0) (sym (faulted_text job fault run (take n input.units) e)))
+
+begun_text : (job : Job) (input : Input) (run : Run) (fault : ToolFault) (n : ℕ) → length input.bytes ≤ log_limit → n ≤ length input.units → run ≡ run_of (take n input.units)
+    → (after : List ℕ) × ((output_of (Some job) (whole_run input) (whole_ending (Some job) input)).sink ≡ sink_text (Some job) run (ending_begun input run fault) ++ after)
+begun_text job input run fault n within le e = begun_at job input run fault n _ within le e refl
+
+-- what the sink gained is a front of what the whole input defines
 sink_front : (job : Option Job) (input : Input) (run : Run) (ending : Ending) (s t : Seen) → Takes input run ending → WritesSink job input run ending s t
-    → GainsFront (s.written 1) (t.written 1) (output_of job (whole_run input) Whole).sink
+    → GainsFront (s.written 1) (t.written 1) (output_of job (whole_run input) (whole_ending job input)).sink
 sink_front None input run Whole s t takes p = front_same _ _ [] [] refl p
 sink_front None input run Kept s t takes p = absurd takes
 sink_front None input run (Faulted NotBuilt) s t takes p = front_same _ _ [] [] refl p
@@ -172,15 +229,15 @@ sink_front None input run (Faulted (NoOpen name)) s t takes p = front_same _ _ [
 sink_front None input run (Faulted (ReadFault name)) s t takes p = front_same _ _ [] [] refl p
 sink_front None input run (Faulted (WriteFault name)) s t takes p = between_front _ _ [] [] [] [] refl p
 sink_front None input run (Faulted (BadFile name)) s t takes p = front_same _ _ [] [] refl p
-sink_front (Some job) input run Whole s t takes p = front_same _ _ _ _ (text_whole run input (takes.1 ∙ run_within input.bytes input.units takes.0.within)) p
+sink_front (Some job) input run Whole s t takes p = front_same _ _ _ _ (sym (good_text job input run takes.0 takes.1)) p
 sink_front (Some job) input run Kept s t takes p = absurd takes
-sink_front (Some job) input run (Faulted NotBuilt) s t takes p = front_of _ _ [] _ _ refl (rw (← text_none run takes) p)
-sink_front (Some job) input run (Faulted (NoOpen name)) s t takes p = front_of _ _ [] _ _ refl (rw (← text_none run takes) p)
-sink_front (Some job) input run (Faulted (ReadFault name)) s t takes p = front_of _ _ [] _ _ refl (rw (← text_none run takes) p)
+sink_front (Some job) input run (Faulted NotBuilt) s t takes p = none_front job NotBuilt run _ _ _ takes p
+sink_front (Some job) input run (Faulted (NoOpen name)) s t takes p = none_front job (NoOpen name) run _ _ _ takes p
+sink_front (Some job) input run (Faulted (ReadFault name)) s t takes p = none_front job (ReadFault name) run _ _ _ takes p
 sink_front (Some job) input run (Faulted (WriteFault name)) s t takes p =
-    between_front _ _ (output_of (Some job) (without_last run) (Faulted (WriteFault name))).sink (flat_map raw_lines (taken run.history)) _ _
-    (first_lines job input run takes.1.0 takes.0 takes.1.3) p
-sink_front (Some job) input run (Faulted (BadFile name)) s t takes p = front_same _ _ _ _ (text_whole run input takes) p
+    part_front job (ending_begun input run (WriteFault name)) input run (sink_text (Some job) (without_last run) (Faulted (WriteFault name))) _ _ takes.1.0
+    (begun_text job input run (WriteFault name) takes.1.0 takes.0 takes.1.2 takes.1.3) p
+sink_front (Some job) input run (Faulted (BadFile name)) s t takes p = bad_front job (BadFile name) input run _ _ takes p
 
 -- stopped for want of memory in the run
 pub cut_in_run : (words : List (List ℕ)) (job : Job) (s t : Seen) → job_of words ≡ Some job → IsStopped job s t → IsCutShort words s t

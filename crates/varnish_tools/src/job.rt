@@ -1,8 +1,8 @@
 //! The words of a command line.
 
-ghost use Rattle.std.specs.Prelude.{◌≡◌, ◌⊎◌, map, MatchOption, IfSome};
+ghost use Rattle.std.specs.Prelude.{◌≡◌, map, MatchOption, IfSome};
 ghost use Rattle.std.specs.String.{string_bytes};
-ghost use Rattle.varnish_tools.specs.Job.{job_of, grouping_named};
+ghost use Rattle.varnish_tools.specs.Job.{job_of, grouping_named, IsBuilt};
 
 use txn_rows::Grouping;
 
@@ -30,7 +30,7 @@ pub fn read_job(words: &[String]) -> Option<Job<'_>>
     ensures job { MatchOption result
         (job_of (map string_bytes words.now) ≡ None)
         (λ j. job_of (map string_bytes words.now) ≡ Some (record { grouping = j.grouping; file = j.file.now })) }
-    ensures built { IfSome result (λ j. (j.grouping ≡ Grouping.Raw) ⊎ (j.grouping ≡ Grouping.Vxid)) }
+    ensures built { IfSome result (λ j. IsBuilt j.grouping) }
 {
     match words {
         [tool, read, file] => {

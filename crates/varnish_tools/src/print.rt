@@ -1,9 +1,10 @@
 //! Grouping what was taken, and writing the text of groups to standard output.
 
-ghost use Rattle.std.specs.Prelude.{◌≡◌, ◌≢◌, ◌⊎◌, ◌++◌, [], length, IfOk, IfErr, OnOk, OnErr, IsErrOf, codes};
+ghost use Rattle.std.specs.Prelude.{◌≡◌, ◌≢◌, ◌++◌, [], length, IfOk, IfErr, OnOk, OnErr, IsErrOf, codes};
 ghost use Rattle.log_model.specs.Faults.{HasNewFault};
 ghost use Rattle.vio.specs.World.{Writing, Wrote, WrotePart};
 ghost use Rattle.txn_rows.specs.Grouping.{unit_step};
+ghost use Rattle.varnish_tools.specs.Job.{IsBuilt};
 ghost use Rattle.varnish_tools.specs.Output.{groups_text};
 ghost use Rattle.varnish_tools.specs.Theorem.{sink_name};
 ghost use Rattle.varnish_tools.specs.Steps.{IsFresh, PrintedUnit, PrintedUnits, PartPrinted, flush_text};
@@ -40,7 +41,7 @@ pub struct Reporter {
 
 impl Reporter {
     pub fn new(alloc: Global, grouping: Grouping) -> Result<Reporter, NoMemory>
-        requires { (grouping ≡ Grouping.Raw) ⊎ (grouping ≡ Grouping.Vxid) }
+        requires { IsBuilt grouping }
         ensures { IfOk result (λ r. IsFresh grouping r.table) }
     {
         let options = GroupOptions {

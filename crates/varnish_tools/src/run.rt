@@ -1,6 +1,7 @@
 //! A run over a log file: it is opened and read whole, and the groups of its units are printed.
 
-ghost use Rattle.std.specs.Prelude.{◌≡◌, ◌⊎◌, IfOk, OnErr};
+ghost use Rattle.std.specs.Prelude.{◌≡◌, IfOk, OnErr};
+ghost use Rattle.varnish_tools.specs.Job.{IsBuilt};
 ghost use Rattle.varnish_tools.specs.Theorem.{sink_name};
 ghost use Rattle.varnish_tools.specs.Steps.{RunsJob, IsStopped, PrintsFile, IsPrintStopped};
 
@@ -61,7 +62,7 @@ fn unwritten(alloc: Global, fault: WorldFault, units: u64) -> Result<Ran, NoMemo
 
 /// Prints the groups of the units of the job's log file, whose bytes these are.
 fn print_file<W: World>(alloc: Global, job: &Job<'_>, world: &mut W, bytes: &[u8]) -> Result<Ran, NoMemory>
-    requires { (job.now.grouping ≡ Grouping.Raw) ⊎ (job.now.grouping ≡ Grouping.Vxid) }
+    requires { IsBuilt job.now.grouping }
     ensures printed { IfOk result (λ r. PrintsFile (record { grouping = job.now.grouping; file = job.now.file.now }) bytes.now r.fault r.run (W.seen world.old) (W.seen world.new)) }
     ensures memory { OnErr result (IsPrintStopped (record { grouping = job.now.grouping; file = job.now.file.now }) bytes.now (W.seen world.old) (W.seen world.new)) }
 {
@@ -84,7 +85,7 @@ fn print_file<W: World>(alloc: Global, job: &Job<'_>, world: &mut W, bytes: &[u8
 
 /// Prints the groups of the job's log file.
 pub fn run_job<W: World>(alloc: Global, job: &Job<'_>, world: &mut W) -> Result<Ran, NoMemory>
-    requires { (job.now.grouping ≡ Grouping.Raw) ⊎ (job.now.grouping ≡ Grouping.Vxid) }
+    requires { IsBuilt job.now.grouping }
     ensures ran { IfOk result (λ r. RunsJob (record { grouping = job.now.grouping; file = job.now.file.now }) r.fault r.run (W.seen world.old) (W.seen world.new)) }
     ensures memory { OnErr result (IsStopped (record { grouping = job.now.grouping; file = job.now.file.now }) (W.seen world.old) (W.seen world.new)) }
 {
