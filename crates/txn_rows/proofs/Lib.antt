@@ -1,2 +1,3 @@
 mod ClaimLemmas
 pub mod RowLemmas
+mod StepLemmas

@@ -10,6 +10,8 @@
 
 mod claim;
 mod group;
+mod rows;
+mod steps;
 mod table;
 
 pub use claim::{Claim, read_claim};
