@@ -50,11 +50,13 @@ newest_pending vxid at (row ∷ rows) newest =
 pub with_transaction_stays : (vxid at : ℕ) (rows : List Row) → IsNewestRow vxid at rows → map transaction_of rows ≡ with_transaction vxid (map transaction_of rows)
 with_transaction_stays vxid at rows newest = rw (rows_open vxid rows, newest_pending vxid at rows newest) refl
 
-or_true : (b : Bool) → (b || true) ≡ true
+-- a test that holds, after another
+pub or_true : (b : Bool) → (b || true) ≡ true
 or_true true = refl
 or_true false = refl
 
-pending_in : (vxid : ℕ) (front : List Transaction) (t : Transaction) (back : List Transaction) → eqb t.vxid vxid ≡ true → is_pending vxid (front ++ t ∷ back) ≡ true
+-- a transaction of the number is pending
+pub pending_in : (vxid : ℕ) (front : List Transaction) (t : Transaction) (back : List Transaction) → eqb t.vxid vxid ≡ true → is_pending vxid (front ++ t ∷ back) ≡ true
 pending_in vxid [] t back same = rw same refl
 pending_in vxid (f ∷ front) t back same = rw (pending_in vxid front t back same) (or_true (eqb f.vxid vxid))
 

@@ -1,7 +1,10 @@
 //! The table of pending transactions.
 
-ghost use Rattle.std.specs.Prelude.{◌≡◌, ◌⊎◌, ◌<◌, ◌++◌, ℕ, List, true, false, length, IfOk, OnOk, OnErr, IsErr};
-ghost use Rattle.txn_rows.specs.Grouping.{no_state, unit_step, unfinished, flush, passes_over};
+ghost use Rattle.std.specs.Prelude.{◌≡◌, ◌⊎◌, ◌+◌, Bool, count_by, ◌<◌, ◌++◌, ℕ, List, true, false, length, IfOk, OnOk, OnErr, IsErr};
+ghost use Rattle.vsl_record.specs.Unit.{Log};
+ghost use Rattle.vsl_record.specs.declared.record_type.Record.{Record};
+ghost use Rattle.txn_rows.specs.Grouping.{no_state, unit_step, unfinished, flush, passes_over, unit_steps};
+ghost use Rattle.txn_rows.specs.Taken.{count_in_groups, count_in_pending, taken};
 ghost use Rattle.txn_rows.specs.Table.{Steps, StepsPart};
 
 use crate::group::{Group, GroupOptions, Grouping};
@@ -107,3 +110,10 @@ fn passes_over(grouping: Grouping, vxid: Vxid) -> bool
 {
     grouping != Grouping::Raw && vxid == 0
 }
+
+/// The law that each record of a log that a grouping takes stands in one group or is pending, once. It does nothing.
+pub fn each_record_once()
+    ensures { (grouping : Grouping) (units : Log) (test : Record → Bool) →
+        let run = unit_steps grouping units no_state in
+        count_in_groups test run.groups + count_in_pending test run.state.pending ≡ count_by test (taken grouping units) }
+{}
