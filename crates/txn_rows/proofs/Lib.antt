@@ -1,2 +1,4 @@
 mod ClaimLemmas
 pub mod RowLemmas
+mod StepLemmas
+mod TakenLemmas

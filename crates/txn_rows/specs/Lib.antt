@@ -4,3 +4,4 @@ pub mod Grouping
 pub mod TableState
 pub mod Table
 pub mod Rows
+pub mod Taken

@@ -1,23 +1,20 @@
 //! The table of pending transactions.
 
-ghost use Rattle.std.specs.Prelude.{◌≡◌, ◌⊎◌, ◌<◌, ◌++◌, ℕ, List, true, false, length, IfOk, OnOk, OnErr, IsErr};
-ghost use Rattle.txn_rows.specs.Grouping.{no_state, unit_step, unfinished, flush};
+ghost use Rattle.std.specs.Prelude.{◌≡◌, ◌⊎◌, ◌+◌, Bool, count_by, ◌<◌, ◌++◌, ℕ, List, true, false, length, IfOk, OnOk, OnErr, IsErr};
+ghost use Rattle.vsl_record.specs.Unit.{Log};
+ghost use Rattle.vsl_record.specs.declared.record_type.Record.{Record};
+ghost use Rattle.txn_rows.specs.Grouping.{no_state, unit_step, unfinished, flush, passes_over, unit_steps};
+ghost use Rattle.txn_rows.specs.Taken.{count_in_groups, count_in_pending, taken};
 ghost use Rattle.txn_rows.specs.Table.{Steps, StepsPart};
 
-use crate::group::{Group, GroupOptions, Grouping, Kind, Reason};
+use crate::group::{Group, GroupOptions, Grouping};
+use crate::rows::Row;
+use crate::steps::{flush_rows, take_records};
 use std::alloc::Global;
 use std::marker::Model;
+use std::mem;
 use vio::NoMemory;
-use vsl_record::{Records, Unit, Vxid};
-
-/// A pending transaction; none of these has ended.
-#[derive(Drop)]
-struct Row {
-    vxid: Vxid,
-    kind: Kind,
-    reason: Reason,
-    records: Records,
-}
+use vsl_record::{Unit, Vxid};
 
 /// The pending transactions of a log, in the order in which they began. Contracts see the options, the
 /// state, and whether it failed for want of memory; from then on it answers that.
@@ -58,8 +55,22 @@ impl Table {
         ensures err { OnErr result (StepsPart (unit_step self.old.options.grouping unit.now self.old.state) self.old self.new out.old.items out.new.items) }
         ensures failed { self.old.failed ≡ true → IsErr result }
     {
-        self.failed = true;
-        Err(NoMemory)
+        if self.failed {
+            return Err(NoMemory);
+        }
+        if passes_over(self.options.grouping, unit.vxid()) {
+            return Ok(());
+        }
+        let taken = take_records(
+            self.alloc,
+            self.options.grouping,
+            &mut self.rows,
+            unit.vxid(),
+            unit.records(),
+            out,
+        );
+        self.failed = taken.is_err();
+        taken
     }
 
     /// Force-completes every transaction that has not ended, the oldest first, and adds their groups.
@@ -68,8 +79,13 @@ impl Table {
         ensures err { OnErr result (StepsPart (flush self.old.state) self.old self.new out.old.items out.new.items) }
         ensures failed { self.old.failed ≡ true → IsErr result }
     {
-        self.failed = true;
-        Err(NoMemory)
+        if self.failed {
+            return Err(NoMemory);
+        }
+        let rows = mem::replace(&mut self.rows, Vec::new(self.alloc));
+        let flushed = flush_rows(self.alloc, rows, out);
+        self.failed = flushed.is_err();
+        flushed
     }
 
     /// How many transactions are pending.
@@ -87,3 +103,17 @@ impl Table {
         self.rows.len()
     }
 }
+
+/// Whether a grouping passes over a unit's records: all but raw pass over those of no transaction.
+fn passes_over(grouping: Grouping, vxid: Vxid) -> bool
+    ensures { result ≡ passes_over grouping vxid }
+{
+    grouping != Grouping::Raw && vxid == 0
+}
+
+/// The law that each record of a log that a grouping takes stands in one group or is pending, once. It does nothing.
+pub fn each_record_once()
+    ensures { (grouping : Grouping) (units : Log) (test : Record → Bool) →
+        let run = unit_steps grouping units no_state in
+        count_in_groups test run.groups + count_in_pending test run.state.pending ≡ count_by test (taken grouping units) }
+{}
