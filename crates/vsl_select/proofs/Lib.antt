@@ -1,0 +1,2 @@
+mod ExtendsLemmas
+mod PartLemmas

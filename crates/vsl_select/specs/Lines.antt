@@ -27,10 +27,13 @@ title kinds.Record = codes "<< Record   >>"
 abbrev pub header : Member → List ℕ
 header m = level_field 42 m.level ++ title m.kind ++ codes " " ++ at_left 10 (decimal m.vxid) ++ codes "\n"
 
--- the line of a record in its transaction: the level in dashes, the tag left in 14 columns, and the payload; verbose, the level and the raw line
+-- the text of a record: the tag left in 14 columns, and the payload
+abbrev pub record_text : Record → List ℕ
+record_text rec = at_left 14 (tag_name rec.tag) ++ codes " " ++ escaped rec.payload ++ codes "\n"
+
+-- the line of a record in its transaction: the level in dashes, and the record's text; verbose, the level and the raw line
 abbrev pub record_line : Bool → Member → Record → List ℕ
-record_line verbose m rec =
-    level_field 45 m.level ++ (if verbose then raw_line m.vxid rec else at_left 14 (tag_name rec.tag) ++ codes " " ++ escaped rec.payload ++ codes "\n")
+record_line verbose m rec = level_field 45 m.level ++ (if verbose then raw_line m.vxid rec else record_text rec)
 
 -- whether a list has an element
 abbrev pub is_some_of : {A : Type 0} → List A → Bool
@@ -53,7 +56,7 @@ raw_text m = flat_map (raw_line m.vxid) m.records
 abbrev pub is_shown : Group → Bool
 is_shown group = list_any (λ m. is_some_of m.records) group.members
 
--- the text of a group: the texts of its transactions, and an empty line where anything was printed; records by themselves have their raw lines alone
+-- the text of a group, of which nothing is hidden: the texts of its transactions, and an empty line where anything was printed; records by themselves have their raw lines alone
 abbrev pub group_text : Bool → Group → List ℕ
 group_text verbose group =
     if is_raw group then flat_map raw_text group.members

@@ -7,6 +7,7 @@
 #![tactic(auto)]
 
 mod lines;
+mod parts;
 mod selection;
 
 pub use lines::{group_text, raw_line};

@@ -1,27 +1,234 @@
 //! The text of groups and of single records.
 
-ghost use Rattle.std.specs.Prelude.{◌≡◌, ◌++◌, OnOk, OnErr};
-ghost use Rattle.vsl_record.specs.RawLine.{raw_line};
-ghost use Rattle.vsl_select.specs.Lines.{group_text};
+ghost use Rattle.std.specs.Prelude.{◌≡◌, ◌==◌, ◌++◌, [], if◌then◌else◌, codes, decimal, OnOk, OnErr};
+ghost use Rattle.std.specs.List.{flat_map, list_all, list_any};
+ghost use Rattle.vsl_tags.specs.Tags.{tag_name};
+ghost use Rattle.vsl_record.specs.RawLine.{at_left, at_right, escaped, raw_line};
+ghost use Rattle.vsl_select.specs.Extends.{Extends};
+ghost use Rattle.vsl_select.specs.Lines.{header, record_text, record_line, is_some_of, member_text, raw_text, is_shown, group_text};
 
+use crate::parts::{letter_of, put_byte, put_escaped, put_left, put_level, put_text, put_vxid_left, put_vxid_right, title_of};
 use crate::selection::Selection;
-use txn_rows::Group;
+use txn_rows::{Group, Member};
 use vio::NoMemory;
-use vsl_record::{Record, Vxid};
+use vsl_record::{Payload, Record, Vxid};
+use vsl_tags::{Tag, name_of};
+
+/// The columns of a tag's name, at the left.
+const TAG_COLUMNS: usize = 14;
+
+#[tactic(auto, using(crate::proofs::ExtendsLemmas::extending))]
+fn put_payload(out: &mut Vec<u8>, payload: &Payload) -> Result<(), NoMemory>
+    ensures ok { OnOk result (out.new.items ≡ out.old.items ++ (escaped payload.now ++ codes "\n")) }
+    ensures keeps { Extends out.old.items out.new.items }
+{
+    put_escaped(out, payload.as_slice())?;
+    put_byte(out, b'\n')?;
+    Ok(())
+}
+
+#[tactic(auto, using(crate::proofs::ExtendsLemmas::extending))]
+fn put_raw_start(out: &mut Vec<u8>, vxid: Vxid, tag: Tag) -> Result<(), NoMemory>
+    ensures ok { OnOk result (out.new.items ≡ out.old.items ++ (at_right 10 (decimal vxid) ++ codes " " ++ at_left 14 (tag_name tag))) }
+    ensures keeps { Extends out.old.items out.new.items }
+{
+    put_vxid_right(out, vxid)?;
+    put_byte(out, b' ')?;
+    put_left(out, TAG_COLUMNS, name_of(tag).as_bytes())?;
+    Ok(())
+}
+
+#[tactic(auto, using(crate::proofs::ExtendsLemmas::extending))]
+fn put_raw_line(out: &mut Vec<u8>, vxid: Vxid, line: &Record) -> Result<(), NoMemory>
+    ensures ok { OnOk result (out.new.items ≡ out.old.items ++ raw_line vxid line.now) }
+    ensures keeps { Extends out.old.items out.new.items }
+{
+    put_raw_start(out, vxid, line.tag)?;
+    put_text(out, &[b' ', letter_of(line.mark), b' '])?;
+    put_payload(out, &line.payload)?;
+    Ok(())
+}
+
+/// Adds the raw lines of records by themselves.
+#[tactic(auto, using(crate::proofs::ExtendsLemmas::extending))]
+fn put_raw_lines(out: &mut Vec<u8>, member: &Member) -> Result<(), NoMemory>
+    ensures ok { OnOk result (out.new.items ≡ out.old.items ++ raw_text member.now) }
+    ensures keeps { Extends out.old.items out.new.items }
+{
+    let vxid = member.vxid;
+    for line in member.records.as_slice() {
+        put_raw_line(out, vxid, line)?;
+    }
+    Ok(())
+}
+
+#[tactic(auto, using(crate::proofs::ExtendsLemmas::extending))]
+fn put_raw_members(out: &mut Vec<u8>, members: &[Member]) -> Result<(), NoMemory>
+    ensures ok { OnOk result (out.new.items ≡ out.old.items ++ flat_map raw_text members.now) }
+    ensures keeps { Extends out.old.items out.new.items }
+{
+    for member in members {
+        put_raw_lines(out, member)?;
+    }
+    Ok(())
+}
+
+#[tactic(auto, using(crate::proofs::ExtendsLemmas::extending))]
+fn put_header_end(out: &mut Vec<u8>, vxid: Vxid) -> Result<(), NoMemory>
+    ensures ok { OnOk result (out.new.items ≡ out.old.items ++ (codes " " ++ at_left 10 (decimal vxid) ++ codes "\n")) }
+    ensures keeps { Extends out.old.items out.new.items }
+{
+    put_byte(out, b' ')?;
+    put_vxid_left(out, vxid)?;
+    put_byte(out, b'\n')?;
+    Ok(())
+}
+
+/// Adds a transaction's header.
+#[tactic(auto, using(crate::proofs::ExtendsLemmas::extending))]
+fn put_header(out: &mut Vec<u8>, member: &Member) -> Result<(), NoMemory>
+    ensures ok { OnOk result (out.new.items ≡ out.old.items ++ header member.now) }
+    ensures keeps { Extends out.old.items out.new.items }
+{
+    put_level(out, b'*', member.level)?;
+    put_text(out, title_of(member.kind))?;
+    put_header_end(out, member.vxid)?;
+    Ok(())
+}
+
+#[tactic(auto, using(crate::proofs::ExtendsLemmas::extending))]
+fn put_record_text(out: &mut Vec<u8>, line: &Record) -> Result<(), NoMemory>
+    ensures ok { OnOk result (out.new.items ≡ out.old.items ++ record_text line.now) }
+    ensures keeps { Extends out.old.items out.new.items }
+{
+    put_left(out, TAG_COLUMNS, name_of(line.tag).as_bytes())?;
+    put_byte(out, b' ')?;
+    put_payload(out, &line.payload)?;
+    Ok(())
+}
+
+/// Adds the line of a record in its transaction.
+#[tactic(auto, using(crate::proofs::ExtendsLemmas::extending))]
+fn put_record(out: &mut Vec<u8>, verbose: bool, member: &Member, line: &Record) -> Result<(), NoMemory>
+    ensures ok { OnOk result (out.new.items ≡ out.old.items ++ record_line verbose member.now line.now) }
+    ensures keeps { Extends out.old.items out.new.items }
+{
+    put_level(out, b'-', member.level)?;
+    if verbose {
+        put_raw_line(out, member.vxid, line)?;
+    } else {
+        put_record_text(out, line)?;
+    }
+    Ok(())
+}
+
+#[tactic(auto, using(crate::proofs::ExtendsLemmas::extending))]
+fn put_records(out: &mut Vec<u8>, verbose: bool, member: &Member) -> Result<(), NoMemory>
+    ensures ok { OnOk result (out.new.items ≡ out.old.items ++ flat_map (record_line verbose member.now) member.now.records) }
+    ensures keeps { Extends out.old.items out.new.items }
+{
+    for line in member.records.as_slice() {
+        put_record(out, verbose, member, line)?;
+    }
+    Ok(())
+}
+
+#[tactic(auto, using(crate::proofs::PartLemmas::is_some_of_length))]
+fn has_records(member: &Member) -> bool
+    ensures { result ≡ is_some_of member.now.records }
+{
+    !member.records.as_slice().is_empty()
+}
+
+/// Adds a transaction's header and its records, if it has any.
+#[tactic(auto, using(crate::proofs::ExtendsLemmas::extending))]
+fn put_member(out: &mut Vec<u8>, verbose: bool, member: &Member) -> Result<(), NoMemory>
+    ensures ok { OnOk result (out.new.items ≡ out.old.items ++ member_text verbose member.now) }
+    ensures keeps { Extends out.old.items out.new.items }
+{
+    if has_records(member) {
+        put_header(out, member)?;
+        put_records(out, verbose, member)?;
+    }
+    Ok(())
+}
+
+#[tactic(auto, using(crate::proofs::ExtendsLemmas::extending))]
+fn put_members(out: &mut Vec<u8>, verbose: bool, members: &[Member]) -> Result<(), NoMemory>
+    ensures ok { OnOk result (out.new.items ≡ out.old.items ++ flat_map (member_text verbose) members.now) }
+    ensures keeps { Extends out.old.items out.new.items }
+{
+    for member in members {
+        put_member(out, verbose, member)?;
+    }
+    Ok(())
+}
+
+/// Whether these are records by themselves.
+fn are_raw(members: &[Member]) -> bool
+    ensures { result ≡ list_all (λ m. m.level == 0) members.now }
+{
+    members.iter().all(|m| m.level == 0)
+}
+
+/// Whether any of these transactions has a record.
+fn have_records(members: &[Member]) -> bool
+    ensures { result ≡ list_any (λ m. is_some_of m.records) members.now }
+{
+    members.iter().any(|m| has_records(m))
+}
+
+/// Adds the empty line after a group, if anything of it was printed.
+#[tactic(auto, using(crate::proofs::ExtendsLemmas::extending))]
+fn put_group_end(out: &mut Vec<u8>, group: &Group) -> Result<(), NoMemory>
+    ensures ok { OnOk result (out.new.items ≡ out.old.items ++ (if is_shown group.now then codes "\n" else [])) }
+    ensures keeps { Extends out.old.items out.new.items }
+{
+    if have_records(group.members.as_slice()) {
+        put_byte(out, b'\n')?;
+    }
+    Ok(())
+}
+
+#[tactic(auto, using(crate::proofs::ExtendsLemmas::extending))]
+fn put_group(out: &mut Vec<u8>, verbose: bool, group: &Group) -> Result<(), NoMemory>
+    ensures ok { OnOk result (out.new.items ≡ out.old.items ++ group_text verbose group.now) }
+    ensures keeps { Extends out.old.items out.new.items }
+{
+    if are_raw(group.members.as_slice()) {
+        put_raw_members(out, group.members.as_slice())?;
+    } else {
+        put_members(out, verbose, group.members.as_slice())?;
+        put_group_end(out, group)?;
+    }
+    Ok(())
+}
 
 /// Adds the raw line of a record (varnishlog(1), `-g raw`). After want of memory the list is as it was.
+#[tactic(auto, using(crate::proofs::ExtendsLemmas::cut_back))]
 pub fn raw_line(vxid: Vxid, line: &Record, out: &mut Vec<u8>) -> Result<(), NoMemory>
     ensures ok { OnOk result (out.new.items ≡ out.old.items ++ raw_line vxid line.now) }
     ensures err { OnErr result (out.new.items ≡ out.old.items) }
 {
-    Err(NoMemory)
+    let length = out.len();
+    let added = put_raw_line(out, vxid, line);
+    if added.is_err() {
+        out.truncate(length);
+    }
+    added
 }
 
 /// Adds the text of a group. Nothing is hidden, whatever the selection. After want of memory the list is as it
 /// was.
+#[tactic(auto, using(crate::proofs::ExtendsLemmas::cut_back))]
 pub fn group_text(group: &Group, selection: &Selection, verbose: bool, out: &mut Vec<u8>) -> Result<(), NoMemory>
     ensures ok { OnOk result (out.new.items ≡ out.old.items ++ group_text verbose group.now) }
     ensures err { OnErr result (out.new.items ≡ out.old.items) }
 {
-    Err(NoMemory)
+    let length = out.len();
+    let added = put_group(out, verbose, group);
+    if added.is_err() {
+        out.truncate(length);
+    }
+    added
 }

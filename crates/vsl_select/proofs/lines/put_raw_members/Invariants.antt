@@ -1,0 +1,7 @@
+use Rattle.std.proofs.Common.{◌≡◌, ◌++◌, take}
+use Rattle.std.specs.List.{flat_map}
+use Rattle.vsl_select.specs.Lines.{raw_text}
+use Rattle.vsl_select.proofs.lines.put_raw_members.Given as goal
+
+abbrev pub invariant-loop-member : goal.invariant-loop-member
+invariant-loop-member l = l.out.items ≡ l.initial.out.items ++ flat_map raw_text (take l.member-index l.members)

@@ -1,0 +1,191 @@
+//! The parts of a line.
+//!
+//! Each writer adds its text, or a part of it where it answers want of memory.
+
+ghost use Rattle.std.specs.Prelude.{◌≡◌, ◌≤◌, ◌<◌, ◌==◌, ◌||◌, ◌∷◌, [], ◌++◌, nat_lt, replicate, decimal, OnOk};
+ghost use Rattle.std.specs.List.{list_any};
+ghost use Rattle.vsl_record.specs.RawLine.{at_right, at_left, escaped_byte, escaped, hex_digit, mark_letter};
+ghost use Rattle.vsl_select.specs.Extends.{Extends};
+ghost use Rattle.vsl_select.specs.Lines.{level_field, title};
+
+use itoa::Buffer;
+use txn_rows::Kind;
+use vio::NoMemory;
+use vsl_record::{Mark, Vxid};
+
+/// The columns of a VXID: on the right in a raw line, on the left in a header.
+const VXID_COLUMNS: usize = 10;
+
+/// More spaces than any column has.
+const SPACES: &[u8] = b"                ";
+
+#[tactic(auto, using(crate::proofs::ExtendsLemmas::extending))]
+pub(crate) fn put_text(out: &mut Vec<u8>, text: &[u8]) -> Result<(), NoMemory>
+    ensures ok { OnOk result (out.new.items ≡ out.old.items ++ text.now) }
+    ensures keeps { Extends out.old.items out.new.items }
+{
+    out.extend_from_slice(text)?;
+    Ok(())
+}
+
+#[tactic(auto, using(crate::proofs::ExtendsLemmas::extending))]
+pub(crate) fn put_byte(out: &mut Vec<u8>, byte: u8) -> Result<(), NoMemory>
+    ensures ok { OnOk result (out.new.items ≡ out.old.items ++ byte ∷ []) }
+    ensures keeps { Extends out.old.items out.new.items }
+{
+    out.push(byte)?;
+    Ok(())
+}
+
+#[tactic(auto, using(crate::proofs::ExtendsLemmas::extending))]
+fn put_spaces(out: &mut Vec<u8>, count: usize) -> Result<(), NoMemory>
+    requires { count ≤ 16 }
+    ensures ok { OnOk result (out.new.items ≡ out.old.items ++ replicate count 32) }
+    ensures keeps { Extends out.old.items out.new.items }
+{
+    put_text(out, &SPACES[..count])?;
+    Ok(())
+}
+
+/// Adds a text at the left of its columns.
+#[tactic(auto, using(crate::proofs::ExtendsLemmas::extending))]
+pub(crate) fn put_left(out: &mut Vec<u8>, columns: usize, text: &[u8]) -> Result<(), NoMemory>
+    requires { columns ≤ 16 }
+    ensures ok { OnOk result (out.new.items ≡ out.old.items ++ at_left columns text.now) }
+    ensures keeps { Extends out.old.items out.new.items }
+{
+    put_text(out, text)?;
+    put_spaces(out, columns.saturating_sub(text.len()))?;
+    Ok(())
+}
+
+/// Adds a VXID at the right of its columns.
+#[tactic(auto, using(crate::proofs::ExtendsLemmas::extending))]
+pub(crate) fn put_vxid_right(out: &mut Vec<u8>, vxid: Vxid) -> Result<(), NoMemory>
+    ensures ok { OnOk result (out.new.items ≡ out.old.items ++ at_right 10 (decimal vxid)) }
+    ensures keeps { Extends out.old.items out.new.items }
+{
+    let mut buffer = Buffer::new();
+    let digits = buffer.format(vxid).as_bytes();
+    put_spaces(out, VXID_COLUMNS.saturating_sub(digits.len()))?;
+    put_text(out, digits)?;
+    Ok(())
+}
+
+/// Adds a VXID at the left of its columns.
+#[tactic(auto, using(crate::proofs::ExtendsLemmas::extending))]
+pub(crate) fn put_vxid_left(out: &mut Vec<u8>, vxid: Vxid) -> Result<(), NoMemory>
+    ensures ok { OnOk result (out.new.items ≡ out.old.items ++ at_left 10 (decimal vxid)) }
+    ensures keeps { Extends out.old.items out.new.items }
+{
+    let mut buffer = Buffer::new();
+    put_left(out, VXID_COLUMNS, buffer.format(vxid).as_bytes())
+}
+
+/// Adds a level above 3 between two of the character.
+#[tactic(auto, using(crate::proofs::ExtendsLemmas::extending))]
+fn put_high_level(out: &mut Vec<u8>, character: u8, level: u32) -> Result<(), NoMemory>
+    ensures ok { OnOk result (out.new.items ≡ out.old.items ++ character ∷ decimal level ++ character ∷ 32 ∷ []) }
+    ensures keeps { Extends out.old.items out.new.items }
+{
+    let mut buffer = Buffer::new();
+    put_byte(out, character)?;
+    put_text(out, buffer.format(level).as_bytes())?;
+    put_text(out, &[character, b' '])?;
+    Ok(())
+}
+
+/// Adds the level, in this character, and a space.
+#[tactic(auto, using(crate::proofs::ExtendsLemmas::extending))]
+pub(crate) fn put_level(out: &mut Vec<u8>, character: u8, level: u32) -> Result<(), NoMemory>
+    ensures ok { OnOk result (out.new.items ≡ out.old.items ++ level_field character level) }
+    ensures keeps { Extends out.old.items out.new.items }
+{
+    match level {
+        0 => put_text(out, b"    "),
+        1 => put_text(out, &[character, b' ', b' ', b' ']),
+        2 => put_text(out, &[character, character, b' ', b' ']),
+        3 => put_text(out, &[character, character, character, b' ']),
+        _ => put_high_level(out, character, level),
+    }
+}
+
+pub(crate) fn title_of(kind: Kind) -> &'static [u8]
+    ensures { result.now ≡ title kind }
+{
+    match kind {
+        Kind::Session => b"<< Session  >>",
+        Kind::Request => b"<< Request  >>",
+        Kind::BeReq => b"<< BeReq    >>",
+        Kind::Unknown => b"<< Unknown  >>",
+        Kind::Record => b"<< Record   >>",
+    }
+}
+
+pub(crate) fn letter_of(mark: Mark) -> u8
+    ensures { result ≡ mark_letter mark }
+{
+    match mark {
+        Mark::Client => b'c',
+        Mark::Backend => b'b',
+        Mark::Plain => b'-',
+    }
+}
+
+fn digit_of(n: u8) -> u8
+    requires { n < 16 }
+    ensures { result ≡ hex_digit n }
+{
+    if n < 10 { 48 + n } else { 87 + n }
+}
+
+/// Whether a byte is printed as an escape.
+fn has_escape(byte: u8) -> bool
+    ensures { result ≡ (nat_lt byte 32 || (byte == 127)) }
+{
+    byte < 32 || byte == 127
+}
+
+#[tactic(auto, using(crate::proofs::ExtendsLemmas::extending))]
+fn put_escaped_byte(out: &mut Vec<u8>, byte: u8) -> Result<(), NoMemory>
+    ensures ok { OnOk result (out.new.items ≡ out.old.items ++ escaped_byte byte) }
+    ensures keeps { Extends out.old.items out.new.items }
+{
+    if has_escape(byte) {
+        put_text(out, &[b'\\', b'x', digit_of(byte / 16), digit_of(byte % 16)])
+    } else {
+        put_byte(out, byte)
+    }
+}
+
+/// Adds a payload, byte by byte.
+#[tactic(auto, using(crate::proofs::ExtendsLemmas::extending))]
+fn put_with_escapes(out: &mut Vec<u8>, payload: &[u8]) -> Result<(), NoMemory>
+    ensures ok { OnOk result (out.new.items ≡ out.old.items ++ escaped payload.now) }
+    ensures keeps { Extends out.old.items out.new.items }
+{
+    for byte in payload {
+        put_escaped_byte(out, *byte)?;
+    }
+    Ok(())
+}
+
+/// Whether any byte of a payload is printed as an escape.
+fn has_any_escape(payload: &[u8]) -> bool
+    ensures { result ≡ list_any (λ b. nat_lt b 32 || (b == 127)) payload.now }
+{
+    payload.iter().any(|byte| has_escape(*byte))
+}
+
+/// Adds a payload; at once where no byte of it needs an escape, as in most.
+#[tactic(auto, using(crate::proofs::ExtendsLemmas::extending))]
+pub(crate) fn put_escaped(out: &mut Vec<u8>, payload: &[u8]) -> Result<(), NoMemory>
+    ensures ok { OnOk result (out.new.items ≡ out.old.items ++ escaped payload.now) }
+    ensures keeps { Extends out.old.items out.new.items }
+{
+    if has_any_escape(payload) {
+        put_with_escapes(out, payload)
+    } else {
+        put_text(out, payload)
+    }
+}
