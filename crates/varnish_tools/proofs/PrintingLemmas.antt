@@ -1,5 +1,5 @@
 -- What printing the units of a file comes to.
-use Rattle.std.proofs.Common.{◌≡◌, ◌≢◌, ℕ, ◌+◌, ◌-◌, ◌<◌, ◌≤◌, Bool, true, false, cond, leb, List, [], ◌∷◌, ◌++◌, length, take, take-take, drop, Option, Some, None, refl, sym, ap, subst, ◌∙◌, append_assoc, arith}
+use Rattle.std.proofs.Common.{◌≡◌, ◌≢◌, ℕ, ◌-◌, ◌<◌, ◌≤◌, Bool, true, false, cond, leb, List, [], ◌++◌, length, take, take-take, drop, Option, Some, None, refl, sym, ap, subst, ◌∙◌, append_assoc, arith}
 use Rattle.std.specs.Prelude.{codes}
 use Rattle.std.specs.List.{flat_map}
 use Rattle.std.proofs.lemmas.List.{append-nil, take_all, take-append-drop, length-take}
@@ -7,18 +7,17 @@ use Rattle.std.proofs.lemmas.List.Concat.{flat_map-append}
 use Rattle.std.proofs.lemmas.Bool.{le-leb}
 use Rattle.log_model.specs.Faults.{HasNewFault}
 use Rattle.vio.specs.World.{Seen, Writing, Gains, Wrote}
-use Rattle.vsl_record.specs.Unit.{LogUnit, Log}
+use Rattle.vsl_record.specs.Unit.{Log}
 use Rattle.vsl_record.specs.RawLine.{raw_lines}
 use Rattle.vsl_file.specs.File.{FileEnding, IsFile, is_whole}
 use Rattle.vsl_file.specs.File as file
 use Rattle.varnish_tools.specs.declared.fault.ToolFault.{ToolFault}
-use Rattle.varnish_tools.specs.declared.fault.ToolFault.TheVariants.{NotBuilt, NoOpen, ReadFault, WriteFault, BadFile}
-use Rattle.varnish_tools.specs.declared.outcome.RunRecord.{RunRecord}
-use Rattle.varnish_tools.specs.declared.outcome.RunRecord.TheVariants.{Nothing, Counted}
+use Rattle.varnish_tools.specs.declared.fault.ToolFault.TheVariants.{WriteFault, BadFile}
+use Rattle.varnish_tools.specs.declared.outcome.RunRecord.TheVariants.{Counted}
 use Rattle.varnish_tools.specs.Job.{Job}
-use Rattle.varnish_tools.specs.Run.{Run, Ending, Whole, Faulted, no_run, run_of, taken, IsRecordOf}
-use Rattle.varnish_tools.specs.Theorem.{Input, IsGood, Takes, WritesSink, GainsFront, GainsBetween, ending_begun, without_last, log_limit, sink_name}
-use Rattle.varnish_tools.specs.Steps.{PartPrinted, ChangesOutput, PrintsText, PrintsFile, HasPrintCause, IsPrintStopped}
+use Rattle.varnish_tools.specs.Run.{Run, Whole, Faulted, no_run, run_of, taken, IsRunOf}
+use Rattle.varnish_tools.specs.Theorem.{GainsFront, GainsBetween, without_last, log_limit, sink_name}
+use Rattle.varnish_tools.specs.Steps.{PartPrinted, ChangesOutput, PrintsFile, HasPrintCause, IsPrintStopped}
 
 -- what read_file answered of the bytes of a file
 pub record IsAnswer (bytes : List ℕ) (units : Log) (whole : Bool) : Type 0 where
@@ -42,7 +41,7 @@ pub text_of_run : (units : Log) → flat_map raw_lines (taken (run_of units).his
 text_of_run units = ap (flat_map raw_lines) (append-nil units)
 
 -- a record of all units stands for the run that takes them all
-all_recorded : (units input : Log) → units ≡ input → IsRecordOf (Counted (length units) 1) input (run_of input)
+all_recorded : (units input : Log) → units ≡ input → IsRunOf (Counted (length units) 1) input (run_of input)
 all_recorded units input e = (omega (arith, ap length e), refl, ap run_of (sym (take_all (length units) input (omega (arith, ap length e)))))
 
 -- the text of a run of these units, from the text of units that are the same
@@ -77,8 +76,8 @@ pub prints_bad : (job : Job) (bytes : List ℕ) (units : Log) (whole : Bool) (na
     → PrintsFile job bytes (Some (BadFile name)) (Counted (length units) 1) s t
 prints_bad job bytes units whole name s t answer is_false is p = record {
   causes = λ f e. let same : BadFile name ≡ f = cc in
-    subst (λ (x : ToolFault). HasPrintCause job bytes x s t) same
-    (is, λ us ending is_file. other_ending ending (sym (answer.only us ending is_file).1 ∙ is_false));
+      subst (λ (x : ToolFault). HasPrintCause job bytes x s t) same
+      (is, λ us ending is_file. other_ending ending (sym (answer.only us ending is_file).1 ∙ is_false));
   changes = changes_output _ s t p;
   prints = λ input same within is_file. let only = answer.only input.units input.file_ending is_file in record {
     run = run_of input.units;
@@ -105,7 +104,7 @@ part_between : (units input : Log) (n : ℕ) (s t : Seen) → units ≡ input �
 part_between units input n s t e p =
     let on_input : PartPrinted input n s t = subst (λ (us : Log). PartPrinted us n s t) e p in
     let least : flat_map raw_lines (taken (without_last (run_of (take n input))).history) ≡ flat_map raw_lines (take (n - 1) input) =
-        ap (λ (r : Run). flat_map raw_lines (taken r.history)) (without_last_is input n on_input.some on_input.most) ∙ text_of_run (take (n - 1) input) in
+    ap (λ (r : Run). flat_map raw_lines (taken r.history)) (without_last_is input n on_input.some on_input.most) ∙ text_of_run (take (n - 1) input) in
     rw (least, text_of_run (take n input))
     (between (s.written 1) (t.written 1) (flat_map raw_lines (take (n - 1) input)) (flat_map raw_lines (take n input)) on_input.more on_input.rest on_input.begun on_input.wrote.gains)
 
@@ -114,8 +113,8 @@ pub prints_part : (job : Job) (bytes : List ℕ) (units : Log) (whole : Bool) (n
     → PrintsFile job bytes (Some (WriteFault name)) (Counted n 1) s t
 prints_part job bytes units whole n name s t answer is p rose = record {
   causes = λ f e. let same : WriteFault name ≡ f = cc in
-    subst (λ (x : ToolFault). HasPrintCause job bytes x s t) same
-    (is, subst (λ (x : List ℕ). HasNewFault (s.faults Writing x) (t.faults Writing x)) (sym is) rose);
+      subst (λ (x : ToolFault). HasPrintCause job bytes x s t) same
+      (is, subst (λ (x : List ℕ). HasNewFault (s.faults Writing x) (t.faults Writing x)) (sym is) rose);
   changes = changes_output _ s t p.wrote;
   prints = λ input same within is_file. let only = answer.only input.units input.file_ending is_file in record {
     run = run_of (take n input.units);
@@ -132,10 +131,12 @@ pub lines_split : (units : Log) (n : ℕ) → flat_map raw_lines units ≡ flat_
 lines_split units n = ap (flat_map raw_lines) (sym (take-append-drop n units)) ∙ flat_map-append raw_lines (take n units) (drop n units)
 
 front_part : (units : Log) (n : ℕ) (s t : Seen) → PartPrinted units n s t → GainsFront (s.written 1) (t.written 1) (flat_map raw_lines units)
-front_part units n s t p = λ a told.
-    (flat_map raw_lines (take (n - 1) units) ++ p.more, p.rest ++ flat_map raw_lines (drop n units),
-    lines_split units n ∙ ap (λ (x : List ℕ). x ++ flat_map raw_lines (drop n units)) p.begun ∙ append_assoc (flat_map raw_lines (take (n - 1) units) ++ p.more) p.rest (flat_map raw_lines (drop n units)),
-    p.wrote.gains a told)
+front_part units n s t p = λ a told. (
+  flat_map raw_lines (take (n - 1) units) ++ p.more,
+  p.rest ++ flat_map raw_lines (drop n units),
+  lines_split units n ∙ ap (λ (x : List ℕ). x ++ flat_map raw_lines (drop n units)) p.begun ∙ append_assoc (flat_map raw_lines (take (n - 1) units) ++ p.more) p.rest (flat_map raw_lines (drop n units)),
+  p.wrote.gains a told,
+)
 
 -- want of memory after a part
 pub stops_part : (job : Job) (bytes : List ℕ) (units : Log) (whole : Bool) (n : ℕ) (s t : Seen)
@@ -151,5 +152,5 @@ pub stops_whole : (job : Job) (bytes : List ℕ) (units : Log) (whole : Bool) (s
 stops_whole job bytes units whole s t answer p = record {
   changes = changes_output _ s t p;
   sink = λ us ending is_file. subst (λ (x : Log). GainsFront (s.written 1) (t.written 1) (flat_map raw_lines x)) (answer.only us ending is_file).0
-    (λ a told. (flat_map raw_lines units, [], sym (append-nil (flat_map raw_lines units)), p.gains a told));
+      (λ a told. (flat_map raw_lines units, [], sym (append-nil (flat_map raw_lines units)), p.gains a told));
 }

@@ -1,25 +1,23 @@
 -- What opening and reading a file before printing it comes to.
-use Rattle.std.proofs.Common.{◌≡◌, ◌≢◌, ℕ, ◌+◌, ◌-◌, ◌<◌, ◌≤◌, Bool, true, false, cond, leb, List, [], ◌∷◌, ◌++◌, length, take, Option, Some, None, refl, sym, ap, subst, ◌∙◌, arith, length-append}
-use Rattle.std.specs.Prelude.{codes, IsTrue}
+use Rattle.std.proofs.Common.{◌≡◌, ◌≢◌, ℕ, ◌<◌, ◌≤◌, false, cond, leb, List, [], ◌++◌, length, Option, Some, refl, sym, ap, subst, ◌∙◌, arith, length-append}
 use Rattle.std.specs.List.{flat_map}
 use Rattle.std.proofs.lemmas.List.{append-nil}
-use Rattle.std.proofs.lemmas.Bool.{le-leb, lt-leb}
+use Rattle.std.proofs.lemmas.Bool.{lt-leb}
 use Rattle.log_model.specs.Faults.{HasNewFault}
 use Rattle.vio.specs.World.{Seen, CallKind, Opening, Reading, Writing, NoCountFalls, FaultsRose, Gains, IsAtEnd, Opened, Read, ReadSome, ReadPast, OnlyCounts}
 use Rattle.vio.proofs.WholeLemmas.{NoCountFalls-then}
 use Rattle.vsl_record.specs.Unit.{Log}
 use Rattle.vsl_record.specs.RawLine.{raw_lines}
-use Rattle.vsl_file.specs.File.{FileEnding, IsFile}
-use Rattle.vsl_file.specs.File as file
+use Rattle.vsl_file.specs.File.{IsFile}
 use Rattle.varnish_tools.specs.declared.fault.ToolFault.{ToolFault}
 use Rattle.varnish_tools.specs.declared.fault.ToolFault.TheVariants.{NotBuilt, NoOpen, ReadFault, WriteFault, BadFile}
 use Rattle.varnish_tools.specs.declared.outcome.RunRecord.{RunRecord}
-use Rattle.varnish_tools.specs.declared.outcome.RunRecord.TheVariants.{Nothing, Counted}
+use Rattle.varnish_tools.specs.declared.outcome.RunRecord.TheVariants.{Nothing}
 use Rattle.varnish_tools.specs.Job.{Job}
 use Rattle.varnish_tools.specs.Run.{Run, Ending, Whole, Kept, Faulted, no_run, run_of, taken}
 use Rattle.varnish_tools.specs.Output.{output_of}
-use Rattle.varnish_tools.specs.Theorem.{Input, IsInput, IsGood, HasCause, Takes, WritesSink, GainsFront, GainsBetween, whole_run, log_limit}
-use Rattle.varnish_tools.specs.Steps.{ChangesOutput, PrintsText, RunsJob, IsStopped, HasPrintCause, PrintsFile, IsPrintStopped}
+use Rattle.varnish_tools.specs.Theorem.{Input, HasCause, WritesSink, whole_run, log_limit}
+use Rattle.varnish_tools.specs.Steps.{ChangesOutput, RunsJob, IsStopped, HasPrintCause, PrintsFile, IsPrintStopped}
 use Rattle.varnish_tools.proofs.WritingLemmas.{gains_none}
 use Rattle.varnish_tools.proofs.PrintingLemmas.{text_of_run, run_within}
 
@@ -61,11 +59,15 @@ pub runs_unopened : (job : Job) (name : List ℕ) (s t : Seen) → name ≡ job.
 runs_unopened job name s t is p rose = record {
   built = λ e. cc;
   causes = λ f e. let same : NoOpen name ≡ f = cc in
-    subst (λ (x : ToolFault). HasCause (Some job) x s t) same
-    (is, subst (λ (x : List ℕ). HasNewFault (s.faults Opening x) (t.faults Opening x)) (sym is) rose);
+      subst (λ (x : ToolFault). HasCause (Some job) x s t) same
+      (is, subst (λ (x : List ℕ). HasNewFault (s.faults Opening x) (t.faults Opening x)) (sym is) rose);
   changes = silent_changes s t (silent_counts s t p);
   prints = λ input is_input. record {
-    run = no_run; ending = Faulted (NoOpen name); is_run = refl; is_ending = refl; takes = refl;
+    run = no_run;
+    ending = Faulted (NoOpen name);
+    is_run = refl;
+    is_ending = refl;
+    takes = refl;
     sink = silent_gains s t (silent_counts s t p);
   };
 }
@@ -79,11 +81,15 @@ pub runs_unread : (job : Job) (name : List ℕ) (h : ℕ) (s t u : Seen) → nam
 runs_unread job name h s t u is p q rose = record {
   built = λ e. cc;
   causes = λ f e. let same : ReadFault name ≡ f = cc in
-    subst (λ (x : ToolFault). HasCause (Some job) x s u) same
-    (is, subst (λ (x : List ℕ). HasNewFault (s.faults Reading x) (u.faults Reading x)) (sym is) (later_fault Reading job.file s t u p.counts (rose.each job.file p.is_named)));
+      subst (λ (x : ToolFault). HasCause (Some job) x s u) same
+      (is, subst (λ (x : List ℕ). HasNewFault (s.faults Reading x) (u.faults Reading x)) (sym is) (later_fault Reading job.file s t u p.counts (rose.each job.file p.is_named)));
   changes = silent_changes s u (silent_some job.file h s t u p q);
   prints = λ input is_input. record {
-    run = no_run; ending = Faulted (ReadFault name); is_run = refl; is_ending = refl; takes = refl;
+    run = no_run;
+    ending = Faulted (ReadFault name);
+    is_run = refl;
+    is_ending = refl;
+    takes = refl;
     sink = silent_gains s u (silent_some job.file h s t u p q);
   };
 }
@@ -105,11 +111,14 @@ pub runs_too_large : (job : Job) (name : List ℕ) (h : ℕ) (s t u : Seen) → 
 runs_too_large job name h s t u is p q = record {
   built = λ e. cc;
   causes = λ f e. let same : BadFile name ≡ f = cc in
-    subst (λ (x : ToolFault). HasCause (Some job) x s u) same
-    (is, λ input is_input good. let big = larger job h s t u input.bytes p q is_input.0 in omega (arith, good.within));
+      subst (λ (x : ToolFault). HasCause (Some job) x s u) same
+      (is, λ input is_input good. let big = larger job h s t u input.bytes p q is_input.0 in omega (arith, good.within));
   changes = silent_changes s u (silent_past job h s t u p q);
   prints = λ input is_input. record {
-    run = no_run; ending = Faulted (BadFile name); is_run = refl; is_ending = refl;
+    run = no_run;
+    ending = Faulted (BadFile name);
+    is_run = refl;
+    is_ending = refl;
     takes = no_run_past input.bytes input.units (larger job h s t u input.bytes p q is_input.0);
     sink = silent_gains s u (silent_past job h s t u p q);
   };
@@ -126,8 +135,8 @@ reads_whole job h bytes s t u p q end within = record {
   silent = silent_then s t u (silent_opened job.file h s t p) (silent_read h bytes t u q);
   within = within;
   all = λ file_bytes told.
-    let lost = q.loses file_bytes (p.left ∙ told) in
-    lost.1 ∙ ap (λ (x : List ℕ). bytes ++ x) (end lost.0 lost.2) ∙ append-nil bytes;
+      let lost = q.loses file_bytes (p.left ∙ told) in
+      lost.1 ∙ ap (λ (x : List ℕ). bytes ++ x) (end lost.0 lost.2) ∙ append-nil bytes;
 }
 
 -- the sink gained the same since before, where nothing was written until then
@@ -165,22 +174,26 @@ runs_printed job bytes fault taken s t u r p =
       causes = causes;
       changes = changes_since s t u r.silent p.changes;
       prints = λ input is_input.
-        let same = r.all input.bytes is_input.0 in
-        let printed = p.prints input same r.within (subst (λ (b : List ℕ). IsFile b input.units input.file_ending) same is_input.1) in
-        record {
-          run = printed.run; ending = printed.ending; is_run = printed.is_run; is_ending = printed.is_ending; takes = printed.takes;
-          sink = sink_since (Some job) input printed.run printed.ending s t u (r.silent.written 1) printed.sink;
-        };
+          let same = r.all input.bytes is_input.0 in
+          let printed = p.prints input same r.within (subst (λ (b : List ℕ). IsFile b input.units input.file_ending) same is_input.1) in
+          record {
+            run = printed.run;
+            ending = printed.ending;
+            is_run = printed.is_run;
+            is_ending = printed.is_ending;
+            takes = printed.takes;
+            sink = sink_since (Some job) input printed.run printed.ending s t u (r.silent.written 1) printed.sink;
+          };
     }
 
 pub stops_printed : (job : Job) (bytes : List ℕ) (s t u : Seen) → IsReadWhole job bytes s t → IsPrintStopped job bytes t u → IsStopped job s u
 stops_printed job bytes s t u r p = record {
   changes = changes_since s t u r.silent p.changes;
   sink = λ input is_input.
-    let same = r.all input.bytes is_input.0 in
-    let within : length input.bytes ≤ log_limit = omega (arith, ap length same, r.within) in
-    let front = p.sink input.units input.file_ending (subst (λ (b : List ℕ). IsFile b input.units input.file_ending) same is_input.1) in
-    let text : flat_map raw_lines (taken (whole_run input).history) ≡ flat_map raw_lines input.units =
-        ap (λ (x : Run). flat_map raw_lines (taken x.history)) (sym (run_within input.bytes input.units within)) ∙ text_of_run input.units in
-    rw (text, ← r.silent.written 1) front;
+      let same = r.all input.bytes is_input.0 in
+      let within : length input.bytes ≤ log_limit = omega (arith, ap length same, r.within) in
+      let front = p.sink input.units input.file_ending (subst (λ (b : List ℕ). IsFile b input.units input.file_ending) same is_input.1) in
+      let text : flat_map raw_lines (taken (whole_run input).history) ≡ flat_map raw_lines input.units =
+      ap (λ (x : Run). flat_map raw_lines (taken x.history)) (sym (run_within input.bytes input.units within)) ∙ text_of_run input.units in
+      rw (text, ← r.silent.written 1) front;
 }

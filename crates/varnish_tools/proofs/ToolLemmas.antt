@@ -1,23 +1,22 @@
 -- The main theorem from its steps: the run, and then the message of its fault.
-use Rattle.std.proofs.Common.{◌≡◌, ◌≢◌, ℕ, ◌+◌, ◌-◌, ◌<◌, ◌≤◌, Bool, true, false, cond, leb, List, [], ◌∷◌, ◌++◌, length, take, drop, Option, Some, None, refl, sym, ap, subst, ◌∙◌, append_assoc, inl, inr, ⊎_elim, arith}
-use Rattle.std.specs.Prelude.{codes, IsTrue, ◌⊎◌}
+use Rattle.std.proofs.Common.{◌≡◌, ℕ, ◌≤◌, List, [], ◌++◌, length, take, drop, Option, Some, None, refl, sym, ap, subst, ◌∙◌, append_assoc, inl, inr, ⊎_elim, arith}
+use Rattle.std.specs.Prelude.{codes}
 use Rattle.std.specs.List.{flat_map}
 use Rattle.std.proofs.lemmas.List.{append-nil}
 use Rattle.log_model.specs.Faults.{HasNewFault}
 use Rattle.vio.specs.World.{Seen, CallKind, Opening, Reading, Writing, NoCountFalls, Gains}
 use Rattle.vio.proofs.WholeLemmas.{NoCountFalls-then, NoCountFalls-none}
-use Rattle.vsl_record.specs.Unit.{Log}
 use Rattle.vsl_record.specs.RawLine.{raw_lines}
 use Rattle.varnish_tools.specs.declared.fault.ToolFault.{ToolFault}
 use Rattle.varnish_tools.specs.declared.fault.ToolFault.TheVariants.{NotBuilt, NoOpen, ReadFault, WriteFault, BadFile}
 use Rattle.varnish_tools.specs.declared.outcome.RunRecord.{RunRecord}
-use Rattle.varnish_tools.specs.declared.outcome.RunRecord.TheVariants.{Nothing, Counted}
+use Rattle.varnish_tools.specs.declared.outcome.RunRecord.TheVariants.{Nothing}
 use Rattle.varnish_tools.specs.declared.outcome.Outcome.{Outcome}
 use Rattle.varnish_tools.specs.Job.{Job, job_of}
 use Rattle.varnish_tools.specs.Run.{Run, Ending, Whole, Kept, Faulted, no_run, run_of, taken, fault_of}
 use Rattle.varnish_tools.specs.Output.{output_of, message, fault_message, status_of}
 use Rattle.varnish_tools.specs.Theorem.{Input, IsInput, IsGood, HasCause, Takes, WritesSink, WritesMessages, WritesOutput, GainsFront, GainsBetween, IsFaithful, IsComplete, IsCutShort, NoFaultOf, whole_run, without_last, log_limit}
-use Rattle.varnish_tools.specs.Steps.{ChangesOutput, PrintsText, RunsJob, RunsWords, IsStopped, ChangesErrors, Reports, ReportsPart}
+use Rattle.varnish_tools.specs.Steps.{RunsJob, RunsWords, IsStopped, Reports, ReportsPart}
 use Rattle.varnish_tools.proofs.PrintingLemmas.{text_of_run, run_within, lines_split}
 
 -- the words state a job, which was worked off
@@ -37,7 +36,11 @@ runs_no_words words s e = record {
   causes = λ f is. let same : NotBuilt ≡ f = cc in rw e (subst (λ (x : ToolFault). HasCause None x s s) same tt);
   changes = record { counts = NoCountFalls-none s; other_written = λ i other. refl };
   prints = λ input is_input. record {
-    run = no_run; ending = Faulted NotBuilt; is_run = refl; is_ending = refl; takes = refl;
+    run = no_run;
+    ending = Faulted NotBuilt;
+    is_run = refl;
+    is_ending = refl;
+    takes = refl;
     sink = rw e (λ a told. told ∙ ap Some (sym (append-nil a)));
   };
 }
@@ -77,7 +80,7 @@ messages_since job run ending fault s t u e w n p =
     ⊎_elim
     (λ (all : Gains (t.written 2) (u.written 2) (fault_message (fault_of ending))). inl (λ a told. all a (w ∙ told)))
     (λ (part : HasNewFault (t.faults Writing (codes "stderr")) (u.faults Writing (codes "stderr")) × GainsFront (t.written 2) (u.written 2) (fault_message (fault_of ending))).
-      inr (omega (arith, n.each Writing (codes "stderr"), part.0), λ a told. part.1 a (w ∙ told)))
+    inr (omega (arith, n.each Writing (codes "stderr"), part.0), λ a told. part.1 a (w ∙ told)))
     on_ending.gains
 
 pub is_faithful : (words : List (List ℕ)) (status : ℕ) (fault : Option ToolFault) (taken : RunRecord) (s t u : Seen)
@@ -90,7 +93,11 @@ is_faithful words status fault taken s t u e p q = record {
   counts = NoCountFalls-then p.changes.counts q.changes.counts;
   other_written = λ i not_one not_two. q.changes.other_written i not_two ∙ p.changes.other_written i not_one;
   writes = λ input is_input. let printed = p.prints input is_input in record {
-    run = printed.run; ending = printed.ending; is_run = printed.is_run; is_ending = printed.is_ending; takes = printed.takes;
+    run = printed.run;
+    ending = printed.ending;
+    is_run = printed.is_run;
+    is_ending = printed.is_ending;
+    takes = printed.takes;
     sink = sink_until (job_of words) input printed.run printed.ending s t u (q.changes.other_written 1 (omega arith)) printed.sink;
     messages = messages_since (job_of words) printed.run printed.ending fault s t u printed.is_ending (p.changes.other_written 2 (omega arith)) p.changes.counts q;
   };
@@ -141,10 +148,12 @@ text_none run e = ap (λ (r : Run). flat_map raw_lines (taken r.history)) e
 -- what was gained between two texts is a front of a text that goes on after the second
 between_front : (x y : Option (List ℕ)) (least most text after : List ℕ) → text ≡ most ++ after → GainsBetween x y least most → GainsFront x y text
 between_front x y least most text after e p = λ a told.
-    let g = p a told in
-    (least ++ g.0, g.1 ++ after,
-    e ∙ ap (λ (t : List ℕ). t ++ after) g.2 ∙ append_assoc (least ++ g.0) g.1 after,
-    g.3 ∙ ap Some (append_assoc a least g.0))
+    let g = p a told in (
+      least ++ g.0,
+      g.1 ++ after,
+      e ∙ ap (λ (t : List ℕ). t ++ after) g.2 ∙ append_assoc (least ++ g.0) g.1 after,
+      g.3 ∙ ap Some (append_assoc a least g.0),
+    )
 
 -- the text of the first units is a front of the text of all
 first_lines : (job : Job) (input : Input) (run : Run) (n : ℕ) → length input.bytes ≤ log_limit → run ≡ run_of (take n input.units)
@@ -196,6 +205,6 @@ cut_in_message words fault taken s t u p q = record {
   counts = NoCountFalls-then p.changes.counts q.changes.counts;
   other_written = λ i not_one not_two. q.changes.other_written i not_two ∙ p.changes.other_written i not_one;
   sink = λ input is_input. let printed = p.prints input is_input in
-    rw (q.changes.other_written 1 (omega arith)) (sink_front (job_of words) input printed.run printed.ending s t printed.takes printed.sink);
+      rw (q.changes.other_written 1 (omega arith)) (sink_front (job_of words) input printed.run printed.ending s t printed.takes printed.sink);
   messages = inr (begun_message words fault taken s t u p q);
 }

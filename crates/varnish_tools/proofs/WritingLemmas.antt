@@ -1,18 +1,17 @@
 -- What a write to a standard stream comes to, for the steps of the top call.
-use Rattle.std.proofs.Common.{◌≡◌, ◌≢◌, ℕ, ◌+◌, ◌-◌, ◌<◌, ◌≤◌, List, [], ◌∷◌, ◌++◌, length, get_or, take, Option, Some, None, refl, sym, ap, subst, ◌∙◌, append_assoc, inl, inr, arith}
-use Rattle.std.specs.Prelude.{codes, IsTrue}
+use Rattle.std.proofs.Common.{◌≡◌, ◌≢◌, ℕ, ◌+◌, ◌-◌, ◌<◌, List, [], ◌∷◌, ◌++◌, length, get_or, take, Option, Some, None, refl, sym, ap, subst, ◌∙◌, append_assoc, inl, inr, arith}
+use Rattle.std.specs.Prelude.{codes}
 use Rattle.std.specs.List.{flat_map}
-use Rattle.std.proofs.lemmas.List.{append-nil, take_more, take_all}
+use Rattle.std.proofs.lemmas.List.{append-nil, take_more}
 use Rattle.std.proofs.lemmas.List.Concat.{flat_map-append}
-use Rattle.log_model.specs.Faults.{HasNewFault}
-use Rattle.vio.specs.World.{Seen, Writing, NoCountFalls, FaultsRose, HasStreams, Gains, Wrote, WrotePart}
+use Rattle.vio.specs.World.{Seen, Writing, FaultsRose, HasStreams, Gains, Wrote, WrotePart}
 use Rattle.vio.proofs.WholeLemmas.{Wrote-then}
 use Rattle.vsl_record.specs.Unit.{LogUnit, Log}
 use Rattle.vsl_record.specs.RawLine.{raw_lines}
 use Rattle.varnish_tools.specs.declared.fault.ToolFault.{ToolFault}
 use Rattle.varnish_tools.specs.Output.{fault_message}
 use Rattle.varnish_tools.specs.Theorem.{GainsFront}
-use Rattle.varnish_tools.specs.Steps.{PartPrinted, ChangesOutput, ChangesErrors, Reports, ReportsPart}
+use Rattle.varnish_tools.specs.Steps.{PartPrinted, ChangesErrors, Reports, ReportsPart}
 
 -- a part that was written is a front of what was to be written
 pub gains_front : (h : ℕ) (text : List ℕ) (s t : Seen) → WrotePart h text s t → GainsFront (s.written h) (t.written h) text

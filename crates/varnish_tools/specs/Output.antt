@@ -7,7 +7,7 @@ use Rattle.varnish_tools.specs.declared.fault.ToolFault.TheVariants.{NotBuilt, N
 use Rattle.varnish_tools.specs.Job.{Job}
 use Rattle.varnish_tools.specs.Run.{Run, Ending, fault_of, taken}
 
--- the message of a fault: one line for standard error
+-- the message of a fault, for standard error: one line, where the file's name has no line feed
 abbrev pub message : ToolFault → List ℕ
 message NotBuilt = codes "vtools: not built yet\n"
 message (NoOpen name) = codes "vtools: " ++ name ++ codes ": cannot open\n"

@@ -1,5 +1,5 @@
 -- What a tool takes of its input, and how it ends (this project's choice).
-use Rattle.std.specs.Prelude.{◌≡◌, ℕ, ◌-◌, ◌≤◌, List, [], ◌∷◌, ◌++◌, length, take, Option, Some, None}
+use Rattle.std.specs.Prelude.{◌≡◌, ◌≤◌, List, [], ◌∷◌, ◌++◌, length, take, Option, Some, None}
 use Rattle.vsl_record.specs.Unit.{Log}
 use Rattle.varnish_tools.specs.declared.fault.ToolFault.{ToolFault}
 use Rattle.varnish_tools.specs.declared.outcome.RunRecord.{RunRecord}
@@ -40,6 +40,6 @@ abbrev pub run_of : Log → Run
 run_of units = record { log = units; history = UnitRun units ∷ [] }
 
 -- a record of a run over an input of these units: the run takes the first of them
-abbrev pub IsRecordOf : RunRecord → Log → Run → Type 0
-IsRecordOf Nothing input run = run ≡ no_run
-IsRecordOf (Counted units items) input run = (units ≤ length input) × (items ≡ 1) × (run ≡ run_of (take units input))
+abbrev pub IsRunOf : RunRecord → Log → Run → Type 0
+IsRunOf Nothing input run = run ≡ no_run
+IsRunOf (Counted units items) input run = (units ≤ length input) × (items ≡ 1) × (run ≡ run_of (take units input))

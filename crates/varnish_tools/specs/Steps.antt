@@ -8,10 +8,10 @@ use Rattle.vsl_record.specs.RawLine.{raw_lines}
 use Rattle.vsl_file.specs.File.{FileEnding, IsFile}
 use Rattle.vsl_file.specs.File as file
 use Rattle.varnish_tools.specs.declared.fault.ToolFault.{ToolFault}
-use Rattle.varnish_tools.specs.declared.fault.ToolFault.TheVariants.{NotBuilt, NoOpen, ReadFault, WriteFault, BadFile}
+use Rattle.varnish_tools.specs.declared.fault.ToolFault.TheVariants.{NotBuilt, WriteFault, BadFile}
 use Rattle.varnish_tools.specs.declared.outcome.RunRecord.{RunRecord}
 use Rattle.varnish_tools.specs.Job.{Job, job_of}
-use Rattle.varnish_tools.specs.Run.{Run, Ending, Whole, fault_of, IsRecordOf}
+use Rattle.varnish_tools.specs.Run.{Run, Ending, Whole, fault_of, IsRunOf}
 use Rattle.varnish_tools.specs.Output.{output_of, fault_message}
 use Rattle.varnish_tools.specs.Theorem.{Input, IsInput, HasCause, Takes, WritesSink, GainsFront, whole_run, sink_name, log_limit}
 
@@ -24,16 +24,16 @@ pub record PartPrinted (units : Log) (n : ℕ) (before now : Seen) : Type 0 wher
   pub begun : flat_map raw_lines (take n units) ≡ flat_map raw_lines (take (n - 1) units) ++ more ++ rest
   pub wrote : Wrote 1 (flat_map raw_lines (take (n - 1) units) ++ more) before now
 
--- nothing changed but counts, handles and what standard output gained
+-- no count fell, and nothing was written but to standard output
 pub record ChangesOutput (before now : Seen) : Type 0 where
   pub counts : NoCountFalls before now
   pub other_written : (i : ℕ) → i ≢ 1 → now.written i ≡ before.written i
 
--- for this input, a run was taken, it ended and its text was written
+-- for this input, a run was taken, it ended, and its text was written, or a front of it after a failed write
 pub record PrintsText (job : Option Job) (input : Input) (fault : Option ToolFault) (taken : RunRecord) (before now : Seen) : Type 0 where
   pub run : Run
   pub ending : Ending
-  pub is_run : IsRecordOf taken input.units run
+  pub is_run : IsRunOf taken input.units run
   pub is_ending : fault_of ending ≡ fault
   pub takes : Takes input run ending
   pub sink : WritesSink job input run ending before now
@@ -74,7 +74,7 @@ pub record RunsWords (words : List (List ℕ)) (fault : Option ToolFault) (taken
   pub changes : ChangesOutput before now
   pub prints : (input : Input) → IsInput (job_of words) before input → PrintsText (job_of words) input fault taken before now
 
--- nothing changed but counts and what standard error gained
+-- no count fell, and nothing was written but to standard error
 pub record ChangesErrors (before now : Seen) : Type 0 where
   pub counts : NoCountFalls before now
   pub other_written : (i : ℕ) → i ≢ 2 → now.written i ≡ before.written i

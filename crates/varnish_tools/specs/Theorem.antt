@@ -1,5 +1,5 @@
 -- The main theorem: what the top call writes, answers and leaves, for every command line, input and world.
-use Rattle.std.specs.Prelude.{◌≡◌, ◌≢◌, ◌↔◌, ◌⊎◌, ℕ, ◌-◌, ◌<◌, ◌≤◌, List, [], ◌∷◌, ◌++◌, length, take, Option, Some, None, nat_le, ◌==◌, if◌then◌else◌, codes}
+use Rattle.std.specs.Prelude.{◌≡◌, ◌≢◌, ◌↔◌, ◌⊎◌, ℕ, ◌-◌, ◌<◌, ◌≤◌, List, [], ◌++◌, length, take, Option, Some, None, nat_le, ◌==◌, ◌&&◌, if◌then◌else◌, codes}
 use Rattle.log_model.specs.Faults.{HasNewFault}
 use Rattle.vio.specs.World.{Seen, Opening, Reading, Writing, NoCountFalls, Gains}
 use Rattle.vsl_record.specs.Unit.{Log}
@@ -7,14 +7,12 @@ use Rattle.vsl_file.specs.File.{FileEnding, IsFile, is_whole}
 use Rattle.vsl_file.specs.File as file
 use Rattle.varnish_tools.specs.declared.fault.ToolFault.{ToolFault}
 use Rattle.varnish_tools.specs.declared.fault.ToolFault.TheVariants.{NotBuilt, NoOpen, ReadFault, WriteFault, BadFile}
-use Rattle.varnish_tools.specs.declared.outcome.RunRecord.{RunRecord}
-use Rattle.varnish_tools.specs.declared.outcome.RunRecord.TheVariants.{Nothing}
 use Rattle.varnish_tools.specs.declared.outcome.Outcome.{Outcome}
 use Rattle.varnish_tools.specs.Job.{Job, job_of}
-use Rattle.varnish_tools.specs.Run.{Run, Ending, Whole, Kept, Faulted, HistoryItem, fault_of, no_run, run_of, IsRecordOf}
-use Rattle.varnish_tools.specs.Output.{Output, output_of, message, status_of}
+use Rattle.varnish_tools.specs.Run.{Run, Ending, Whole, Kept, Faulted, fault_of, no_run, run_of, IsRunOf}
+use Rattle.varnish_tools.specs.Output.{output_of, message, status_of}
 
--- the most bytes of a log file that are read
+-- the most bytes of a log file that a tool reads
 abbrev pub log_limit : ℕ
 log_limit = 16777216
 
@@ -67,13 +65,13 @@ without_last run = run_of (take (length run.log - 1) run.log)
 abbrev pub GainsFront : Option (List ℕ) → Option (List ℕ) → List ℕ → Type 0
 GainsFront before now text = (a : List ℕ) → before ≡ Some a → (done rest : List ℕ) × (text ≡ done ++ rest) × (now ≡ Some (a ++ done))
 
--- what was told gained a front of the most, and at least the least
+-- what was told gained the lesser text, and after it a front of what the greater one has more; where nothing is told nothing is claimed
 abbrev pub GainsBetween : Option (List ℕ) → Option (List ℕ) → List ℕ → List ℕ → Type 0
 GainsBetween before now least most = (a : List ℕ) → before ≡ Some a → (more rest : List ℕ) × (most ≡ least ++ more ++ rest) × (now ≡ Some (a ++ least ++ more))
 
--- the ending that the text has whose write failed: whole where the run took the whole input
+-- the ending of the text whose write failed: whole where the run took all units of a whole input
 abbrev pub ending_begun : Input → Run → ToolFault → Ending
-ending_begun input run fault = if length run.log == length input.units then Whole else Faulted fault
+ending_begun input run fault = if (length run.log == length input.units) && is_whole input.file_ending then Whole else Faulted fault
 
 -- the sink gained its text; after a failed write of it, a front that has at least the text without the last unit
 abbrev pub WritesSink : Option Job → Input → Run → Ending → Seen → Seen → Type 0
@@ -91,7 +89,7 @@ WritesMessages job run ending before now =
 pub record WritesOutput (job : Option Job) (input : Input) (outcome : Outcome) (before now : Seen) : Type 0 where
   pub run : Run
   pub ending : Ending
-  pub is_run : IsRecordOf outcome.run input.units run
+  pub is_run : IsRunOf outcome.run input.units run
   pub is_ending : fault_of ending ≡ outcome.fault
   pub takes : Takes input run ending
   pub sink : WritesSink job input run ending before now
@@ -121,11 +119,11 @@ IsComplete words outcome before now =
     (job : Job) (input : Input) → job_of words ≡ Some job → IsInput (Some job) before input → IsGood input → NoFaultOf job before now →
     (outcome.fault ≡ None) × (outcome.status ≡ 0) × Gains (before.written 1) (now.written 1) (output_of (Some job) (run_of input.units) Whole).sink
 
--- the run and the ending that an input defines where no fault of the world comes
+-- the run that an input defines where no fault of the world comes
 abbrev pub whole_run : Input → Run
 whole_run input = if nat_le (length input.bytes) log_limit then run_of input.units else no_run
 
--- where the call answers want of memory: what was written until then
+-- where the call answers want of memory: a front of the output was written, and of a fault's message nothing or a front
 pub record IsCutShort (words : List (List ℕ)) (before now : Seen) : Type 0 where
   pub counts : NoCountFalls before now
   pub other_written : (i : ℕ) → i ≢ 1 → i ≢ 2 → now.written i ≡ before.written i

@@ -45,7 +45,12 @@ fn counted(fault: Option<ToolFault>, units: u64) -> Ran
 }
 
 /// Prints the units of the job's log file, whose bytes these are.
-fn print_file<W: World>(alloc: Global, job: &Job<'_>, world: &mut W, bytes: &[u8]) -> Result<Ran, NoMemory>
+fn print_file<W: World>(
+    alloc: Global,
+    job: &Job<'_>,
+    world: &mut W,
+    bytes: &[u8],
+) -> Result<Ran, NoMemory>
     ensures printed { IfOk result (λ r. PrintsFile (record { file = job.now.file.now }) bytes.now r.fault r.run (W.seen world.old) (W.seen world.new)) }
     ensures memory { OnErr result (IsPrintStopped (record { file = job.now.file.now }) bytes.now (W.seen world.old) (W.seen world.new)) }
 {

@@ -51,7 +51,11 @@ fn run_words<W: World>(alloc: Global, words: &[String], world: &mut W) -> Result
 /// are not built, and else 1. After `NoMemory` a part of the output was written.
 ///
 /// Source: varnishlog(1); messages and statuses are this project's choice.
-pub fn run_tools<W: World>(alloc: Global, words: &[String], world: &mut W) -> Result<Outcome, NoMemory>
+pub fn run_tools<W: World>(
+    alloc: Global,
+    words: &[String],
+    world: &mut W,
+) -> Result<Outcome, NoMemory>
     ensures faithful { IfOk result (λ o. IsFaithful (map string_bytes words.now) o (W.seen world.old) (W.seen world.new)) }
     ensures complete { IfOk result (λ o. IsComplete (map string_bytes words.now) o (W.seen world.old) (W.seen world.new)) }
     ensures memory { OnErr result (IsCutShort (map string_bytes words.now) (W.seen world.old) (W.seen world.new)) }

@@ -1,2 +1,2 @@
 pub mod WholeLemmas
-pub mod MemoryLemmas
+mod MemoryLemmas

@@ -1,8 +1,8 @@
 -- What a world in memory tells after each change of its parts.
-use Rattle.std.proofs.Common.{◌≡◌, ◌≢◌, ◌<◌, ◌≤◌, ◌+◌, ◌-◌, ℕ, Bool, true, List, [], ◌∷◌, ◌++◌, length, take, drop, set, refl, sym, ◌∙◌, ap, arith, Option, Some, None, nat_lt, nat_eq, zero, suc, inl, inr, get_or, codes, Vec, Global, if◌then◌else◌}
+use Rattle.std.proofs.Common.{◌≡◌, ◌≢◌, ◌<◌, ◌≤◌, ◌+◌, ◌-◌, ℕ, Bool, true, List, [], ◌∷◌, ◌++◌, length, take, drop, set, refl, sym, ◌∙◌, ap, arith, Option, Some, nat_lt, nat_eq, zero, suc, inl, inr, get_or, codes, Vec, Global, if◌then◌else◌}
 use Rattle.std.proofs.lemmas.Bool.{ltb-true, cases_eq, eq-eqb, cond-false, le-ltb, lt-ltb, ne_eqb}
 use Rattle.std.proofs.lemmas.Bool.Decides.{nat_tests}
-use Rattle.std.proofs.lemmas.Option.{slice_get_read, slice_get_past, same_Some}
+use Rattle.std.proofs.lemmas.Option.{slice_get_read, same_Some}
 use Rattle.std.proofs.lemmas.List.{take-append-drop, length_push, length-set}
 use Rattle.std.proofs.lemmas.Slice.Eq.{bytes_eq-Decides}
 use Rattle.std.specs.Option.{option_map}
@@ -15,32 +15,37 @@ use Rattle.vio.specs.declared.file.Source.{Source}
 use Rattle.vio.specs.declared.memory.MemWorld.{MemWorld}
 use Rattle.vio.specs.Memory.{opened_at, left_at, has_name, names_at, tells, memory_seen, IsSame, TellsAll, CountsFault}
 use Rattle.vio.specs.Sources.{left_of, held_in}
-use Rattle.vio.specs.World.{Seen, CallKind, Opening, Reading, Writing, IsAtEnd, NoNewFaults, FaultsRose, Read, Wrote, Opened, OnlyCounts}
+use Rattle.vio.specs.World.{Seen, CallKind, Opening, Reading, Writing, IsAtEnd, FaultsRose, Read, Wrote, Opened, OnlyCounts}
 
 -- places of a list
 
+-- a place of the list has an element
 pub slice_get-told : (xs : List OpenFile) (i : ℕ) → i < length xs → (x : OpenFile) × (slice_get xs i ≡ Some x)
 slice_get-told [] i within = absurd (omega arith)
 slice_get-told (x ∷ xs) zero within = (x, refl)
 slice_get-told (x ∷ xs) (suc i) within = slice_get-told xs i (omega arith)
 
+-- after a push the last place has the new element
 pub slice_get-push_same : (xs : List OpenFile) (x : OpenFile) (i : ℕ) → i ≡ length xs → slice_get (xs ++ x ∷ []) i ≡ Some x
 slice_get-push_same [] x zero e = refl
 slice_get-push_same [] x (suc i) e = absurd (omega (arith, e))
 slice_get-push_same (y ∷ xs) x zero e = absurd (omega (arith, e))
 slice_get-push_same (y ∷ xs) x (suc i) e = slice_get-push_same xs x i (omega (arith, e))
 
+-- a push leaves every other place
 pub slice_get-push_other : (xs : List OpenFile) (x : OpenFile) (i : ℕ) → i ≢ length xs → slice_get (xs ++ x ∷ []) i ≡ slice_get xs i
 slice_get-push_other [] x zero other = absurd (other refl)
 slice_get-push_other [] x (suc i) other = refl
 slice_get-push_other (y ∷ xs) x zero other = refl
 slice_get-push_other (y ∷ xs) x (suc i) other = slice_get-push_other xs x i (λ e. other (omega (arith, e)))
 
+-- after a write its place has the new element
 pub slice_get-set_same : (xs : List OpenFile) (i : ℕ) (x : OpenFile) → i < length xs → slice_get (set xs i x) i ≡ Some x
 slice_get-set_same [] i x within = absurd (omega arith)
 slice_get-set_same (y ∷ xs) zero x within = refl
 slice_get-set_same (y ∷ xs) (suc i) x within = slice_get-set_same xs i x (omega arith)
 
+-- a write leaves every other place
 pub slice_get-set_other : (xs : List OpenFile) (i j : ℕ) (x : OpenFile) → j ≢ i → slice_get (set xs i x) j ≡ slice_get xs j
 slice_get-set_other [] i j x other = refl
 slice_get-set_other (y ∷ xs) zero zero x other = absurd (other refl)
@@ -50,15 +55,19 @@ slice_get-set_other (y ∷ xs) (suc i) (suc j) x other = slice_get-set_other xs 
 
 -- opened files by their handle
 
+-- the newest handle has the file that was opened
 pub opened_at-push_same : (opened : List OpenFile) (file : OpenFile) (h : ℕ) → h ≡ length opened + 3 → opened_at (opened ++ file ∷ []) h ≡ Some file
 opened_at-push_same opened file h e = grind (arith, nat_tests, slice_get-push_same)
 
+-- opening leaves every other handle
 pub opened_at-push_other : (opened : List OpenFile) (file : OpenFile) (i : ℕ) → i ≢ length opened + 3 → opened_at (opened ++ file ∷ []) i ≡ opened_at opened i
 opened_at-push_other opened file i other = grind (arith, nat_tests, slice_get-push_other)
 
+-- a write to a place changes the file of its handle
 pub opened_at-set_same : (opened : List OpenFile) (place : ℕ) (file : OpenFile) → place < length opened → opened_at (set opened place file) (place + 3) ≡ Some file
 opened_at-set_same opened place file within = grind (arith, nat_tests, slice_get-set_same)
 
+-- a write to a place leaves every other handle
 pub opened_at-set_other : (opened : List OpenFile) (place i : ℕ) (file : OpenFile) → i ≢ place + 3 → opened_at (set opened place file) i ≡ opened_at opened i
 opened_at-set_other opened place i file other = grind (arith, nat_tests, slice_get-set_other)
 
@@ -68,14 +77,12 @@ pub opened_at-read : (opened : List OpenFile) (h : ℕ) (file : OpenFile) → 3 
 opened_at-read opened h file from within is_read =
     rw (le-ltb h 3 from) (slice_get_read opened (length opened) (h - 3) file refl within is_read)
 
+-- the handle of a place has the file there
 pub opened_at-place : (opened : List OpenFile) (place : ℕ) (file : OpenFile) → place < length opened
     → file ≡ get_or opened place file → opened_at opened (place + 3) ≡ Some file
 opened_at-place opened place file within is_read =
     let back : place + 3 - 3 ≡ place = omega arith in
     opened_at-read opened (place + 3) file (omega arith) (omega arith) (rw back is_read)
-
-pub opened_at-past : (opened : List OpenFile) (h : ℕ) → length opened ≤ h - 3 → opened_at opened h ≡ None
-opened_at-past opened h past = grind (arith, nat_tests, slice_get_past)
 
 -- one more opened file gives one more handle
 pub given-more : (n more i : ℕ) → more ≡ n + 1 → i ≢ n + 3 → nat_lt i (3 + more) ≡ nat_lt i (3 + n)
@@ -83,21 +90,25 @@ given-more n more i e other = grind (arith, nat_tests)
 
 -- what a handle tells follows from its opened file
 
+-- an opened handle has left what its file has left
 pub left_at-opened : (opened : List OpenFile) (input : Source) (h : ℕ) (file : OpenFile) → h ≢ 0 → opened_at opened h ≡ Some file
     → left_at opened input h ≡ Some (left_of file.source)
 left_at-opened opened input h file other is_file =
     cond-false (nat_eq h 0) _ _ (ne_eqb h 0 other) ∙ ap (option_map (λ (x : OpenFile). left_of x.source)) is_file
 
+-- a handle with the same file has the same left
 pub left_at-same : (opened now : List OpenFile) (input : Source) (h : ℕ) → opened_at now h ≡ opened_at opened h
     → left_at now input h ≡ left_at opened input h
 left_at-same opened now input h same = ap (λ (o : Option OpenFile). if nat_eq h 0 then Some (left_of input) else option_map (λ x. left_of x.source) o) same
 
+-- a handle whose file has the same name has the same names
 pub names_at-same : (opened now : List OpenFile) (k : CallKind) (h : ℕ) (name : List ℕ)
     → has_name (opened_at now h) name ≡ has_name (opened_at opened h) name → names_at now k h name ≡ names_at opened k h name
 names_at-same opened now Opening h name same = refl
 names_at-same opened now Reading h name same = ap (λ (b : Bool). if nat_eq h 0 then bytes_eq (codes "-") name else b) same
 names_at-same opened now Writing h name same = refl
 
+-- a write that keeps the name of its file leaves the names of all handles
 pub has_name-set : (opened : List OpenFile) (place : ℕ) (file now : OpenFile) → place < length opened
     → file ≡ get_or opened place file → now.name ≡ file.name → (i : ℕ) (name : List ℕ)
     → has_name (opened_at (set opened place now) i) name ≡ has_name (opened_at opened i) name
@@ -131,6 +142,7 @@ TellsAll-memory m = record {
 
 -- calls after a change that isn't told
 
+-- a change that is not told is one of counts alone
 pub IsSame-counts : {s t : Seen} → IsSame s t → OnlyCounts s t
 IsSame-counts {s = s} {t = t} p = record {
   counts = record { each = λ k name. omega (arith, p.faults k name) };
@@ -141,9 +153,7 @@ IsSame-counts {s = s} {t = t} p = record {
   given = p.given;
 }
 
-pub IsSame-NoNewFaults : {s t : Seen} → IsSame s t → NoNewFaults s t
-IsSame-NoNewFaults p = record { each = p.faults }
-
+-- two changes that are not told
 pub IsSame-then : {s t u : Seen} → IsSame s t → IsSame t u → IsSame s u
 IsSame-then p q = record {
   held = λ n. q.held n ∙ p.held n;
@@ -154,6 +164,7 @@ IsSame-then p q = record {
   given = λ i. q.given i ∙ p.given i;
 }
 
+-- a refused call after a change that is not told
 pub OnlyCounts-after : {s t u : Seen} → IsSame s t → OnlyCounts t u → OnlyCounts s u
 OnlyCounts-after p q = record {
   counts = record { each = λ k name. omega (arith, p.faults k name, q.counts.each k name) };
@@ -168,9 +179,11 @@ OnlyCounts-after p q = record {
 pub FaultsRose-after : (k : CallKind) (h : ℕ) {s t u : Seen} → IsSame s t → CountsFault t u → FaultsRose k h s u
 FaultsRose-after k h p q = record { each = λ name is_named. omega (arith, p.faults k name, q.each k name) }
 
+-- a fault after a change that is not told
 pub HasNewFault-after : (k : CallKind) (name : List ℕ) {s t u : Seen} → IsSame s t → CountsFault t u → HasNewFault (s.faults k name) (u.faults k name)
 HasNewFault-after k name p q = omega (arith, p.faults k name, q.each k name)
 
+-- an opening after a change that is not told
 pub Opened-after : {name : List ℕ} {h : ℕ} {s t u : Seen} → IsSame s t → Opened name h t u → Opened name h s u
 Opened-after {name = name} {h = h} p q = record {
   counts = record { each = λ k n. omega (arith, p.faults k n, q.counts.each k n) };
@@ -185,6 +198,7 @@ Opened-after {name = name} {h = h} p q = record {
   other_given = λ i other. q.other_given i other ∙ p.given i;
 }
 
+-- a read after a change that is not told
 pub Read-after : {h : ℕ} {bytes : List ℕ} {s t u : Seen} → IsSame s t → Read h bytes t u → Read h bytes s u
 Read-after {h = h} p q = record {
   counts = record { each = λ k name. omega (arith, p.faults k name, q.counts.each k name) };
@@ -196,6 +210,7 @@ Read-after {h = h} p q = record {
   given = λ i. q.given i ∙ p.given i;
 }
 
+-- a write after a change that is not told
 pub Wrote-after : {h : ℕ} {bytes : List ℕ} {s t u : Seen} → IsSame s t → Wrote h bytes t u → Wrote h bytes s u
 Wrote-after {h = h} p q = record {
   counts = record { each = λ k name. omega (arith, p.faults k name, q.counts.each k name) };

@@ -1,7 +1,7 @@
--- What several reads or writes of one handle come to, for `write_all` and `read_whole`.
+-- What several reads or writes of one handle come to: for `write_all` and `read_whole`, and for callers with loops of their own.
 use Rattle.std.proofs.Common.{◌≡◌, ℕ, List, [], ◌++◌, take, drop, refl, sym, ◌∙◌, ap, subst, arith, rules, Some, append_assoc, Result, OnErr, Ok, Err}
 use Rattle.std.proofs.lemmas.List.{append-nil, take-append-drop}
-use Rattle.vio.specs.World.{Seen, CallKind, Reading, Writing, NoCountFalls, FaultsRose, Loses, Read, Wrote, OnlyCounts, WrotePart, ReadSome}
+use Rattle.vio.specs.World.{Seen, CallKind, NoCountFalls, FaultsRose, Loses, Read, Wrote, OnlyCounts, ReadSome}
 
 -- what a call leaves where it has no value
 pub OnErr-always : {T E P : Type 0} (r : Result T E) → P → OnErr r P
@@ -10,9 +10,11 @@ OnErr-always (Err e) p = p
 
 -- counts of faults
 
+-- no count fell where nothing was called
 pub NoCountFalls-none : (s : Seen) → NoCountFalls s s
 NoCountFalls-none s = record { each = λ k name. omega arith }
 
+-- no count fell in two calls, one after the other
 pub NoCountFalls-then : {s t u : Seen} → NoCountFalls s t → NoCountFalls t u → NoCountFalls s u
 NoCountFalls-then p q = record { each = λ k name. omega (arith, p.each k name, q.each k name) }
 
@@ -25,6 +27,7 @@ FaultsRose-later k h s t u p names q =
 
 -- writes
 
+-- where nothing was called, no bytes were written
 pub Wrote-none : (h : ℕ) (s : Seen) → Wrote h [] s s
 Wrote-none h s = record {
   counts = NoCountFalls-none s;
@@ -35,6 +38,7 @@ Wrote-none h s = record {
   given = λ i. refl;
 }
 
+-- two writes of a handle are one of both pieces
 pub Wrote-then : {h : ℕ} {s t u : Seen} (a b : List ℕ) → Wrote h a s t → Wrote h b t u → Wrote h (a ++ b) s u
 Wrote-then a b p q = record {
   counts = NoCountFalls-then p.counts q.counts;
@@ -45,6 +49,7 @@ Wrote-then a b p q = record {
   given = λ i. q.given i ∙ p.given i;
 }
 
+-- a refused call after a write adds nothing to it
 pub Wrote-fault : {h : ℕ} {bytes : List ℕ} {s t u : Seen} → Wrote h bytes s t → OnlyCounts t u → Wrote h bytes s u
 Wrote-fault p q = record {
   counts = NoCountFalls-then p.counts q.counts;
@@ -61,9 +66,7 @@ pub record IsPartlyWritten (h : ℕ) (piece rest : List ℕ) (before now : Seen)
   pub whole : piece ≡ done ++ rest
   pub wrote : Wrote h done before now
 
-pub IsPartlyWritten-none : (h : ℕ) (piece : List ℕ) (s : Seen) → IsPartlyWritten h piece piece s s
-IsPartlyWritten-none h piece s = record { done = []; whole = refl; wrote = Wrote-none h s }
-
+-- a further write takes a front of the rest
 pub IsPartlyWritten-then : {h : ℕ} {piece : List ℕ} {s t u : Seen} (n : ℕ) (rest : List ℕ)
     → IsPartlyWritten h piece rest s t → Wrote h (take n rest) t u → IsPartlyWritten h piece (drop n rest) s u
 IsPartlyWritten-then n rest p q = record {
@@ -72,22 +75,9 @@ IsPartlyWritten-then n rest p q = record {
   wrote = Wrote-then p.done (take n rest) p.wrote q;
 }
 
-pub IsPartlyWritten-done : {h : ℕ} {piece rest : List ℕ} {s t : Seen}
-    → IsPartlyWritten h piece rest s t → rest ≡ [] → Wrote h piece s t
-IsPartlyWritten-done {h = h} {piece = piece} {s = s} {t = t} p e =
-    let whole : piece ≡ p.done = p.whole ∙ ap (λ ys. p.done ++ ys) e ∙ append-nil p.done in
-    subst (λ (ys : List ℕ). Wrote h ys s t) (sym whole) p.wrote
-
-pub IsPartlyWritten-fault : {h : ℕ} {piece rest : List ℕ} {s t u : Seen}
-    → IsPartlyWritten h piece rest s t → OnlyCounts t u → WrotePart h piece s u
-IsPartlyWritten-fault p q = record { done = p.done; rest = _; whole = p.whole; wrote = Wrote-fault p.wrote q }
-
-pub IsPartlyWritten-failed : {h : ℕ} {piece rest : List ℕ} {s t u : Seen}
-    → IsPartlyWritten h piece rest s t → FaultsRose Writing h t u → FaultsRose Writing h s u
-IsPartlyWritten-failed p q = FaultsRose-later Writing _ _ _ _ p.wrote.counts p.wrote.names q
-
 -- reads
 
+-- where nothing was called, no bytes were read
 pub Read-none : (h : ℕ) (s : Seen) → Read h [] s s
 Read-none h s = record {
   counts = NoCountFalls-none s;
@@ -99,12 +89,14 @@ Read-none h s = record {
   given = λ i. refl;
 }
 
+-- what was lost in two steps, one after the other
 pub Loses-then : (x y z : _) (a b : List ℕ) → Loses x y a → Loses y z b → Loses x z (a ++ b)
 Loses-then x y z a b p q whole told =
     let first = p whole told in
     let second = q first.0 first.2 in
     (second.0, first.1 ∙ ap (λ ys. a ++ ys) second.1 ∙ sym (append_assoc a b second.0), second.2)
 
+-- two reads of a handle are one of both pieces
 pub Read-then : {h : ℕ} {s t u : Seen} (a b : List ℕ) → Read h a s t → Read h b t u → Read h (a ++ b) s u
 Read-then a b p q = record {
   counts = NoCountFalls-then p.counts q.counts;
@@ -120,9 +112,11 @@ Read-then a b p q = record {
 pub Read-nothing : {h : ℕ} {s t u : Seen} (bytes : List ℕ) → Read h bytes s t → Read h [] t u → Read h bytes s u
 Read-nothing {h = h} {s = s} {u = u} bytes p q = subst (λ (ys : List ℕ). Read h ys s u) (append-nil bytes) (Read-then bytes [] p q)
 
+-- two reads of a handle read some bytes
 pub ReadSome-then : {h : ℕ} {s t u : Seen} (a b : List ℕ) → Read h a s t → Read h b t u → ReadSome h s u
 ReadSome-then a b p q = record { bytes = a ++ b; read = Read-then a b p q }
 
+-- a refused call after a read adds nothing to it
 pub Read-fault : {h : ℕ} {s t u : Seen} (bytes : List ℕ) → Read h bytes s t → OnlyCounts t u → ReadSome h s u
 Read-fault bytes p q = record {
   bytes = bytes;
@@ -136,6 +130,3 @@ Read-fault bytes p q = record {
     given = λ i. q.given i ∙ p.given i;
   };
 }
-
-pub Read-failed : {h : ℕ} {s t u : Seen} (bytes : List ℕ) → Read h bytes s t → FaultsRose Reading h t u → FaultsRose Reading h s u
-Read-failed bytes p q = FaultsRose-later Reading _ _ _ _ p.counts p.names q

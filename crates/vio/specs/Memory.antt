@@ -11,9 +11,13 @@ use Rattle.vio.specs.declared.memory.MemWorld.{MemWorld}
 use Rattle.vio.specs.Sources.{left_of, held_in}
 use Rattle.vio.specs.World.{Seen, CallKind, Opening, Reading, Writing}
 
--- the opened file of a handle: handles from 3 upwards are given in order
+-- the handle of the first file that is opened: the standard streams have the smaller ones
+abbrev pub first_handle : ℕ
+first_handle = 3
+
+-- the opened file of a handle: opened files have their handles in order
 abbrev pub opened_at : List OpenFile → ℕ → Option OpenFile
-opened_at opened h = if nat_lt h 3 then None else slice_get opened (h - 3)
+opened_at opened h = if nat_lt h first_handle then None else slice_get opened (h - first_handle)
 
 -- what a handle has left: of 0 the rest of standard input, of an opened handle the rest of its file
 abbrev pub left_at : List OpenFile → Source → ℕ → Option (List ℕ)
@@ -44,7 +48,7 @@ tells files opened input output errors faults = record {
   written = written_at output errors;
   faults = λ kind name. faults;
   names = names_at opened;
-  given = λ h. nat_lt h (3 + length opened);
+  given = λ h. nat_lt h (first_handle + length opened);
 }
 
 -- what a world in memory tells
@@ -70,7 +74,7 @@ pub record IsNew (now : Seen) : Type 0 where
   pub output : now.written 1 ≡ Some []
   pub error : now.written 2 ≡ Some []
   pub faults : (k : CallKind) (name : List ℕ) → now.faults k name ≡ 0
-  pub given : (h : ℕ) → now.given h ≡ nat_lt h 3
+  pub given : (h : ℕ) → now.given h ≡ nat_lt h first_handle
 
 -- nothing that is told changed
 pub record IsSame (before now : Seen) : Type 0 where

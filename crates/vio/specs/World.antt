@@ -47,7 +47,8 @@ Loses before now bytes = (a : List ℕ) → before ≡ Some a → (rest : List �
 abbrev pub IsAtEnd : ℕ → Seen → Type 0
 IsAtEnd h now = (a : List ℕ) → now.left h ≡ Some a → a ≡ []
 
--- a file was opened: the handle is new, has the file's name and has the bytes that the file held
+-- a file was opened: the handle is new, has the file's name and has the bytes that the file held; nothing else changed but counts, of
+-- which none fell
 pub record Opened (name : List ℕ) (h : ℕ) (before now : Seen) : Type 0 where
   pub counts : NoCountFalls before now
   pub fresh : before.given h ≡ false
@@ -60,7 +61,7 @@ pub record Opened (name : List ℕ) (h : ℕ) (before now : Seen) : Type 0 where
   pub other_names : (k : CallKind) (i : ℕ) (n : List ℕ) → i ≢ h → now.names k i n ≡ before.names k i n
   pub other_given : (i : ℕ) → i ≢ h → now.given i ≡ before.given i
 
--- these bytes were read from a handle
+-- these bytes were read from a handle; nothing else changed but counts, of which none fell
 pub record Read (h : ℕ) (bytes : List ℕ) (before now : Seen) : Type 0 where
   pub counts : NoCountFalls before now
   pub loses : Loses (before.left h) (now.left h) bytes
@@ -70,7 +71,7 @@ pub record Read (h : ℕ) (bytes : List ℕ) (before now : Seen) : Type 0 where
   pub names : (k : CallKind) (i : ℕ) (n : List ℕ) → now.names k i n ≡ before.names k i n
   pub given : (i : ℕ) → now.given i ≡ before.given i
 
--- these bytes were written to a handle
+-- these bytes were written to a handle; what names hold may change, and nothing else changed but counts, of which none fell
 pub record Wrote (h : ℕ) (bytes : List ℕ) (before now : Seen) : Type 0 where
   pub counts : NoCountFalls before now
   pub gains : Gains (before.written h) (now.written h) bytes
@@ -88,7 +89,7 @@ pub record OnlyCounts (before now : Seen) : Type 0 where
   pub names : (k : CallKind) (i : ℕ) (n : List ℕ) → now.names k i n ≡ before.names k i n
   pub given : (i : ℕ) → now.given i ≡ before.given i
 
--- handles 0, 1 and 2 are given, and have the names of standard input, output and error
+-- handles 0, 1 and 2 are given, and have the names of standard input, output and error: `-`, `-` and `stderr`
 pub record HasStreams (now : Seen) : Type 0 where
   pub input_given : now.given 0 ≡ true
   pub output_given : now.given 1 ≡ true

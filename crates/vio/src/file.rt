@@ -6,21 +6,27 @@ ghost use Rattle.std.specs.Str.{bytes_eq};
 /// A file: its name and its bytes.
 #[derive(Drop)]
 pub struct MemFile {
+    /// The name by which it is opened.
     pub name: Vec<u8>,
+    /// All of its bytes.
     pub bytes: Vec<u8>,
 }
 
 /// Bytes, and how many of them were read.
 #[derive(Drop)]
 pub struct Source {
+    /// All bytes, those that were read too.
     pub bytes: Vec<u8>,
+    /// How many bytes were read.
     pub place: usize,
 }
 
 /// What a handle reads: a file's name, and the bytes that it held when it was opened.
 #[derive(Drop)]
 pub struct OpenFile {
+    /// The name by which it was opened.
     pub name: Vec<u8>,
+    /// The bytes that it held then.
     pub source: Source,
 }
 

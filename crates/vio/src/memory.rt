@@ -20,10 +20,15 @@ pub struct MemWorld {
     alloc: Global,
     /// The newest first: it hides an older one of its name.
     files: Vec<MemFile>,
+    /// In the order in which they were opened.
     opened: Vec<OpenFile>,
+    /// What handle 0 reads.
     input: Source,
+    /// What was written to handle 1.
     output: Vec<u8>,
+    /// What was written to handle 2.
     errors: Vec<u8>,
+    /// How many calls failed; at 2^64 - 1 it stands still.
     faults: u64,
     /// How many calls of `open`, `read` and `write` were made.
     calls: u64,
@@ -171,9 +176,9 @@ impl MemWorld {
     fn read_file(&mut self, place: usize, buf: &mut [u8]) -> usize
         requires { place < length self.old.opened.items }
         ensures fits { result ≤ length buf.old }
-        ensures ok { Read (place + 3) (take result buf.new) (memory_seen self.old) (memory_seen self.new) }
-        ensures some { result ≡ 0 → 0 < length buf.old → IsAtEnd (place + 3) (memory_seen self.old) }
-        ensures end { result ≡ 0 → 0 < length buf.old → IsAtEnd (place + 3) (memory_seen self.new) }
+        ensures ok { Read (place + FIRST_HANDLE) (take result buf.new) (memory_seen self.old) (memory_seen self.new) }
+        ensures some { result ≡ 0 → 0 < length buf.old → IsAtEnd (place + FIRST_HANDLE) (memory_seen self.old) }
+        ensures end { result ≡ 0 → 0 < length buf.old → IsAtEnd (place + FIRST_HANDLE) (memory_seen self.new) }
     {
         self.opened[place].source.take_piece(buf, self.most)
     }

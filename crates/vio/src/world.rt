@@ -12,6 +12,7 @@ use crate::fault::{Failed, WorldFault};
 /// Handles 0, 1 and 2 are standard input, output and error. No call lowers a count of faults, and a
 /// call on one handle leaves the others as they are. A refused call changes counts alone.
 pub trait World: Send {
+    /// What the world tells: its files, what each handle has left and took, and its counts of faults.
     ghost seen: { Self → Seen };
 
     /// Opens a file for reading, and gives a handle that was never given before.

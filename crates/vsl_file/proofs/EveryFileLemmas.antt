@@ -27,6 +27,7 @@ words_in_small (a ∷ b ∷ c ∷ []) all = IsWords-nil
 words_in_small (a ∷ b ∷ c ∷ d ∷ bytes) all =
     IsWords-cons (from_le_bytes w32 (a ∷ b ∷ c ∷ d ∷ [])) (words_in bytes) (omega (arith, all 0, all 1, all 2, all 3)) (words_in_small bytes (λ i. all (suc (suc (suc (suc i))))))
 
+-- a result is not both
 apart : (r : Result (LogUnit × List ℕ) ReadingFault) (x : LogUnit × List ℕ) (fault : ReadingFault) → r ≡ Err fault → r ≡ Ok x → ⊥
 apart r x fault p q = absurd cc
 
@@ -43,6 +44,7 @@ next_by bytes size (Ok x) e all sized =
     inl (x.0, drop size bytes, unit_found bytes (words_in (take size bytes)) size count x.0 all sized refl taken.0 found)
 next_by bytes size (Err fault) e all sized = inr (unit_refused bytes (words_in (take size bytes)) size sized refl (no_result (words_in (take size bytes)) fault e))
 
+-- each list of bytes begins with a unit or doesn't
 next : (bytes : List ℕ) → IsBytes bytes → NextUnit bytes
 next bytes all =
     elim (cases_lt (length bytes) (4 * (from_le_bytes w32 bytes % 16777216))) [
@@ -50,8 +52,7 @@ next bytes all =
       | inr long ↦ next_by bytes (4 * (from_le_bytes w32 bytes % 16777216)) (unit_at (words_in (take (4 * (from_le_bytes w32 bytes % 16777216)) bytes))) refl all (size_of bytes long)
     ]
 
--- ---- all units, one after the other
-
+-- the bytes after the first ones are bytes
 IsBytes-drop : (n : ℕ) (bytes : List ℕ) → IsBytes bytes → IsBytes (drop n bytes)
 IsBytes-drop n bytes all i = rw get_or-drop (all (n + i))
 

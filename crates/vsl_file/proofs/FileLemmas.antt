@@ -9,20 +9,20 @@ use Rattle.vsl_file.specs.Reading.{IsReadUp}
 use Rattle.vsl_file.proofs.UnitLemmas.{short_begins_none, stopped_begins_none, one_log}
 
 -- how a log ends, by what is left after its units
-abbrev pub EndsSo : List ℕ → List ℕ → FileEnding → Type 0
+abbrev EndsSo : List ℕ → List ℕ → FileEnding → Type 0
 EndsSo bytes rest Whole = (length bytes ≤ most_bytes) × (rest ≡ [])
 EndsSo bytes rest (NotALog at) = ⊥
 EndsSo bytes rest (Damaged at) = (rest ≢ []) × (at + length rest ≡ length (bytes_read bytes)) × (most_bytes < length bytes → stops_early rest ≡ false)
 EndsSo bytes rest TooLarge = (most_bytes < length bytes) × (stops_early rest ≡ true)
 
 -- a file that is a log, with what is left after its units
-pub record IsLogFile (bytes : List ℕ) (units : Log) (ending : FileEnding) (rest : List ℕ) : Type 0 where
+record IsLogFile (bytes : List ℕ) (units : Log) (ending : FileEnding) (rest : List ℕ) : Type 0 where
   pub split : IsSplit (bytes_read bytes) units rest
   pub no_more : BeginsNoUnit rest
   pub ends : EndsSo bytes rest ending
 
 -- a file that is no log
-pub record IsNoLog (bytes : List ℕ) (units : Log) (ending : FileEnding) (at : ℕ) : Type 0 where
+record IsNoLog (bytes : List ℕ) (units : Log) (ending : FileEnding) (at : ℕ) : Type 0 where
   pub none : units ≡ []
   pub is : ending ≡ NotALog at
   pub differs : DiffersFirst at bytes
@@ -39,16 +39,6 @@ opened bytes units Whole file =
 opened bytes units (NotALog at) file = inl (at, record { none = file.0; is = refl; differs = file.1 })
 opened bytes units (Damaged at) file = inr (file.0, record { split = file.3; no_more = file.2; ends = (file.1, file.4, file.5) })
 opened bytes units TooLarge file = inr (file.1.0, record { split = file.1.1; no_more = stopped_begins_none file.1.0 file.1.2; ends = (file.0, file.1.2) })
-
--- a log with its ending is a file
-pub is_file : (bytes : List ℕ) (units : Log) (ending : FileEnding) (rest : List ℕ) → IsLogFile bytes units ending rest → IsFile bytes units ending
-is_file bytes units Whole rest log =
-    let all : bytes_read bytes ≡ bytes = take_all most_bytes bytes log.ends.0 in
-    let split : IsSplit bytes units rest = subst (λ (x : List ℕ). IsSplit x units rest) all log.split in
-    (log.ends.0, subst (λ (x : List ℕ). IsSplit bytes units x) log.ends.1 split)
-is_file bytes units (NotALog at) rest log = absurd log.ends
-is_file bytes units (Damaged at) rest log = (rest, log.ends.0, log.no_more, log.split, log.ends.1, log.ends.2)
-is_file bytes units TooLarge rest log = (log.ends.0, (rest, log.split, log.ends.1))
 
 -- a test beside one that holds
 and_true : (b : Bool) → (b && true) ≡ b
@@ -80,21 +70,24 @@ log_begins : (bytes : List ℕ) (units : Log) (rest : List ℕ) → IsSplit (byt
 log_begins bytes units rest split =
     sym (take-append-drop most_bytes bytes) ∙ ap (λ (x : List ℕ). x ++ drop most_bytes bytes) (split.parts ∙ append_assoc file_header (log_bytes units) rest) ∙ append_assoc file_header (log_bytes units ++ rest) (drop most_bytes bytes)
 
+-- bytes are not both a log and none
 not_both : (bytes : List ℕ) (units : Log) (rest : List ℕ) (at : ℕ) → IsSplit (bytes_read bytes) units rest → DiffersFirst at bytes → ⊥
 not_both bytes units rest at split differs =
     differs.differs (ap (λ (x : List ℕ). slice_get x at) (log_begins bytes units rest split) ∙ same_header file_header at (log_bytes units ++ rest ++ drop most_bytes bytes) differs.inside)
 
--- the first byte that differs is one
+-- an element of the first ones is that of the list
 slice_get-take : (bytes : List ℕ) (n at : ℕ) → at < n → slice_get (take n bytes) at ≡ slice_get bytes at
 slice_get-take bytes zero at lt = absurd (omega arith)
 slice_get-take [] (suc n) at lt = refl
 slice_get-take (b ∷ bytes) (suc n) zero lt = refl
 slice_get-take (b ∷ bytes) (suc n) (suc at) lt = slice_get-take bytes n at (omega arith)
 
+-- no byte before the first that differs is one
 before : (bytes : List ℕ) (at other : ℕ) → DiffersFirst at bytes → DiffersFirst other bytes → at < other → ⊥
 before bytes at other p q lt =
     p.differs (sym (slice_get-take bytes other at lt) ∙ ap (λ (x : List ℕ). slice_get x at) q.front ∙ slice_get-take file_header other at lt)
 
+-- there is one first byte that differs
 one_place : (bytes : List ℕ) (at other : ℕ) → DiffersFirst at bytes → DiffersFirst other bytes → at ≡ other
 one_place bytes at other p q =
     elim (cases_order at other) [
@@ -103,6 +96,7 @@ one_place bytes at other p q =
       | inr (inr lt) ↦ absurd (before bytes other at q p lt)
     ]
 
+-- the same for logs
 same_logs : (bytes : List ℕ) (us vs : Log) (d e : FileEnding) (rest left : List ℕ) → IsLogFile bytes us d rest → IsLogFile bytes vs e left → (us ≡ vs) × (d ≡ e)
 same_logs bytes us vs d e rest left p q =
     let parts : file_header ++ (log_bytes us ++ rest) ≡ file_header ++ (log_bytes vs ++ left) =
@@ -147,10 +141,12 @@ no_log bytes other =
 rest_within : (bytes : List ℕ) (units : Log) (rest : List ℕ) → IsSplit bytes units rest → length rest ≤ length bytes
 rest_within bytes units rest split = omega (arith, ap length split.parts, length-append (file_header ++ log_bytes units) rest)
 
+-- where something is left and the file goes no further, or doesn't stop early, it is damaged
 damaged : (bytes : List ℕ) (units : Log) (rest : List ℕ) → IsSplit (bytes_read bytes) units rest → BeginsNoUnit rest → rest ≢ [] → (most_bytes < length bytes → stops_early rest ≡ false) → IsFile bytes units (Damaged (length (bytes_read bytes) - length rest))
 damaged bytes units rest split none some stops =
     (rest, some, none, split, omega (arith, rest_within (bytes_read bytes) units rest split), stops)
 
+-- a log of more bytes than are read isn't whole
 stops_or_not : (bytes : List ℕ) (units : Log) (rest : List ℕ) (b : Bool) → stops_early rest ≡ b → IsSplit (bytes_read bytes) units rest → BeginsNoUnit rest → most_bytes < length bytes → (ending : FileEnding) × IsFile bytes units ending × (false ≡ is_whole ending)
 stops_or_not bytes units rest true e split none large = (TooLarge, (large, (rest, split, e)), refl)
 stops_or_not bytes units rest false e split none large =

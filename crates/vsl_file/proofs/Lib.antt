@@ -1,4 +1,4 @@
-pub mod Examples
+mod Examples
 mod WordLemmas
 mod UnitLemmas
 mod StepLemmas

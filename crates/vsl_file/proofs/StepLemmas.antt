@@ -1,12 +1,11 @@
 -- What one step of reading finds at the front of the bytes, and what steps find one after the other.
-use Rattle.std.proofs.Common.{◌≡◌, ℕ, ◌*◌, ◌<◌, List, [], ◌∷◌, ◌++◌, length, take, drop, refl, sym, ap, ◌∙◌, append_assoc, arith}
-use Rattle.std.specs.List.{AllByRecursion}
-use Rattle.std.proofs.lemmas.List.{take-append-drop, length-take-le, take_at, drop_at, append-nil, flat_map_more}
-use Rattle.vsl_record.specs.Unit.{LogUnit, Log}
+use Rattle.std.proofs.Common.{◌≡◌, ℕ, ◌*◌, ◌<◌, List, [], ◌++◌, length, take, drop, refl, sym, ap, ◌∙◌, append_assoc, arith}
+use Rattle.std.proofs.lemmas.List.{take-append-drop, length-take-le, take_at, drop_at, append-nil}
+use Rattle.vsl_record.specs.Unit.{LogUnit}
 use Rattle.vsl_record.specs.Words.{IsUnit, unit_words, word_bytes}
 use Rattle.vsl_record.proofs.ReadingLemmas.{unit_words_small, length_unit_words-at_least}
 use Rattle.vsl_record.proofs.Steps.{IsBytes, IsBytes-take}
-use Rattle.vsl_file.specs.File.{unit_bytes, log_bytes, BeginsNoUnit}
+use Rattle.vsl_file.specs.File.{unit_bytes, BeginsNoUnit}
 use Rattle.vsl_file.specs.Reading.{words_in, IsUnitSize, BeginsWithUnit, BeginsWithUnits}
 use Rattle.vsl_file.proofs.WordLemmas.{words_in-word_bytes, word_bytes-words_in, word_bytes-append}
 use Rattle.vsl_file.proofs.UnitLemmas.{length_with_unit}
@@ -38,14 +37,3 @@ unit_takes_bytes bytes u rest begins = omega (arith, length_with_unit bytes u re
 -- no units begin any bytes
 pub begins_with_none : (bytes : List ℕ) → BeginsWithUnits bytes [] bytes
 begins_with_none bytes = record { are_units = tt; parts = refl }
-
-all_push : (units : Log) (u : LogUnit) → AllByRecursion IsUnit units → IsUnit u → AllByRecursion IsUnit (units ++ u ∷ [])
-all_push [] u fits fits_u = (fits_u, tt)
-all_push (v ∷ units) u fits fits_u = (fits.0, all_push units u fits.1 fits_u)
-
--- a unit more
-pub begins_with_more : (bytes : List ℕ) (units : Log) (rest : List ℕ) (u : LogUnit) (after : List ℕ) → BeginsWithUnits bytes units rest → BeginsWithUnit rest u after → BeginsWithUnits bytes (units ++ u ∷ []) after
-begins_with_more bytes units rest u after so_far next = record {
-  are_units = all_push units u so_far.are_units next.is_unit;
-  parts = so_far.parts ∙ ap (λ (x : List ℕ). log_bytes units ++ x) next.parts ∙ sym (append_assoc (log_bytes units) (unit_bytes u) after) ∙ ap (λ (x : List ℕ). x ++ after) (flat_map_more unit_bytes [] units u);
-}

@@ -1,4 +1,4 @@
--- The bytes of units: what their first four count, and that no unit's bytes begin another's.
+-- The bytes of units: what the first four count, and that no unit's bytes begin another's.
 use Rattle.std.proofs.Common.{◌≡◌, ℕ, ◌+◌, ◌*◌, ◌/◌, ◌%◌, ◌<◌, ◌≤◌, true, eqb, ltb, leb, ◌&&◌, List, [], ◌∷◌, ◌++◌, length, refl, sym, ap, ◌∙◌, append_assoc, arith}
 use Rattle.std.specs.Int.{w32, from_le_bytes}
 use Rattle.std.specs.List.{AllByRecursion}
@@ -14,7 +14,7 @@ use Rattle.vsl_file.specs.Reading.{words_in, IsUnitSize}
 use Rattle.vsl_file.proofs.WordLemmas.{length-word_bytes, words_in-word_bytes}
 
 -- no unit's bytes are the front of another's
-pub unit_bytes_prefix_free : (u v : LogUnit) (a b : List ℕ) → IsUnit u → IsUnit v → unit_bytes u ++ a ≡ unit_bytes v ++ b → (u ≡ v) × (a ≡ b)
+unit_bytes_prefix_free : (u v : LogUnit) (a b : List ℕ) → IsUnit u → IsUnit v → unit_bytes u ++ a ≡ unit_bytes v ++ b → (u ≡ v) × (a ≡ b)
 unit_bytes_prefix_free u v a b fits_u fits_v e =
     let words_u = words_in-word_bytes (unit_words u) a (unit_words_small u fits_u) in
     let words_v = words_in-word_bytes (unit_words v) b (unit_words_small v fits_v) in
@@ -35,7 +35,7 @@ head_is : (bytes : List ℕ) (u : LogUnit) (more : List ℕ) → IsUnit u → by
 head_is bytes u more fits e = ap (from_le_bytes w32) e ∙ from_le_bytes-to_le_bytes_4 (header_mark + (1 + length (body_words u))) (unit_words_small u fits 0)
 
 -- the low three bytes of the first word of a unit's bytes count the unit's words
-pub head_counts : (bytes : List ℕ) (u : LogUnit) (more : List ℕ) → IsUnit u → bytes ≡ unit_bytes u ++ more → from_le_bytes w32 bytes % 16777216 ≡ length (unit_words u)
+head_counts : (bytes : List ℕ) (u : LogUnit) (more : List ℕ) → IsUnit u → bytes ≡ unit_bytes u ++ more → from_le_bytes w32 bytes % 16777216 ≡ length (unit_words u)
 head_counts bytes u more fits e =
     let size : 1 + length (body_words u) ≤ 1048576 = omega (arith, fits.size) in
     let low : (header_mark + (1 + length (body_words u))) % 16777216 ≡ 1 + length (body_words u) = omega arith in

@@ -12,6 +12,7 @@ pub length-word_bytes : (words : List ℕ) → length (word_bytes words) ≡ 4 *
 length-word_bytes [] = refl
 length-word_bytes (w ∷ words) = omega (arith, length-word_bytes words)
 
+-- the bytes of words after words
 pub word_bytes-append : (xs ys : List ℕ) → word_bytes (xs ++ ys) ≡ word_bytes xs ++ word_bytes ys
 word_bytes-append xs ys = flat_map-append (to_le_bytes w32) xs ys
 

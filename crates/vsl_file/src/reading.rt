@@ -20,7 +20,7 @@ const MOST_BYTES: usize = 1_099_511_627_776;
 pub struct FileUnits {
     /// The units, as far as they are whole and correct.
     pub units: Units,
-    /// Whether the file is a log that ends after a whole unit or its header.
+    /// Whether the file is a log of at most 2^40 bytes that ends after a whole unit or its header.
     pub whole: bool,
 }
 

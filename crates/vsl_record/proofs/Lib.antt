@@ -1,9 +1,9 @@
-pub mod CountLemmas
+mod CountLemmas
 pub mod Examples
-pub mod LoopLemmas
+mod LoopLemmas
 pub mod Steps
-pub mod PayloadLemmas
-pub mod MarkLemmas
-pub mod RecordLemmas
+mod PayloadLemmas
+mod MarkLemmas
+mod RecordLemmas
 pub mod ReadingLemmas
-pub mod FrontLemmas
+mod FrontLemmas

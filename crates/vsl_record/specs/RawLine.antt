@@ -33,7 +33,8 @@ mark_letter Client = 99
 mark_letter Backend = 98
 mark_letter Plain = 45
 
--- the raw line: the transaction number right in 10 columns, the tag left in 14, the side, the payload, and a line feed
+-- the raw line: the transaction number right in 10 columns, the tag left in 14, the side and the payload, with one space between each two,
+-- and a line feed
 abbrev pub raw_line : ℕ → Record → List ℕ
 raw_line vxid rec = at_right 10 (decimal vxid) ++ codes " " ++ at_left 14 (tag_name rec.tag) ++ codes " " ++ mark_letter rec.mark ∷ codes " " ++ escaped rec.payload ++ codes "\n"
 

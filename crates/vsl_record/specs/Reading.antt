@@ -20,16 +20,18 @@ pub data ReadingFault : Type 0 where
   Mixed : ℕ → ReadingFault
   BadPadding : ℕ → ReadingFault
 
+-- goes on with what was read; a fault stays
 infixl 10 ◌>>=◌
 abbrev pub ◌>>=◌ : {A B : Type 0} → Result A ReadingFault → (A → Result B ReadingFault) → Result B ReadingFault
 (Ok x) >>= f = f x
 (Err e) >>= f = Err e
 
--- what a reader answered, as contracts see it, is what reading gives, unless memory ran out
+-- a reader's fault comes where reading gives a fault; want of memory may come at any time
 abbrev pub Fails : {Y : Type 0} → WordFault → Result Y ReadingFault → Type 0
 Fails faults.NoMemory read = Unit {0}
 Fails faults.Bad read = IsErr read
 
+-- what a reader answered, as contracts see it, is what reading gives, unless memory ran out
 abbrev pub Gives : {X Y : Type 0} → (X → Y) → Result X WordFault → Result Y ReadingFault → Type 0
 Gives view (Ok x) read = read ≡ Ok (view x)
 Gives view (Err e) read = Fails e read
@@ -42,7 +44,7 @@ wanted test fault next = if test then next else Err fault
 abbrev pub four : ℕ → List ℕ
 four w = w % 256 ∷ w / 256 % 256 ∷ w / 65536 % 256 ∷ w / 16777216 % 256 ∷ []
 
--- so many bytes of a payload, from the place on
+-- so many bytes of a payload, from the place on, and the words after them
 unfoldable pub unpacked : ℕ → ℕ → List ℕ → Result (List ℕ × List ℕ) ReadingFault
 unpacked zero at words = Ok ([], words)
 unpacked (suc n) at [] = Err Short
@@ -55,11 +57,11 @@ unpacked (suc (suc (suc (suc n)))) at (w ∷ words) = unpacked n (at + 1) words 
 abbrev pub payload_words : ℕ → ℕ
 payload_words bytes = (bytes + 3) / 4
 
--- the side of a word with a transaction number; both bits together are no side
+-- the side of a word with a transaction number; both bits together, which are refused elsewhere, are read as none
 abbrev pub mark_of : ℕ → Mark
 mark_of id = if id / 1073741824 == 1 then Client else (if id / 1073741824 == 2 then Backend else Plain)
 
--- the second word of a record, which equals the unit's first such word
+-- the rest of a record: its id word, which equals the unit's first such word and has a side, and its payload
 unfoldable pub payload_at : ℕ → ℕ → ℕ → ℕ → List ℕ → Result (Record × List ℕ) ReadingFault
 payload_at id at tag bytes [] = Err (BadLength at)
 payload_at id at tag bytes (w ∷ words) =

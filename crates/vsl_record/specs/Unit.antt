@@ -9,7 +9,7 @@ use Rattle.vsl_record.specs.Payload.{IsPayload}
 abbrev pub vxid_end : ℕ
 vxid_end = 1073741824
 
--- a unit: what a worker writes at once, records of one transaction number (VXID) and one side
+-- a unit: what a worker writes at once, records of one transaction number (VXID) and one side; what a unit must meet stands in `IsUnit`
 pub record LogUnit : Type 0 where
   pub vxid : ℕ
   pub mark : Mark
@@ -19,7 +19,7 @@ pub record LogUnit : Type 0 where
 abbrev pub Log : Type 0
 Log = List LogUnit
 
--- a record of a unit on this side
+-- a record of a unit on this side: its tag is a tag, and its payload has at most 4,000 bytes
 pub record IsRecordOf (mark : Mark) (rec : Record) : Type 0 where
   pub tag : IsTag rec.tag
   pub on_side : rec.mark ≡ mark

@@ -15,7 +15,7 @@ header_mark = 0xFE00_0000
 abbrev pub most_words : ℕ
 most_words = 1048576
 
--- what a side adds to the word of a transaction number: bit 30 for a client, bit 31 for a backend
+-- what a side adds to the word of a transaction number: bit 30 for a client, bit 31 for a backend, nothing for none
 abbrev pub mark_bits : Mark → ℕ
 mark_bits Client = 1073741824
 mark_bits Backend = 2147483648
@@ -45,7 +45,8 @@ body_words u = flat_map (record_words u.vxid) u.records
 abbrev pub unit_words : LogUnit → List ℕ
 unit_words u = (header_mark + (1 + length (body_words u))) ∷ body_words u
 
--- a unit has words where its number is in range, it has a record, its records are on its side, and its words are not too many
+-- what a unit must meet, and then it has words: its transaction number is in range, it has a record, each record is on its side, has one
+-- of the tags and at most 4,000 bytes of payload, and the words are not too many
 pub record IsUnit (u : LogUnit) : Type 0 where
   pub vxid : u.vxid < vxid_end
   pub some : 0 < length u.records

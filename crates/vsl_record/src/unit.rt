@@ -46,6 +46,7 @@ impl Unit {
         requires in_range { vxid < vxid_end }
         requires on_side { All (λ r. r.mark ≡ mark) records.items }
         ensures made { IfOk result (λ u. (u.vxid ≡ vxid) × (u.mark ≡ mark) × (u.records ≡ records.items)) }
+        ensures unit { IfOk result (λ u. IsUnit u) }
         ensures empty { result ≡ Err UnitFault.Empty ↔ length records.items ≡ 0 }
         ensures too_long { let size = length (unit_words (record { vxid = vxid; mark = mark; records = records.items })) in
             most_words < size → result ≡ Err (UnitFault.TooLong (min size (2 ^ 64 - 1))) }

@@ -87,7 +87,7 @@ tag_names =
     single_names ++ message_names (codes "Req") ++ message_names (codes "Resp") ++ message_names (codes "Bereq") ++ message_names (codes "Beresp")
     ++ message_names (codes "Obj")
 
--- the name of the tag with this number, where the first name is that of the lowest number (this project's choice)
+-- the name of the tag with this number, for a tag's number alone; the first name is that of the lowest number (this project's choice)
 abbrev pub tag_name : ℕ → List ℕ
 tag_name n = slice_index_or tag_names (n - first_tag) []
 

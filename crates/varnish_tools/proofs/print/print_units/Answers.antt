@@ -1,4 +1,4 @@
-use Rattle.std.proofs.Common.{◌≡◌, ◌<◌, length, subst, refl, arith}
+use Rattle.std.proofs.Common.{arith}
 use Rattle.varnish_tools.proofs.WritingLemmas.{Wrote-more, PartPrinted-more}
 use Rattle.varnish_tools.proofs.print.print_units.Goals as goal
 

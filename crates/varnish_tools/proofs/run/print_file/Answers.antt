@@ -1,5 +1,5 @@
 use Rattle.vio.proofs.WholeLemmas.{OnErr-always}
-use Rattle.varnish_tools.proofs.PrintingLemmas.{IsAnswer, prints_whole, prints_bad, prints_part, stops_part, stops_whole}
+use Rattle.varnish_tools.proofs.PrintingLemmas.{prints_whole, prints_bad, prints_part, stops_part, stops_whole}
 use Rattle.varnish_tools.proofs.run.print_file.Goals as goal
 
 pub returns-in-Ok-clause-printed : goal.returns-in-Ok-clause-printed

@@ -1,0 +1,189 @@
+//! Log files whose text is known, and what a whole run over one has to answer.
+
+use crate::byte_table::REQUEST_WITH_FETCH;
+use std::alloc::Global;
+use std::fmt::Debug;
+use std::process::Abort;
+use std::test::Fail;
+use varnish_tools::{Outcome, RunRecord, ToolFault, run_tools};
+use vio::MemWorld;
+
+/// The bytes with which each log file begins.
+pub const HEADER: &[u8] = b"VSLOG-1\n";
+
+/// The words that print the file `f`.
+pub const PRINT_F: &[&str] = &["varnishlog", "-g", "raw", "-r", "f"];
+
+/// A log file: where each of its units ends, and the lines that the unit prints.
+#[derive(Clone, Copy)]
+pub struct Log {
+    pub bytes: &'static [u8],
+    pub units: &'static [(usize, &'static [u8])],
+}
+
+/// A unit of one record, of no transaction and no side.
+pub const ONE_PING: Log = Log {
+    bytes: b"VSLOG-1\n\x05\x00\x00\xfe\x07\x00\x00\x03\x00\x00\x00\x00Rd ping\x00",
+    units: &[(28, b"         0 CLI            - Rd ping\n")],
+};
+
+/// A backend's unit and then a client's.
+pub const FETCH: Log = Log {
+    bytes: &REQUEST_WITH_FETCH,
+    units: &[
+        (
+            44,
+            b"         3 Begin          b bereq 2 fetch\n         3 End            b \n",
+        ),
+        (
+            100,
+            b"         2 Begin          c req 1 rxreq\n         2 Link           c bereq 3 fetch\n         2 End            c \n",
+        ),
+    ],
+};
+
+/// Why a run stops early, without a name.
+#[derive(Clone, Copy, Debug, PartialEq, Eq)]
+pub enum Cause {
+    Done,
+    NotBuilt,
+    NoOpen,
+    ReadFault,
+    WriteFault,
+    BadFile,
+}
+
+/// All that a run answers and writes.
+#[derive(Clone, Copy)]
+pub struct Answer<'a> {
+    pub status: u8,
+    pub cause: Cause,
+    /// The name that the fault tells.
+    pub name: &'a str,
+    pub run: RunRecord,
+    pub output: &'a [u8],
+    pub errors: &'a [u8],
+}
+
+/// The record of so many units of one file.
+pub fn counted(units: u64) -> RunRecord {
+    RunRecord::Counted { units, items: 1 }
+}
+
+/// A run to the end.
+pub fn done(units: u64, output: &[u8]) -> Answer<'_> {
+    Answer {
+        status: 0,
+        cause: Cause::Done,
+        name: "",
+        run: counted(units),
+        output,
+        errors: b"",
+    }
+}
+
+/// The words are not built.
+pub fn not_built() -> Answer<'static> {
+    Answer {
+        status: 2,
+        cause: Cause::NotBuilt,
+        name: "",
+        run: RunRecord::Nothing,
+        output: b"",
+        errors: b"vtools: not built yet\n",
+    }
+}
+
+/// The file `f` can't be opened.
+pub fn no_open() -> Answer<'static> {
+    Answer {
+        status: 1,
+        cause: Cause::NoOpen,
+        name: "f",
+        run: RunRecord::Nothing,
+        output: b"",
+        errors: b"vtools: f: cannot open\n",
+    }
+}
+
+/// A read of the file `f` failed.
+pub fn read_fault() -> Answer<'static> {
+    Answer {
+        status: 1,
+        cause: Cause::ReadFault,
+        name: "f",
+        run: RunRecord::Nothing,
+        output: b"",
+        errors: b"vtools: f: read failed\n",
+    }
+}
+
+/// A write failed in the text of the last of so many units.
+pub fn write_fault(units: u64, output: &[u8]) -> Answer<'_> {
+    Answer {
+        status: 1,
+        cause: Cause::WriteFault,
+        name: "-",
+        run: counted(units),
+        output,
+        errors: b"vtools: -: write failed\n",
+    }
+}
+
+/// The file `f` is no log, or it is damaged.
+pub fn bad_file(run: RunRecord, output: &[u8]) -> Answer<'_> {
+    Answer {
+        status: 1,
+        cause: Cause::BadFile,
+        name: "f",
+        run,
+        output,
+        errors: b"vtools: f: bad log\n",
+    }
+}
+
+fn cause_of(fault: &Option<ToolFault>) -> (Cause, &str) {
+    match fault {
+        None => (Cause::Done, ""),
+        Some(ToolFault::NotBuilt) => (Cause::NotBuilt, ""),
+        Some(ToolFault::NoOpen { name }) => (Cause::NoOpen, name.as_str()),
+        Some(ToolFault::ReadFault { name }) => (Cause::ReadFault, name.as_str()),
+        Some(ToolFault::WriteFault { name }) => (Cause::WriteFault, name.as_str()),
+        Some(ToolFault::BadFile { name }) => (Cause::BadFile, name.as_str()),
+    }
+}
+
+/// A world in which the file `f` has these bytes.
+pub fn world_with(alloc: Global, bytes: &[u8]) -> Result<MemWorld, Fail> {
+    let mut world = MemWorld::new(alloc)?;
+    world.file("f", bytes)?;
+    Ok(world)
+}
+
+fn run(alloc: Global, words: &[&str], world: &mut MemWorld) -> Result<Outcome, Fail> {
+    let mut typed = Vec::new(alloc);
+    for word in words {
+        typed.push(String::from_str(alloc, word)?)?;
+    }
+    Ok(run_tools(alloc, &typed, world)?)
+}
+
+/// Runs the words, and compares all that comes out; `what` tells the run from others.
+pub fn expect_run(
+    rt: &impl Abort,
+    alloc: Global,
+    words: &[&str],
+    world: &mut MemWorld,
+    want: &Answer<'_>,
+    what: &impl Debug,
+) -> Result<(), Fail> {
+    let outcome = run(alloc, words, world)?;
+    let (cause, name) = cause_of(&outcome.fault);
+    assert_eq!(rt; cause, want.cause, "the fault, {what:?}");
+    assert_eq!(rt; name, want.name, "the fault's name, {what:?}");
+    assert_eq!(rt; outcome.status, want.status, "the status, {what:?}");
+    assert_eq!(rt; outcome.run, want.run, "the run record, {what:?}");
+    assert_eq!(rt; world.content(1), want.output, "standard output, {what:?}");
+    assert_eq!(rt; world.content(2), want.errors, "standard error, {what:?}");
+    Ok(())
+}

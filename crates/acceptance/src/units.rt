@@ -1,0 +1,83 @@
+//! The longest unit.
+
+use std::alloc::Global;
+use std::process::Abort;
+use std::test::Fail;
+use vsl_record::{Mark, Record, Unit, UnitFault, WordFault, read_unit};
+use vsl_tags::Tag;
+
+/// How many records have the longest payload. Each takes 1,002 words, all 1,048,092.
+const LONG_RECORDS: usize = 1046;
+
+/// The longest payload.
+const LONG: [u8; 4000] = [0x61; 4000];
+
+/// A last record of 1,924 bytes takes 483 words, and one byte more takes a word more.
+const LAST: [u8; 1925] = [0x62; 1925];
+
+/// The number of VCL_Log.
+const VCL_LOG: u8 = 24;
+
+/// The transaction.
+const VXID: u32 = 5;
+
+fn records(alloc: Global, last: &[u8]) -> Result<Vec<Record>, Fail> {
+    let tag = Tag::from_number(VCL_LOG).ok_or("24 is a tag")?;
+    let mut records = Vec::new(alloc);
+    for _ in 0..LONG_RECORDS {
+        records.push(Record::new(alloc, tag, Mark::Client, &LONG)?)?;
+    }
+    records.push(Record::new(alloc, tag, Mark::Client, last)?)?;
+    Ok(records)
+}
+
+/// The words of the unit of those records: its header counts so many of them, and the last word is this.
+fn words(alloc: Global, count: u32, last: &[u32]) -> Result<Vec<u32>, Fail> {
+    let mut words = Vec::new(alloc);
+    words.push(0xfe00_0000 | count)?;
+    for _ in 0..LONG_RECORDS {
+        words.extend_from_slice(&[0x1800_0fa0, 0x4000_0005])?;
+        words.extend_from_slice(&[0x6161_6161; 1000])?;
+    }
+    words.extend_from_slice(last)?;
+    Ok(words)
+}
+
+fn expect_same(rt: &impl Abort, read: &Unit, made: &Unit) {
+    assert_eq!(rt; read.vxid(), made.vxid());
+    assert_eq!(rt; read.mark(), made.mark());
+    assert_eq!(rt; read.records().len(), LONG_RECORDS + 1);
+    assert_eq!(rt; made.records().len(), LONG_RECORDS + 1);
+    for (a, b) in read.records().iter().zip(made.records()) {
+        assert_eq!(rt; a.tag.number(), b.tag.number());
+        assert_eq!(rt; a.mark, b.mark);
+        assert_eq!(rt; a.payload.as_slice(), b.payload.as_slice());
+    }
+}
+
+#[test]
+fn the_longest_unit_has_1048576_words(rt: HostRuntime) -> Result<(), Fail> {
+    let (last, _) = LAST.split_at(1924);
+    let made = Unit::new(VXID, Mark::Client, records(rt.alloc(), last)?)?;
+    let mut rest = Vec::from_slice(rt.alloc(), &[0x1800_0784, 0x4000_0005])?;
+    rest.extend_from_slice(&[0x6262_6262; 481])?;
+    let spelled = words(rt.alloc(), 1_048_576, &rest)?;
+    assert_eq!(rt; spelled.len(), 1_048_576);
+    let (read, taken) = read_unit(rt.alloc(), &spelled)?;
+    assert_eq!(rt; taken, 1_048_576);
+    expect_same(&rt, &read, &made);
+    Ok(())
+}
+
+#[test]
+fn a_unit_of_one_word_more_is_too_long(rt: HostRuntime) -> Result<(), Fail> {
+    let refused = Unit::new(VXID, Mark::Client, records(rt.alloc(), &LAST)?).err();
+    assert_eq!(rt; refused, Some(UnitFault::TooLong { words: 1_048_577 }));
+    let mut rest = Vec::from_slice(rt.alloc(), &[0x1800_0785, 0x4000_0005])?;
+    rest.extend_from_slice(&[0x6262_6262; 481])?;
+    rest.push(0x0000_0062)?;
+    let spelled = words(rt.alloc(), 1_048_577, &rest)?;
+    assert_eq!(rt; spelled.len(), 1_048_577);
+    assert_eq!(rt; read_unit(rt.alloc(), &spelled).err(), Some(WordFault::Bad));
+    Ok(())
+}

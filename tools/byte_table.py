@@ -1,0 +1,150 @@
+#!/usr/bin/env python3
+"""Prints crates/acceptance/src/byte_table.rt: what single-byte changes do to a log file.
+
+The file has two units: a backend's (VXID 3: Begin `bereq 2 fetch`, End) and a client's (VXID 2:
+Begin `req 1 rxreq`, Link `bereq 3 fetch`, End). For each of its 100 places and each of the 256
+values there, the decoder below says whether the file is whole and how many units it has. The
+decoder follows the rules of the format alone; no output of the program is used.
+
+    tools/byte_table.py | diff - crates/acceptance/src/byte_table.rt
+"""
+
+import struct
+
+HEADER = b"VSLOG-1\n"
+UNIT_TOP = 0xFE
+MOST_WORDS = 1048576
+MOST_PAYLOAD = 4000
+LAST_TAG = 92
+
+HEAD = """\
+//! What single-byte changes do to a log file. Printed by tools/byte_table.py, which has a decoder of
+//! its own.
+
+/// A log file: a backend's unit (VXID 3: Begin `bereq 2 fetch`, End) and a client's (VXID 2: Begin
+/// `req 1 rxreq`, Link `bereq 3 fetch`, End).\
+"""
+
+# tags by number, and the bits of a side
+BEGIN, LINK, END = 42, 43, 44
+CLIENT, BACKEND = 1 << 30, 1 << 31
+
+
+def spell(vxid, side, records):
+    """The words of a unit, as bytes with the lowest first."""
+    words = b""
+    for tag, payload in records:
+        filled = payload + bytes(-len(payload) % 4)
+        words += struct.pack("<II", tag << 24 | len(payload), side | vxid) + filled
+    return struct.pack("<I", UNIT_TOP << 24 | 1 + len(words) // 4) + words
+
+
+def unit_ends(data, at):
+    """Where the unit at this place ends, or None where no whole and correct unit stands there."""
+    if at + 4 > len(data):
+        return None
+    (head,) = struct.unpack_from("<I", data, at)
+    words = head & 0xFFFFFF
+    if head >> 24 != UNIT_TOP or not 3 <= words <= MOST_WORDS:
+        return None
+    end = at + 4 * words
+    if end > len(data):
+        return None
+    place = at + 4
+    first_id = None
+    while place < end:
+        if place + 8 > end:
+            return None
+        record, this_id = struct.unpack_from("<II", data, place)
+        tag, length = record >> 24, record & 0xFFFFFF
+        if not 1 <= tag <= LAST_TAG or length > MOST_PAYLOAD:
+            return None
+        if this_id >> 30 == 3:
+            return None
+        if first_id is not None and this_id != first_id:
+            return None
+        first_id = this_id
+        place += 8
+        after = place + (length + 3) // 4 * 4
+        if after > end:
+            return None
+        if any(data[place + length : after]):
+            return None
+        place = after
+    return end
+
+
+def read(data):
+    """How many units the file has, and whether it ends after a whole unit or after its header."""
+    if data[: len(HEADER)] != HEADER:
+        return 0, False
+    at, units = len(HEADER), 0
+    while at < len(data):
+        end = unit_ends(data, at)
+        if end is None:
+            return units, False
+        at, units = end, units + 1
+    return units, True
+
+
+def ranges(values):
+    """The values as ranges with both ends."""
+    found = []
+    for value in values:
+        if found and found[-1][1] == value - 1:
+            found[-1][1] = value
+        else:
+            found.append([value, value])
+    return [tuple(pair) for pair in found]
+
+
+def main():
+    backend = spell(3, BACKEND, [(BEGIN, b"bereq 2 fetch"), (END, b"")])
+    client = spell(
+        2, CLIENT, [(BEGIN, b"req 1 rxreq"), (LINK, b"bereq 3 fetch"), (END, b"")]
+    )
+    data = HEADER + backend + client
+    assert len(data) == 100 and len(backend) == 36 and len(client) == 56
+    assert read(data) == (2, True)
+
+    places, early = [], []
+    for place, old in enumerate(data):
+        whole, others = [], {}
+        for value in range(256):
+            changed = data[:place] + bytes([value]) + data[place + 1 :]
+            units, is_whole = read(changed)
+            if is_whole:
+                assert units == 2, (place, value, units)
+                whole.append(value)
+            else:
+                others.setdefault(units, []).append(value)
+        assert old in whole
+        # what most of the other values leave; the rest are listed one by one
+        most = max(others, key=lambda units: len(others[units]), default=2)
+        places.append((ranges(whole), most))
+        for units, values in others.items():
+            if units != most:
+                early += [(place, value, units) for value in values]
+
+    print(HEAD)
+    print("pub const REQUEST_WITH_FETCH: [u8; 100] = [")
+    for i in range(0, len(data), 16):
+        print("    " + ", ".join("0x%02x" % b for b in data[i : i + 16]) + ",")
+    print("];")
+    print()
+    print("/// For each place of the file: the values, as ranges with both ends, with which it stays whole")
+    print("/// and has two units, and how many units each other value leaves, but for those of `ENDS_EARLY`.")
+    print("pub const PLACES: [(&[(u8, u8)], usize); 100] = [")
+    for whole, most in places:
+        text = ", ".join("(%d, %d)" % pair for pair in whole)
+        print("    (&[%s], %d)," % (text, most))
+    print("];")
+    print()
+    print("/// A place, a value and how many units it leaves: the header counts fewer words, up to the end of")
+    print("/// a record, so that the unit is whole and no unit follows it.")
+    text = ", ".join("(%d, %d, %d)" % row for row in sorted(early))
+    print("pub const ENDS_EARLY: [(usize, u8, usize); %d] = [%s];" % (len(early), text))
+
+
+if __name__ == "__main__":
+    main()

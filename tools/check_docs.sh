@@ -1,0 +1,93 @@
+#!/bin/sh
+# Checks the documents against the repository, with a shell and its usual tools. It proves nothing.
+set -eu
+LC_ALL=C
+export LC_ALL
+cd "$(dirname "$0")/.."
+
+work=$(mktemp -d)
+trap 'rm -rf "$work"' EXIT
+
+fail() {
+    echo "documents: $1" >&2
+    if [ $# -gt 1 ]; then
+        cat "$2" >&2
+    fi
+    exit 1
+}
+
+# The files that are committed: all but what is made, the examples and the programs' data.
+find . -type f ! -path './.git/*' ! -path './bin/*' ! -path '*/out/*' ! -path './examples/*' ! -path './crates/*/data/*' >"$work/files"
+
+for file in README.md CHANGELOG.md CONTRIBUTING.md docs/ARCHITECTURE.md docs/DEFINITIONS.md docs/FORMATS.md \
+    docs/DECISIONS.md docs/man/vtools.1; do
+    [ -s "$file" ] || fail "$file is missing"
+done
+
+# Each crate of crates.txt is named in README and ARCHITECTURE.
+sed -n 's/^\([a-z0-9_]*\)\( staticlib\)\{0,1\}:.*/\1/p' crates.txt >"$work/crates"
+[ -s "$work/crates" ] || fail "crates.txt names no crate"
+while read -r crate; do
+    for file in README.md docs/ARCHITECTURE.md; do
+        grep -qF "\`$crate\`" "$file" || fail "$file does not name the crate $crate"
+    done
+done <"$work/crates"
+
+# DEFINITIONS has each `pub` item of specs/ with the comment above it, and nothing else.
+awk '
+    FNR == 1 { text = "" }
+    /^-- / { text = text (text == "" ? "" : " ") substr($0, 4); next }
+    /^infix/ { next }
+    /^(abbrev |unfoldable )?pub / && !/^pub (mod|use) / {
+        name = $2
+        if ($1 != "pub" || $2 == "record" || $2 == "data") name = $3
+        print FILENAME "\t" name "\t" text
+    }
+    { text = "" }
+' crates/*/specs/*.antt | sort >"$work/specs"
+awk -F ' [|] ' '/^[|] `/ {
+    name = substr($1, 4, length($1) - 4)
+    file = substr($4, 2, length($4) - 2)
+    print file "\t" name "\t" $2
+}' docs/DEFINITIONS.md | sort >"$work/definitions"
+[ -s "$work/specs" ] || fail "specs/ defines nothing"
+diff "$work/specs" "$work/definitions" >"$work/differ" ||
+    fail "docs/DEFINITIONS.md and specs/ differ ('<' is in specs/, '>' in the document):" "$work/differ"
+
+# The options of a text: words that begin with '-' and a letter.
+options() {
+    tr -c 'A-Za-z0-9_-' '\n' | grep -E '^--?[A-Za-z]' | sort -u || true
+}
+
+# Each option of a man page is in FORMATS.
+options <docs/FORMATS.md >"$work/known"
+for page in docs/man/*.1; do
+    sed -e '/^\.\\"/d' -e 's/\\f[BIRP]/ /g' -e 's/\\-/-/g' "$page" | options >"$work/options"
+    comm -23 "$work/options" "$work/known" >"$work/unknown"
+    [ ! -s "$work/unknown" ] || fail "options of $page that are not in docs/FORMATS.md:" "$work/unknown"
+done
+
+# Each file that a must-fail edit changes is there.
+find crates -path '*/must-fail/*.edit' ! -path '*/out/*' >"$work/edits"
+while read -r edit; do
+    crate=${edit%%/must-fail/*}
+    sed -n 's/^file: //p' "$edit" >"$work/changed"
+    [ -s "$work/changed" ] || fail "$edit names no file"
+    while read -r changed; do
+        [ -f "$crate/$changed" ] || fail "$edit changes $crate/$changed, which is missing"
+    done <"$work/changed"
+done <"$work/edits"
+
+# No file cites a numbered paper, or a path outside the repository.
+numbered='(^|[^A-Za-z0-9_])(D[0-9]{1,2}|T[1-5]\.[0-9]+|W[0-9]{1,2}|R(1?[0-9]|20)[a-z]?|F(18|19|20)|L(1?[0-9]))([^A-Za-z0-9_]|$)'
+outside='\.\./share[d]|(^|[^A-Za-z0-9_.])/wor[k]([^A-Za-z0-9_]|$)'
+while read -r file; do
+    if grep -nE "$numbered" "$file" >"$work/found"; then
+        fail "$file cites a number:" "$work/found"
+    fi
+    if grep -nE "$outside" "$file" >"$work/found"; then
+        fail "$file names a path outside the repository:" "$work/found"
+    fi
+done <"$work/files"
+
+echo "documents: ok"
