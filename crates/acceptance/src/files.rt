@@ -121,7 +121,7 @@ fn a_cut_file_prints_its_whole_units(rt: HostRuntime) -> Result<(), Fail> {
 }
 
 #[test]
-fn a_file_over_16777216_bytes_is_refused_unread(rt: HostRuntime) -> Result<(), Fail> {
+fn a_file_over_the_limit_is_refused_unread(rt: HostRuntime) -> Result<(), Fail> {
     let unread = Answer {
         run: RunRecord::Nothing,
         ..BAD_FILE

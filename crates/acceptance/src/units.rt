@@ -1,4 +1,4 @@
-//! The longest unit.
+//! The longest unit: 1,048,576 words.
 
 ghost use Rattle.std.specs.Prelude.{◌≡◌, IfOk};
 ghost use Rattle.std.specs.List.{All};
@@ -36,7 +36,8 @@ fn records(alloc: Global, last: &[u8]) -> Result<Vec<Record>, Fail>
     Ok(records)
 }
 
-/// The words of the unit of those records: its header counts so many of them, and the last word is this.
+/// The words of the unit of those records: a header that counts so many, the words of the long records,
+/// and these of the last one.
 fn words(alloc: Global, count: u32, last: &[u32]) -> Result<Vec<u32>, Fail> {
     let mut words = Vec::new(alloc);
     words.push(0xfe00_0000 | count)?;
@@ -61,7 +62,7 @@ fn expect_same(rt: &impl Abort, read: &Unit, made: &Unit) {
 }
 
 #[test]
-fn the_longest_unit_has_1048576_words(rt: HostRuntime) -> Result<(), Fail> {
+fn the_longest_unit_is_read_and_a_longer_one_is_refused(rt: HostRuntime) -> Result<(), Fail> {
     let (shorter, _) = LAST.split_at(1924);
     let made = Unit::new(VXID, Mark::Client, records(rt.alloc(), shorter)?)?;
     let mut last = Vec::from_slice(rt.alloc(), &[0x1800_0784, 0x4000_0005])?;
