@@ -1,30 +1,37 @@
 //! Calls of the world that fail.
 
 use crate::support::{
-    Answer, FETCH, Log, ONE_PING, PRINT_F, done, expect_run, no_open, not_built, read_fault,
-    world_with, write_fault,
+    Answer, DONE, FETCH, Log, NO_OPEN, NOT_BUILT, ONE_PING, PRINT_F, READ_FAULT, WRITE_FAULT,
+    expect_run, world_with,
 };
+use std::alloc::Global;
+use std::process::Abort;
 use std::test::Fail;
+use varnish_tools::RunRecord;
+
+/// The most bytes that a call moves in a sweep.
+const PIECE: usize = 3;
 
 #[test]
 fn a_failed_second_write_leaves_the_first(rt: HostRuntime) -> Result<(), Fail> {
-    // one open, reads of 10, 10, 8 and 0 bytes, a write, and the write that fails
+    // an open, reads of 10, 10, 8 and 0 bytes, a write, and the write that fails
     let mut world = world_with(rt.alloc(), ONE_PING.bytes)?;
     world.piece(10);
     world.fail(7)?;
-    let want = write_fault(1, b"         0");
+    let want = Answer {
+        output: b"         0",
+        ..WRITE_FAULT
+    };
     expect_run(
         &rt,
         rt.alloc(),
         PRINT_F,
         &mut world,
         &want,
-        &"the second write",
+        "the second write",
+        7,
     )
 }
-
-/// The most bytes that a call moves below.
-const PIECE: usize = 3;
 
 /// What a run answers whose call of this number fails, counted from 1. The text is a buffer.
 fn answer_without_call<'a>(
@@ -33,69 +40,118 @@ fn answer_without_call<'a>(
     text: &'a mut Vec<u8>,
 ) -> Result<Answer<'a>, Fail> {
     text.clear();
-    if failing == 1 {
-        return Ok(no_open());
-    }
     // the last read finds the end
     let reads = log.bytes.len().div_ceil(PIECE) + 1;
-    if failing <= 1 + reads {
-        return Ok(read_fault());
+    if failing <= 1 {
+        return Ok(NO_OPEN);
     }
-    let mut call = 2 + reads;
-    let mut units = 0;
+    if failing <= 1 + reads {
+        return Ok(READ_FAULT);
+    }
+    let mut call = 1 + reads;
+    let mut units: u64 = 0;
     for (_, lines) in log.units {
-        units += 1;
+        units = units.saturating_add(1);
         for piece in lines.chunks(PIECE) {
+            call = call.saturating_add(1);
             if call == failing {
-                return Ok(write_fault(units, text));
+                return Ok(Answer {
+                    run: RunRecord::Counted { units, items: 1 },
+                    output: text,
+                    ..WRITE_FAULT
+                });
             }
             text.extend_from_slice(piece)?;
-            call += 1;
         }
     }
-    Ok(done(units, text))
+    Ok(Answer {
+        run: RunRecord::Counted { units, items: 1 },
+        output: text,
+        ..DONE
+    })
+}
+
+/// Lets each call of a run fail in turn, which makes so many.
+fn expect_faults(
+    rt: &impl Abort,
+    alloc: Global,
+    what: &str,
+    log: &Log,
+    calls: u8,
+) -> Result<(), Fail> {
+    let mut text = Vec::new(alloc);
+    for failing in 1..=calls {
+        let want = answer_without_call(log, usize::from(failing), &mut text)?;
+        assert!(rt; want.status != 0, "a call too many: {what}, {failing}");
+        let mut world = world_with(alloc, log.bytes)?;
+        world.piece(PIECE);
+        world.fail(u64::from(failing))?;
+        expect_run(
+            rt,
+            alloc,
+            PRINT_F,
+            &mut world,
+            &want,
+            what,
+            usize::from(failing),
+        )?;
+    }
+    let want = answer_without_call(log, usize::MAX, &mut text)?;
+    let mut world = world_with(alloc, log.bytes)?;
+    world.piece(PIECE);
+    world.fail(u64::from(calls) + 1)?;
+    expect_run(rt, alloc, PRINT_F, &mut world, &want, what, usize::MAX)
 }
 
 #[test]
 fn each_failing_call_has_its_fault(rt: HostRuntime) -> Result<(), Fail> {
-    // an open, then 11 or 35 reads, then 12 or 24 + 37 writes
-    for (name, log, calls) in [("ping", &ONE_PING, 24), ("fetch", &FETCH, 97)] {
-        let mut text = Vec::new(rt.alloc());
-        for failing in 1..=calls + 1 {
-            let want = answer_without_call(log, failing, &mut text)?;
-            assert_eq!(rt; want.status == 0, failing > calls, "{name}, call {failing}");
-            let mut world = world_with(rt.alloc(), log.bytes)?;
-            world.piece(PIECE);
-            world.fail(failing as u64)?;
-            expect_run(
-                &rt,
-                rt.alloc(),
-                PRINT_F,
-                &mut world,
-                &want,
-                &(name, failing),
-            )?;
-        }
-    }
-    Ok(())
+    // an open, 10 reads and one at the end, and 12 writes
+    expect_faults(&rt, rt.alloc(), "a call for a ping", &ONE_PING, 24)?;
+    // an open, 34 reads and one at the end, 24 writes for the first unit and 37 for the second
+    expect_faults(&rt, rt.alloc(), "a call for a request", &FETCH, 97)
 }
+
+/// Messages of 22 and 23 bytes take eight writes: the number of a write where nothing is opened before
+/// it, its number after an open, and how many bytes of the message stand before it.
+const MESSAGE_WRITES: [(u64, u64, usize); 8] = [
+    (1, 2, 0),
+    (2, 3, 3),
+    (3, 4, 6),
+    (4, 5, 9),
+    (5, 6, 12),
+    (6, 7, 15),
+    (7, 8, 18),
+    (8, 9, 21),
+];
 
 #[test]
 fn a_message_that_fails_changes_nothing_else(rt: HostRuntime) -> Result<(), Fail> {
-    let words = ["varnishlog"];
-    for (words, opening, want) in [(PRINT_F, 1, no_open()), (words.as_slice(), 0, not_built())] {
-        for (i, piece) in want.errors.chunks(PIECE).enumerate() {
-            let mut world = world_with(rt.alloc(), ONE_PING.bytes)?;
-            world.piece(PIECE);
-            world.fail(opening)?;
-            world.fail(opening + 1 + i as u64)?;
-            let (written, _) = want.errors.split_at(i * PIECE);
-            let want = Answer {
-                errors: written,
-                ..want
-            };
-            expect_run(&rt, rt.alloc(), words, &mut world, &want, &(i, piece))?;
-        }
+    for (alone, after_open, written) in MESSAGE_WRITES {
+        let mut world = world_with(rt.alloc(), ONE_PING.bytes)?;
+        world.piece(PIECE);
+        world.fail(alone)?;
+        let want = Answer {
+            errors: NOT_BUILT.errors.get(..written).ok_or("a longer message")?,
+            ..NOT_BUILT
+        };
+        expect_run(&rt, rt.alloc(), &[], &mut world, &want, "no words", written)?;
+        let mut world = world_with(rt.alloc(), ONE_PING.bytes)?;
+        world.piece(PIECE);
+        world.fail(1)?;
+        world.fail(after_open)?;
+        let want = Answer {
+            errors: NO_OPEN.errors.get(..written).ok_or("a longer message")?,
+            ..NO_OPEN
+        };
+        expect_run(
+            &rt,
+            rt.alloc(),
+            PRINT_F,
+            &mut world,
+            &want,
+            "no open",
+            written,
+        )?;
     }
     Ok(())
 }

@@ -1,7 +1,7 @@
 //! What no contract says: tests that cross the crates, over a world in memory.
 //!
 //! A contract here speaks of a call that had its memory. So a program that always answers want of
-//! memory meets every contract; it is refused by `files::a_file_of_the_header_alone_prints_nothing`,
+//! memory meets every contract; it is refused by `files::a_header_prints_nothing_and_a_record_one_line`,
 //! and each other test runs with ample memory and compares the whole answer too: the status, the
 //! fault, the run record, and what stands on standard output and standard error.
 //!

@@ -2,7 +2,6 @@
 
 use crate::byte_table::REQUEST_WITH_FETCH;
 use std::alloc::Global;
-use std::fmt::Debug;
 use std::process::Abort;
 use std::test::Fail;
 use varnish_tools::{Outcome, RunRecord, ToolFault, run_tools};
@@ -42,22 +41,12 @@ pub const FETCH: Log = Log {
     ],
 };
 
-/// Why a run stops early, without a name.
-#[derive(Clone, Copy, Debug, PartialEq, Eq)]
-pub enum Cause {
-    Done,
-    NotBuilt,
-    NoOpen,
-    ReadFault,
-    WriteFault,
-    BadFile,
-}
-
 /// All that a run answers and writes.
 #[derive(Clone, Copy)]
 pub struct Answer<'a> {
     pub status: u8,
-    pub cause: Cause,
+    /// The fault without the name that it tells, or nothing.
+    pub fault: &'a str,
     /// The name that the fault tells.
     pub name: &'a str,
     pub run: RunRecord,
@@ -65,91 +54,74 @@ pub struct Answer<'a> {
     pub errors: &'a [u8],
 }
 
-/// The record of so many units of one file.
-pub fn counted(units: u64) -> RunRecord {
-    RunRecord::Counted { units, items: 1 }
-}
-
-/// A run to the end.
-pub fn done(units: u64, output: &[u8]) -> Answer<'_> {
-    Answer {
-        status: 0,
-        cause: Cause::Done,
-        name: "",
-        run: counted(units),
-        output,
-        errors: b"",
-    }
-}
+/// A run to the end over a log without units.
+pub const DONE: Answer<'static> = Answer {
+    status: 0,
+    fault: "",
+    name: "",
+    run: RunRecord::Counted { units: 0, items: 1 },
+    output: b"",
+    errors: b"",
+};
 
 /// The words are not built.
-pub fn not_built() -> Answer<'static> {
-    Answer {
-        status: 2,
-        cause: Cause::NotBuilt,
-        name: "",
-        run: RunRecord::Nothing,
-        output: b"",
-        errors: b"vtools: not built yet\n",
-    }
-}
+pub const NOT_BUILT: Answer<'static> = Answer {
+    status: 2,
+    fault: "NotBuilt",
+    name: "",
+    run: RunRecord::Nothing,
+    output: b"",
+    errors: b"vtools: not built yet\n",
+};
 
 /// The file `f` can't be opened.
-pub fn no_open() -> Answer<'static> {
-    Answer {
-        status: 1,
-        cause: Cause::NoOpen,
-        name: "f",
-        run: RunRecord::Nothing,
-        output: b"",
-        errors: b"vtools: f: cannot open\n",
-    }
-}
+pub const NO_OPEN: Answer<'static> = Answer {
+    status: 1,
+    fault: "NoOpen",
+    name: "f",
+    run: RunRecord::Nothing,
+    output: b"",
+    errors: b"vtools: f: cannot open\n",
+};
 
 /// A read of the file `f` failed.
-pub fn read_fault() -> Answer<'static> {
-    Answer {
-        status: 1,
-        cause: Cause::ReadFault,
-        name: "f",
-        run: RunRecord::Nothing,
-        output: b"",
-        errors: b"vtools: f: read failed\n",
-    }
-}
+pub const READ_FAULT: Answer<'static> = Answer {
+    status: 1,
+    fault: "ReadFault",
+    name: "f",
+    run: RunRecord::Nothing,
+    output: b"",
+    errors: b"vtools: f: read failed\n",
+};
 
-/// A write failed in the text of the last of so many units.
-pub fn write_fault(units: u64, output: &[u8]) -> Answer<'_> {
-    Answer {
-        status: 1,
-        cause: Cause::WriteFault,
-        name: "-",
-        run: counted(units),
-        output,
-        errors: b"vtools: -: write failed\n",
-    }
-}
+/// The first write to standard output failed.
+pub const WRITE_FAULT: Answer<'static> = Answer {
+    status: 1,
+    fault: "WriteFault",
+    name: "-",
+    run: RunRecord::Counted { units: 1, items: 1 },
+    output: b"",
+    errors: b"vtools: -: write failed\n",
+};
 
-/// The file `f` is no log, or it is damaged.
-pub fn bad_file(run: RunRecord, output: &[u8]) -> Answer<'_> {
-    Answer {
-        status: 1,
-        cause: Cause::BadFile,
-        name: "f",
-        run,
-        output,
-        errors: b"vtools: f: bad log\n",
-    }
-}
+/// The file `f` is no log, or its first unit is damaged.
+pub const BAD_FILE: Answer<'static> = Answer {
+    status: 1,
+    fault: "BadFile",
+    name: "f",
+    run: RunRecord::Counted { units: 0, items: 1 },
+    output: b"",
+    errors: b"vtools: f: bad log\n",
+};
 
-fn cause_of(fault: &Option<ToolFault>) -> (Cause, &str) {
+fn parts_of(fault: &Option<ToolFault>) -> (&'static str, &str) {
     match fault {
-        None => (Cause::Done, ""),
-        Some(ToolFault::NotBuilt) => (Cause::NotBuilt, ""),
-        Some(ToolFault::NoOpen { name }) => (Cause::NoOpen, name.as_str()),
-        Some(ToolFault::ReadFault { name }) => (Cause::ReadFault, name.as_str()),
-        Some(ToolFault::WriteFault { name }) => (Cause::WriteFault, name.as_str()),
-        Some(ToolFault::BadFile { name }) => (Cause::BadFile, name.as_str()),
+        None => ("", ""),
+        Some(ToolFault::NotBuilt) => ("NotBuilt", ""),
+        Some(ToolFault::NoOpen { name }) => ("NoOpen", name.as_str()),
+        Some(ToolFault::ReadFault { name }) => ("ReadFault", name.as_str()),
+        Some(ToolFault::WriteFault { name }) => ("WriteFault", name.as_str()),
+        Some(ToolFault::BadFile { name }) => ("BadFile", name.as_str()),
     }
 }
 
@@ -168,22 +140,31 @@ fn run(alloc: Global, words: &[&str], world: &mut MemWorld) -> Result<Outcome, F
     Ok(run_tools(alloc, &typed, world)?)
 }
 
-/// Runs the words, and compares all that comes out; `what` tells the run from others.
+/// Runs the words, and compares all that comes out; `what` and `at` tell the run from others.
 pub fn expect_run(
     rt: &impl Abort,
     alloc: Global,
     words: &[&str],
     world: &mut MemWorld,
     want: &Answer<'_>,
-    what: &impl Debug,
+    what: &str,
+    at: usize,
 ) -> Result<(), Fail> {
     let outcome = run(alloc, words, world)?;
-    let (cause, name) = cause_of(&outcome.fault);
-    assert_eq!(rt; cause, want.cause, "the fault, {what:?}");
-    assert_eq!(rt; name, want.name, "the fault's name, {what:?}");
-    assert_eq!(rt; outcome.status, want.status, "the status, {what:?}");
-    assert_eq!(rt; outcome.run, want.run, "the run record, {what:?}");
-    assert_eq!(rt; world.content(1), want.output, "standard output, {what:?}");
-    assert_eq!(rt; world.content(2), want.errors, "standard error, {what:?}");
+    let (fault, name) = parts_of(&outcome.fault);
+    assert_eq!(rt; fault, want.fault, "the fault: {what}, {at}");
+    assert_eq!(rt; name, want.name, "the fault's name: {what}, {at}");
+    assert_eq!(rt; outcome.status, want.status, "the status: {what}, {at}");
+    assert_eq!(rt; outcome.run, want.run, "the run record: {what}, {at}");
+    assert_eq!(rt;
+        world.content(1),
+        want.output,
+        "standard output: {what}, {at}"
+    );
+    assert_eq!(rt;
+        world.content(2),
+        want.errors,
+        "standard error: {what}, {at}"
+    );
     Ok(())
 }

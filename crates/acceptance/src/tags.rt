@@ -71,10 +71,10 @@ fn expect_name(rt: &impl Abort, number: u8, start: &str, ending: &str) {
     match Tag::from_number(number) {
         Some(tag) => {
             assert_eq!(rt; tag.number(), number, "{start}{ending}");
-            let after = name_of(tag).strip_prefix(start);
-            assert!(rt;
-                after.is_some_and(|rest| rest == ending),
-                "{number} is {start}{ending}"
+            assert_eq!(rt;
+                name_of(tag).strip_prefix(start),
+                Some(ending),
+                "the name of {number}"
             );
         }
         None => assert!(rt; false, "{start}{ending} has no tag"),

@@ -1,4 +1,7 @@
-//! The longest unit.
+//! The longest unit: 1,048,576 words.
+
+ghost use Rattle.std.specs.Prelude.{◌≡◌, IfOk};
+ghost use Rattle.std.specs.List.{All};
 
 use std::alloc::Global;
 use std::process::Abort;
@@ -21,7 +24,9 @@ const VCL_LOG: u8 = 24;
 /// The transaction.
 const VXID: u32 = 5;
 
-fn records(alloc: Global, last: &[u8]) -> Result<Vec<Record>, Fail> {
+fn records(alloc: Global, last: &[u8]) -> Result<Vec<Record>, Fail>
+    ensures { IfOk result (λ v. All (λ r. r.mark ≡ Mark.Client) v.items) }
+{
     let tag = Tag::from_number(VCL_LOG).ok_or("24 is a tag")?;
     let mut records = Vec::new(alloc);
     for _ in 0..LONG_RECORDS {
@@ -31,7 +36,8 @@ fn records(alloc: Global, last: &[u8]) -> Result<Vec<Record>, Fail> {
     Ok(records)
 }
 
-/// The words of the unit of those records: its header counts so many of them, and the last word is this.
+/// The words of the unit of those records: a header that counts so many, the words of the long records,
+/// and these of the last one.
 fn words(alloc: Global, count: u32, last: &[u32]) -> Result<Vec<u32>, Fail> {
     let mut words = Vec::new(alloc);
     words.push(0xfe00_0000 | count)?;
@@ -56,27 +62,23 @@ fn expect_same(rt: &impl Abort, read: &Unit, made: &Unit) {
 }
 
 #[test]
-fn the_longest_unit_has_1048576_words(rt: HostRuntime) -> Result<(), Fail> {
-    let (last, _) = LAST.split_at(1924);
-    let made = Unit::new(VXID, Mark::Client, records(rt.alloc(), last)?)?;
-    let mut rest = Vec::from_slice(rt.alloc(), &[0x1800_0784, 0x4000_0005])?;
-    rest.extend_from_slice(&[0x6262_6262; 481])?;
-    let spelled = words(rt.alloc(), 1_048_576, &rest)?;
-    assert_eq!(rt; spelled.len(), 1_048_576);
+fn the_longest_unit_is_read_and_a_longer_one_is_refused(rt: HostRuntime) -> Result<(), Fail> {
+    let (shorter, _) = LAST.split_at(1924);
+    let made = Unit::new(VXID, Mark::Client, records(rt.alloc(), shorter)?)?;
+    let mut last = Vec::from_slice(rt.alloc(), &[0x1800_0784, 0x4000_0005])?;
+    last.extend_from_slice(&[0x6262_6262; 481])?;
+    let spelled = words(rt.alloc(), 1_048_576, &last)?;
     let (read, taken) = read_unit(rt.alloc(), &spelled)?;
     assert_eq!(rt; taken, 1_048_576);
+    assert_eq!(rt; spelled.len(), 1_048_576);
     expect_same(&rt, &read, &made);
-    Ok(())
-}
 
-#[test]
-fn a_unit_of_one_word_more_is_too_long(rt: HostRuntime) -> Result<(), Fail> {
     let refused = Unit::new(VXID, Mark::Client, records(rt.alloc(), &LAST)?).err();
     assert_eq!(rt; refused, Some(UnitFault::TooLong { words: 1_048_577 }));
-    let mut rest = Vec::from_slice(rt.alloc(), &[0x1800_0785, 0x4000_0005])?;
-    rest.extend_from_slice(&[0x6262_6262; 481])?;
-    rest.push(0x0000_0062)?;
-    let spelled = words(rt.alloc(), 1_048_577, &rest)?;
+    let mut last = Vec::from_slice(rt.alloc(), &[0x1800_0785, 0x4000_0005])?;
+    last.extend_from_slice(&[0x6262_6262; 481])?;
+    last.push(0x0000_0062)?;
+    let spelled = words(rt.alloc(), 1_048_577, &last)?;
     assert_eq!(rt; spelled.len(), 1_048_577);
     assert_eq!(rt; read_unit(rt.alloc(), &spelled).err(), Some(WordFault::Bad));
     Ok(())

@@ -1,6 +1,6 @@
 //! Words that are read, and words that are not built.
 
-use crate::support::{ONE_PING, expect_run, not_built, world_with};
+use crate::support::{NOT_BUILT, ONE_PING, expect_run, world_with};
 use std::test::Fail;
 use vio::World;
 
@@ -56,7 +56,15 @@ fn other_words_are_not_built_and_open_nothing(rt: HostRuntime) -> Result<(), Fai
     for (what, words) in OTHERS {
         let mut world = world_with(rt.alloc(), ONE_PING.bytes)?;
         world.file("-", ONE_PING.bytes)?;
-        expect_run(&rt, rt.alloc(), words, &mut world, &not_built(), what)?;
+        expect_run(
+            &rt,
+            rt.alloc(),
+            words,
+            &mut world,
+            &NOT_BUILT,
+            what,
+            words.len(),
+        )?;
         assert_eq!(rt; world.open("f")?, 3, "the first handle, {what}");
     }
     Ok(())

@@ -1,16 +1,20 @@
-//! What `main` answers by itself, and the exit statuses of that.
+//! What is answered to the words of a command line, and the exit statuses.
 
-ghost use Rattle.std.specs.Prelude.{◌≡◌, ◌<◌, ◌⊎◌};
-ghost use Rattle.vio.specs.World.{Writing, Wrote, WrotePart, FaultsRose};
+ghost use Rattle.std.specs.Prelude.{◌≡◌, map, None, Some};
+ghost use Rattle.std.specs.String.{string_bytes};
+ghost use Rattle.vtools.specs.Command.{question_of, IsPrinted, IsToolStatus};
 
+use crate::words::{Question, read_question};
+use std::alloc::Global;
 use std::io::Eprint;
-use vio::{World, WorldFault, write_all};
+use varnish_tools::run_tools;
+use vio::{NoMemory, World, WorldFault, write_all};
 
 /// What `vtools --version` prints.
-pub const VERSION: &str = "vtools 0.1 (unreleased)\n";
+const VERSION: &str = "vtools 0.1 (unreleased)\n";
 
 /// What `vtools --help` prints.
-pub const HELP: &str = "\
+const HELP: &str = "\
 vtools: Varnish's logging tools as one program
 
 usage: vtools varnishlog -g raw -r FILE
@@ -28,11 +32,8 @@ refused, 3 out of memory.
 const OUTPUT: u32 = 1;
 
 /// Prints a text, and answers 0, or 1 where a write failed, or 3 where there was no memory.
-pub fn answer<W: World>(world: &mut W, rt: &impl Eprint, text: &str) -> u8
-    ensures done { result ≡ 0 → Wrote 1 text.now (W.seen world.old) (W.seen world.new) }
-    ensures stopped { 0 < result → WrotePart 1 text.now (W.seen world.old) (W.seen world.new) }
-    ensures failed { result ≡ 1 → FaultsRose Writing 1 (W.seen world.old) (W.seen world.new) }
-    ensures statuses { (result ≡ 0) ⊎ (result ≡ 1) ⊎ (result ≡ 3) }
+fn answer<W: World>(world: &mut W, rt: &impl Eprint, text: &str) -> u8
+    ensures { IsPrinted text.now result (W.seen world.old) (W.seen world.new) }
 {
     match write_all(world, OUTPUT, text.as_bytes()) {
         Ok(()) => 0,
@@ -58,4 +59,27 @@ pub fn not_text(rt: &impl Eprint, place: usize) -> u8
 {
     let _ = eprintln!(rt; "vtools: argument {place} is not UTF-8");
     2
+}
+
+/// Runs the tool that the words name.
+fn run_tool<W: World>(alloc: Global, rt: &impl Eprint, world: &mut W, words: &[String]) -> u8
+    ensures { IsToolStatus (map string_bytes words.now) result (W.seen world.old) (W.seen world.new) }
+{
+    match run_tools(alloc, words, world) {
+        Ok(outcome) => outcome.status,
+        Err(NoMemory) => no_memory(rt),
+    }
+}
+
+/// Answers the words of a command line, and gives the exit status.
+pub fn run<W: World>(alloc: Global, rt: &impl Eprint, world: &mut W, words: &[String]) -> u8
+    ensures help { question_of (map string_bytes words.now) ≡ Some Question.Help → IsPrinted HELP.now result (W.seen world.old) (W.seen world.new) }
+    ensures version { question_of (map string_bytes words.now) ≡ Some Question.Version → IsPrinted VERSION.now result (W.seen world.old) (W.seen world.new) }
+    ensures tools { question_of (map string_bytes words.now) ≡ None → IsToolStatus (map string_bytes words.now) result (W.seen world.old) (W.seen world.new) }
+{
+    match read_question(words) {
+        Some(Question::Help) => answer(world, rt, HELP),
+        Some(Question::Version) => answer(world, rt, VERSION),
+        None => run_tool(alloc, rt, world, words),
+    }
 }

@@ -1,5 +1,10 @@
 //! The words of the command line.
 
+ghost use Rattle.std.specs.Prelude.{◌≡◌, map};
+ghost use Rattle.std.specs.String.{string_bytes};
+ghost use Rattle.vtools.specs.Command.{question_of};
+ghost use Rattle.vtools.specs.declared.words.WordFault.TheVariants.{NoMemory};
+
 use std::alloc::{AllocError, Global};
 use std::env::{Env, FillError};
 
@@ -19,9 +24,20 @@ pub enum WordFault {
 }
 
 impl From<AllocError> for WordFault {
+    ghost from_gives = { λ _ e. e ≡ NoMemory };
+
     fn from(_e: AllocError) -> WordFault {
         WordFault::NoMemory
     }
+}
+
+/// What words ask of the program itself, and of no tool.
+#[derive(Clone, Copy, Debug, PartialEq, Eq)]
+pub enum Question {
+    /// `--help`: what the program does.
+    Help,
+    /// `--version`: which version it is.
+    Version,
 }
 
 /// The bytes of the argument at a place, or `None` after the last one.
@@ -57,4 +73,20 @@ pub fn read_words(alloc: Global, env: &impl Env) -> Result<Vec<String>, WordFaul
         }
     }
     Ok(words)
+}
+
+/// What the words ask of the program itself.
+pub fn read_question(words: &[String]) -> Option<Question>
+    ensures { result ≡ question_of (map string_bytes words.now) }
+{
+    let [word] = words else {
+        return None;
+    };
+    if word.as_str() == "--help" {
+        return Some(Question::Help);
+    }
+    if word.as_str() == "--version" {
+        return Some(Question::Version);
+    }
+    None
 }
