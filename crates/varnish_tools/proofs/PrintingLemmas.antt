@@ -71,11 +71,12 @@ after_text_is by units false = sym (append-nil (units_text by units false))
 -- the text of all units begins with that of the first
 pub first_text : (by : Grouping) (units : Log) (n : ℕ) (b : Bool) → (after : List ℕ) × (units_text by units b ≡ units_text by (take n units) false ++ after)
 first_text by units n b =
-    let later = groups_text (unit_steps by (drop n units) (unit_steps by (take n units) no_state).state).groups in
-    (later ++ after_text by units b,
-    after_text_is by units b
-    ∙ ap (λ (x : List ℕ). x ++ after_text by units b) (ap (λ (us : Log). units_text by us false) (sym (take-append-drop n units)) ∙ text_append by (take n units) (drop n units))
-    ∙ append_assoc (units_text by (take n units) false) later (after_text by units b))
+    let later = groups_text (unit_steps by (drop n units) (unit_steps by (take n units) no_state).state).groups in (
+      later ++ after_text by units b,
+      after_text_is by units b
+          ∙ ap (λ (x : List ℕ). x ++ after_text by units b) (ap (λ (us : Log). units_text by us false) (sym (take-append-drop n units)) ∙ text_append by (take n units) (drop n units))
+          ∙ append_assoc (units_text by (take n units) false) later (after_text by units b),
+    )
 
 -- a record of all units stands for the run that takes them all
 all_recorded : (units input : Log) → units ≡ input → IsRunOf (Counted (length units) 1) input (run_of input)
@@ -121,8 +122,8 @@ pub prints_bad : (job : Job) (bytes : List ℕ) (units : Log) (whole : Bool) (na
     → PrintsFile job bytes (Some (BadFile name)) (Counted (length units) 1) s t
 prints_bad job bytes units whole name s t answer is_false is p = record {
   causes = λ f e. let same : BadFile name ≡ f = cc in
-    subst (λ (x : ToolFault). HasPrintCause job bytes x s t) same
-    (is, λ us ending is_file. other_ending ending (sym (answer.only us ending is_file).1 ∙ is_false));
+      subst (λ (x : ToolFault). HasPrintCause job bytes x s t) same
+      (is, λ us ending is_file. other_ending ending (sym (answer.only us ending is_file).1 ∙ is_false));
   changes = changes_output _ s t p;
   prints = λ input same within is_file. let only = answer.only input.units input.file_ending is_file in record {
     run = run_of input.units;
@@ -157,9 +158,9 @@ part_between job fault ending units input n s t e p =
     let after = after_text job.grouping (take n input) (is_flushed ending) in
     rw (least_text job fault input n q.some q.most, text_of_run job (take n input) ending)
     (between (s.written 1) (t.written 1) (units_text job.grouping (take (n - 1) input) false) (units_text job.grouping (take n input) (is_flushed ending)) q.more (q.rest ++ after)
-      (after_text_is job.grouping (take n input) (is_flushed ending) ∙ ap (λ (x : List ℕ). x ++ after) q.begun
-      ∙ append_assoc (units_text job.grouping (take (n - 1) input) false ++ q.more) q.rest after)
-      q.wrote.gains)
+    (after_text_is job.grouping (take n input) (is_flushed ending) ∙ ap (λ (x : List ℕ). x ++ after) q.begun
+    ∙ append_assoc (units_text job.grouping (take (n - 1) input) false ++ q.more) q.rest after)
+    q.wrote.gains)
 
 -- why a failed write of the text is answered
 write_cause : (job : Job) (bytes : List ℕ) (f : ToolFault) (s t : Seen) → HasNewFault (s.faults Writing sink_name) (t.faults Writing sink_name)
@@ -203,7 +204,7 @@ is_part_flushed by units table s t u p some q = record {
   rest = q.rest;
   some = some_units by units (subst (λ (state : State). flush_text state ≢ []) p.took.state some);
   whole = text_flushed by units ∙ ap (λ (state : State). units_text by units false ++ flush_text state) (sym p.took.state)
-    ∙ ap (λ (x : List ℕ). units_text by units false ++ x) q.whole ∙ sym (append_assoc (units_text by units false) q.done q.rest);
+      ∙ ap (λ (x : List ℕ). units_text by units false ++ x) q.whole ∙ sym (append_assoc (units_text by units false) q.done q.rest);
   wrote = Wrote-then (units_text by units false) q.done p.wrote q.wrote;
 }
 
@@ -218,12 +219,12 @@ flushed_between job fault units s t p =
     let all : take n units ≡ units = take_all n units (omega arith) in
     let first = first_text job.grouping units (n - 1) false in
     let least = subst (λ (us : Log). sink_text (Some job) (without_last (run_of us)) (Faulted fault) ≡ units_text job.grouping (take (n - 1) units) false) all
-      (least_text job fault units n p.some (omega arith)) in
+    (least_text job fault units n p.some (omega arith)) in
     let before = units_text job.grouping (take (n - 1) units) false in
     rw (least, text_of_run job units Whole)
     (between (s.written 1) (t.written 1) before (units_text job.grouping units true) (first.0 ++ p.done) p.rest
-      (p.whole ∙ ap (λ (x : List ℕ). x ++ p.done ++ p.rest) first.1 ∙ ap (λ (x : List ℕ). x ++ p.rest) (append_assoc before first.0 p.done))
-      (subst (λ (text : List ℕ). Gains (s.written 1) (t.written 1) text) (ap (λ (x : List ℕ). x ++ p.done) first.1 ∙ append_assoc before first.0 p.done) p.wrote.gains))
+    (p.whole ∙ ap (λ (x : List ℕ). x ++ p.done ++ p.rest) first.1 ∙ ap (λ (x : List ℕ). x ++ p.rest) (append_assoc before first.0 p.done))
+    (subst (λ (text : List ℕ). Gains (s.written 1) (t.written 1) text) (ap (λ (x : List ℕ). x ++ p.done) first.1 ∙ append_assoc before first.0 p.done) p.wrote.gains))
 
 pub prints_part_flushed : (job : Job) (bytes : List ℕ) (units : Log) (whole : Bool) (s t : Seen)
     → IsAnswer bytes units whole → whole ≡ true → PartFlushed job.grouping units s t → HasNewFault (s.faults Writing sink_name) (t.faults Writing sink_name)
@@ -236,10 +237,12 @@ prints_part_flushed job bytes units whole s t answer is_true p rose = record {
     ending = Faulted (WriteFault sink_name);
     is_run = all_recorded units input.units only.0;
     is_ending = refl;
-    takes = (within_same input.bytes bytes same within,
-      (length input.units, omega (arith, p.some, ap length only.0), omega arith, ap run_of (sym (take_all (length input.units) input.units (omega arith)))));
+    takes = (
+      within_same input.bytes bytes same within,
+      (length input.units, omega (arith, p.some, ap length only.0), omega arith, ap run_of (sym (take_all (length input.units) input.units (omega arith)))),
+    );
     sink = rw (ending_of_all input (WriteFault sink_name) (sym only.1 ∙ is_true))
-      (flushed_between job (WriteFault sink_name) input.units s t (subst (λ (us : Log). PartFlushed job.grouping us s t) only.0 p));
+        (flushed_between job (WriteFault sink_name) input.units s t (subst (λ (us : Log). PartFlushed job.grouping us s t) only.0 p));
   };
 }
 
@@ -254,9 +257,9 @@ pub stops_part : (job : Job) (bytes : List ℕ) (units : Log) (whole : Bool) (n 
 stops_part job bytes units whole n s t answer p = record {
   changes = changes_output _ s t p.wrote;
   sink = λ us ending is_file.
-    let first = first_text job.grouping units n (is_whole ending) in
-    front_units job.grouping units us (is_whole ending) (units_text job.grouping (take (n - 1) units) false ++ p.more) (p.rest ++ first.0) s t (answer.only us ending is_file).0
-    (first.1 ∙ ap (λ (x : List ℕ). x ++ first.0) p.begun ∙ append_assoc (units_text job.grouping (take (n - 1) units) false ++ p.more) p.rest first.0) p.wrote;
+      let first = first_text job.grouping units n (is_whole ending) in
+      front_units job.grouping units us (is_whole ending) (units_text job.grouping (take (n - 1) units) false ++ p.more) (p.rest ++ first.0) s t (answer.only us ending is_file).0
+      (first.1 ∙ ap (λ (x : List ℕ). x ++ first.0) p.begun ∙ append_assoc (units_text job.grouping (take (n - 1) units) false ++ p.more) p.rest first.0) p.wrote;
 }
 
 -- want of memory after the text of all units
@@ -265,8 +268,8 @@ pub stops_units : (job : Job) (bytes : List ℕ) (units : Log) (whole : Bool) (s
 stops_units job bytes units whole s t answer p = record {
   changes = changes_output _ s t p;
   sink = λ us ending is_file.
-    front_units job.grouping units us (is_whole ending) (units_text job.grouping units false) (after_text job.grouping units (is_whole ending)) s t (answer.only us ending is_file).0
-    (after_text_is job.grouping units (is_whole ending)) p;
+      front_units job.grouping units us (is_whole ending) (units_text job.grouping units false) (after_text job.grouping units (is_whole ending)) s t (answer.only us ending is_file).0
+      (after_text_is job.grouping units (is_whole ending)) p;
 }
 
 -- want of memory after a part of the flush
@@ -275,10 +278,10 @@ pub stops_flush : (job : Job) (bytes : List ℕ) (units : Log) (whole : Bool) (t
 stops_flush job bytes units whole table s t u answer is_true p q = record {
   changes = changes_output _ s u (Wrote-then (units_text job.grouping units false) q.done p.wrote q.wrote);
   sink = λ us ending is_file.
-    let only = answer.only us ending is_file in
-    let flushed : is_whole ending ≡ true = sym only.1 ∙ is_true in
-    subst (λ (b : Bool). GainsFront (s.written 1) (u.written 1) (units_text job.grouping us b)) (sym flushed)
-    (front_units job.grouping units us true (units_text job.grouping units false ++ q.done) q.rest s u only.0
+      let only = answer.only us ending is_file in
+      let flushed : is_whole ending ≡ true = sym only.1 ∙ is_true in
+      subst (λ (b : Bool). GainsFront (s.written 1) (u.written 1) (units_text job.grouping us b)) (sym flushed)
+      (front_units job.grouping units us true (units_text job.grouping units false ++ q.done) q.rest s u only.0
       (text_flushed job.grouping units ∙ ap (λ (state : State). units_text job.grouping units false ++ flush_text state) (sym p.took.state)
       ∙ ap (λ (x : List ℕ). units_text job.grouping units false ++ x) q.whole ∙ sym (append_assoc (units_text job.grouping units false) q.done q.rest))
       (Wrote-then (units_text job.grouping units false) q.done p.wrote q.wrote));

@@ -196,8 +196,8 @@ pub stops_printed : (job : Job) (bytes : List ℕ) (s t u : Seen) → IsReadWhol
 stops_printed job bytes s t u r p = record {
   changes = changes_since s t u r.silent p.changes;
   sink = λ input is_input.
-    let same = r.all input.bytes is_input.0 in
-    let within : length input.bytes ≤ log_limit = omega (arith, ap length same, r.within) in
-    let front = p.sink input.units input.file_ending (subst (λ (b : List ℕ). IsFile b input.units input.file_ending) same is_input.1) in
-    rw (whole_text_of job input within, ← r.silent.written 1) front;
+      let same = r.all input.bytes is_input.0 in
+      let within : length input.bytes ≤ log_limit = omega (arith, ap length same, r.within) in
+      let front = p.sink input.units input.file_ending (subst (λ (b : List ℕ). IsFile b input.units input.file_ending) same is_input.1) in
+      rw (whole_text_of job input within, ← r.silent.written 1) front;
 }

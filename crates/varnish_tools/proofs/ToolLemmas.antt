@@ -143,10 +143,12 @@ front_same x y part text e p = front_of x y part text [] (sym e ∙ sym (append-
 -- what was gained between two texts is a front of a text that goes on after the second
 between_front : (x y : Option (List ℕ)) (least most text after : List ℕ) → text ≡ most ++ after → GainsBetween x y least most → GainsFront x y text
 between_front x y least most text after e p = λ a told.
-    let g = p a told in
-    (least ++ g.0, g.1 ++ after,
-    e ∙ ap (λ (t : List ℕ). t ++ after) g.2 ∙ append_assoc (least ++ g.0) g.1 after,
-    g.3 ∙ ap Some (append_assoc a least g.0))
+    let g = p a told in (
+      least ++ g.0,
+      g.1 ++ after,
+      e ∙ ap (λ (t : List ℕ). t ++ after) g.2 ∙ append_assoc (least ++ g.0) g.1 after,
+      g.3 ∙ ap Some (append_assoc a least g.0),
+    )
 
 -- the text that an input within the limit defines goes on after that of its first units
 defined_text : (job : Job) (input : Input) (n : ℕ) → length input.bytes ≤ log_limit
@@ -179,15 +181,15 @@ bad_front : (job : Job) (fault : ToolFault) (input : Input) (run : Run) (x y : O
     → GainsFront x y (output_of (Some job) (whole_run input) (whole_ending (Some job) input)).sink
 bad_front job fault input run x y e p = ⊎_elim
     (λ (past : log_limit < length input.bytes).
-      let test : leb (length input.bytes) log_limit ≡ false = lt-leb _ _ past in
-      let none : whole_run input ≡ no_run = rw test refl in
-      none_front job fault run x y (output_of (Some job) (whole_run input) (whole_ending (Some job) input)).sink (e ∙ none) p)
+    let test : leb (length input.bytes) log_limit ≡ false = lt-leb _ _ past in
+    let none : whole_run input ≡ no_run = rw test refl in
+    none_front job fault run x y (output_of (Some job) (whole_run input) (whole_ending (Some job) input)).sink (e ∙ none) p)
     (λ (within : length input.bytes ≤ log_limit).
-      let is : run ≡ run_of input.units = e ∙ sym (run_within input.bytes input.units within) in
-      let all : take (length input.units) input.units ≡ input.units = take_all (length input.units) input.units (omega arith) in
-      let text = defined_text job input (length input.units) within in
-      front_of x y (sink_text (Some job) run (Faulted fault)) (output_of (Some job) (whole_run input) (whole_ending (Some job) input)).sink text.0
-      (text.1 ∙ ap (λ (t : List ℕ). t ++ text.0) (ap (λ (us : Log). units_text job.grouping us false) all ∙ sym (faulted_text job fault run input.units is))) p)
+    let is : run ≡ run_of input.units = e ∙ sym (run_within input.bytes input.units within) in
+    let all : take (length input.units) input.units ≡ input.units = take_all (length input.units) input.units (omega arith) in
+    let text = defined_text job input (length input.units) within in
+    front_of x y (sink_text (Some job) run (Faulted fault)) (output_of (Some job) (whole_run input) (whole_ending (Some job) input)).sink text.0
+    (text.1 ∙ ap (λ (t : List ℕ). t ++ text.0) (ap (λ (us : Log). units_text job.grouping us false) all ∙ sym (faulted_text job fault run input.units is))) p)
     (cases_lt log_limit (length input.bytes))
 
 -- a part of the text of the first units
@@ -208,9 +210,11 @@ begun_at job input run fault n true within le e is =
     let both = both_true (eqb (length run.log) (length input.units)) (is_whole input.file_ending) is in
     let same : length run.log ≡ length input.units = eqb-true _ _ both.0 in
     let taken : length run.log ≡ length (take n input.units) = ap (λ (r : Run). length r.log) e in
-    let all : take n input.units ≡ input.units = take_all n input.units (omega (arith, same, taken, length-take n input.units)) in
-    ([], whole_text_of job input within ∙ ap (λ (b : Bool). units_text job.grouping input.units b) both.1
-    ∙ sym (ap (λ (r : Run). sink_text (Some job) r Whole) (e ∙ ap run_of all) ∙ text_of_run job input.units Whole) ∙ sym (append-nil (sink_text (Some job) run Whole)))
+    let all : take n input.units ≡ input.units = take_all n input.units (omega (arith, same, taken, length-take n input.units)) in (
+      [],
+      whole_text_of job input within ∙ ap (λ (b : Bool). units_text job.grouping input.units b) both.1
+          ∙ sym (ap (λ (r : Run). sink_text (Some job) r Whole) (e ∙ ap run_of all) ∙ text_of_run job input.units Whole) ∙ sym (append-nil (sink_text (Some job) run Whole)),
+    )
 begun_at job input run fault n false within le e is =
     let text = defined_text job input n within in
     (text.0, text.1 ∙ ap (λ (t : List ℕ). t ++ text.0) (sym (faulted_text job fault run (take n input.units) e)))

@@ -92,7 +92,7 @@ pub PrintedUnits-more : (by : Grouping) (units : Log) (i : ℕ) (u : LogUnit) (b
     → PrintedUnits by (take i units) before s t → PrintedUnit u before after t v → PrintedUnits by (take (i + 1) units) after s v
 PrintedUnits-more by units i u before after s t v lt is p q =
     let same : unit_step before.options.grouping u before.state ≡ unit_step by u (unit_steps by (take i units) no_state).state =
-        ap (λ (g : Grouping). unit_step g u before.state) p.took.grouping ∙ ap (unit_step by u) p.took.state in
+    ap (λ (g : Grouping). unit_step g u before.state) p.took.grouping ∙ ap (unit_step by u) p.took.state in
     record {
       took = record {
         grouping = ap (λ (o : GroupOptions). o.grouping) q.options ∙ p.took.grouping;
@@ -100,8 +100,8 @@ PrintedUnits-more by units i u before after s t v lt is p q =
         sound = q.sound;
       };
       wrote = subst (λ (text : List ℕ). Wrote 1 text s v)
-        (ap (λ (r : Reported). units_text by (take i units) false ++ groups_text r.groups) same ∙ sym (text_more by units i u lt is))
-        (Wrote-then (units_text by (take i units) false) (groups_text (unit_step before.options.grouping u before.state).groups) p.wrote q.wrote);
+          (ap (λ (r : Reported). units_text by (take i units) false ++ groups_text r.groups) same ∙ sym (text_more by units i u lt is))
+          (Wrote-then (units_text by (take i units) false) (groups_text (unit_step before.options.grouping u before.state).groups) p.wrote q.wrote);
     }
 
 -- a part of the text of one more unit was written
@@ -109,7 +109,7 @@ pub PartPrinted-more : (by : Grouping) (units : Log) (i : ℕ) (u : LogUnit) (be
     → PrintedUnits by (take i units) before s t → WrotePart 1 (groups_text (unit_step before.options.grouping u before.state).groups) t v → PartPrinted by units (i + 1) s v
 PartPrinted-more by units i u before s t v lt is p q =
     let same : unit_step before.options.grouping u before.state ≡ unit_step by u (unit_steps by (take i units) no_state).state =
-        ap (λ (g : Grouping). unit_step g u before.state) p.took.grouping ∙ ap (unit_step by u) p.took.state in
+    ap (λ (g : Grouping). unit_step g u before.state) p.took.grouping ∙ ap (unit_step by u) p.took.state in
     let back : i + 1 - 1 ≡ i = omega arith in
     record {
       more = q.done;
@@ -117,7 +117,7 @@ PartPrinted-more by units i u before s t v lt is p q =
       some = omega arith;
       most = omega arith;
       begun = rw back
-        (text_more by units i u lt is ∙ ap (λ (r : Reported). units_text by (take i units) false ++ groups_text r.groups) (sym same)
-        ∙ ap (λ (x : List ℕ). units_text by (take i units) false ++ x) q.whole ∙ sym (append_assoc (units_text by (take i units) false) q.done q.rest));
+          (text_more by units i u lt is ∙ ap (λ (r : Reported). units_text by (take i units) false ++ groups_text r.groups) (sym same)
+          ∙ ap (λ (x : List ℕ). units_text by (take i units) false ++ x) q.whole ∙ sym (append_assoc (units_text by (take i units) false) q.done q.rest));
       wrote = rw back (Wrote-then (units_text by (take i units) false) q.done p.wrote q.wrote);
     }

@@ -21,6 +21,7 @@ const OUTPUT: u32 = 1;
 /// The most transactions that are pending, and after how many seconds one is force-completed
 /// (varnishlog(1), `-L` and `-T`); neither is built.
 const LIMIT: u32 = 1000;
+
 const TIMEOUT: u32 = 120;
 
 /// Why printing stopped, and how many units' text was begun.
@@ -98,7 +99,11 @@ fn print_groups<W: World>(
 }
 
 /// Takes a unit, and writes the text of the groups that it completed.
-fn print_unit<W: World>(world: &mut W, reporter: &mut Reporter, unit: &Unit) -> Result<(), WorldFault>
+fn print_unit<W: World>(
+    world: &mut W,
+    reporter: &mut Reporter,
+    unit: &Unit,
+) -> Result<(), WorldFault>
     ensures ok { OnOk result (PrintedUnit unit.now reporter.old.table reporter.new.table (W.seen world.old) (W.seen world.new)) }
     ensures part { OnErr result (WrotePart 1
         (groups_text (unit_step reporter.old.table.options.grouping unit.now reporter.old.table.state).groups) (W.seen world.old) (W.seen world.new)) }
@@ -106,11 +111,20 @@ fn print_unit<W: World>(world: &mut W, reporter: &mut Reporter, unit: &Unit) -> 
 {
     reporter.groups.clear();
     reporter.table.step(unit, &mut reporter.groups)?;
-    print_groups(world, &mut reporter.text, &reporter.groups, &reporter.selection)
+    print_groups(
+        world,
+        &mut reporter.text,
+        &reporter.groups,
+        &reporter.selection,
+    )
 }
 
 /// Takes units, and after each writes the text of the groups that it completed.
-pub fn print_units<W: World>(world: &mut W, reporter: &mut Reporter, units: &[Unit]) -> Result<(), Stopped>
+pub fn print_units<W: World>(
+    world: &mut W,
+    reporter: &mut Reporter,
+    units: &[Unit],
+) -> Result<(), Stopped>
     requires { IsFresh reporter.old.table.options.grouping reporter.old.table }
     ensures ok { OnOk result (PrintedUnits reporter.old.table.options.grouping units.now reporter.new.table (W.seen world.old) (W.seen world.new)) }
     ensures part { IfErr result (λ s. PartPrinted reporter.old.table.options.grouping units.now s.units (W.seen world.old) (W.seen world.new)) }
@@ -138,5 +152,10 @@ pub fn print_flush<W: World>(world: &mut W, reporter: &mut Reporter) -> Result<(
 {
     reporter.groups.clear();
     reporter.table.flush(&mut reporter.groups)?;
-    print_groups(world, &mut reporter.text, &reporter.groups, &reporter.selection)
+    print_groups(
+        world,
+        &mut reporter.text,
+        &reporter.groups,
+        &reporter.selection,
+    )
 }

@@ -61,7 +61,12 @@ fn unwritten(alloc: Global, fault: WorldFault, units: u64) -> Result<Ran, NoMemo
 }
 
 /// Prints the groups of the units of the job's log file, whose bytes these are.
-fn print_file<W: World>(alloc: Global, job: &Job<'_>, world: &mut W, bytes: &[u8]) -> Result<Ran, NoMemory>
+fn print_file<W: World>(
+    alloc: Global,
+    job: &Job<'_>,
+    world: &mut W,
+    bytes: &[u8],
+) -> Result<Ran, NoMemory>
     requires { IsBuilt job.now.grouping }
     ensures printed { IfOk result (λ r. PrintsFile (record { grouping = job.now.grouping; file = job.now.file.now }) bytes.now r.fault r.run (W.seen world.old) (W.seen world.new)) }
     ensures memory { OnErr result (IsPrintStopped (record { grouping = job.now.grouping; file = job.now.file.now }) bytes.now (W.seen world.old) (W.seen world.new)) }
