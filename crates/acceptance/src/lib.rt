@@ -15,6 +15,8 @@ mod faults;
 #[cfg(test)]
 mod files;
 #[cfg(test)]
+mod grouping;
+#[cfg(test)]
 mod support;
 #[cfg(test)]
 mod tags;

@@ -4,7 +4,7 @@ use crate::support::{NOT_BUILT, ONE_PING, expect_run, world_with};
 use std::test::Fail;
 use vio::World;
 
-/// Words that ask for something else than the raw lines of a file.
+/// Words that ask for something else than a file's records, raw or by transaction.
 const OTHERS: &[(&str, &[&str])] = &[
     ("no word", &[]),
     ("the tool alone", &["varnishlog"]),
@@ -18,7 +18,20 @@ const OTHERS: &[(&str, &[&str])] = &[
         "an empty word more",
         &["varnishlog", "-g", "raw", "-r", "f", ""],
     ),
-    ("another grouping", &["varnishlog", "-g", "vxid", "-r", "f"]),
+    (
+        "a grouping that is not built",
+        &["varnishlog", "-g", "request", "-r", "f"],
+    ),
+    (
+        "a grouping twice",
+        &["varnishlog", "-g", "raw", "-g", "vxid", "-r", "f"],
+    ),
+    ("no FILE and no grouping", &["varnishlog", "-r"]),
+    (
+        "the standard input, by transaction",
+        &["varnishlog", "-r", "-"],
+    ),
+    ("another tool, by transaction", &["varnishtop", "-r", "f"]),
     (
         "the standard input",
         &["varnishlog", "-g", "raw", "-r", "-"],

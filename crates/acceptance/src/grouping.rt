@@ -1,0 +1,232 @@
+//! Transactions: how the records of a log are grouped and printed.
+
+ghost use Rattle.std.specs.Prelude.{◌≡◌, ◌<◌, IfOk};
+ghost use Rattle.std.specs.List.{All};
+
+use crate::support::{Answer, BAD_FILE, DONE, FETCH, ONE_PING, expect_run, world_with};
+use std::alloc::Global;
+use std::process::Abort;
+use std::test::Fail;
+use txn_rows::{Group, GroupOptions, Grouping, Table};
+use varnish_tools::RunRecord;
+use vsl_record::{Mark, Record, Unit, VXID_END};
+use vsl_select::{Selection, Sides, group_text};
+use vsl_tags::Tag;
+
+/// The words that print the file `f` by transaction.
+const BY_TRANSACTION: &[&str] = &["varnishlog", "-r", "f"];
+
+/// A request that begins and doesn't end.
+const OPEN_REQUEST: &[u8] =
+    b"VSLOG-1\n\x06\x00\x00\xfe\x0b\x00\x00\x2a\x09\x00\x00\x40req 1 rxreq\x00";
+
+/// The same, and then a byte that no unit has.
+const OPEN_AND_DAMAGED: &[u8] =
+    b"VSLOG-1\n\x06\x00\x00\xfe\x0b\x00\x00\x2a\x09\x00\x00\x40req 1 rxreq\x00\x00";
+
+const FETCH_TEXT: &str =
+    "*   << BeReq    >> 3         \n-   Begin          bereq 2 fetch\n-   End            \n\n";
+
+const FETCH_AND_REQUEST_TEXT: &str =
+    "*   << BeReq    >> 3         \n-   Begin          bereq 2 fetch\n-   End            \n\n*   << Request  >> 2         \n-   Begin          req 1 rxreq\n-   Link           bereq 3 fetch\n-   End            \n\n";
+
+const OPEN_TEXT: &str =
+    "*   << Request  >> 9         \n-   Begin          req 1 rxreq\n-   VSL            flush\n-   End            synth\n\n";
+
+#[test]
+fn transactions_are_printed_when_they_end_or_at_the_end_of_the_log(
+    rt: HostRuntime,
+) -> Result<(), Fail> {
+    let cut = FETCH.bytes.split_last().ok_or("a byte")?.1;
+    let cases: [(&str, &[u8], &str, u64, bool); 5] = [
+        ("a record of no transaction", ONE_PING.bytes, "", 1, true),
+        (
+            "two transactions",
+            FETCH.bytes,
+            FETCH_AND_REQUEST_TEXT,
+            2,
+            true,
+        ),
+        ("the second is cut", cut, FETCH_TEXT, 1, false),
+        (
+            "a request without its End",
+            OPEN_REQUEST,
+            OPEN_TEXT,
+            1,
+            true,
+        ),
+        ("no flush after a fault", OPEN_AND_DAMAGED, "", 1, false),
+    ];
+    for (what, bytes, text, units, whole) in cases {
+        let mut world = world_with(rt.alloc(), bytes)?;
+        let end = if whole { DONE } else { BAD_FILE };
+        let want = Answer {
+            run: RunRecord::Counted { units, items: 1 },
+            output: text.as_bytes(),
+            ..end
+        };
+        expect_run(&rt, rt.alloc(), BY_TRANSACTION, &mut world, &want, what, 0)?;
+    }
+    Ok(())
+}
+
+/// A record: its VXID, its tag and its payload; all are a client's.
+type Line = (u32, u8, &'static str);
+
+const BEGIN: u8 = 42;
+
+const END: u8 = 44;
+
+const DEBUG: u8 = 1;
+
+/// Logs that no server writes, and the text of their groups, each group worked by hand.
+const HOSTILE: &[(&str, &[Line], &str)] = &[
+    (
+        "an End without a Begin",
+        &[(5, END, "")],
+        "*   << Unknown  >> 5         \n-   End            \n\n",
+    ),
+    (
+        "two Begins",
+        &[
+            (5, BEGIN, "req 1 rxreq"),
+            (5, BEGIN, "bereq 2 fetch"),
+            (5, END, ""),
+        ],
+        "*   << Request  >> 5         \n-   Begin          req 1 rxreq\n-   Begin          bereq 2 fetch\n-   End            \n\n",
+    ),
+    (
+        "a Begin that isn't well formed before one that is",
+        &[
+            (5, BEGIN, "req x"),
+            (5, BEGIN, "sess 0 HTTP/1"),
+            (5, END, ""),
+        ],
+        "*   << Session  >> 5         \n-   Begin          req x\n-   Begin          sess 0 HTTP/1\n-   End            \n\n",
+    ),
+    (
+        "records after End",
+        &[(5, BEGIN, "req 1 rxreq"), (5, END, ""), (5, DEBUG, "late")],
+        "*   << Request  >> 5         \n-   Begin          req 1 rxreq\n-   End            \n\n*   << Unknown  >> 5         \n-   Debug          late\n-   VSL            flush\n-   End            synth\n\n",
+    ),
+    (
+        "one open while another ends",
+        &[
+            (5, BEGIN, "req 1 rxreq"),
+            (6, BEGIN, "bereq 5 fetch"),
+            (6, END, ""),
+            (5, DEBUG, "more"),
+        ],
+        "*   << BeReq    >> 6         \n-   Begin          bereq 5 fetch\n-   End            \n\n*   << Request  >> 5         \n-   Begin          req 1 rxreq\n-   Debug          more\n-   VSL            flush\n-   End            synth\n\n",
+    ),
+];
+
+fn one_record(alloc: Global, tag: u8, payload: &[u8]) -> Result<Vec<Record>, Fail>
+    ensures { IfOk result (λ v. All (λ r. r.mark ≡ Mark.Client) v.items) }
+{
+    let tag = Tag::from_number(tag).ok_or("a tag")?;
+    let mut records = Vec::new(alloc);
+    records.push(Record::new(alloc, tag, Mark::Client, payload)?)?;
+    Ok(records)
+}
+
+fn unit_of(alloc: Global, vxid: u32, tag: u8, payload: &[u8]) -> Result<Unit, Fail> {
+    let records = one_record(alloc, tag, payload)?;
+    if vxid >= VXID_END {
+        return Err(Fail::from("a VXID"));
+    }
+    Ok(Unit::new(vxid, Mark::Client, records)?)
+}
+
+fn table_of(alloc: Global) -> Result<Table, Fail> {
+    let options = GroupOptions {
+        grouping: Grouping::Vxid,
+        limit: 1000,
+        timeout: 120,
+    };
+    Ok(Table::new(alloc, options)?)
+}
+
+fn groups_of(alloc: Global, lines: &[Line]) -> Result<Vec<Group>, Fail> {
+    let mut table = table_of(alloc)?;
+    let mut groups = Vec::new(alloc);
+    for (vxid, tag, payload) in lines {
+        table.step(
+            &unit_of(alloc, *vxid, *tag, payload.as_bytes())?,
+            &mut groups,
+        )?;
+    }
+    table.flush(&mut groups)?;
+    Ok(groups)
+}
+
+#[test]
+fn hostile_logs_have_their_groups(rt: HostRuntime) -> Result<(), Fail> {
+    let sides = Sides {
+        backend: false,
+        client: false,
+        esi: false,
+    };
+    let selection = Selection::new(rt.alloc(), sides, Vec::new(rt.alloc()), false)?;
+    for (what, lines, want) in HOSTILE {
+        let mut text = Vec::new(rt.alloc());
+        for group in &groups_of(rt.alloc(), lines)? {
+            group_text(group, &selection, false, &mut text)?;
+        }
+        assert_eq!(rt; text.as_slice(), want.as_bytes(), "{what}");
+    }
+    Ok(())
+}
+
+/// How many records of these groups have the payload.
+fn count_of(groups: &[Group], payload: &[u8]) -> usize {
+    let mut count = 0usize;
+    for group in groups {
+        for member in group.members.as_slice() {
+            for line in member.records.as_slice() {
+                if line.payload.as_slice() == payload {
+                    count = count.saturating_add(1);
+                }
+            }
+        }
+    }
+    count
+}
+
+/// The payload of the record at a place below a hundred: its two digits.
+fn payload_at(at: u8) -> [u8; 2]
+    requires { at < 100 }
+{
+    [b'0' + at / 10, b'0' + at % 10]
+}
+
+/// The first so many of thirty records of three transactions, some of which end.
+fn expect_once(rt: &impl Abort, alloc: Global, length: u8) -> Result<(), Fail>
+    requires { length < 100 }
+{
+    let mut table = table_of(alloc)?;
+    let mut groups = Vec::new(alloc);
+    for at in 0..length {
+        let tag = if at % 7 == 6 { END } else { DEBUG };
+        let unit = unit_of(alloc, u32::from(at % 3) + 1, tag, &payload_at(at))?;
+        table.step(&unit, &mut groups)?;
+    }
+    table.flush(&mut groups)?;
+    assert_eq!(rt; table.rows(), 0);
+    for at in 0..length {
+        assert_eq!(rt;
+            count_of(&groups, &payload_at(at)),
+            1,
+            "record {at} of {length}"
+        );
+    }
+    Ok(())
+}
+
+#[test]
+fn each_record_of_each_front_is_in_one_group(rt: HostRuntime) -> Result<(), Fail> {
+    for length in 0..31 {
+        expect_once(&rt, rt.alloc(), length)?;
+    }
+    Ok(())
+}
