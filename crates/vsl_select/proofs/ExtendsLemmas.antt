@@ -1,5 +1,5 @@
 -- Lists with more at their end.
-use Rattle.std.proofs.Common.{ℕ, ◌≡◌, List, [], ◌++◌, length, take, refl, sym, ap, subst, ◌∙◌, append_assoc}
+use Rattle.std.proofs.Common.{ℕ, ◌≡◌, List, [], ◌++◌, length, take, refl, sym, ap, ◌∙◌, append_assoc}
 use Rattle.std.proofs.lemmas.List.{append-nil, take_at}
 use Rattle.vsl_select.specs.Extends.{Extends}
 

@@ -1,2 +1,3 @@
 mod ExtendsLemmas
 mod PartLemmas
+pub mod Examples

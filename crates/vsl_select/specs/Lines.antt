@@ -1,6 +1,6 @@
 -- The text of a group (varnishlog(1)). Columns, escapes and the header's titles are this project's choice.
-use Rattle.std.specs.Prelude.{ℕ, ◌==◌, ◌&&◌, ◌||◌, not, nat_le, if◌then◌else◌, Bool, true, false, List, [], ◌∷◌, ◌++◌, replicate, codes, decimal}
-use Rattle.std.specs.List.{flat_map, filter, list_all, list_any}
+use Rattle.std.specs.Prelude.{ℕ, ◌==◌, nat_le, if◌then◌else◌, Bool, true, false, List, [], ◌∷◌, ◌++◌, replicate, codes, decimal}
+use Rattle.std.specs.List.{flat_map, list_all, list_any}
 use Rattle.vsl_tags.specs.Tags.{tag_name}
 use Rattle.vsl_record.specs.declared.record_type.Record.{Record}
 use Rattle.vsl_record.specs.RawLine.{at_left, escaped, raw_line}
@@ -8,7 +8,6 @@ use Rattle.txn_rows.specs.declared.group.Kind.{Kind}
 use Rattle.txn_rows.specs.declared.group.Kind.TheVariants as kinds
 use Rattle.txn_rows.specs.declared.group.Member.{Member}
 use Rattle.txn_rows.specs.declared.group.Group.{Group}
-use Rattle.vsl_select.specs.declared.selection.Sides.{Sides}
 
 -- the level field: for 1 to 3 as many characters, left in 3 columns; above, the level between two; then a space
 abbrev pub level_field : ℕ → ℕ → List ℕ

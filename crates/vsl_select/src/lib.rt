@@ -12,3 +12,6 @@ mod selection;
 
 pub use lines::{group_text, raw_line};
 pub use selection::{RuleText, SelectFault, Selection, Sides};
+
+#[cfg(test)]
+mod tests;

@@ -7,7 +7,10 @@ ghost use Rattle.vsl_record.specs.RawLine.{at_left, at_right, escaped, raw_line}
 ghost use Rattle.vsl_select.specs.Extends.{Extends};
 ghost use Rattle.vsl_select.specs.Lines.{header, record_text, record_line, is_some_of, member_text, raw_text, is_shown, group_text};
 
-use crate::parts::{letter_of, put_byte, put_escaped, put_left, put_level, put_text, put_vxid_left, put_vxid_right, title_of};
+use crate::parts::{
+    letter_of, put_byte, put_escaped, put_left, put_level, put_text, put_vxid_left, put_vxid_right,
+    title_of,
+};
 use crate::selection::Selection;
 use txn_rows::{Group, Member};
 use vio::NoMemory;
@@ -109,7 +112,12 @@ fn put_record_text(out: &mut Vec<u8>, line: &Record) -> Result<(), NoMemory>
 
 /// Adds the line of a record in its transaction.
 #[tactic(auto, using(crate::proofs::ExtendsLemmas::extending))]
-fn put_record(out: &mut Vec<u8>, verbose: bool, member: &Member, line: &Record) -> Result<(), NoMemory>
+fn put_record(
+    out: &mut Vec<u8>,
+    verbose: bool,
+    member: &Member,
+    line: &Record,
+) -> Result<(), NoMemory>
     ensures ok { OnOk result (out.new.items ≡ out.old.items ++ record_line verbose member.now line.now) }
     ensures keeps { Extends out.old.items out.new.items }
 {
@@ -221,7 +229,12 @@ pub fn raw_line(vxid: Vxid, line: &Record, out: &mut Vec<u8>) -> Result<(), NoMe
 /// Adds the text of a group. Nothing is hidden, whatever the selection. After want of memory the list is as it
 /// was.
 #[tactic(auto, using(crate::proofs::ExtendsLemmas::cut_back))]
-pub fn group_text(group: &Group, selection: &Selection, verbose: bool, out: &mut Vec<u8>) -> Result<(), NoMemory>
+pub fn group_text(
+    group: &Group,
+    selection: &Selection,
+    verbose: bool,
+    out: &mut Vec<u8>,
+) -> Result<(), NoMemory>
     ensures ok { OnOk result (out.new.items ≡ out.old.items ++ group_text verbose group.now) }
     ensures err { OnErr result (out.new.items ≡ out.old.items) }
 {

@@ -152,7 +152,10 @@ fn put_escaped_byte(out: &mut Vec<u8>, byte: u8) -> Result<(), NoMemory>
     ensures keeps { Extends out.old.items out.new.items }
 {
     if has_escape(byte) {
-        put_text(out, &[b'\\', b'x', digit_of(byte / 16), digit_of(byte % 16)])
+        put_text(
+            out,
+            &[b'\\', b'x', digit_of(byte / 16), digit_of(byte % 16)],
+        )
     } else {
         put_byte(out, byte)
     }

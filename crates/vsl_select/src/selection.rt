@@ -43,7 +43,12 @@ pub struct Selection {
 
 impl Selection {
     /// What these sides and rules show. For now no rule and no side is taken, so all is shown.
-    pub fn new(alloc: Global, sides: Sides, rules: Vec<RuleText>, caseless: bool) -> Result<Selection, SelectFault>
+    pub fn new(
+        alloc: Global,
+        sides: Sides,
+        rules: Vec<RuleText>,
+        caseless: bool,
+    ) -> Result<Selection, SelectFault>
         requires rules { length rules.items ≡ 0 }
         requires backend { sides.backend ≡ false }
         requires client { sides.client ≡ false }

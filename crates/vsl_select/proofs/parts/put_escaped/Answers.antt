@@ -7,5 +7,5 @@ use Rattle.vsl_select.proofs.parts.put_escaped.Goals as goal
 pub returns-else-has_any_escape-clause-ok : goal.returns-else-has_any_escape-clause-ok
 returns-else-has_any_escape-clause-ok c =
     IfOk-equal _ _ _ _ c.put_text.ensures.ok
-        (ap (λ (x : List ℕ). c.args.out.now.items ++ x)
-            (sym (escaped_plain c.args.payload.now (sym c.has_any_escape.ensures ∙ c.if-has_any_escape.false))))
+    (ap (λ (x : List ℕ). c.args.out.now.items ++ x)
+    (sym (escaped_plain c.args.payload.now (sym c.has_any_escape.ensures ∙ c.if-has_any_escape.false))))
