@@ -7,10 +7,13 @@ use Rattle.std.proofs.lemmas.List.Concat.{flat_map-append}
 use Rattle.vio.specs.World.{Seen, Writing, FaultsRose, HasStreams, Gains, Wrote, WrotePart}
 use Rattle.vio.proofs.WholeLemmas.{Wrote-none, Wrote-then}
 use Rattle.vsl_record.specs.Unit.{LogUnit, Log}
+use Rattle.vsl_record.specs.declared.record_type.Record.{Record}
+use Rattle.vsl_record.specs.RawLine.{raw_line, raw_lines}
 use Rattle.txn_rows.specs.declared.group.Grouping.{Grouping}
 use Rattle.txn_rows.specs.declared.group.Group.{Group}
 use Rattle.txn_rows.specs.declared.group.GroupOptions.{GroupOptions}
-use Rattle.txn_rows.specs.Grouping.{State, Reported, no_state, unit_step, unit_steps}
+use Rattle.txn_rows.specs.declared.group.Grouping.TheVariants.{Raw}
+use Rattle.txn_rows.specs.Grouping.{State, Reported, no_state, raw_group, steps, unit_step, unit_steps}
 use Rattle.txn_rows.specs.TableState.{TableState}
 use Rattle.vsl_select.specs.Lines.{group_text}
 use Rattle.varnish_tools.specs.declared.fault.ToolFault.{ToolFault}
@@ -81,11 +84,39 @@ text_more by units i u lt is =
     ∙ ap (λ (gs : List Group). units_text by (take i units) false ++ groups_text gs) (append-nil (unit_step by u (unit_steps by (take i units) no_state).state).groups)
 
 -- no unit was taken yet
-pub PrintedUnits-none : (units : Log) (table : TableState) (s : Seen) → IsFresh table.options.grouping table → PrintedUnits table.options.grouping (take 0 units) table s s
-PrintedUnits-none units table s p = record {
-  took = record { grouping = refl; state = p.state; sound = p.sound };
+pub PrintedUnits-none : (by : Grouping) (units : Log) (table : TableState) (s : Seen) → IsFresh by table → PrintedUnits by (take 0 units) table s s
+PrintedUnits-none by units table s p = record {
+  took = record { grouping = p.grouping; state = p.state; sound = p.sound };
   wrote = Wrote-none 1 s;
 }
+
+-- records by themselves leave nothing pending, and their text is their raw lines
+raw_steps : (vxid : ℕ) (records : List Record) (s : State)
+    → ((steps Raw vxid records s).state ≡ s) × (groups_text (steps Raw vxid records s).groups ≡ flat_map (raw_line vxid) records)
+raw_steps vxid [] s = (refl, refl)
+raw_steps vxid (rec ∷ records) s =
+    let others = raw_steps vxid records s in
+    let one : group_text false (raw_group vxid rec) ≡ raw_line vxid rec = append-nil ((raw_line vxid rec) ++ []) ∙ append-nil (raw_line vxid rec) in
+    (others.0, ap (λ (x : List ℕ). x ++ groups_text (steps Raw vxid records s).groups) one ∙ ap (λ (x : List ℕ). raw_line vxid rec ++ x) others.1)
+
+pub raw_text : (u : LogUnit) (s : State) → groups_text (unit_step Raw u s).groups ≡ raw_lines u
+raw_text u s = (raw_steps u.vxid u.records s).1
+
+-- a unit was taken under raw grouping, and its raw lines were written
+pub PrintedUnit-raw : (by : Grouping) (u : LogUnit) (table : TableState) (s t : Seen) → table.options.grouping ≡ by → by ≡ Raw → table.failed ≡ false
+    → Wrote 1 (raw_lines u) s t → PrintedUnit u table table s t
+PrintedUnit-raw by u table s t same raw sound p =
+    let is : table.options.grouping ≡ Raw = same ∙ raw in
+    record {
+      options = refl;
+      state = sym (ap (λ (g : Grouping). (unit_step g u table.state).state) is ∙ (raw_steps u.vxid u.records table.state).0);
+      sound = sound;
+      wrote = subst (λ (text : List ℕ). Wrote 1 text s t) (sym (ap (λ (g : Grouping). groups_text (unit_step g u table.state).groups) is ∙ raw_text u table.state)) p;
+    }
+
+pub raw_part : (by : Grouping) (u : LogUnit) (state : State) (s t : Seen) → by ≡ Raw → WrotePart 1 (raw_lines u) s t → WrotePart 1 (groups_text (unit_step by u state).groups) s t
+raw_part by u state s t raw p =
+    subst (λ (text : List ℕ). WrotePart 1 text s t) (sym (ap (λ (g : Grouping). groups_text (unit_step g u state).groups) raw ∙ raw_text u state)) p
 
 -- one more unit was taken, and its text written
 pub PrintedUnits-more : (by : Grouping) (units : Log) (i : ℕ) (u : LogUnit) (before after : TableState) (s t v : Seen) → i < length units → u ≡ get_or units i u
@@ -106,10 +137,9 @@ PrintedUnits-more by units i u before after s t v lt is p q =
 
 -- a part of the text of one more unit was written
 pub PartPrinted-more : (by : Grouping) (units : Log) (i : ℕ) (u : LogUnit) (before : TableState) (s t v : Seen) → i < length units → u ≡ get_or units i u
-    → PrintedUnits by (take i units) before s t → WrotePart 1 (groups_text (unit_step before.options.grouping u before.state).groups) t v → PartPrinted by units (i + 1) s v
+    → PrintedUnits by (take i units) before s t → WrotePart 1 (groups_text (unit_step by u before.state).groups) t v → PartPrinted by units (i + 1) s v
 PartPrinted-more by units i u before s t v lt is p q =
-    let same : unit_step before.options.grouping u before.state ≡ unit_step by u (unit_steps by (take i units) no_state).state =
-    ap (λ (g : Grouping). unit_step g u before.state) p.took.grouping ∙ ap (unit_step by u) p.took.state in
+    let same : unit_step by u before.state ≡ unit_step by u (unit_steps by (take i units) no_state).state = ap (unit_step by u) p.took.state in
     let back : i + 1 - 1 ≡ i = omega arith in
     record {
       more = q.done;

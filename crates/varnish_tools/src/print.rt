@@ -1,8 +1,9 @@
 //! Grouping what was taken, and writing the text of groups to standard output.
 
-ghost use Rattle.std.specs.Prelude.{◌≡◌, ◌≢◌, ◌++◌, [], length, IfOk, IfErr, OnOk, OnErr, IsErrOf, codes};
+ghost use Rattle.std.specs.Prelude.{◌≡◌, ◌≢◌, ◌++◌, [], false, length, IfOk, IfErr, OnOk, OnErr, IsErrOf, codes};
 ghost use Rattle.log_model.specs.Faults.{HasNewFault};
 ghost use Rattle.vio.specs.World.{Writing, Wrote, WrotePart};
+ghost use Rattle.vsl_record.specs.RawLine.{raw_lines};
 ghost use Rattle.txn_rows.specs.Grouping.{unit_step};
 ghost use Rattle.varnish_tools.specs.Job.{IsBuilt};
 ghost use Rattle.varnish_tools.specs.Output.{groups_text};
@@ -13,7 +14,7 @@ use std::alloc::Global;
 use txn_rows::{Group, GroupOptions, Grouping, Table};
 use vio::{NoMemory, World, WorldFault, write_all};
 use vsl_record::Unit;
-use vsl_select::{Selection, Sides, group_text};
+use vsl_select::{Selection, Sides, group_text, raw_line};
 
 /// The handle of standard output.
 const OUTPUT: u32 = 1;
@@ -98,17 +99,46 @@ fn print_groups<W: World>(
     write_all(world, OUTPUT, text)
 }
 
-/// Takes a unit, and writes the text of the groups that it completed.
+/// Adds the raw lines of a unit's records.
+fn put_raw(out: &mut Vec<u8>, unit: &Unit) -> Result<(), NoMemory>
+    ensures { OnOk result (out.new.items ≡ out.old.items ++ raw_lines unit.now) }
+{
+    let vxid = unit.vxid();
+    for line in unit.records() {
+        raw_line(vxid, line, out)?;
+    }
+    Ok(())
+}
+
+/// Writes the raw lines of a unit's records to standard output, in one write.
+fn print_raw<W: World>(world: &mut W, text: &mut Vec<u8>, unit: &Unit) -> Result<(), WorldFault>
+    ensures ok { OnOk result (Wrote 1 (raw_lines unit.now) (W.seen world.old) (W.seen world.new)) }
+    ensures part { OnErr result (WrotePart 1 (raw_lines unit.now) (W.seen world.old) (W.seen world.new)) }
+    ensures cause { IsErrOf result WorldFault.Failed → HasNewFault ((W.seen world.old).faults Writing sink_name) ((W.seen world.new).faults Writing sink_name) }
+{
+    text.clear();
+    put_raw(text, unit)?;
+    write_all(world, OUTPUT, text)
+}
+
+/// Takes a unit, and writes the text of the groups that it completed. Under raw grouping that is its raw
+/// lines, and nothing is kept of it.
 fn print_unit<W: World>(
     world: &mut W,
+    grouping: Grouping,
     reporter: &mut Reporter,
     unit: &Unit,
 ) -> Result<(), WorldFault>
+    requires same { reporter.old.table.options.grouping ≡ grouping }
+    requires sound { reporter.old.table.failed ≡ false }
     ensures ok { OnOk result (PrintedUnit unit.now reporter.old.table reporter.new.table (W.seen world.old) (W.seen world.new)) }
     ensures part { OnErr result (WrotePart 1
-        (groups_text (unit_step reporter.old.table.options.grouping unit.now reporter.old.table.state).groups) (W.seen world.old) (W.seen world.new)) }
+        (groups_text (unit_step grouping unit.now reporter.old.table.state).groups) (W.seen world.old) (W.seen world.new)) }
     ensures cause { IsErrOf result WorldFault.Failed → HasNewFault ((W.seen world.old).faults Writing sink_name) ((W.seen world.new).faults Writing sink_name) }
 {
+    if let Grouping::Raw = grouping {
+        return print_raw(world, &mut reporter.text, unit);
+    }
     reporter.groups.clear();
     reporter.table.step(unit, &mut reporter.groups)?;
     print_groups(
@@ -122,18 +152,19 @@ fn print_unit<W: World>(
 /// Takes units, and after each writes the text of the groups that it completed.
 pub fn print_units<W: World>(
     world: &mut W,
+    grouping: Grouping,
     reporter: &mut Reporter,
     units: &[Unit],
 ) -> Result<(), Stopped>
-    requires { IsFresh reporter.old.table.options.grouping reporter.old.table }
-    ensures ok { OnOk result (PrintedUnits reporter.old.table.options.grouping units.now reporter.new.table (W.seen world.old) (W.seen world.new)) }
-    ensures part { IfErr result (λ s. PartPrinted reporter.old.table.options.grouping units.now s.units (W.seen world.old) (W.seen world.new)) }
+    requires { IsFresh grouping reporter.old.table }
+    ensures ok { OnOk result (PrintedUnits grouping units.now reporter.new.table (W.seen world.old) (W.seen world.new)) }
+    ensures part { IfErr result (λ s. PartPrinted grouping units.now s.units (W.seen world.old) (W.seen world.new)) }
     ensures cause { IfErr result (λ s. s.fault ≡ WorldFault.Failed → HasNewFault ((W.seen world.old).faults Writing sink_name) ((W.seen world.new).faults Writing sink_name)) }
 {
     let mut begun = 0;
     for unit in units {
         begun += 1;
-        if let Err(fault) = print_unit(world, reporter, unit) {
+        if let Err(fault) = print_unit(world, grouping, reporter, unit) {
             return Err(Stopped {
                 fault,
                 units: begun,

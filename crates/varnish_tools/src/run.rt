@@ -74,7 +74,7 @@ fn print_file<W: World>(
     let file = read_file(alloc, bytes)?;
     let units = file.units.as_slice();
     let mut reporter = Reporter::new(alloc, job.grouping)?;
-    if let Err(stopped) = print_units(world, &mut reporter, units) {
+    if let Err(stopped) = print_units(world, job.grouping, &mut reporter, units) {
         return unwritten(alloc, stopped.fault, stopped.units);
     }
     if !file.whole {

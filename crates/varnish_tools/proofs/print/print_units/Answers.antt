@@ -3,7 +3,7 @@ use Rattle.varnish_tools.proofs.WritingLemmas.{PrintedUnits-none, PrintedUnits-m
 use Rattle.varnish_tools.proofs.print.print_units.Goals as goal
 
 pub loop-unit-init : goal.loop-unit-init
-loop-unit-init g c = record { count = refl; printed = PrintedUnits-none c.args.units.now _ _ c.requires }
+loop-unit-init g c = record { count = refl; printed = PrintedUnits-none _ c.args.units.now _ _ c.requires }
 
 pub returns-in-Err-clause-part : goal.returns-in-Err-clause-part
 returns-in-Err-clause-part g c =

@@ -6,5 +6,5 @@ use Rattle.varnish_tools.proofs.print.print_units.Given as goal
 abbrev pub invariant-loop-unit : goal.invariant-loop-unit
 invariant-loop-unit g l = record {
   count : l.begun ≡ l.unit-index;
-  printed : PrintedUnits l.initial.reporter.table.options.grouping (take l.unit-index l.units) l.reporter.table (g.W.World.seen l.initial.world) (g.W.World.seen l.world);
+  printed : PrintedUnits l.grouping (take l.unit-index l.units) l.reporter.table (g.W.World.seen l.initial.world) (g.W.World.seen l.world);
 }

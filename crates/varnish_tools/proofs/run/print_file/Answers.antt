@@ -11,28 +11,28 @@ pub returns-in-Err-clause-printed : goal.returns-in-Err-clause-printed
 returns-in-Err-clause-printed g c = IfOk-weaker _ _ _
     (λ (r : Ran) facts. unwritten_prints _ _ _ _ _ _ r facts (λ failed.
     prints_part _ _ c.as_slice-units.result.now c.in_ok-file.file.whole _ _ _ (record { only = rw c.as_slice-units.ensures c.in_ok-file.ensures.only })
-    (rw c.in_ok-reporter.ensures.grouping at c.in-Err.ensures.part) (c.in-Err.ensures.cause failed)))
+    c.in-Err.ensures.part (c.in-Err.ensures.cause failed)))
     c.unwritten.ensures
 
 pub returns-in-Err-clause-memory : goal.returns-in-Err-clause-memory
 returns-in-Err-clause-memory g c = OnErr-always _
     (stops_part _ _ c.as_slice-units.result.now c.in_ok-file.file.whole _ _ _ (record { only = rw c.as_slice-units.ensures c.in_ok-file.ensures.only })
-    (rw c.in_ok-reporter.ensures.grouping at c.in-Err.ensures.part))
+    c.in-Err.ensures.part)
 
 pub returns-in_err-name-clause-memory : goal.returns-in_err-name-clause-memory
 returns-in_err-name-clause-memory g c =
-    let printed = rw c.in_ok-reporter.ensures.grouping at c.in_default.ensures.ok in
+    let printed = c.in_default.ensures.ok in
     OnErr-always _ (stops_units _ _ c.as_slice-units.result.now c.in_ok-file.file.whole _ _ (record { only = rw c.as_slice-units.ensures c.in_ok-file.ensures.only }) printed.wrote)
 
 pub returns-then-not-file-clause-printed : goal.returns-then-not-file-clause-printed
 returns-then-not-file-clause-printed g c =
-    let printed = rw c.in_ok-reporter.ensures.grouping at c.in_default.ensures.ok in
+    let printed = c.in_default.ensures.ok in
     rw (c.counted.ensures.fault, c.counted.ensures.run)
     (prints_bad _ _ c.as_slice-units.result.now c.in_ok-file.file.whole _ _ _ (record { only = rw c.as_slice-units.ensures c.in_ok-file.ensures.only }) c.if-not-file.true c.in_ok-name.ensures printed.wrote)
 
 pub returns-in-Err-print_flush-clause-printed : goal.returns-in-Err-print_flush-clause-printed
 returns-in-Err-print_flush-clause-printed g c =
-    let printed = rw c.in_ok-reporter.ensures.grouping at c.in_default.ensures.ok in
+    let printed = c.in_default.ensures.ok in
     IfOk-weaker _ _ _
     (λ (r : Ran) facts. unwritten_prints _ _ _ _ _ _ r facts (λ failed.
     prints_part_flushed _ _ c.as_slice-units.result.now c.in_ok-file.file.whole _ _ (record { only = rw c.as_slice-units.ensures c.in_ok-file.ensures.only }) c.if-not-file.false
@@ -42,12 +42,12 @@ returns-in-Err-print_flush-clause-printed g c =
 
 pub returns-in-Err-print_flush-clause-memory : goal.returns-in-Err-print_flush-clause-memory
 returns-in-Err-print_flush-clause-memory g c =
-    let printed = rw c.in_ok-reporter.ensures.grouping at c.in_default.ensures.ok in
+    let printed = c.in_default.ensures.ok in
     OnErr-always _ (stops_flush _ _ c.as_slice-units.result.now c.in_ok-file.file.whole _ _ _ _ (record { only = rw c.as_slice-units.ensures c.in_ok-file.ensures.only }) c.if-not-file.false printed c.in-Err-print_flush.ensures.part)
 
 pub returns-clause-printed : goal.returns-clause-printed
 returns-clause-printed g c =
-    let printed = rw c.in_ok-reporter.ensures.grouping at c.in_default.ensures.ok in
+    let printed = c.in_default.ensures.ok in
     rw (c.counted-2.ensures.fault, c.counted-2.ensures.run)
     (prints_whole _ _ c.as_slice-units.result.now c.in_ok-file.file.whole _ _ (record { only = rw c.as_slice-units.ensures c.in_ok-file.ensures.only }) c.if-not-file.false
     (Wrote-flushed _ _ _ _ _ _ printed c.in_default-print_flush.ensures.ok))
