@@ -6,6 +6,7 @@ cd "$(dirname "${BASH_SOURCE[0]}")/.."
 program="$PWD/crates/vtools/out/vtools"
 log="$PWD/examples/real-1.vslog"
 lines="$PWD/examples/real-1.raw"
+transactions="$PWD/examples/real-1.vxid"
 
 work=$(mktemp -d)
 trap 'rm -rf "$work"' EXIT
@@ -15,7 +16,7 @@ fail() {
     exit 1
 }
 
-for file in "$log" "$lines"; do
+for file in "$log" "$lines" "$transactions"; do
     [ -f "$file" ] || fail "$file is missing"
 done
 [ -x "$program" ] || fail "$program is missing: run rt ci first"
@@ -56,6 +57,12 @@ newline=$'\n'
 run varnishlog -g raw -r "$log"
 expect "real traffic" 0 ""
 cmp "$lines" "$work/out" || fail "real traffic: the lines differ"
+run varnishlog -r "$log"
+expect "real traffic by transaction" 0 ""
+cmp "$transactions" "$work/out" || fail "real traffic: the transactions differ"
+run varnishlog -g vxid -r "$log"
+expect "real traffic, -g vxid" 0 ""
+cmp "$transactions" "$work/out" || fail "real traffic: the transactions of -g vxid differ"
 
 for word in --help --version; do
     run "$word"
@@ -90,6 +97,8 @@ other() {
 
 other
 other varnishlog
+other varnishlog -r
+other varnishlog -g session -r "$log"
 other varnishlog -g raw -r -
 other varnishlog -g raw -r "$log" more
 other --help --version

@@ -124,34 +124,31 @@ const MESSAGE_WRITES: [(u64, u64, usize); 8] = [
     (8, 9, 21),
 ];
 
+/// Lets two calls fail, of which the second writes a message after so many of its bytes.
+fn expect_cut_message(
+    rt: &impl Abort,
+    alloc: Global,
+    words: &[&str],
+    calls: (u64, u64),
+    want: &Answer<'_>,
+    written: usize,
+) -> Result<(), Fail> {
+    let mut world = world_with(alloc, ONE_PING.bytes)?;
+    world.piece(PIECE);
+    world.fail(calls.0)?;
+    world.fail(calls.1)?;
+    let want = Answer {
+        errors: want.errors.get(..written).ok_or("a longer message")?,
+        ..*want
+    };
+    expect_run(rt, alloc, words, &mut world, &want, "a message", written)
+}
+
 #[test]
 fn a_message_that_fails_changes_nothing_else(rt: HostRuntime) -> Result<(), Fail> {
     for (alone, after_open, written) in MESSAGE_WRITES {
-        let mut world = world_with(rt.alloc(), ONE_PING.bytes)?;
-        world.piece(PIECE);
-        world.fail(alone)?;
-        let want = Answer {
-            errors: NOT_BUILT.errors.get(..written).ok_or("a longer message")?,
-            ..NOT_BUILT
-        };
-        expect_run(&rt, rt.alloc(), &[], &mut world, &want, "no words", written)?;
-        let mut world = world_with(rt.alloc(), ONE_PING.bytes)?;
-        world.piece(PIECE);
-        world.fail(1)?;
-        world.fail(after_open)?;
-        let want = Answer {
-            errors: NO_OPEN.errors.get(..written).ok_or("a longer message")?,
-            ..NO_OPEN
-        };
-        expect_run(
-            &rt,
-            rt.alloc(),
-            PRINT_F,
-            &mut world,
-            &want,
-            "no open",
-            written,
-        )?;
+        expect_cut_message(&rt, rt.alloc(), &[], (alone, alone), &NOT_BUILT, written)?;
+        expect_cut_message(&rt, rt.alloc(), PRINT_F, (1, after_open), &NO_OPEN, written)?;
     }
     Ok(())
 }

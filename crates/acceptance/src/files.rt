@@ -2,7 +2,8 @@
 
 use crate::byte_table::{ENDS_EARLY, PLACES, REQUEST_WITH_FETCH};
 use crate::support::{
-    Answer, BAD_FILE, DONE, FETCH, HEADER, Log, NO_OPEN, ONE_PING, PRINT_F, expect_run, world_with,
+    Answer, BAD_FILE, DONE, FETCH, HEADER, Log, NO_OPEN, ONE_PING, PRINT_F, expect_file,
+    expect_run, world_with,
 };
 use std::alloc::Global;
 use std::process::Abort;
@@ -13,23 +14,13 @@ use vsl_file::read_file;
 
 #[test]
 fn a_header_prints_nothing_and_a_record_one_line(rt: HostRuntime) -> Result<(), Fail> {
-    let mut world = world_with(rt.alloc(), HEADER)?;
-    expect_run(&rt, rt.alloc(), PRINT_F, &mut world, &DONE, "the header", 8)?;
+    expect_file(&rt, rt.alloc(), HEADER, &DONE, "the header", 8)?;
     let line = Answer {
         run: RunRecord::Counted { units: 1, items: 1 },
         output: b"         0 CLI            - Rd ping\n",
         ..DONE
     };
-    let mut world = world_with(rt.alloc(), ONE_PING.bytes)?;
-    expect_run(
-        &rt,
-        rt.alloc(),
-        PRINT_F,
-        &mut world,
-        &line,
-        "one record",
-        28,
-    )
+    expect_file(&rt, rt.alloc(), ONE_PING.bytes, &line, "one record", 28)
 }
 
 #[test]
@@ -61,16 +52,7 @@ fn a_missing_file_and_half_a_header_are_refused(rt: HostRuntime) -> Result<(), F
         "no name",
         0,
     )?;
-    let mut world = world_with(rt.alloc(), b"VSLO")?;
-    expect_run(
-        &rt,
-        rt.alloc(),
-        PRINT_F,
-        &mut world,
-        &BAD_FILE,
-        "half a header",
-        4,
-    )
+    expect_file(&rt, rt.alloc(), b"VSLO", &BAD_FILE, "half a header", 4)
 }
 
 /// What the first `cut` bytes of a log answer. The text is a buffer.
@@ -128,27 +110,9 @@ fn a_file_over_the_limit_prints_nothing(rt: HostRuntime) -> Result<(), Fail> {
     };
     let mut bytes = Vec::from_slice(rt.alloc(), HEADER)?;
     bytes.resize(16_777_216, 0)?;
-    let mut world = world_with(rt.alloc(), &bytes)?;
-    expect_run(
-        &rt,
-        rt.alloc(),
-        PRINT_F,
-        &mut world,
-        &BAD_FILE,
-        "at the limit",
-        0,
-    )?;
+    expect_file(&rt, rt.alloc(), &bytes, &BAD_FILE, "at the limit", 0)?;
     bytes.push(0)?;
-    let mut world = world_with(rt.alloc(), &bytes)?;
-    expect_run(
-        &rt,
-        rt.alloc(),
-        PRINT_F,
-        &mut world,
-        &unread,
-        "over the limit",
-        1,
-    )
+    expect_file(&rt, rt.alloc(), &bytes, &unread, "over the limit", 1)
 }
 
 /// Whether the file is whole with this value at this place, and how many units it has; a row says for

@@ -168,3 +168,16 @@ pub fn expect_run(
     );
     Ok(())
 }
+
+/// The same for the words that print the file `f`, which has these bytes.
+pub fn expect_file(
+    rt: &impl Abort,
+    alloc: Global,
+    bytes: &[u8],
+    want: &Answer<'_>,
+    what: &str,
+    at: usize,
+) -> Result<(), Fail> {
+    let mut world = world_with(alloc, bytes)?;
+    expect_run(rt, alloc, PRINT_F, &mut world, want, what, at)
+}

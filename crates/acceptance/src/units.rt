@@ -37,15 +37,17 @@ fn records(alloc: Global, last: &[u8]) -> Result<Vec<Record>, Fail>
 }
 
 /// The words of the unit of those records: a header that counts so many, the words of the long records,
-/// and these of the last one.
-fn words(alloc: Global, count: u32, last: &[u32]) -> Result<Vec<u32>, Fail> {
+/// and those of the last one, which begin with this head and end with these after 1,924 bytes.
+fn words(alloc: Global, count: u32, head: u32, after: &[u32]) -> Result<Vec<u32>, Fail> {
     let mut words = Vec::new(alloc);
     words.push(0xfe00_0000 | count)?;
     for _ in 0..LONG_RECORDS {
         words.extend_from_slice(&[0x1800_0fa0, 0x4000_0005])?;
         words.extend_from_slice(&[0x6161_6161; 1000])?;
     }
-    words.extend_from_slice(last)?;
+    words.extend_from_slice(&[head, 0x4000_0005])?;
+    words.extend_from_slice(&[0x6262_6262; 481])?;
+    words.extend_from_slice(after)?;
     Ok(words)
 }
 
@@ -62,23 +64,22 @@ fn expect_same(rt: &impl Abort, read: &Unit, made: &Unit) {
 }
 
 #[test]
-fn the_longest_unit_is_read_and_a_longer_one_is_refused(rt: HostRuntime) -> Result<(), Fail> {
-    let (shorter, _) = LAST.split_at(1924);
-    let made = Unit::new(VXID, Mark::Client, records(rt.alloc(), shorter)?)?;
-    let mut last = Vec::from_slice(rt.alloc(), &[0x1800_0784, 0x4000_0005])?;
-    last.extend_from_slice(&[0x6262_6262; 481])?;
-    let spelled = words(rt.alloc(), 1_048_576, &last)?;
+fn the_longest_unit_is_read(rt: HostRuntime) -> Result<(), Fail> {
+    let (last, _) = LAST.split_at(1924);
+    let made = Unit::new(VXID, Mark::Client, records(rt.alloc(), last)?)?;
+    let spelled = words(rt.alloc(), 1_048_576, 0x1800_0784, &[])?;
+    assert_eq!(rt; spelled.len(), 1_048_576);
     let (read, taken) = read_unit(rt.alloc(), &spelled)?;
     assert_eq!(rt; taken, 1_048_576);
-    assert_eq!(rt; spelled.len(), 1_048_576);
     expect_same(&rt, &read, &made);
+    Ok(())
+}
 
+#[test]
+fn a_unit_of_one_word_more_is_refused(rt: HostRuntime) -> Result<(), Fail> {
     let refused = Unit::new(VXID, Mark::Client, records(rt.alloc(), &LAST)?).err();
     assert_eq!(rt; refused, Some(UnitFault::TooLong { words: 1_048_577 }));
-    let mut last = Vec::from_slice(rt.alloc(), &[0x1800_0785, 0x4000_0005])?;
-    last.extend_from_slice(&[0x6262_6262; 481])?;
-    last.push(0x0000_0062)?;
-    let spelled = words(rt.alloc(), 1_048_577, &last)?;
+    let spelled = words(rt.alloc(), 1_048_577, 0x1800_0785, &[0x0000_0062])?;
     assert_eq!(rt; spelled.len(), 1_048_577);
     assert_eq!(rt; read_unit(rt.alloc(), &spelled).err(), Some(WordFault::Bad));
     Ok(())

@@ -17,9 +17,12 @@ const VERSION: &str = "vtools 0.1 (unreleased)\n";
 const HELP: &str = "\
 vtools: Varnish's logging tools as one program
 
-usage: vtools varnishlog -g raw -r FILE
+usage: vtools varnishlog [-g GROUPING] -r FILE
 
-Prints each record of the log file FILE as a line, in the order of the file.
+Prints the records of the log file FILE, a group of them when it is complete.
+
+  -g vxid           groups records by transaction; this is the default
+  -g raw            prints each record by itself, in the order of the file
 
   vtools --help     prints this text
   vtools --version  prints the version
