@@ -23,13 +23,15 @@ pub record Transaction : Type 0 where
   -- whether its End was seen, or it was force-completed
   pub ended : Bool
 
--- the numbers of the tags that change a transaction
+-- the number of the tag Begin
 abbrev pub begin_tag : ℕ
 begin_tag = 42
 
+-- the number of the tag End
 abbrev pub end_tag : ℕ
 end_tag = 44
 
+-- the number of the tag VSL
 abbrev pub vsl_tag : ℕ
 vsl_tag = 45
 

@@ -45,10 +45,12 @@ fn run_words<W: World>(alloc: Global, words: &[String], world: &mut W) -> Result
 
 /// Does what the words of a command line ask for, without the program's name.
 ///
-/// The words are `varnishlog -g raw -r FILE`, with any FILE but `-`; others are not built. The log file
-/// is read whole, and the raw line of each record is written to standard output, in one write for each
-/// unit; then a fault's message to standard error. The status is 0 without a fault, 2 for words that
-/// are not built, and else 1. After `NoMemory` a part of the output was written.
+/// The words are `varnishlog -r FILE`, which groups by transaction, `varnishlog -g vxid -r FILE`, which is
+/// the same, or `varnishlog -g raw -r FILE`, with any FILE but `-`; others are not built. The log file is
+/// read whole. After each unit the text of the groups that it completed goes to standard output in one
+/// write, and after the last unit of a whole log that of the pending ones; then a fault's message goes to
+/// standard error. The status is 0 without a fault, 2 for words that are not built, and else 1. After
+/// `NoMemory` a part of the output was written.
 ///
 /// Source: varnishlog(1); messages and statuses are this project's choice.
 pub fn run_tools<W: World>(
