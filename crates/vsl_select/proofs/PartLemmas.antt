@@ -1,20 +1,16 @@
 -- The parts of a line.
-use Rattle.std.proofs.Common.{ℕ, ◌≡◌, ◌≤◌, Bool, true, false, List, [], ◌∷◌, ◌++◌, length, take, replicate, refl, ap, ◌∙◌, arith}
+use Rattle.std.proofs.Common.{ℕ, ◌≡◌, Bool, true, false, List, [], ◌∷◌, ◌++◌, length, refl, ap, ◌∙◌, arith}
 use Rattle.std.specs.Prelude.{not, ◌==◌, ◌||◌, nat_lt}
 use Rattle.std.specs.List.{list_any}
-use Rattle.std.proofs.lemmas.List.{take-replicate}
 use Rattle.vsl_record.specs.RawLine.{escaped, escaped_byte}
 use Rattle.vsl_select.specs.Lines.{is_some_of}
-
--- the first of 16 spaces
-pub first_spaces : (n : ℕ) → n ≤ 16 → take n (replicate {A = ℕ} 16 32) ≡ replicate n 32
-first_spaces n h = take-replicate n 16 32 h
 
 -- whether a list has an element, by its length
 pub is_some_of_length : {A : Type 0} (xs : List A) → not (length xs == 0) ≡ is_some_of xs
 is_some_of_length [] = refl
 is_some_of_length (x ∷ xs) = grind arith
 
+-- the parts of a test that is false
 or_left : (a b : Bool) → (a || b) ≡ false → a ≡ false
 or_left true b e = e
 or_left false b e = refl
@@ -27,6 +23,7 @@ or_right false b e = e
 abbrev pub is_control : ℕ → Bool
 is_control b = nat_lt b 32 || (b == 127)
 
+-- every other byte is printed as it is
 escaped_head : (b : ℕ) (rest : List ℕ) → is_control b ≡ false → escaped_byte b ++ rest ≡ b ∷ rest
 escaped_head b rest e = rw e refl
 

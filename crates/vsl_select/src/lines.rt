@@ -20,6 +20,7 @@ use vsl_tags::{Tag, name_of};
 /// The columns of a tag's name, at the left.
 const TAG_COLUMNS: usize = 14;
 
+/// Adds the end of a line: the payload and a line feed.
 #[tactic(auto, using(crate::proofs::ExtendsLemmas::extending))]
 fn put_payload(out: &mut Vec<u8>, payload: &Payload) -> Result<(), NoMemory>
     ensures ok { OnOk result (out.new.items ≡ out.old.items ++ (escaped payload.now ++ codes "\n")) }
@@ -30,6 +31,7 @@ fn put_payload(out: &mut Vec<u8>, payload: &Payload) -> Result<(), NoMemory>
     Ok(())
 }
 
+/// Adds the start of a raw line, up to the tag.
 #[tactic(auto, using(crate::proofs::ExtendsLemmas::extending))]
 fn put_raw_start(out: &mut Vec<u8>, vxid: Vxid, tag: Tag) -> Result<(), NoMemory>
     ensures ok { OnOk result (out.new.items ≡ out.old.items ++ (at_right 10 (decimal vxid) ++ codes " " ++ at_left 14 (tag_name tag))) }
@@ -41,6 +43,7 @@ fn put_raw_start(out: &mut Vec<u8>, vxid: Vxid, tag: Tag) -> Result<(), NoMemory
     Ok(())
 }
 
+/// Adds the raw line of a record, or a part of it.
 #[tactic(auto, using(crate::proofs::ExtendsLemmas::extending))]
 fn put_raw_line(out: &mut Vec<u8>, vxid: Vxid, line: &Record) -> Result<(), NoMemory>
     ensures ok { OnOk result (out.new.items ≡ out.old.items ++ raw_line vxid line.now) }
@@ -65,6 +68,7 @@ fn put_raw_lines(out: &mut Vec<u8>, member: &Member) -> Result<(), NoMemory>
     Ok(())
 }
 
+/// Adds the raw lines of a group of records by themselves.
 #[tactic(auto, using(crate::proofs::ExtendsLemmas::extending))]
 fn put_raw_members(out: &mut Vec<u8>, members: &[Member]) -> Result<(), NoMemory>
     ensures ok { OnOk result (out.new.items ≡ out.old.items ++ flat_map raw_text members.now) }
@@ -76,6 +80,7 @@ fn put_raw_members(out: &mut Vec<u8>, members: &[Member]) -> Result<(), NoMemory
     Ok(())
 }
 
+/// Adds the end of a header: the VXID and a line feed.
 #[tactic(auto, using(crate::proofs::ExtendsLemmas::extending))]
 fn put_header_end(out: &mut Vec<u8>, vxid: Vxid) -> Result<(), NoMemory>
     ensures ok { OnOk result (out.new.items ≡ out.old.items ++ (codes " " ++ at_left 10 (decimal vxid) ++ codes "\n")) }
@@ -99,6 +104,7 @@ fn put_header(out: &mut Vec<u8>, member: &Member) -> Result<(), NoMemory>
     Ok(())
 }
 
+/// Adds the text of a record in its transaction, after the level.
 #[tactic(auto, using(crate::proofs::ExtendsLemmas::extending))]
 fn put_record_text(out: &mut Vec<u8>, line: &Record) -> Result<(), NoMemory>
     ensures ok { OnOk result (out.new.items ≡ out.old.items ++ record_text line.now) }
@@ -130,6 +136,7 @@ fn put_record(
     Ok(())
 }
 
+/// Adds the lines of a transaction's records.
 #[tactic(auto, using(crate::proofs::ExtendsLemmas::extending))]
 fn put_records(out: &mut Vec<u8>, verbose: bool, member: &Member) -> Result<(), NoMemory>
     ensures ok { OnOk result (out.new.items ≡ out.old.items ++ flat_map (record_line verbose member.now) member.now.records) }
@@ -141,6 +148,7 @@ fn put_records(out: &mut Vec<u8>, verbose: bool, member: &Member) -> Result<(), 
     Ok(())
 }
 
+/// Whether a transaction has any record.
 #[tactic(auto, using(crate::proofs::PartLemmas::is_some_of_length))]
 fn has_records(member: &Member) -> bool
     ensures { result ≡ is_some_of member.now.records }
@@ -161,6 +169,7 @@ fn put_member(out: &mut Vec<u8>, verbose: bool, member: &Member) -> Result<(), N
     Ok(())
 }
 
+/// Adds the texts of transactions, in order.
 #[tactic(auto, using(crate::proofs::ExtendsLemmas::extending))]
 fn put_members(out: &mut Vec<u8>, verbose: bool, members: &[Member]) -> Result<(), NoMemory>
     ensures ok { OnOk result (out.new.items ≡ out.old.items ++ flat_map (member_text verbose) members.now) }
@@ -198,6 +207,7 @@ fn put_group_end(out: &mut Vec<u8>, group: &Group) -> Result<(), NoMemory>
     Ok(())
 }
 
+/// Adds the text of a group, or a part of it.
 #[tactic(auto, using(crate::proofs::ExtendsLemmas::extending))]
 fn put_group(out: &mut Vec<u8>, verbose: bool, group: &Group) -> Result<(), NoMemory>
     ensures ok { OnOk result (out.new.items ≡ out.old.items ++ group_text verbose group.now) }

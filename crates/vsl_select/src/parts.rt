@@ -19,6 +19,7 @@ const VXID_COLUMNS: usize = 10;
 /// More spaces than any column has.
 const SPACES: &[u8] = b"                ";
 
+/// Adds a text as it is.
 #[tactic(auto, using(crate::proofs::ExtendsLemmas::extending))]
 pub(crate) fn put_text(out: &mut Vec<u8>, text: &[u8]) -> Result<(), NoMemory>
     ensures ok { OnOk result (out.new.items ≡ out.old.items ++ text.now) }
@@ -28,6 +29,7 @@ pub(crate) fn put_text(out: &mut Vec<u8>, text: &[u8]) -> Result<(), NoMemory>
     Ok(())
 }
 
+/// Adds a byte as it is.
 #[tactic(auto, using(crate::proofs::ExtendsLemmas::extending))]
 pub(crate) fn put_byte(out: &mut Vec<u8>, byte: u8) -> Result<(), NoMemory>
     ensures ok { OnOk result (out.new.items ≡ out.old.items ++ byte ∷ []) }
@@ -37,6 +39,7 @@ pub(crate) fn put_byte(out: &mut Vec<u8>, byte: u8) -> Result<(), NoMemory>
     Ok(())
 }
 
+/// Adds this many spaces.
 #[tactic(auto, using(crate::proofs::ExtendsLemmas::extending))]
 fn put_spaces(out: &mut Vec<u8>, count: usize) -> Result<(), NoMemory>
     requires { count ≤ 16 }
@@ -110,6 +113,7 @@ pub(crate) fn put_level(out: &mut Vec<u8>, character: u8, level: u32) -> Result<
     }
 }
 
+/// The title in a transaction's header.
 pub(crate) fn title_of(kind: Kind) -> &'static [u8]
     ensures { result.now ≡ title kind }
 {
@@ -122,6 +126,7 @@ pub(crate) fn title_of(kind: Kind) -> &'static [u8]
     }
 }
 
+/// The letter of a side in a raw line.
 pub(crate) fn letter_of(mark: Mark) -> u8
     ensures { result ≡ mark_letter mark }
 {
@@ -132,6 +137,7 @@ pub(crate) fn letter_of(mark: Mark) -> u8
     }
 }
 
+/// A hexadecimal digit, in lower case.
 fn digit_of(n: u8) -> u8
     requires { n < 16 }
     ensures { result ≡ hex_digit n }
@@ -146,6 +152,7 @@ fn has_escape(byte: u8) -> bool
     byte < 32 || byte == 127
 }
 
+/// Adds a byte of a payload.
 #[tactic(auto, using(crate::proofs::ExtendsLemmas::extending))]
 fn put_escaped_byte(out: &mut Vec<u8>, byte: u8) -> Result<(), NoMemory>
     ensures ok { OnOk result (out.new.items ≡ out.old.items ++ escaped_byte byte) }
