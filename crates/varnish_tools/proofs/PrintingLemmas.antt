@@ -1,7 +1,5 @@
 -- What printing the groups of a file's units comes to.
-use Rattle.std.proofs.Common.{◌≡◌, ◌≢◌, ℕ, ◌+◌, ◌-◌, ◌<◌, ◌≤◌, Bool, true, false, cond, leb, eqb, eq-eqb, ◌&&◌, List, [], ◌∷◌, ◌++◌, length, take, take-take, drop, Option, Some, None, refl, sym, ap, subst, ◌∙◌, append_assoc, arith}
-use Rattle.std.specs.Prelude.{codes}
-use Rattle.std.specs.List.{flat_map}
+use Rattle.std.proofs.Common.{◌≡◌, ◌≢◌, ℕ, ◌-◌, ◌<◌, ◌≤◌, Bool, true, false, cond, leb, eq-eqb, List, [], ◌∷◌, ◌++◌, length, take, take-take, drop, Option, Some, None, refl, sym, ap, subst, ◌∙◌, append_assoc, arith}
 use Rattle.std.proofs.lemmas.List.{append-nil, take_all, take-append-drop, length-take}
 use Rattle.std.proofs.lemmas.List.Concat.{flat_map-append}
 use Rattle.std.proofs.lemmas.Bool.{le-leb}
@@ -10,23 +8,22 @@ use Rattle.vio.specs.declared.fault.WorldFault.{WorldFault}
 use Rattle.vio.specs.declared.fault.WorldFault.TheVariants as world_faults
 use Rattle.vio.specs.World.{Seen, CallKind, Writing, NoCountFalls, Gains, Wrote, WrotePart}
 use Rattle.vio.proofs.WholeLemmas.{Wrote-then}
-use Rattle.vsl_record.specs.Unit.{LogUnit, Log}
+use Rattle.vsl_record.specs.Unit.{Log}
 use Rattle.vsl_file.specs.File.{FileEnding, IsFile, is_whole}
 use Rattle.vsl_file.specs.File as file
 use Rattle.txn_rows.specs.declared.group.Grouping.{Grouping}
-use Rattle.txn_rows.specs.Grouping.{State, no_state, unit_steps, flush, groups_of}
+use Rattle.txn_rows.specs.Grouping.{State, no_state, unit_steps, flush}
 use Rattle.txn_rows.specs.TableState.{TableState}
 use Rattle.vsl_select.specs.Lines.{group_text}
 use Rattle.varnish_tools.specs.declared.fault.ToolFault.{ToolFault}
-use Rattle.varnish_tools.specs.declared.fault.ToolFault.TheVariants.{NotBuilt, NoOpen, ReadFault, WriteFault, BadFile}
-use Rattle.varnish_tools.specs.declared.outcome.RunRecord.{RunRecord}
-use Rattle.varnish_tools.specs.declared.outcome.RunRecord.TheVariants.{Nothing, Counted}
+use Rattle.varnish_tools.specs.declared.fault.ToolFault.TheVariants.{WriteFault, BadFile}
+use Rattle.varnish_tools.specs.declared.outcome.RunRecord.TheVariants.{Counted}
 use Rattle.varnish_tools.specs.declared.run.Ran.{Ran}
 use Rattle.varnish_tools.specs.Job.{Job}
-use Rattle.varnish_tools.specs.Run.{Run, Ending, Whole, Faulted, no_run, run_of, taken, IsRunOf}
+use Rattle.varnish_tools.specs.Run.{Run, Ending, Whole, Faulted, no_run, run_of, IsRunOf}
 use Rattle.varnish_tools.specs.Output.{groups_text, is_flushed, sink_text}
-use Rattle.varnish_tools.specs.Theorem.{Input, IsGood, Takes, WritesSink, GainsFront, GainsBetween, ending_begun, without_last, log_limit, sink_name}
-use Rattle.varnish_tools.specs.Steps.{units_text, flush_text, TookUnits, PrintedUnits, PartPrinted, ChangesOutput, PrintsText, PrintsFile, HasPrintCause, IsPrintStopped}
+use Rattle.varnish_tools.specs.Theorem.{Input, GainsFront, GainsBetween, ending_begun, without_last, log_limit, sink_name}
+use Rattle.varnish_tools.specs.Steps.{units_text, flush_text, PrintedUnits, PartPrinted, ChangesOutput, PrintsFile, HasPrintCause, IsPrintStopped}
 use Rattle.varnish_tools.proofs.WritingLemmas.{text_append}
 
 -- what read_file answered of the bytes of a file

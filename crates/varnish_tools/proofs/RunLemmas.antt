@@ -3,7 +3,7 @@ use Rattle.std.proofs.Common.{Bool, true, ◌≡◌, ◌≢◌, ℕ, ◌<◌, �
 use Rattle.std.proofs.lemmas.List.{append-nil}
 use Rattle.std.proofs.lemmas.Bool.{lt-leb, le-leb}
 use Rattle.log_model.specs.Faults.{HasNewFault}
-use Rattle.vio.specs.World.{Seen, CallKind, Opening, Reading, Writing, NoCountFalls, FaultsRose, Gains, IsAtEnd, Opened, Read, ReadSome, ReadPast, OnlyCounts}
+use Rattle.vio.specs.World.{Seen, Opening, Reading, Writing, NoCountFalls, FaultsRose, Gains, IsAtEnd, Opened, Read, ReadSome, ReadPast, OnlyCounts}
 use Rattle.vio.proofs.WholeLemmas.{NoCountFalls-then}
 use Rattle.vsl_record.specs.Unit.{Log}
 use Rattle.vsl_file.specs.File.{IsFile, is_whole}
@@ -17,7 +17,7 @@ use Rattle.varnish_tools.specs.Output.{output_of, sink_text}
 use Rattle.varnish_tools.specs.Theorem.{Input, HasCause, WritesSink, whole_run, whole_ending, log_limit}
 use Rattle.varnish_tools.specs.Steps.{units_text, ChangesOutput, RunsJob, IsStopped, HasPrintCause, PrintsFile, IsPrintStopped}
 use Rattle.varnish_tools.proofs.WritingLemmas.{gains_none}
-use Rattle.varnish_tools.proofs.PrintingLemmas.{text_of_run, run_within, later_fault}
+use Rattle.varnish_tools.proofs.PrintingLemmas.{text_of_run, later_fault}
 
 -- nothing was written
 pub record IsSilent (before now : Seen) : Type 0 where

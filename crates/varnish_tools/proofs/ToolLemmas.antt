@@ -1,5 +1,5 @@
 -- The main theorem from its steps: the run, and then the message of its fault.
-use Rattle.std.proofs.Common.{◌≡◌, ℕ, ◌≤◌, ◌<◌, Bool, true, false, cond, eqb, leb, ◌&&◌, List, [], ◌++◌, length, take, drop, Option, Some, None, refl, sym, ap, subst, ◌∙◌, append_assoc, inl, inr, ⊎_elim, arith}
+use Rattle.std.proofs.Common.{◌≡◌, ℕ, ◌≤◌, ◌<◌, Bool, true, false, cond, eqb, leb, ◌&&◌, List, [], ◌++◌, length, take, Option, Some, None, refl, sym, ap, subst, ◌∙◌, append_assoc, inl, inr, ⊎_elim, arith}
 use Rattle.std.specs.Prelude.{codes}
 use Rattle.std.proofs.lemmas.List.{append-nil, take_all, length-take}
 use Rattle.std.proofs.lemmas.Bool.{lt-leb, eqb-true, cases_lt}
@@ -19,7 +19,7 @@ use Rattle.varnish_tools.specs.Output.{output_of, sink_text, message, fault_mess
 use Rattle.varnish_tools.specs.Theorem.{Input, IsInput, IsGood, HasCause, Takes, WritesSink, WritesMessages, WritesOutput, GainsFront, GainsBetween, IsFaithful, IsComplete, IsCutShort, NoFaultOf, whole_run, whole_ending, ending_begun, without_last, log_limit}
 use Rattle.varnish_tools.specs.Steps.{units_text, RunsJob, RunsWords, IsStopped, Reports, ReportsPart}
 use Rattle.varnish_tools.proofs.PrintingLemmas.{text_of_run, run_within, first_text}
-use Rattle.varnish_tools.proofs.RunLemmas.{whole_text_of, text_at}
+use Rattle.varnish_tools.proofs.RunLemmas.{whole_text_of}
 
 -- the words state a job, which was worked off
 pub runs_words : (words : List (List ℕ)) (job : Job) (fault : Option ToolFault) (taken : RunRecord) (s t : Seen)

@@ -1,5 +1,5 @@
 -- What the steps of the top call do; the main theorem joins them.
-use Rattle.std.specs.Prelude.{◌≡◌, ◌≢◌, ℕ, ◌-◌, ◌<◌, ◌≤◌, Bool, true, false, List, ◌++◌, length, take, Option, Some, None, ◌⊎◌, ◌↔◌, codes}
+use Rattle.std.specs.Prelude.{◌≡◌, ◌≢◌, ℕ, ◌-◌, ◌<◌, ◌≤◌, Bool, false, List, ◌++◌, length, take, Option, Some, None, ◌⊎◌, ◌↔◌, codes}
 use Rattle.log_model.specs.Faults.{HasNewFault}
 use Rattle.vio.specs.World.{Seen, Writing, NoCountFalls, Wrote, Gains}
 use Rattle.vsl_record.specs.Unit.{LogUnit, Log}
@@ -12,7 +12,7 @@ use Rattle.varnish_tools.specs.declared.fault.ToolFault.{ToolFault}
 use Rattle.varnish_tools.specs.declared.fault.ToolFault.TheVariants.{NotBuilt, WriteFault, BadFile}
 use Rattle.varnish_tools.specs.declared.outcome.RunRecord.{RunRecord}
 use Rattle.varnish_tools.specs.Job.{Job, job_of}
-use Rattle.varnish_tools.specs.Run.{Run, Ending, Whole, fault_of, IsRunOf}
+use Rattle.varnish_tools.specs.Run.{Run, Ending, fault_of, IsRunOf}
 use Rattle.varnish_tools.specs.Output.{output_of, fault_message, groups_text}
 use Rattle.varnish_tools.specs.Theorem.{Input, IsInput, HasCause, Takes, WritesSink, GainsFront, whole_run, whole_ending, sink_name, log_limit}
 

@@ -18,7 +18,7 @@ client_record tag payload = record { tag = tag; mark = Client; payload = payload
 abbrev pub transaction : ℕ → Kind → ℕ → List Record → Member
 transaction vxid kind level records = record { vxid = vxid; kind = kind; reason = reasons.Other; level = level; parent = 0; records = records }
 
--- a request that a limit ended
+-- a request that a flush ended
 abbrev pub forced_request : Member
 forced_request = transaction 9 kinds.Request 1
     (client_record 42 (codes "req 1 rxreq") ∷ client_record 45 (codes "flush") ∷ client_record 44 (codes "synth") ∷ [])

@@ -24,7 +24,7 @@ struct Case {
 /// The records of these are of a client.
 const CASES: &[Case] = &[
     Case {
-        name: "a request that a limit ended",
+        name: "a request that a flush ended",
         verbose: false,
         members: &[Shape {
             vxid: 9,

@@ -4,7 +4,7 @@ use Rattle.varnish_tools.specs.Theorem.{sink_name}
 use Rattle.std.proofs.lemmas.Result.{IfOk-weaker}
 use Rattle.vio.proofs.WholeLemmas.{OnErr-always}
 use Rattle.varnish_tools.specs.declared.run.Ran.{Ran}
-use Rattle.varnish_tools.proofs.PrintingLemmas.{IsAnswer, Wrote-flushed, is_part_flushed, prints_whole, prints_bad, prints_part, prints_part_flushed, stops_part, stops_units, stops_flush, unwritten_prints, later_fault}
+use Rattle.varnish_tools.proofs.PrintingLemmas.{Wrote-flushed, is_part_flushed, prints_whole, prints_bad, prints_part, prints_part_flushed, stops_part, stops_units, stops_flush, unwritten_prints, later_fault}
 use Rattle.varnish_tools.proofs.run.print_file.Goals as goal
 
 pub returns-in-Err-clause-printed : goal.returns-in-Err-clause-printed
