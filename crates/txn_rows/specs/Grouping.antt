@@ -33,11 +33,11 @@ group_of t = record { members = record { vxid = t.vxid; kind = t.kind; reason = 
 abbrev pub raw_group : ℕ → Record → Group
 raw_group vxid rec = record { members = record { vxid = vxid; kind = kinds.Record; reason = Other; level = 0; parent = 0; records = rec ∷ [] } ∷ [] }
 
--- a group is reported once all its transactions have ended, and these leave
+-- each transaction that has ended is reported as a group by itself, and leaves
 abbrev pub reported : List Transaction → Reported
 reported pending = record { state = record { pending = filter (λ t. not t.ended) pending }; groups = map group_of (filter (λ t. t.ended) pending) }
 
--- one record: under raw grouping it is a group, and nothing is pending
+-- one record: under raw grouping it is a group, and what is pending stays; request and session are not built, and `Table::new` refuses them
 abbrev pub step : Grouping → ℕ → Record → State → Reported
 step Raw vxid rec state = record { state = state; groups = raw_group vxid rec ∷ [] }
 step Vxid vxid rec state = reported (after_record vxid rec state.pending)

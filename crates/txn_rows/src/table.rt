@@ -16,6 +16,9 @@ use std::mem;
 use vio::NoMemory;
 use vsl_record::{Unit, Vxid};
 
+/// For how many transactions there is room at first.
+const FIRST_ROWS: usize = 16;
+
 /// The pending transactions of a log, in the order in which they began. Contracts see the options, the
 /// state, and whether it failed for want of memory; from then on it answers that.
 #[derive(Drop)]
@@ -44,7 +47,7 @@ impl Table {
         Ok(Table {
             alloc,
             options,
-            rows: Vec::new(alloc),
+            rows: Vec::with_capacity(alloc, FIRST_ROWS)?,
             failed: false,
         })
     }
@@ -53,7 +56,7 @@ impl Table {
     pub fn step(&mut self, unit: &Unit, out: &mut Vec<Group>) -> Result<(), NoMemory>
         ensures ok { OnOk result (Steps (unit_step self.old.options.grouping unit.now self.old.state) self.old self.new out.old.items out.new.items) }
         ensures err { OnErr result (StepsPart (unit_step self.old.options.grouping unit.now self.old.state) self.old self.new out.old.items out.new.items) }
-        ensures failed { self.old.failed ≡ true → IsErr result }
+        ensures failed { self.old.failed ≡ true → IsErr result × (out.new.items ≡ out.old.items) }
     {
         if self.failed {
             return Err(NoMemory);
@@ -77,7 +80,7 @@ impl Table {
     pub fn flush(&mut self, out: &mut Vec<Group>) -> Result<(), NoMemory>
         ensures ok { OnOk result (Steps (flush self.old.state) self.old self.new out.old.items out.new.items) }
         ensures err { OnErr result (StepsPart (flush self.old.state) self.old self.new out.old.items out.new.items) }
-        ensures failed { self.old.failed ≡ true → IsErr result }
+        ensures failed { self.old.failed ≡ true → IsErr result × (out.new.items ≡ out.old.items) }
     {
         if self.failed {
             return Err(NoMemory);

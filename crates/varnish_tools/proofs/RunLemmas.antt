@@ -1,5 +1,5 @@
 -- What opening and reading a file before printing it comes to.
-use Rattle.std.proofs.Common.{Bool, true, ◌≡◌, ◌≢◌, ℕ, ◌<◌, ◌≤◌, false, cond, leb, List, [], ◌++◌, length, Option, Some, refl, sym, ap, subst, ◌∙◌, arith, length-append}
+use Rattle.std.proofs.Common.{Bool, true, ◌≡◌, ◌≢◌, ℕ, ◌<◌, ◌≤◌, false, cond, leb, List, [], ◌++◌, length, Option, Some, None, refl, sym, ap, subst, ◌∙◌, arith, length-append}
 use Rattle.std.proofs.lemmas.List.{append-nil}
 use Rattle.std.proofs.lemmas.Bool.{lt-leb, le-leb}
 use Rattle.log_model.specs.Faults.{HasNewFault}
@@ -14,7 +14,7 @@ use Rattle.varnish_tools.specs.declared.outcome.RunRecord.TheVariants.{Nothing}
 use Rattle.varnish_tools.specs.Job.{Job}
 use Rattle.varnish_tools.specs.Run.{Run, Ending, Whole, Kept, Faulted, no_run, run_of, taken}
 use Rattle.varnish_tools.specs.Output.{output_of, sink_text}
-use Rattle.varnish_tools.specs.Theorem.{Input, HasCause, WritesSink, whole_run, whole_ending, log_limit}
+use Rattle.varnish_tools.specs.Theorem.{Input, HasCause, WritesSink, LeavesSink, whole_run, whole_ending, log_limit}
 use Rattle.varnish_tools.specs.Steps.{units_text, ChangesOutput, RunsJob, IsStopped, HasPrintCause, PrintsFile, IsPrintStopped}
 use Rattle.varnish_tools.proofs.WritingLemmas.{gains_none}
 use Rattle.varnish_tools.proofs.PrintingLemmas.{text_of_run, later_fault}
@@ -60,6 +60,7 @@ runs_unopened job name s t is p rose = record {
       subst (λ (x : ToolFault). HasCause (Some job) x s t) same
       (is, subst (λ (x : List ℕ). HasNewFault (s.faults Opening x) (t.faults Opening x)) (sym is) rose);
   changes = silent_changes s t (silent_counts s t p);
+  leaves = (refl, silent_gains s t (silent_counts s t p));
   prints = λ input is_input. record {
     run = no_run;
     ending = Faulted (NoOpen name);
@@ -78,6 +79,7 @@ runs_unread job name h s t u is p q rose = record {
       subst (λ (x : ToolFault). HasCause (Some job) x s u) same
       (is, subst (λ (x : List ℕ). HasNewFault (s.faults Reading x) (u.faults Reading x)) (sym is) (later_fault Reading job.file s t u p.counts (rose.each job.file p.is_named)));
   changes = silent_changes s u (silent_some job.file h s t u p q);
+  leaves = (refl, silent_gains s u (silent_some job.file h s t u p q));
   prints = λ input is_input. record {
     run = no_run;
     ending = Faulted (ReadFault name);
@@ -108,6 +110,7 @@ runs_too_large job name h s t u is p q = record {
       subst (λ (x : ToolFault). HasCause (Some job) x s u) same
       (is, λ input is_input good. let big = larger job h s t u input.bytes p q is_input.0 in omega (arith, good.within));
   changes = silent_changes s u (silent_past job h s t u p q);
+  leaves = tt;
   prints = λ input is_input. record {
     run = no_run;
     ending = Faulted (BadFile name);
@@ -159,6 +162,15 @@ changes_since s t u p q = record { counts = NoCountFalls-then p.counts q.counts;
 built : (job : Job) (fault : Option ToolFault) (s u : Seen) → ((f : ToolFault) → fault ≡ Some f → HasCause (Some job) f s u) → fault ≢ Some NotBuilt
 built job fault s u causes e = causes NotBuilt e
 
+-- a fault of printing is not one before anything was taken
+leaves_printed : (job : Job) (fault : Option ToolFault) (taken : RunRecord) (bytes : List ℕ) (s t u : Seen) → ((f : ToolFault) → fault ≡ Some f → HasPrintCause job bytes f t u) → LeavesSink fault taken s u
+leaves_printed job None taken bytes s t u causes = tt
+leaves_printed job (Some NotBuilt) taken bytes s t u causes = absurd (causes NotBuilt refl)
+leaves_printed job (Some (NoOpen name)) taken bytes s t u causes = absurd (causes (NoOpen name) refl)
+leaves_printed job (Some (ReadFault name)) taken bytes s t u causes = absurd (causes (ReadFault name) refl)
+leaves_printed job (Some (WriteFault name)) taken bytes s t u causes = tt
+leaves_printed job (Some (BadFile name)) taken bytes s t u causes = tt
+
 pub runs_printed : (job : Job) (bytes : List ℕ) (fault : Option ToolFault) (taken : RunRecord) (s t u : Seen)
     → IsReadWhole job bytes s t → PrintsFile job bytes fault taken t u → RunsJob job fault taken s u
 runs_printed job bytes fault taken s t u r p =
@@ -167,6 +179,7 @@ runs_printed job bytes fault taken s t u r p =
       built = built job fault s u causes;
       causes = causes;
       changes = changes_since s t u r.silent p.changes;
+      leaves = leaves_printed job fault taken bytes s t u p.causes;
       prints = λ input is_input.
           let same = r.all input.bytes is_input.0 in
           let printed = p.prints input same r.within (subst (λ (b : List ℕ). IsFile b input.units input.file_ending) same is_input.1) in

@@ -16,7 +16,7 @@ use Rattle.varnish_tools.specs.declared.outcome.Outcome.{Outcome}
 use Rattle.varnish_tools.specs.Job.{Job, job_of}
 use Rattle.varnish_tools.specs.Run.{Run, Ending, Whole, Kept, Faulted, no_run, run_of, taken, fault_of}
 use Rattle.varnish_tools.specs.Output.{output_of, sink_text, message, fault_message, status_of}
-use Rattle.varnish_tools.specs.Theorem.{Input, IsInput, IsGood, HasCause, Takes, WritesSink, WritesMessages, WritesOutput, GainsFront, GainsBetween, IsFaithful, IsComplete, IsCutShort, NoFaultOf, whole_run, whole_ending, ending_begun, without_last, log_limit}
+use Rattle.varnish_tools.specs.Theorem.{Input, IsInput, IsGood, HasCause, Takes, WritesSink, WritesError, LeavesSink, WritesOutput, GainsFront, GainsBetween, IsFaithful, IsComplete, IsCutShort, NoFaultOf, whole_run, whole_ending, ending_begun, without_last, log_limit}
 use Rattle.varnish_tools.specs.Steps.{units_text, RunsJob, RunsWords, IsStopped, Reports, ReportsPart}
 use Rattle.varnish_tools.proofs.PrintingLemmas.{text_of_run, run_within, first_text}
 use Rattle.varnish_tools.proofs.RunLemmas.{whole_text_of}
@@ -28,6 +28,7 @@ runs_words words job fault taken s t e p = record {
   not_built = (λ is. absurd (p.built is), λ none. cc);
   causes = λ f is. rw e (p.causes f is);
   changes = p.changes;
+  leaves = p.leaves;
   prints = rw e p.prints;
 }
 
@@ -37,6 +38,7 @@ runs_no_words words s e = record {
   not_built = (λ is. e, λ none. refl);
   causes = λ f is. let same : NotBuilt ≡ f = cc in rw e (subst (λ (x : ToolFault). HasCause None x s s) same tt);
   changes = record { counts = NoCountFalls-none s; other_written = λ i other. refl };
+  leaves = (refl, λ a told. told ∙ ap Some (sym (append-nil a)));
   prints = λ input is_input. record {
     run = no_run;
     ending = Faulted NotBuilt;
@@ -74,36 +76,43 @@ sink_until job input run (Faulted (ReadFault name)) s t u e p = λ a told. e ∙
 sink_until job input run (Faulted (WriteFault name)) s t u e p = λ a told. let g = p a told in (g.0, g.1, g.2, e ∙ g.3)
 sink_until job input run (Faulted (BadFile name)) s t u e p = λ a told. e ∙ p a told
 
--- the messages were written where nothing was written to standard error before
-messages_since : (job : Option Job) (run : Run) (ending : Ending) (fault : Option ToolFault) (s t u : Seen)
-    → fault_of ending ≡ fault → t.written 2 ≡ s.written 2 → NoCountFalls s t → Reports fault t u → WritesMessages job run ending s u
-messages_since job run ending fault s t u e w n p =
-    let on_ending = subst (λ (x : Option ToolFault). Reports x t u) (sym e) p in
-    ⊎_elim
-    (λ (all : Gains (t.written 2) (u.written 2) (fault_message (fault_of ending))). inl (λ a told. all a (w ∙ told)))
-    (λ (part : HasNewFault (t.faults Writing (codes "stderr")) (u.faults Writing (codes "stderr")) × GainsFront (t.written 2) (u.written 2) (fault_message (fault_of ending))).
-    inr (omega (arith, n.each Writing (codes "stderr"), part.0), λ a told. part.1 a (w ∙ told)))
-    on_ending.gains
+-- what standard error gained since then, where nothing was written to it before
+error_since : (text : List ℕ) (s t u : Seen) → t.written 2 ≡ s.written 2 → NoCountFalls s t → WritesError text t u → WritesError text s u
+error_since text s t u w n p = ⊎_elim
+    (λ (all : Gains (t.written 2) (u.written 2) text). inl (λ a told. all a (w ∙ told)))
+    (λ (part : HasNewFault (t.faults Writing (codes "stderr")) (u.faults Writing (codes "stderr")) × GainsFront (t.written 2) (u.written 2) text).
+      inr (omega (arith, n.each Writing (codes "stderr"), part.0), λ a told. part.1 a (w ∙ told)))
+    p
+
+-- where nothing was taken, the sink gained nothing until later
+leaves_until : (fault : Option ToolFault) (taken : RunRecord) (s t u : Seen) → u.written 1 ≡ t.written 1 → LeavesSink fault taken s t → LeavesSink fault taken s u
+leaves_until None taken s t u e p = tt
+leaves_until (Some NotBuilt) taken s t u e p = (p.0, λ a told. e ∙ p.1 a told)
+leaves_until (Some (NoOpen name)) taken s t u e p = (p.0, λ a told. e ∙ p.1 a told)
+leaves_until (Some (ReadFault name)) taken s t u e p = (p.0, λ a told. e ∙ p.1 a told)
+leaves_until (Some (WriteFault name)) taken s t u e p = tt
+leaves_until (Some (BadFile name)) taken s t u e p = tt
 
 pub is_faithful : (words : List (List ℕ)) (status : ℕ) (fault : Option ToolFault) (taken : RunRecord) (s t u : Seen)
     → status ≡ status_of fault → RunsWords words fault taken s t → Reports fault t u
     → IsFaithful words (record { status = status; fault = fault; run = taken }) s u
-is_faithful words status fault taken s t u e p q = record {
-  status = e;
-  not_built = p.not_built;
-  causes = λ f is. cause_until (job_of words) f s t u q.changes.counts (p.causes f is);
-  counts = NoCountFalls-then p.changes.counts q.changes.counts;
-  other_written = λ i not_one not_two. q.changes.other_written i not_two ∙ p.changes.other_written i not_one;
-  writes = λ input is_input. let printed = p.prints input is_input in record {
-    run = printed.run;
-    ending = printed.ending;
-    is_run = printed.is_run;
-    is_ending = printed.is_ending;
-    takes = printed.takes;
-    sink = sink_until (job_of words) input printed.run printed.ending s t u (q.changes.other_written 1 (omega arith)) printed.sink;
-    messages = messages_since (job_of words) printed.run printed.ending fault s t u printed.is_ending (p.changes.other_written 2 (omega arith)) p.changes.counts q;
-  };
-}
+is_faithful words status fault taken s t u e p q =
+    let reports = error_since (fault_message fault) s t u (p.changes.other_written 2 (omega arith)) p.changes.counts q.gains in
+    record {
+      status = e;
+      not_built = p.not_built;
+      causes = λ f is. cause_until (job_of words) f s t u q.changes.counts (p.causes f is);
+      counts = NoCountFalls-then p.changes.counts q.changes.counts;
+      other_written = λ i not_one not_two. q.changes.other_written i not_two ∙ p.changes.other_written i not_one;
+      reports = reports;
+      leaves = leaves_until fault taken s t u (q.changes.other_written 1 (omega arith)) p.leaves;
+      writes = λ input is_input. let printed = p.prints input is_input in record {
+        run = printed.run; ending = printed.ending; is_run = printed.is_run; is_ending = printed.is_ending; takes = printed.takes;
+        status = e ∙ ap status_of (sym printed.is_ending);
+        sink = sink_until (job_of words) input printed.run printed.ending s t u (q.changes.other_written 1 (omega arith)) printed.sink;
+        messages = subst (λ (x : Option ToolFault). WritesError (fault_message x) s u) (sym printed.is_ending) reports;
+      };
+    }
 
 -- where no count of the job's objects rose and its input is good, no fault has a cause
 no_cause : (job : Job) (input : Input) (f : ToolFault) (s u : Seen) → IsInput (Some job) s input → IsGood input → NoFaultOf job s u → ¬ (HasCause (Some job) f s u)

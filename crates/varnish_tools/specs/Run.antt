@@ -39,7 +39,7 @@ no_run = record { log = []; history = [] }
 abbrev pub run_of : Log → Run
 run_of units = record { log = units; history = UnitRun units ∷ [] }
 
--- a record of a run over an input of these units: the run takes the first of them
+-- a record of a run over an input of these units: the run takes the first of them, or nothing
 abbrev pub IsRunOf : RunRecord → Log → Run → Type 0
 IsRunOf Nothing input run = run ≡ no_run
 IsRunOf (Counted units items) input run = (units ≤ length input) × (items ≡ 1) × (run ≡ run_of (take units input))

@@ -14,7 +14,7 @@ use Rattle.varnish_tools.specs.declared.outcome.RunRecord.{RunRecord}
 use Rattle.varnish_tools.specs.Job.{Job, job_of}
 use Rattle.varnish_tools.specs.Run.{Run, Ending, fault_of, IsRunOf}
 use Rattle.varnish_tools.specs.Output.{output_of, fault_message, groups_text}
-use Rattle.varnish_tools.specs.Theorem.{Input, IsInput, HasCause, Takes, WritesSink, GainsFront, whole_run, whole_ending, sink_name, log_limit}
+use Rattle.varnish_tools.specs.Theorem.{Input, IsInput, HasCause, Takes, WritesSink, WritesError, LeavesSink, GainsFront, whole_run, whole_ending, sink_name, log_limit}
 
 -- the text of the groups of units, flushed at their end or not
 abbrev pub units_text : Grouping → Log → Bool → List ℕ
@@ -76,6 +76,7 @@ pub record RunsJob (job : Job) (fault : Option ToolFault) (taken : RunRecord) (b
   pub built : fault ≢ Some NotBuilt
   pub causes : (f : ToolFault) → fault ≡ Some f → HasCause (Some job) f before now
   pub changes : ChangesOutput before now
+  pub leaves : LeavesSink fault taken before now
   pub prints : (input : Input) → IsInput (Some job) before input → PrintsText (Some job) input fault taken before now
 
 -- the job was stopped for want of memory
@@ -105,6 +106,7 @@ pub record RunsWords (words : List (List ℕ)) (fault : Option ToolFault) (taken
   pub not_built : (fault ≡ Some NotBuilt) ↔ (job_of words ≡ None)
   pub causes : (f : ToolFault) → fault ≡ Some f → HasCause (job_of words) f before now
   pub changes : ChangesOutput before now
+  pub leaves : LeavesSink fault taken before now
   pub prints : (input : Input) → IsInput (job_of words) before input → PrintsText (job_of words) input fault taken before now
 
 -- no count fell, and nothing was written but to standard error
@@ -115,8 +117,7 @@ pub record ChangesErrors (before now : Seen) : Type 0 where
 -- the message of a fault was written, or a front of it where a write failed
 pub record Reports (fault : Option ToolFault) (before now : Seen) : Type 0 where
   pub changes : ChangesErrors before now
-  pub gains : Gains (before.written 2) (now.written 2) (fault_message fault)
-      ⊎ (HasNewFault (before.faults Writing (codes "stderr")) (now.faults Writing (codes "stderr")) × GainsFront (before.written 2) (now.written 2) (fault_message fault))
+  pub gains : WritesError (fault_message fault) before now
 
 -- a front of the message of a fault was written
 pub record ReportsPart (fault : Option ToolFault) (before now : Seen) : Type 0 where

@@ -7,10 +7,12 @@ use Rattle.vsl_file.specs.File.{FileEnding, IsFile, is_whole}
 use Rattle.vsl_file.specs.File as file
 use Rattle.varnish_tools.specs.declared.fault.ToolFault.{ToolFault}
 use Rattle.varnish_tools.specs.declared.fault.ToolFault.TheVariants.{NotBuilt, NoOpen, ReadFault, WriteFault, BadFile}
+use Rattle.varnish_tools.specs.declared.outcome.RunRecord.{RunRecord}
+use Rattle.varnish_tools.specs.declared.outcome.RunRecord.TheVariants.{Nothing}
 use Rattle.varnish_tools.specs.declared.outcome.Outcome.{Outcome}
 use Rattle.varnish_tools.specs.Job.{Job, job_of}
 use Rattle.varnish_tools.specs.Run.{Run, Ending, Whole, Kept, Faulted, fault_of, no_run, run_of, IsRunOf}
-use Rattle.varnish_tools.specs.Output.{output_of, message, status_of}
+use Rattle.varnish_tools.specs.Output.{output_of, message, fault_message, status_of}
 
 -- the most bytes of a log file that a tool reads
 abbrev pub log_limit : ℕ
@@ -37,7 +39,7 @@ pub record IsGood (input : Input) : Type 0 where
   pub within : length input.bytes ≤ log_limit
   pub whole : input.file_ending ≡ file.Whole
 
--- why a fault may be answered; a fault of the world has a count that rose in this call for the very name
+-- why a fault may be answered; a fault of the world has a count that rose in this call for the very name, and on a world that tells nothing of the file a bad log has no cause to show
 abbrev pub HasCause : Option Job → ToolFault → Seen → Seen → Type 0
 HasCause None NotBuilt before now = Unit {0}
 HasCause None fault before now = ⊥
@@ -79,11 +81,24 @@ WritesSink job input run (Faulted (WriteFault name)) before now =
     GainsBetween (before.written 1) (now.written 1) (output_of job (without_last run) (Faulted (WriteFault name))).sink (output_of job run (ending_begun input run (WriteFault name))).sink
 WritesSink job input run ending before now = Gains (before.written 1) (now.written 1) (output_of job run ending).sink
 
+-- standard error gained this text; where a write of it failed, a front of it
+abbrev pub WritesError : List ℕ → Seen → Seen → Type 0
+WritesError text before now =
+    Gains (before.written 2) (now.written 2) text
+    ⊎ (HasNewFault (before.faults Writing (codes "stderr")) (now.faults Writing (codes "stderr")) × GainsFront (before.written 2) (now.written 2) text)
+
 -- standard error gained its messages; where a write of them failed, a front of them
 abbrev pub WritesMessages : Option Job → Run → Ending → Seen → Seen → Type 0
-WritesMessages job run ending before now =
-    Gains (before.written 2) (now.written 2) (output_of job run ending).messages
-    ⊎ (HasNewFault (before.faults Writing (codes "stderr")) (now.faults Writing (codes "stderr")) × GainsFront (before.written 2) (now.written 2) (output_of job run ending).messages)
+WritesMessages job run ending before now = WritesError (output_of job run ending).messages before now
+
+-- where the words were refused, or the file could not be opened or read, nothing was taken and the sink gained nothing
+abbrev pub LeavesSink : Option ToolFault → RunRecord → Seen → Seen → Type 0
+LeavesSink None run before now = Unit {0}
+LeavesSink (Some NotBuilt) run before now = (run ≡ Nothing) × Gains (before.written 1) (now.written 1) []
+LeavesSink (Some (NoOpen name)) run before now = (run ≡ Nothing) × Gains (before.written 1) (now.written 1) []
+LeavesSink (Some (ReadFault name)) run before now = (run ≡ Nothing) × Gains (before.written 1) (now.written 1) []
+LeavesSink (Some (WriteFault name)) run before now = Unit {0}
+LeavesSink (Some (BadFile name)) run before now = Unit {0}
 
 -- for this input, the tool took a run, ended and wrote as defined
 pub record WritesOutput (job : Option Job) (input : Input) (outcome : Outcome) (before now : Seen) : Type 0 where
@@ -92,6 +107,7 @@ pub record WritesOutput (job : Option Job) (input : Input) (outcome : Outcome) (
   pub is_run : IsRunOf outcome.run input.units run
   pub is_ending : fault_of ending ≡ outcome.fault
   pub takes : Takes input run ending
+  pub status : outcome.status ≡ (output_of job run ending).status
   pub sink : WritesSink job input run ending before now
   pub messages : WritesMessages job run ending before now
 
@@ -103,6 +119,8 @@ pub record IsFaithful (words : List (List ℕ)) (outcome : Outcome) (before now 
   pub causes : (fault : ToolFault) → outcome.fault ≡ Some fault → HasCause (job_of words) fault before now
   pub counts : NoCountFalls before now
   pub other_written : (i : ℕ) → i ≢ 1 → i ≢ 2 → now.written i ≡ before.written i
+  pub reports : WritesError (fault_message outcome.fault) before now
+  pub leaves : LeavesSink outcome.fault outcome.run before now
   -- where the world tells what the sources hold
   pub writes : (input : Input) → IsInput (job_of words) before input → WritesOutput (job_of words) input outcome before now
 
@@ -111,7 +129,6 @@ pub record NoFaultOf (job : Job) (before now : Seen) : Type 0 where
   pub opening : ¬ (HasNewFault (before.faults Opening job.file) (now.faults Opening job.file))
   pub reading : ¬ (HasNewFault (before.faults Reading job.file) (now.faults Reading job.file))
   pub writing : ¬ (HasNewFault (before.faults Writing sink_name) (now.faults Writing sink_name))
-  pub reporting : ¬ (HasNewFault (before.faults Writing (codes "stderr")) (now.faults Writing (codes "stderr")))
 
 -- a good input of a job is worked off without a fault where no count of its objects rose
 abbrev pub IsComplete : List (List ℕ) → Outcome → Seen → Seen → Type 0
