@@ -6,7 +6,7 @@ use Rattle.std.proofs.lemmas.Bool.{le-leb}
 use Rattle.log_model.specs.Faults.{HasNewFault}
 use Rattle.vio.specs.declared.fault.WorldFault.{WorldFault}
 use Rattle.vio.specs.declared.fault.WorldFault.TheVariants as world_faults
-use Rattle.vio.specs.World.{Seen, CallKind, Writing, NoCountFalls, Gains, Wrote, WrotePart}
+use Rattle.vio.specs.World.{Seen, CallKind, Writing, NoCountFalls, Gains, Wrote, WrotePart, WroteFront}
 use Rattle.vio.proofs.WholeLemmas.{Wrote-then}
 use Rattle.vsl_record.specs.Unit.{Log}
 use Rattle.vsl_file.specs.File.{FileEnding, IsFile, is_whole}
@@ -23,7 +23,7 @@ use Rattle.varnish_tools.specs.Job.{Job}
 use Rattle.varnish_tools.specs.Run.{Run, Ending, Whole, Faulted, no_run, run_of, IsRunOf}
 use Rattle.varnish_tools.specs.Output.{groups_text, is_flushed, sink_text}
 use Rattle.varnish_tools.specs.Theorem.{Input, GainsFront, GainsBetween, ending_begun, without_last, log_limit, sink_name}
-use Rattle.varnish_tools.specs.Steps.{units_text, flush_text, PrintedUnits, PartPrinted, ChangesOutput, PrintsFile, HasPrintCause, IsPrintStopped}
+use Rattle.varnish_tools.specs.Steps.{units_text, flush_text, PrintedUnits, PartPrinted, FrontPrinted, ChangesOutput, PrintsFile, HasPrintCause, IsPrintStopped}
 use Rattle.varnish_tools.proofs.WritingLemmas.{text_append}
 
 -- what read_file answered of the bytes of a file
@@ -139,8 +139,13 @@ without_last_is units n some le =
     ap run_of (ap (λ (k : ℕ). take (k - 1) (take n units)) len ∙ take-take (n - 1) n units (omega arith))
 
 -- a part that was written lies between the text without the last unit and the text with it
-between : (x y : Option (List ℕ)) (least most more rest : List ℕ) → most ≡ least ++ more ++ rest → Gains x y (least ++ more) → GainsBetween x y least most
-between x y least most more rest e p = λ a told. (more, rest, e, p a told ∙ ap Some (sym (append_assoc a least more)))
+between : (x y : Option (List ℕ)) (least most more rest : List ℕ) → most ≡ least ++ more ++ rest → rest ≢ [] → Gains x y (least ++ more) → GainsBetween x y least most
+between x y least most more rest e some p = λ a told. (more, rest, e, some, p a told ∙ ap Some (sym (append_assoc a least more)))
+
+-- what goes on after something is something
+some_append : (a b : List ℕ) → a ≢ [] → a ++ b ≢ []
+some_append [] b some e = some refl
+some_append (x ∷ a) b some e = cc
 
 -- the text without the last of the first units
 least_text : (job : Job) (fault : ToolFault) (units : Log) (n : ℕ) → 0 < n → n ≤ length units
@@ -148,16 +153,17 @@ least_text : (job : Job) (fault : ToolFault) (units : Log) (n : ℕ) → 0 < n �
 least_text job fault units n some le =
     ap (λ (r : Run). sink_text (Some job) r (Faulted fault)) (without_last_is units n some le) ∙ text_of_run job (take (n - 1) units) (Faulted fault)
 
-part_between : (job : Job) (fault : ToolFault) (ending : Ending) (units input : Log) (n : ℕ) (s t : Seen) → units ≡ input → PartPrinted job.grouping units n s t
+part_between : (job : Job) (fault : ToolFault) (ending : Ending) (units input : Log) (n : ℕ) (s t : Seen) → units ≡ input → FrontPrinted job.grouping units n s t
     → GainsBetween (s.written 1) (t.written 1) (sink_text (Some job) (without_last (run_of (take n input))) (Faulted fault)) (sink_text (Some job) (run_of (take n input)) ending)
 part_between job fault ending units input n s t e p =
-    let q : PartPrinted job.grouping input n s t = subst (λ (us : Log). PartPrinted job.grouping us n s t) e p in
+    let front : FrontPrinted job.grouping input n s t = subst (λ (us : Log). FrontPrinted job.grouping us n s t) e p in
+    let q : PartPrinted job.grouping input n s t = front.part in
     let after = after_text job.grouping (take n input) (is_flushed ending) in
     rw (least_text job fault input n q.some q.most, text_of_run job (take n input) ending)
     (between (s.written 1) (t.written 1) (units_text job.grouping (take (n - 1) input) false) (units_text job.grouping (take n input) (is_flushed ending)) q.more (q.rest ++ after)
     (after_text_is job.grouping (take n input) (is_flushed ending) ∙ ap (λ (x : List ℕ). x ++ after) q.begun
     ∙ append_assoc (units_text job.grouping (take (n - 1) input) false ++ q.more) q.rest after)
-    q.wrote.gains)
+    (some_append q.rest after front.left) q.wrote.gains)
 
 -- why a failed write of the text is answered
 write_cause : (job : Job) (bytes : List ℕ) (f : ToolFault) (s t : Seen) → HasNewFault (s.faults Writing sink_name) (t.faults Writing sink_name)
@@ -166,17 +172,17 @@ write_cause job bytes f s t rose e = let same : WriteFault sink_name ≡ f = cc 
     subst (λ (x : ToolFault). HasPrintCause job bytes x s t) same (refl, rose)
 
 pub prints_part : (job : Job) (bytes : List ℕ) (units : Log) (whole : Bool) (n : ℕ) (s t : Seen)
-    → IsAnswer bytes units whole → PartPrinted job.grouping units n s t → HasNewFault (s.faults Writing sink_name) (t.faults Writing sink_name)
+    → IsAnswer bytes units whole → FrontPrinted job.grouping units n s t → HasNewFault (s.faults Writing sink_name) (t.faults Writing sink_name)
     → PrintsFile job bytes (Some (WriteFault sink_name)) (Counted n 1) s t
 prints_part job bytes units whole n s t answer p rose = record {
   causes = λ f e. write_cause job bytes f s t rose e;
-  changes = changes_output _ s t p.wrote;
+  changes = changes_output _ s t p.part.wrote;
   prints = λ input same within is_file. let only = answer.only input.units input.file_ending is_file in record {
     run = run_of (take n input.units);
     ending = Faulted (WriteFault sink_name);
-    is_run = (omega (arith, p.most, ap length only.0), refl, refl);
+    is_run = (omega (arith, p.part.most, ap length only.0), refl, refl);
     is_ending = refl;
-    takes = (within_same input.bytes bytes same within, (n, p.some, omega (arith, p.most, ap length only.0), refl));
+    takes = (within_same input.bytes bytes same within, (n, p.part.some, omega (arith, p.part.most, ap length only.0), refl));
     sink = part_between job (WriteFault sink_name) (ending_begun input (run_of (take n input.units)) (WriteFault sink_name)) units input.units n s t only.0 p;
   };
 }
@@ -187,6 +193,7 @@ pub record PartFlushed (by : Grouping) (units : Log) (before now : Seen) : Type 
   pub rest : List ℕ
   pub some : 0 < length units
   pub whole : units_text by units true ≡ units_text by units false ++ done ++ rest
+  pub left : rest ≢ []
   pub wrote : Wrote 1 (units_text by units false ++ done) before now
 
 -- nothing is flushed where no unit was taken
@@ -195,13 +202,14 @@ some_units by [] some = absurd (some refl)
 some_units by (u ∷ units) some = omega arith
 
 pub is_part_flushed : (by : Grouping) (units : Log) (table : TableState) (s t u : Seen)
-    → PrintedUnits by units table s t → flush_text table.state ≢ [] → WrotePart 1 (flush_text table.state) t u → PartFlushed by units s u
+    → PrintedUnits by units table s t → flush_text table.state ≢ [] → WroteFront 1 (flush_text table.state) t u → PartFlushed by units s u
 is_part_flushed by units table s t u p some q = record {
   done = q.done;
   rest = q.rest;
   some = some_units by units (subst (λ (state : State). flush_text state ≢ []) p.took.state some);
   whole = text_flushed by units ∙ ap (λ (state : State). units_text by units false ++ flush_text state) (sym p.took.state)
       ∙ ap (λ (x : List ℕ). units_text by units false ++ x) q.whole ∙ sym (append_assoc (units_text by units false) q.done q.rest);
+  left = q.some;
   wrote = Wrote-then (units_text by units false) q.done p.wrote q.wrote;
 }
 
@@ -221,7 +229,7 @@ flushed_between job fault units s t p =
     rw (least, text_of_run job units Whole)
     (between (s.written 1) (t.written 1) before (units_text job.grouping units true) (first.0 ++ p.done) p.rest
     (p.whole ∙ ap (λ (x : List ℕ). x ++ p.done ++ p.rest) first.1 ∙ ap (λ (x : List ℕ). x ++ p.rest) (append_assoc before first.0 p.done))
-    (subst (λ (text : List ℕ). Gains (s.written 1) (t.written 1) text) (ap (λ (x : List ℕ). x ++ p.done) first.1 ∙ append_assoc before first.0 p.done) p.wrote.gains))
+    p.left (subst (λ (text : List ℕ). Gains (s.written 1) (t.written 1) text) (ap (λ (x : List ℕ). x ++ p.done) first.1 ∙ append_assoc before first.0 p.done) p.wrote.gains))
 
 pub prints_part_flushed : (job : Job) (bytes : List ℕ) (units : Log) (whole : Bool) (s t : Seen)
     → IsAnswer bytes units whole → whole ≡ true → PartFlushed job.grouping units s t → HasNewFault (s.faults Writing sink_name) (t.faults Writing sink_name)

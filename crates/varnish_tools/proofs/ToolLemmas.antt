@@ -73,7 +73,7 @@ sink_until job input run Kept s t u e p = λ a told. e ∙ p a told
 sink_until job input run (Faulted NotBuilt) s t u e p = λ a told. e ∙ p a told
 sink_until job input run (Faulted (NoOpen name)) s t u e p = λ a told. e ∙ p a told
 sink_until job input run (Faulted (ReadFault name)) s t u e p = λ a told. e ∙ p a told
-sink_until job input run (Faulted (WriteFault name)) s t u e p = λ a told. let g = p a told in (g.0, g.1, g.2, e ∙ g.3)
+sink_until job input run (Faulted (WriteFault name)) s t u e p = λ a told. let g = p a told in (g.0, g.1, g.2, g.3, e ∙ g.4)
 sink_until job input run (Faulted (BadFile name)) s t u e p = λ a told. e ∙ p a told
 
 -- what standard error gained since then, where nothing was written to it before
@@ -156,7 +156,7 @@ between_front x y least most text after e p = λ a told.
       least ++ g.0,
       g.1 ++ after,
       e ∙ ap (λ (t : List ℕ). t ++ after) g.2 ∙ append_assoc (least ++ g.0) g.1 after,
-      g.3 ∙ ap Some (append_assoc a least g.0),
+      g.4 ∙ ap Some (append_assoc a least g.0),
     )
 
 -- the text that an input within the limit defines goes on after that of its first units

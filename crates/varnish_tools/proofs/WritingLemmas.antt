@@ -4,7 +4,7 @@ use Rattle.std.specs.Prelude.{codes}
 use Rattle.std.specs.List.{flat_map}
 use Rattle.std.proofs.lemmas.List.{append-nil, take_more}
 use Rattle.std.proofs.lemmas.List.Concat.{flat_map-append}
-use Rattle.vio.specs.World.{Seen, Writing, FaultsRose, HasStreams, Gains, Wrote, WrotePart}
+use Rattle.vio.specs.World.{Seen, Writing, FaultsRose, HasStreams, Gains, Wrote, WrotePart, WroteFront}
 use Rattle.vio.proofs.WholeLemmas.{Wrote-none, Wrote-then}
 use Rattle.vsl_record.specs.Unit.{LogUnit, Log}
 use Rattle.vsl_record.specs.declared.record_type.Record.{Record}
@@ -19,7 +19,7 @@ use Rattle.vsl_select.specs.Lines.{group_text}
 use Rattle.varnish_tools.specs.declared.fault.ToolFault.{ToolFault}
 use Rattle.varnish_tools.specs.Output.{fault_message, groups_text}
 use Rattle.varnish_tools.specs.Theorem.{GainsFront}
-use Rattle.varnish_tools.specs.Steps.{units_text, IsFresh, PrintedUnit, PrintedUnits, PartPrinted, ChangesErrors, Reports, ReportsPart}
+use Rattle.varnish_tools.specs.Steps.{units_text, IsFresh, PrintedUnit, PrintedUnits, PartPrinted, FrontPrinted, ChangesErrors, Reports, ReportsPart}
 
 -- a part that was written is a front of what was to be written
 pub gains_front : (h : ℕ) (text : List ℕ) (s t : Seen) → WrotePart h text s t → GainsFront (s.written h) (t.written h) text
@@ -151,3 +151,16 @@ PartPrinted-more by units i u before s t v lt is p q =
           ∙ ap (λ (x : List ℕ). units_text by (take i units) false ++ x) q.whole ∙ sym (append_assoc (units_text by (take i units) false) q.done q.rest));
       wrote = rw back (Wrote-then (units_text by (take i units) false) q.done p.wrote q.wrote);
     }
+
+-- a front of the text of one more unit was written, and not all of it
+pub FrontPrinted-more : (by : Grouping) (units : Log) (i : ℕ) (u : LogUnit) (before : TableState) (s t v : Seen) → i < length units → u ≡ get_or units i u
+    → PrintedUnits by (take i units) before s t → WroteFront 1 (groups_text (unit_step by u before.state).groups) t v → FrontPrinted by units (i + 1) s v
+unfolding PartPrinted-more
+FrontPrinted-more by units i u before s t v lt is p q = record {
+  part = PartPrinted-more by units i u before s t v lt is p (record { done = q.done; rest = q.rest; whole = q.whole; wrote = q.wrote });
+  left = q.some;
+}
+
+pub raw_front : (by : Grouping) (u : LogUnit) (state : State) (s t : Seen) → by ≡ Raw → WroteFront 1 (raw_lines u) s t → WroteFront 1 (groups_text (unit_step by u state).groups) s t
+raw_front by u state s t raw p =
+    subst (λ (text : List ℕ). WroteFront 1 text s t) (sym (ap (λ (g : Grouping). groups_text (unit_step g u state).groups) raw ∙ raw_text u state)) p

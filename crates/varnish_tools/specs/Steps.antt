@@ -1,5 +1,5 @@
 -- What the steps of the top call do; the main theorem joins them.
-use Rattle.std.specs.Prelude.{◌≡◌, ◌≢◌, ℕ, ◌-◌, ◌<◌, ◌≤◌, Bool, false, List, ◌++◌, length, take, Option, Some, None, ◌⊎◌, ◌↔◌, codes}
+use Rattle.std.specs.Prelude.{◌≡◌, ◌≢◌, ℕ, ◌-◌, ◌<◌, ◌≤◌, Bool, false, List, [], ◌++◌, length, take, Option, Some, None, ◌⊎◌, ◌↔◌, codes}
 use Rattle.log_model.specs.Faults.{HasNewFault}
 use Rattle.vio.specs.World.{Seen, Writing, NoCountFalls, Wrote, Gains}
 use Rattle.vsl_record.specs.Unit.{LogUnit, Log}
@@ -56,6 +56,11 @@ pub record PartPrinted (by : Grouping) (units : Log) (n : ℕ) (before now : See
   pub most : n ≤ length units
   pub begun : units_text by (take n units) false ≡ units_text by (take (n - 1) units) false ++ more ++ rest
   pub wrote : Wrote 1 (units_text by (take (n - 1) units) false ++ more) before now
+
+-- the text of the first n units was written, but for a front of what the last of them completed, and not all of it
+pub record FrontPrinted (by : Grouping) (units : Log) (n : ℕ) (before now : Seen) : Type 0 where
+  pub part : PartPrinted by units n before now
+  pub left : part.rest ≢ []
 
 -- no count fell, and nothing was written but to standard output
 pub record ChangesOutput (before now : Seen) : Type 0 where

@@ -67,9 +67,9 @@ without_last run = run_of (take (length run.log - 1) run.log)
 abbrev pub GainsFront : Option (List ℕ) → Option (List ℕ) → List ℕ → Type 0
 GainsFront before now text = (a : List ℕ) → before ≡ Some a → (done rest : List ℕ) × (text ≡ done ++ rest) × (now ≡ Some (a ++ done))
 
--- what was told gained the lesser text, and after it a front of what the greater one has more; where nothing is told nothing is claimed
+-- what was told gained at least the least and not all of the most, from its front; where nothing is told nothing is claimed
 abbrev pub GainsBetween : Option (List ℕ) → Option (List ℕ) → List ℕ → List ℕ → Type 0
-GainsBetween before now least most = (a : List ℕ) → before ≡ Some a → (more rest : List ℕ) × (most ≡ least ++ more ++ rest) × (now ≡ Some (a ++ least ++ more))
+GainsBetween before now least most = (a : List ℕ) → before ≡ Some a → (more rest : List ℕ) × (most ≡ least ++ more ++ rest) × (rest ≢ []) × (now ≡ Some (a ++ least ++ more))
 
 -- the ending of the text whose write failed: whole where the run took all units of a whole input
 abbrev pub ending_begun : Input → Run → ToolFault → Ending

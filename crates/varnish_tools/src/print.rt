@@ -2,13 +2,13 @@
 
 ghost use Rattle.std.specs.Prelude.{◌≡◌, ◌≢◌, ◌++◌, [], false, length, IfOk, IfErr, OnOk, OnErr, IsErrOf, codes};
 ghost use Rattle.log_model.specs.Faults.{HasNewFault};
-ghost use Rattle.vio.specs.World.{Writing, Wrote, WrotePart};
+ghost use Rattle.vio.specs.World.{Writing, Wrote, WrotePart, WroteFront};
 ghost use Rattle.vsl_record.specs.RawLine.{raw_lines};
 ghost use Rattle.txn_rows.specs.Grouping.{unit_step};
 ghost use Rattle.varnish_tools.specs.Job.{IsBuilt};
 ghost use Rattle.varnish_tools.specs.Output.{groups_text};
 ghost use Rattle.varnish_tools.specs.Theorem.{sink_name};
-ghost use Rattle.varnish_tools.specs.Steps.{IsFresh, PrintedUnit, PrintedUnits, PartPrinted, flush_text};
+ghost use Rattle.varnish_tools.specs.Steps.{IsFresh, PrintedUnit, PrintedUnits, PartPrinted, FrontPrinted, flush_text};
 
 use std::alloc::Global;
 use txn_rows::{Group, GroupOptions, Grouping, Table};
@@ -88,6 +88,7 @@ fn print_groups<W: World>(
 ) -> Result<(), WorldFault>
     ensures ok { OnOk result (Wrote 1 (groups_text groups.now) (W.seen world.old) (W.seen world.new)) }
     ensures part { OnErr result (WrotePart 1 (groups_text groups.now) (W.seen world.old) (W.seen world.new)) }
+    ensures left { IsErrOf result WorldFault.Failed → WroteFront 1 (groups_text groups.now) (W.seen world.old) (W.seen world.new) }
     ensures cause { IsErrOf result WorldFault.Failed → HasNewFault ((W.seen world.old).faults Writing sink_name) ((W.seen world.new).faults Writing sink_name) }
     ensures some { IsErrOf result WorldFault.Failed → groups_text groups.now ≢ [] }
 {
@@ -114,6 +115,7 @@ fn put_raw(out: &mut Vec<u8>, unit: &Unit) -> Result<(), NoMemory>
 fn print_raw<W: World>(world: &mut W, text: &mut Vec<u8>, unit: &Unit) -> Result<(), WorldFault>
     ensures ok { OnOk result (Wrote 1 (raw_lines unit.now) (W.seen world.old) (W.seen world.new)) }
     ensures part { OnErr result (WrotePart 1 (raw_lines unit.now) (W.seen world.old) (W.seen world.new)) }
+    ensures left { IsErrOf result WorldFault.Failed → WroteFront 1 (raw_lines unit.now) (W.seen world.old) (W.seen world.new) }
     ensures cause { IsErrOf result WorldFault.Failed → HasNewFault ((W.seen world.old).faults Writing sink_name) ((W.seen world.new).faults Writing sink_name) }
 {
     text.clear();
@@ -134,6 +136,8 @@ fn print_unit<W: World>(
     ensures ok { OnOk result (PrintedUnit unit.now reporter.old.table reporter.new.table (W.seen world.old) (W.seen world.new)) }
     ensures part { OnErr result (WrotePart 1
         (groups_text (unit_step grouping unit.now reporter.old.table.state).groups) (W.seen world.old) (W.seen world.new)) }
+    ensures left { IsErrOf result WorldFault.Failed → WroteFront 1
+        (groups_text (unit_step grouping unit.now reporter.old.table.state).groups) (W.seen world.old) (W.seen world.new) }
     ensures cause { IsErrOf result WorldFault.Failed → HasNewFault ((W.seen world.old).faults Writing sink_name) ((W.seen world.new).faults Writing sink_name) }
 {
     if let Grouping::Raw = grouping {
@@ -159,6 +163,7 @@ pub fn print_units<W: World>(
     requires { IsFresh grouping reporter.old.table }
     ensures ok { OnOk result (PrintedUnits grouping units.now reporter.new.table (W.seen world.old) (W.seen world.new)) }
     ensures part { IfErr result (λ s. PartPrinted grouping units.now s.units (W.seen world.old) (W.seen world.new)) }
+    ensures left { IfErr result (λ s. s.fault ≡ WorldFault.Failed → FrontPrinted grouping units.now s.units (W.seen world.old) (W.seen world.new)) }
     ensures cause { IfErr result (λ s. s.fault ≡ WorldFault.Failed → HasNewFault ((W.seen world.old).faults Writing sink_name) ((W.seen world.new).faults Writing sink_name)) }
 {
     let mut begun = 0;
@@ -178,6 +183,7 @@ pub fn print_units<W: World>(
 pub fn print_flush<W: World>(world: &mut W, reporter: &mut Reporter) -> Result<(), WorldFault>
     ensures ok { OnOk result (Wrote 1 (flush_text reporter.old.table.state) (W.seen world.old) (W.seen world.new)) }
     ensures part { OnErr result (WrotePart 1 (flush_text reporter.old.table.state) (W.seen world.old) (W.seen world.new)) }
+    ensures left { IsErrOf result WorldFault.Failed → WroteFront 1 (flush_text reporter.old.table.state) (W.seen world.old) (W.seen world.new) }
     ensures cause { IsErrOf result WorldFault.Failed → HasNewFault ((W.seen world.old).faults Writing sink_name) ((W.seen world.new).faults Writing sink_name) }
     ensures some { IsErrOf result WorldFault.Failed → flush_text reporter.old.table.state ≢ [] }
 {

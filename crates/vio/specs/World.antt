@@ -105,6 +105,14 @@ pub record WrotePart (h : ℕ) (bytes : List ℕ) (before now : Seen) : Type 0 w
   pub whole : bytes ≡ done ++ rest
   pub wrote : Wrote h done before now
 
+-- a front of the bytes was written to a handle, and not all of them
+pub record WroteFront (h : ℕ) (bytes : List ℕ) (before now : Seen) : Type 0 where
+  pub done : List ℕ
+  pub rest : List ℕ
+  pub whole : bytes ≡ done ++ rest
+  pub some : rest ≢ []
+  pub wrote : Wrote h done before now
+
 -- some bytes were read from a handle
 pub record ReadSome (h : ℕ) (before now : Seen) : Type 0 where
   pub bytes : List ℕ

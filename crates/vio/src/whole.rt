@@ -2,7 +2,7 @@
 
 ghost use Rattle.std.specs.Prelude.{◌≡◌, ◌<◌, ◌≤◌, ℕ, List, [], length, IfOk, OnOk, OnErr, Some, vec_len};
 ghost use Rattle.std.specs.Result.{IsErrOf};
-ghost use Rattle.vio.specs.World.{Reading, Writing, Read, ReadSome, ReadPast, Wrote, WrotePart, FaultsRose, IsAtEnd};
+ghost use Rattle.vio.specs.World.{Reading, Writing, Read, ReadSome, ReadPast, Wrote, WrotePart, WroteFront, FaultsRose, IsAtEnd};
 
 use crate::fault::{WholeFault, WorldFault};
 use crate::world::World;
@@ -15,6 +15,7 @@ const PIECE: usize = 65536;
 pub fn write_all<W: World>(world: &mut W, h: u32, piece: &[u8]) -> Result<(), WorldFault>
     ensures ok { OnOk result (Wrote h piece.now (W.seen world.old) (W.seen world.new)) }
     ensures err { OnErr result (WrotePart h piece.now (W.seen world.old) (W.seen world.new)) }
+    ensures left { IsErrOf result WorldFault.Failed → WroteFront h piece.now (W.seen world.old) (W.seen world.new) }
     ensures failed { IsErrOf result WorldFault.Failed → FaultsRose Writing h (W.seen world.old) (W.seen world.new) }
 {
     let mut rest = piece;

@@ -1,5 +1,5 @@
-use Rattle.std.proofs.Common.{refl, arith}
-use Rattle.varnish_tools.proofs.WritingLemmas.{PrintedUnits-none, PrintedUnits-more, PartPrinted-more}
+use Rattle.std.proofs.Common.{refl, ap, Err, arith}
+use Rattle.varnish_tools.proofs.WritingLemmas.{PrintedUnits-none, PrintedUnits-more, PartPrinted-more, FrontPrinted-more}
 use Rattle.varnish_tools.proofs.print.print_units.Goals as goal
 
 pub loop-unit-init : goal.loop-unit-init
@@ -14,3 +14,7 @@ loop-unit-preserved g c = record {
   count = omega arith;
   printed = PrintedUnits-more _ _ _ _ _ _ _ _ _ c.loop-unit-test.true c.unit-item.is c.loop-unit.invariant.printed c.in_default.ensures.ok;
 }
+
+pub returns-in-Err-clause-left : goal.returns-in-Err-clause-left
+returns-in-Err-clause-left g c =
+    λ failed. rw c.loop-unit.invariant.count (FrontPrinted-more _ _ _ _ _ _ _ _ c.loop-unit-test.true c.unit-item.is c.loop-unit.invariant.printed (c.in-Err.ensures.left (ap Err failed)))
