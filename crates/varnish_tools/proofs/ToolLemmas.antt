@@ -81,7 +81,7 @@ error_since : (text : List ℕ) (s t u : Seen) → t.written 2 ≡ s.written 2 �
 error_since text s t u w n p = ⊎_elim
     (λ (all : Gains (t.written 2) (u.written 2) text). inl (λ a told. all a (w ∙ told)))
     (λ (part : HasNewFault (t.faults Writing (codes "stderr")) (u.faults Writing (codes "stderr")) × GainsFront (t.written 2) (u.written 2) text).
-      inr (omega (arith, n.each Writing (codes "stderr"), part.0), λ a told. part.1 a (w ∙ told)))
+    inr (omega (arith, n.each Writing (codes "stderr"), part.0), λ a told. part.1 a (w ∙ told)))
     p
 
 -- where nothing was taken, the sink gained nothing until later
@@ -107,7 +107,11 @@ is_faithful words status fault taken s t u e p q =
       reports = reports;
       leaves = leaves_until fault taken s t u (q.changes.other_written 1 (omega arith)) p.leaves;
       writes = λ input is_input. let printed = p.prints input is_input in record {
-        run = printed.run; ending = printed.ending; is_run = printed.is_run; is_ending = printed.is_ending; takes = printed.takes;
+        run = printed.run;
+        ending = printed.ending;
+        is_run = printed.is_run;
+        is_ending = printed.is_ending;
+        takes = printed.takes;
         status = e ∙ ap status_of (sym printed.is_ending);
         sink = sink_until (job_of words) input printed.run printed.ending s t u (q.changes.other_written 1 (omega arith)) printed.sink;
         messages = subst (λ (x : Option ToolFault). WritesError (fault_message x) s u) (sym printed.is_ending) reports;

@@ -1,7 +1,7 @@
 -- What the steps of the top call do; the main theorem joins them.
-use Rattle.std.specs.Prelude.{◌≡◌, ◌≢◌, ℕ, ◌-◌, ◌<◌, ◌≤◌, Bool, false, List, [], ◌++◌, length, take, Option, Some, None, ◌⊎◌, ◌↔◌, codes}
+use Rattle.std.specs.Prelude.{◌≡◌, ◌≢◌, ℕ, ◌-◌, ◌<◌, ◌≤◌, Bool, false, List, [], ◌++◌, length, take, Option, Some, None, ◌↔◌}
 use Rattle.log_model.specs.Faults.{HasNewFault}
-use Rattle.vio.specs.World.{Seen, Writing, NoCountFalls, Wrote, Gains}
+use Rattle.vio.specs.World.{Seen, Writing, NoCountFalls, Wrote}
 use Rattle.vsl_record.specs.Unit.{LogUnit, Log}
 use Rattle.vsl_file.specs.File.{FileEnding, IsFile, is_whole}
 use Rattle.txn_rows.specs.declared.group.Grouping.{Grouping}

@@ -75,7 +75,7 @@ GainsBetween before now least most = (a : List ℕ) → before ≡ Some a → (m
 abbrev pub ending_begun : Input → Run → ToolFault → Ending
 ending_begun input run fault = if (length run.log == length input.units) && is_whole input.file_ending then Whole else Faulted fault
 
--- the sink gained its text; after a failed write of it, a front that has at least the text without the last unit
+-- the sink gained its text; after a failed write, at least the text without the last unit that was begun, and not all of it
 abbrev pub WritesSink : Option Job → Input → Run → Ending → Seen → Seen → Type 0
 WritesSink job input run (Faulted (WriteFault name)) before now =
     GainsBetween (before.written 1) (now.written 1) (output_of job (without_last run) (Faulted (WriteFault name))).sink (output_of job run (ending_begun input run (WriteFault name))).sink
