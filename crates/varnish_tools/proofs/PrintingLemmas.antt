@@ -196,17 +196,22 @@ pub record PartFlushed (by : Grouping) (units : Log) (before now : Seen) : Type 
   pub left : rest ≢ []
   pub wrote : Wrote 1 (units_text by units false ++ done) before now
 
+-- what comes before something is no end
+append_some : (a b : List ℕ) → b ≢ [] → a ++ b ≢ []
+append_some [] b some e = some e
+append_some (x ∷ a) b some e = cc
+
 -- nothing is flushed where no unit was taken
 some_units : (by : Grouping) (units : Log) → flush_text (unit_steps by units no_state).state ≢ [] → 0 < length units
 some_units by [] some = absurd (some refl)
 some_units by (u ∷ units) some = omega arith
 
 pub is_part_flushed : (by : Grouping) (units : Log) (table : TableState) (s t u : Seen)
-    → PrintedUnits by units table s t → flush_text table.state ≢ [] → WroteFront 1 (flush_text table.state) t u → PartFlushed by units s u
-is_part_flushed by units table s t u p some q = record {
+    → PrintedUnits by units table s t → WroteFront 1 (flush_text table.state) t u → PartFlushed by units s u
+is_part_flushed by units table s t u p q = record {
   done = q.done;
   rest = q.rest;
-  some = some_units by units (subst (λ (state : State). flush_text state ≢ []) p.took.state some);
+  some = some_units by units (subst (λ (text : List ℕ). text ≢ []) (sym q.whole ∙ ap flush_text p.took.state) (append_some q.done q.rest q.some));
   whole = text_flushed by units ∙ ap (λ (state : State). units_text by units false ++ flush_text state) (sym p.took.state)
       ∙ ap (λ (x : List ℕ). units_text by units false ++ x) q.whole ∙ sym (append_assoc (units_text by units false) q.done q.rest);
   left = q.some;

@@ -1,6 +1,6 @@
 //! Grouping what was taken, and writing the text of groups to standard output.
 
-ghost use Rattle.std.specs.Prelude.{◌≡◌, ◌≢◌, ◌++◌, [], false, length, IfOk, IfErr, OnOk, OnErr, IsErrOf, codes};
+ghost use Rattle.std.specs.Prelude.{◌≡◌, ◌++◌, false, length, IfOk, IfErr, OnOk, OnErr, IsErrOf, codes};
 ghost use Rattle.log_model.specs.Faults.{HasNewFault};
 ghost use Rattle.vio.specs.World.{Writing, Wrote, WrotePart, WroteFront};
 ghost use Rattle.vsl_record.specs.RawLine.{raw_lines};
@@ -90,7 +90,6 @@ fn print_groups<W: World>(
     ensures part { OnErr result (WrotePart 1 (groups_text groups.now) (W.seen world.old) (W.seen world.new)) }
     ensures left { IsErrOf result WorldFault.Failed → WroteFront 1 (groups_text groups.now) (W.seen world.old) (W.seen world.new) }
     ensures cause { IsErrOf result WorldFault.Failed → HasNewFault ((W.seen world.old).faults Writing sink_name) ((W.seen world.new).faults Writing sink_name) }
-    ensures some { IsErrOf result WorldFault.Failed → groups_text groups.now ≢ [] }
 {
     text.clear();
     put_groups(text, groups, selection)?;
@@ -185,7 +184,6 @@ pub fn print_flush<W: World>(world: &mut W, reporter: &mut Reporter) -> Result<(
     ensures part { OnErr result (WrotePart 1 (flush_text reporter.old.table.state) (W.seen world.old) (W.seen world.new)) }
     ensures left { IsErrOf result WorldFault.Failed → WroteFront 1 (flush_text reporter.old.table.state) (W.seen world.old) (W.seen world.new) }
     ensures cause { IsErrOf result WorldFault.Failed → HasNewFault ((W.seen world.old).faults Writing sink_name) ((W.seen world.new).faults Writing sink_name) }
-    ensures some { IsErrOf result WorldFault.Failed → flush_text reporter.old.table.state ≢ [] }
 {
     reporter.groups.clear();
     reporter.table.flush(&mut reporter.groups)?;

@@ -36,7 +36,7 @@ returns-in-Err-print_flush-clause-printed g c =
     IfOk-weaker _ _ _
     (λ (r : Ran) facts. unwritten_prints _ _ _ _ _ _ r facts (λ failed.
     prints_part_flushed _ _ c.as_slice-units.result.now c.in_ok-file.file.whole _ _ (record { only = rw c.as_slice-units.ensures c.in_ok-file.ensures.only }) c.if-not-file.false
-    (is_part_flushed _ _ _ _ _ _ printed (c.in-Err-print_flush.ensures.some (ap Err failed)) (c.in-Err-print_flush.ensures.left (ap Err failed)))
+    (is_part_flushed _ _ _ _ _ _ printed (c.in-Err-print_flush.ensures.left (ap Err failed)))
     (later_fault Writing sink_name (g.W.World.seen c.args.world.now) (g.W.World.seen c.print_units.new.world) (g.W.World.seen c.print_flush.new.world) printed.wrote.counts (c.in-Err-print_flush.ensures.cause (ap Err failed)))))
     c.unwritten-in-Err-print_flush.ensures
 
