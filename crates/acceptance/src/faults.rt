@@ -1,8 +1,8 @@
 //! Calls of the world that fail.
 
 use crate::support::{
-    Answer, DONE, FETCH, Log, NO_OPEN, NOT_BUILT, ONE_PING, PRINT_F, READ_FAULT, WRITE_FAULT,
-    expect_run, world_with,
+    Answer, DONE, FETCH, FETCH_GROUPS, Log, NO_OPEN, NOT_BUILT, ONE_PING, OPEN_GROUPS, PRINT_F,
+    READ_FAULT, WRITE_FAULT, expect_run, world_with,
 };
 use std::alloc::Global;
 use std::process::Abort;
@@ -33,6 +33,23 @@ fn a_failed_second_write_leaves_the_first(rt: HostRuntime) -> Result<(), Fail> {
     )
 }
 
+/// Adds what is written before the call of this number fails, counts the calls, and says whether it fails here.
+fn write_until(
+    failing: usize,
+    call: &mut usize,
+    written: &[u8],
+    text: &mut Vec<u8>,
+) -> Result<bool, Fail> {
+    for piece in written.chunks(PIECE) {
+        *call = call.saturating_add(1);
+        if *call == failing {
+            return Ok(true);
+        }
+        text.extend_from_slice(piece)?;
+    }
+    Ok(false)
+}
+
 /// What a run answers whose call of this number fails, counted from 1. The text is a buffer.
 fn answer_without_call<'a>(
     log: &Log,
@@ -50,24 +67,24 @@ fn answer_without_call<'a>(
     }
     let mut call = 1 + reads;
     let mut units: u64 = 0;
-    for (_, lines) in log.units {
+    let mut flush: &[u8] = b"";
+    let mut failed = false;
+    for unit in log.units {
         units = units.saturating_add(1);
-        for piece in lines.chunks(PIECE) {
-            call = call.saturating_add(1);
-            if call == failing {
-                return Ok(Answer {
-                    run: RunRecord::Counted { units, items: 1 },
-                    output: text,
-                    ..WRITE_FAULT
-                });
-            }
-            text.extend_from_slice(piece)?;
+        flush = unit.flush;
+        failed = write_until(failing, &mut call, unit.text, text)?;
+        if failed {
+            break;
         }
     }
+    if !failed {
+        failed = write_until(failing, &mut call, flush, text)?;
+    }
+    let base = if failed { WRITE_FAULT } else { DONE };
     Ok(Answer {
         run: RunRecord::Counted { units, items: 1 },
         output: text,
-        ..DONE
+        ..base
     })
 }
 
@@ -89,7 +106,7 @@ fn expect_faults(
         expect_run(
             rt,
             alloc,
-            PRINT_F,
+            log.words,
             &mut world,
             &want,
             what,
@@ -100,7 +117,7 @@ fn expect_faults(
     let mut world = world_with(alloc, log.bytes)?;
     world.piece(PIECE);
     world.fail(u64::from(calls) + 1)?;
-    expect_run(rt, alloc, PRINT_F, &mut world, &want, what, usize::MAX)
+    expect_run(rt, alloc, log.words, &mut world, &want, what, usize::MAX)
 }
 
 #[test]
@@ -108,7 +125,17 @@ fn each_failing_call_has_its_fault(rt: HostRuntime) -> Result<(), Fail> {
     // an open, 10 reads and one at the end, and 12 writes
     expect_faults(&rt, rt.alloc(), "a call for a ping", &ONE_PING, 24)?;
     // an open, 34 reads and one at the end, 24 writes for the first unit and 37 for the second
-    expect_faults(&rt, rt.alloc(), "a call for a request", &FETCH, 97)
+    expect_faults(&rt, rt.alloc(), "a call for a request", &FETCH, 97)?;
+    // the same reads, 28 writes for the first transaction and 39 for the second
+    expect_faults(
+        &rt,
+        rt.alloc(),
+        "a call for two transactions",
+        &FETCH_GROUPS,
+        103,
+    )?;
+    // an open, 23 reads and one at the end, 28 writes for the second unit and 38 for the flush
+    expect_faults(&rt, rt.alloc(), "a call for a flush", &OPEN_GROUPS, 91)
 }
 
 /// Messages of 22 and 23 bytes take eight writes: the number of a write where nothing is opened before

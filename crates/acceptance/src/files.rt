@@ -2,8 +2,8 @@
 
 use crate::byte_table::{ENDS_EARLY, PLACES, REQUEST_WITH_FETCH};
 use crate::support::{
-    Answer, BAD_FILE, DONE, FETCH, HEADER, Log, NO_OPEN, ONE_PING, PRINT_F, expect_file,
-    expect_run, world_with,
+    Answer, BAD_FILE, DONE, FETCH, FETCH_GROUPS, HEADER, Log, NO_OPEN, ONE_PING, OPEN_GROUPS,
+    PRINT_F, expect_file, expect_run, world_with,
 };
 use std::alloc::Global;
 use std::process::Abort;
@@ -60,12 +60,17 @@ fn answer_of_cut<'a>(log: &Log, cut: usize, text: &'a mut Vec<u8>) -> Result<Ans
     text.clear();
     let mut whole = cut == 8;
     let mut units: u64 = 0;
-    for (end, lines) in log.units {
-        if *end <= cut {
+    let mut flush: &[u8] = b"";
+    for unit in log.units {
+        if unit.end <= cut {
             units = units.saturating_add(1);
-            text.extend_from_slice(lines)?;
+            flush = unit.flush;
+            text.extend_from_slice(unit.text)?;
         }
-        whole = whole || *end == cut;
+        whole = whole || unit.end == cut;
+    }
+    if whole {
+        text.extend_from_slice(flush)?;
     }
     let base = if whole { DONE } else { BAD_FILE };
     Ok(Answer {
@@ -88,16 +93,26 @@ fn expect_cuts(
         let want = answer_of_cut(log, cut, &mut text)?;
         let mut world = world_with(alloc, &log.bytes[..cut])?;
         world.piece(piece);
-        expect_run(rt, alloc, PRINT_F, &mut world, &want, what, cut)?;
+        expect_run(rt, alloc, log.words, &mut world, &want, what, cut)?;
     }
     Ok(())
 }
 
 #[test]
-fn a_cut_file_prints_its_whole_units(rt: HostRuntime) -> Result<(), Fail> {
+fn a_cut_file_prints_its_whole_units_and_a_whole_one_its_flush(
+    rt: HostRuntime,
+) -> Result<(), Fail> {
     for piece in [1, 3, 1000] {
         expect_cuts(&rt, rt.alloc(), "a cut ping", &ONE_PING, piece)?;
         expect_cuts(&rt, rt.alloc(), "a cut request", &FETCH, piece)?;
+        expect_cuts(
+            &rt,
+            rt.alloc(),
+            "two cut transactions",
+            &FETCH_GROUPS,
+            piece,
+        )?;
+        expect_cuts(&rt, rt.alloc(), "a cut open one", &OPEN_GROUPS, piece)?;
     }
     Ok(())
 }

@@ -3,7 +3,7 @@
 ghost use Rattle.std.specs.Prelude.{◌≡◌, ◌<◌, IfOk};
 ghost use Rattle.std.specs.List.{All};
 
-use crate::support::{Answer, BAD_FILE, DONE, FETCH, ONE_PING, expect_run, world_with};
+use crate::support::{Answer, BY_TRANSACTION, DONE, ONE_PING, expect_run, world_with};
 use std::alloc::Global;
 use std::process::Abort;
 use std::test::Fail;
@@ -13,61 +13,22 @@ use vsl_record::{Mark, Record, Unit, VXID_END};
 use vsl_select::{Selection, Sides, group_text};
 use vsl_tags::Tag;
 
-/// The words that print the file `f` by transaction.
-const BY_TRANSACTION: &[&str] = &["varnishlog", "-r", "f"];
-
-/// A request that begins and doesn't end.
-const OPEN_REQUEST: &[u8] =
-    b"VSLOG-1\n\x06\x00\x00\xfe\x0b\x00\x00\x2a\x09\x00\x00\x40req 1 rxreq\x00";
-
-/// The same, and then a byte that no unit has.
-const OPEN_AND_DAMAGED: &[u8] =
-    b"VSLOG-1\n\x06\x00\x00\xfe\x0b\x00\x00\x2a\x09\x00\x00\x40req 1 rxreq\x00\x00";
-
-const FETCH_TEXT: &str =
-    "*   << BeReq    >> 3         \n-   Begin          bereq 2 fetch\n-   End            \n\n";
-
-const FETCH_AND_REQUEST_TEXT: &str =
-    "*   << BeReq    >> 3         \n-   Begin          bereq 2 fetch\n-   End            \n\n*   << Request  >> 2         \n-   Begin          req 1 rxreq\n-   Link           bereq 3 fetch\n-   End            \n\n";
-
-const OPEN_TEXT: &str =
-    "*   << Request  >> 9         \n-   Begin          req 1 rxreq\n-   VSL            flush\n-   End            synth\n\n";
-
 #[test]
-fn transactions_are_printed_when_they_end_or_at_the_end_of_the_log(
-    rt: HostRuntime,
-) -> Result<(), Fail> {
-    let cut = FETCH.bytes.split_last().ok_or("a byte")?.1;
-    let cases: [(&str, &[u8], &str, u64, bool); 5] = [
-        ("a record of no transaction", ONE_PING.bytes, "", 1, true),
-        (
-            "two transactions",
-            FETCH.bytes,
-            FETCH_AND_REQUEST_TEXT,
-            2,
-            true,
-        ),
-        ("the second is cut", cut, FETCH_TEXT, 1, false),
-        (
-            "a request without its End",
-            OPEN_REQUEST,
-            OPEN_TEXT,
-            1,
-            true,
-        ),
-        ("no flush after a fault", OPEN_AND_DAMAGED, "", 1, false),
-    ];
-    for (what, bytes, text, units, whole) in cases {
-        let mut world = world_with(rt.alloc(), bytes)?;
-        let end = if whole { DONE } else { BAD_FILE };
-        let want = Answer {
-            run: RunRecord::Counted { units, items: 1 },
-            output: text.as_bytes(),
-            ..end
-        };
-        expect_run(&rt, rt.alloc(), BY_TRANSACTION, &mut world, &want, what, 0)?;
-    }
-    Ok(())
+fn a_record_of_no_transaction_prints_nothing_by_transaction(rt: HostRuntime) -> Result<(), Fail> {
+    let mut world = world_with(rt.alloc(), ONE_PING.bytes)?;
+    let want = Answer {
+        run: RunRecord::Counted { units: 1, items: 1 },
+        ..DONE
+    };
+    expect_run(
+        &rt,
+        rt.alloc(),
+        BY_TRANSACTION,
+        &mut world,
+        &want,
+        "one ping",
+        0,
+    )
 }
 
 /// A record: its VXID, its tag and its payload; all are a client's.

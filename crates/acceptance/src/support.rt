@@ -10,34 +10,104 @@ use vio::MemWorld;
 /// The bytes with which each log file begins.
 pub const HEADER: &[u8] = b"VSLOG-1\n";
 
-/// The words that print the file `f`.
+/// The words that print each record of the file `f` by itself.
 pub const PRINT_F: &[&str] = &["varnishlog", "-g", "raw", "-r", "f"];
 
-/// A log file: where each of its units ends, and the lines that the unit prints.
+/// The words that print the file `f` by transaction.
+pub const BY_TRANSACTION: &[&str] = &["varnishlog", "-r", "f"];
+
+/// A unit of a log file: where it ends, and what is printed.
+#[derive(Clone, Copy)]
+pub struct UnitText {
+    pub end: usize,
+    /// What is written once the unit is taken.
+    pub text: &'static [u8],
+    /// What a flush writes where the log ends with this unit.
+    pub flush: &'static [u8],
+}
+
+/// A log file, the words that print it, and what they print.
 #[derive(Clone, Copy)]
 pub struct Log {
+    pub words: &'static [&'static str],
     pub bytes: &'static [u8],
-    pub units: &'static [(usize, &'static [u8])],
+    pub units: &'static [UnitText],
 }
 
 /// A unit of one record, of no transaction and no side.
 pub const ONE_PING: Log = Log {
+    words: PRINT_F,
     bytes: b"VSLOG-1\n\x05\x00\x00\xfe\x07\x00\x00\x03\x00\x00\x00\x00Rd ping\x00",
-    units: &[(28, b"         0 CLI            - Rd ping\n")],
+    units: &[UnitText {
+        end: 28,
+        text: b"         0 CLI            - Rd ping\n",
+        flush: b"",
+    }],
 };
 
 /// A backend's unit and then a client's.
 pub const FETCH: Log = Log {
+    words: PRINT_F,
     bytes: &REQUEST_WITH_FETCH,
     units: &[
-        (
-            44,
-            b"         3 Begin          b bereq 2 fetch\n         3 End            b \n",
-        ),
-        (
-            100,
-            b"         2 Begin          c req 1 rxreq\n         2 Link           c bereq 3 fetch\n         2 End            c \n",
-        ),
+        UnitText {
+            end: 44,
+            text: b"         3 Begin          b bereq 2 fetch\n         3 End            b \n",
+            flush: b"",
+        },
+        UnitText {
+            end: 100,
+            text: b"         2 Begin          c req 1 rxreq\n         2 Link           c bereq 3 fetch\n         2 End            c \n",
+            flush: b"",
+        },
+    ],
+};
+
+/// The group of the backend's transaction.
+pub const FETCH_TEXT: &[u8] =
+    b"*   << BeReq    >> 3         \n-   Begin          bereq 2 fetch\n-   End            \n\n";
+
+/// The group of the client's transaction.
+pub const REQUEST_TEXT: &[u8] =
+    b"*   << Request  >> 2         \n-   Begin          req 1 rxreq\n-   Link           bereq 3 fetch\n-   End            \n\n";
+
+/// The group of a request that begins and doesn't end.
+pub const OPEN_TEXT: &[u8] =
+    b"*   << Request  >> 9         \n-   Begin          req 1 rxreq\n-   VSL            flush\n-   End            synth\n\n";
+
+/// The same two units, by transaction.
+pub const FETCH_GROUPS: Log = Log {
+    words: BY_TRANSACTION,
+    bytes: &REQUEST_WITH_FETCH,
+    units: &[
+        UnitText {
+            end: 44,
+            text: FETCH_TEXT,
+            flush: b"",
+        },
+        UnitText {
+            end: 100,
+            text: REQUEST_TEXT,
+            flush: b"",
+        },
+    ],
+};
+
+/// A request that begins and doesn't end, and then the backend's unit, by transaction.
+pub const OPEN_GROUPS: Log = Log {
+    words: BY_TRANSACTION,
+    bytes: b"VSLOG-1\n\x06\x00\x00\xfe\x0b\x00\x00\x2a\x09\x00\x00\x40req 1 rxreq\x00\x09\x00\x00\xfe\x0d\x00\x00\x2a\x03\x00\x00\x80bereq 2 fetch\x00\x00\x00\x00\x00\x00\x2c\x03\x00\x00\x80",
+    units: &[
+        UnitText {
+            end: 32,
+            text: b"",
+            flush: OPEN_TEXT,
+        },
+        UnitText {
+            end: 68,
+            text: FETCH_TEXT,
+            flush: OPEN_TEXT,
+        },
     ],
 };
 

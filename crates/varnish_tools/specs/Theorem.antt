@@ -81,13 +81,13 @@ WritesSink job input run (Faulted (WriteFault name)) before now =
     GainsBetween (before.written 1) (now.written 1) (output_of job (without_last run) (Faulted (WriteFault name))).sink (output_of job run (ending_begun input run (WriteFault name))).sink
 WritesSink job input run ending before now = Gains (before.written 1) (now.written 1) (output_of job run ending).sink
 
--- standard error gained this text; where a write of it failed, a front of it
+-- standard error gained this text; where the count of its failed writes rose, this text or a front of it
 abbrev pub WritesError : List ℕ → Seen → Seen → Type 0
 WritesError text before now =
     Gains (before.written 2) (now.written 2) text
     ⊎ (HasNewFault (before.faults Writing (codes "stderr")) (now.faults Writing (codes "stderr")) × GainsFront (before.written 2) (now.written 2) text)
 
--- standard error gained its messages; where a write of them failed, a front of them
+-- standard error gained the messages of the output; where the count of its failed writes rose, these or a front of them
 abbrev pub WritesMessages : Option Job → Run → Ending → Seen → Seen → Type 0
 WritesMessages job run ending before now = WritesError (output_of job run ending).messages before now
 
