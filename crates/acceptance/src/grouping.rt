@@ -1,17 +1,17 @@
 //! Transactions: how the records of a log are grouped and printed.
 
-ghost use Rattle.std.specs.Prelude.{◌≡◌, ◌<◌, IfOk};
-ghost use Rattle.std.specs.List.{All};
+ghost use Rattle.std.specs.Prelude.{◌<◌};
 
-use crate::support::{Answer, BY_TRANSACTION, DONE, ONE_PING, expect_run, world_with};
+use crate::support::{
+    Answer, BY_TRANSACTION, DONE, Line, ONE_PING, all_shown, expect_run, unit_of, world_with,
+};
 use std::alloc::Global;
 use std::process::Abort;
 use std::test::Fail;
-use txn_rows::{Group, GroupOptions, Grouping, Table};
+use txn_rows::{Group, GroupOptions, Grouping, Kind, Reason, Table, read_claim};
 use varnish_tools::RunRecord;
-use vsl_record::{Mark, Record, Unit, VXID_END};
-use vsl_select::{Selection, Sides, group_text};
-use vsl_tags::Tag;
+use vsl_record::Vxid;
+use vsl_select::group_text;
 
 #[test]
 fn a_record_of_no_transaction_prints_nothing_by_transaction(rt: HostRuntime) -> Result<(), Fail> {
@@ -31,17 +31,146 @@ fn a_record_of_no_transaction_prints_nothing_by_transaction(rt: HostRuntime) -> 
     )
 }
 
-/// A record: its VXID, its tag and its payload; all are a client's.
-type Line = (u32, u8, &'static str);
-
 const BEGIN: u8 = 42;
 
 const END: u8 = 44;
 
 const DEBUG: u8 = 1;
 
+/// Units of a client, and the groups that they give, each by its kind, its reason and how many records it has.
+#[derive(Clone, Copy)]
+struct Case {
+    name: &'static str,
+    grouping: Grouping,
+    units: &'static [(Vxid, &'static [Line<'static>])],
+    groups: &'static [(Kind, Reason, usize)],
+    /// How many transactions are pending.
+    rows: usize,
+}
+
+const CASES: [Case; 4] = [
+    Case {
+        name: "a request that ends is one group",
+        grouping: Grouping::Vxid,
+        units: &[(
+            9,
+            &[(42, b"req 1 rxreq"), (49, b"Start: 1.0 0.0 0.0"), (44, b"")],
+        )],
+        groups: &[(Kind::Request, Reason::Rxreq, 3)],
+        rows: 0,
+    },
+    Case {
+        name: "a request that has not ended is none",
+        grouping: Grouping::Vxid,
+        units: &[(9, &[(42, b"req 1 rxreq")])],
+        groups: &[],
+        rows: 1,
+    },
+    Case {
+        name: "raw records are groups",
+        grouping: Grouping::Raw,
+        units: &[
+            (0, &[(3, b"Rd ping")]),
+            (9, &[(42, b"req 1 rxreq"), (44, b"")]),
+        ],
+        groups: &[
+            (Kind::Record, Reason::Other, 1),
+            (Kind::Record, Reason::Other, 1),
+            (Kind::Record, Reason::Other, 1),
+        ],
+        rows: 0,
+    },
+    Case {
+        name: "records after an End begin a new transaction",
+        grouping: Grouping::Vxid,
+        units: &[
+            (8, &[(42, b"sess 0 HTTP/1")]),
+            (9, &[(42, b"req 8 esi"), (44, b"")]),
+            (9, &[(42, b"bereq 8 fetch")]),
+            (8, &[(44, b"")]),
+        ],
+        groups: &[
+            (Kind::Request, Reason::Esi, 2),
+            (Kind::Session, Reason::Other, 2),
+        ],
+        rows: 1,
+    },
+];
+
+fn table_of(alloc: Global, grouping: Grouping) -> Result<Table, Fail> {
+    let options = GroupOptions {
+        grouping: if grouping == Grouping::Raw {
+            Grouping::Raw
+        } else {
+            Grouping::Vxid
+        },
+        limit: 1000,
+        timeout: 120,
+    };
+    Ok(Table::new(alloc, options)?)
+}
+
+#[test]
+fn units_give_groups(rt: HostRuntime) -> Result<(), Fail> {
+    for case in CASES {
+        let name = case.name;
+        let mut table = table_of(rt.alloc(), case.grouping)?;
+        let mut groups = Vec::new(rt.alloc());
+        for (vxid, lines) in case.units {
+            table.step(&unit_of(rt.alloc(), *vxid, lines)?, &mut groups)?;
+        }
+        assert_eq!(rt; groups.len(), case.groups.len(), "{name}");
+        for (group, wanted) in groups.iter().zip(case.groups) {
+            assert_eq!(rt; group.members.as_slice().len(), 1, "{name}");
+            for member in group.members.as_slice() {
+                assert_eq!(rt; member.kind, wanted.0, "{name}");
+                assert_eq!(rt; member.reason, wanted.1, "{name}");
+                assert_eq!(rt; member.records.as_slice().len(), wanted.2, "{name}");
+            }
+        }
+        assert_eq!(rt; table.rows(), case.rows, "{name}");
+        assert_eq!(rt; table.unfinished(), case.rows, "{name}");
+    }
+    Ok(())
+}
+
+#[test]
+fn payloads_claim_what_they_should(rt: HostRuntime) -> Result<(), Fail> {
+    let cases: [(&[u8], Option<(Kind, Vxid, Reason)>); 12] = [
+        (b"req 1 rxreq", Some((Kind::Request, 1, Reason::Rxreq))),
+        (b"bereq 2 fetch", Some((Kind::BeReq, 2, Reason::Other))),
+        (b"sess 0 HTTP/1", Some((Kind::Session, 0, Reason::Other))),
+        (
+            b"req 0000000002 esi x",
+            Some((Kind::Request, 2, Reason::Esi)),
+        ),
+        (
+            b" req\t1073741823",
+            Some((Kind::Request, 1_073_741_823, Reason::Other)),
+        ),
+        (
+            b"\treq\t \t7\trxreq\t",
+            Some((Kind::Request, 7, Reason::Rxreq)),
+        ),
+        (b"req 1073741824 a", None),
+        (b"req 12345678901 a", None),
+        (b"req 00000000001 a", None),
+        (b"Req 1 a", None),
+        (b"req", None),
+        (b"", None),
+    ];
+    for (payload, wanted) in cases {
+        let claim = read_claim(payload).map(|claim| (claim.kind, claim.vxid, claim.reason));
+        assert_eq!(rt; claim, wanted);
+    }
+    Ok(())
+}
+
+/// Records of a client, each a unit: its VXID, its tag and its payload.
+type Records = &'static [(Vxid, u8, &'static str)];
+
 /// Logs that no server writes, and the text of their groups, each group worked by hand.
-const HOSTILE: &[(&str, &[Line], &str)] = &[
+const HOSTILE: &[(&str, Records, &str)] = &[
     (
         "an End without a Begin",
         &[(5, END, "")],
@@ -82,40 +211,12 @@ const HOSTILE: &[(&str, &[Line], &str)] = &[
     ),
 ];
 
-fn one_record(alloc: Global, tag: u8, payload: &[u8]) -> Result<Vec<Record>, Fail>
-    ensures { IfOk result (λ v. All (λ r. r.mark ≡ Mark.Client) v.items) }
-{
-    let tag = Tag::from_number(tag).ok_or("a tag")?;
-    let mut records = Vec::new(alloc);
-    records.push(Record::new(alloc, tag, Mark::Client, payload)?)?;
-    Ok(records)
-}
-
-fn unit_of(alloc: Global, vxid: u32, tag: u8, payload: &[u8]) -> Result<Unit, Fail> {
-    let records = one_record(alloc, tag, payload)?;
-    if vxid >= VXID_END {
-        return Err(Fail::from("a VXID"));
-    }
-    Ok(Unit::new(vxid, Mark::Client, records)?)
-}
-
-fn table_of(alloc: Global) -> Result<Table, Fail> {
-    let options = GroupOptions {
-        grouping: Grouping::Vxid,
-        limit: 1000,
-        timeout: 120,
-    };
-    Ok(Table::new(alloc, options)?)
-}
-
-fn groups_of(alloc: Global, lines: &[Line]) -> Result<Vec<Group>, Fail> {
-    let mut table = table_of(alloc)?;
+fn groups_of(alloc: Global, lines: Records) -> Result<Vec<Group>, Fail> {
+    let mut table = table_of(alloc, Grouping::Vxid)?;
     let mut groups = Vec::new(alloc);
     for (vxid, tag, payload) in lines {
-        table.step(
-            &unit_of(alloc, *vxid, *tag, payload.as_bytes())?,
-            &mut groups,
-        )?;
+        let unit = unit_of(alloc, *vxid, &[(*tag, payload.as_bytes())])?;
+        table.step(&unit, &mut groups)?;
     }
     table.flush(&mut groups)?;
     Ok(groups)
@@ -123,12 +224,7 @@ fn groups_of(alloc: Global, lines: &[Line]) -> Result<Vec<Group>, Fail> {
 
 #[test]
 fn hostile_logs_have_their_groups(rt: HostRuntime) -> Result<(), Fail> {
-    let sides = Sides {
-        backend: false,
-        client: false,
-        esi: false,
-    };
-    let selection = Selection::new(rt.alloc(), sides, Vec::new(rt.alloc()), false)?;
+    let selection = all_shown(rt.alloc())?;
     for (what, lines, want) in HOSTILE {
         let mut text = Vec::new(rt.alloc());
         for group in &groups_of(rt.alloc(), lines)? {
@@ -165,11 +261,11 @@ fn payload_at(at: u8) -> [u8; 2]
 fn expect_once(rt: &impl Abort, alloc: Global, length: u8) -> Result<(), Fail>
     requires { length < 100 }
 {
-    let mut table = table_of(alloc)?;
+    let mut table = table_of(alloc, Grouping::Vxid)?;
     let mut groups = Vec::new(alloc);
     for at in 0..length {
         let tag = if at % 7 == 6 { END } else { DEBUG };
-        let unit = unit_of(alloc, u32::from(at % 3) + 1, tag, &payload_at(at))?;
+        let unit = unit_of(alloc, u32::from(at % 3) + 1, &[(tag, &payload_at(at))])?;
         table.step(&unit, &mut groups)?;
     }
     table.flush(&mut groups)?;

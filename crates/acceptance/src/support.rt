@@ -1,4 +1,6 @@
-//! Log files whose text is known, and what a whole run over one has to answer.
+//! Log files whose text is known, what a whole run over one has to answer, and records and units of a client.
+
+ghost use Rattle.std.specs.Prelude.{◌≡◌, IfOk};
 
 use crate::byte_table::REQUEST_WITH_FETCH;
 use std::alloc::Global;
@@ -6,6 +8,9 @@ use std::process::Abort;
 use std::test::Fail;
 use varnish_tools::{Outcome, RunRecord, ToolFault, run_tools};
 use vio::MemWorld;
+use vsl_record::{Mark, Record, Unit, VXID_END, Vxid};
+use vsl_select::{Selection, Sides};
+use vsl_tags::Tag;
 
 /// The bytes with which each log file begins.
 pub const HEADER: &[u8] = b"VSLOG-1\n";
@@ -250,4 +255,37 @@ pub fn expect_file(
 ) -> Result<(), Fail> {
     let mut world = world_with(alloc, bytes)?;
     expect_run(rt, alloc, PRINT_F, &mut world, want, what, at)
+}
+
+/// The number of a tag, and a payload.
+pub type Line<'a> = (u8, &'a [u8]);
+
+/// A client's record.
+pub fn record_of(alloc: Global, tag: u8, payload: &[u8]) -> Result<Record, Fail>
+    ensures { IfOk result (λ r. r.mark ≡ Mark.Client) }
+{
+    let tag = Tag::from_number(tag).ok_or("a tag")?;
+    Ok(Record::new(alloc, tag, Mark::Client, payload)?)
+}
+
+/// A client's unit of these lines.
+pub fn unit_of(alloc: Global, vxid: Vxid, lines: &[Line<'_>]) -> Result<Unit, Fail> {
+    if vxid >= VXID_END {
+        return Err(Fail::from("a VXID"));
+    }
+    let mut records = Vec::new(alloc);
+    for (tag, payload) in lines {
+        records.push(record_of(alloc, *tag, payload)?)?;
+    }
+    Ok(Unit::new(vxid, Mark::Client, records)?)
+}
+
+/// A selection that shows all.
+pub fn all_shown(alloc: Global) -> Result<Selection, Fail> {
+    let sides = Sides {
+        backend: false,
+        client: false,
+        esi: false,
+    };
+    Ok(Selection::new(alloc, sides, Vec::new(alloc), false)?)
 }

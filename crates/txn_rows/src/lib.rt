@@ -17,6 +17,3 @@ mod table;
 pub use claim::{Claim, read_claim};
 pub use group::{Cause, Group, GroupOptions, Grouping, Kind, Member, Members, Reason};
 pub use table::{Table, each_record_once};
-
-#[cfg(test)]
-mod tests;

@@ -18,6 +18,3 @@ pub use fault::{Failed, NoMemory, WholeFault, WorldFault};
 pub use memory::MemWorld;
 pub use whole::{read_whole, write_all};
 pub use world::World;
-
-#[cfg(test)]
-mod tests;

@@ -9,6 +9,3 @@
 mod reading;
 
 pub use reading::{FileUnits, every_file, one_content, read_file};
-
-#[cfg(test)]
-mod tests;

@@ -25,6 +25,3 @@ pub use record_type::Record;
 pub use records::Records;
 pub use unit::{MAX_UNIT_WORDS, Unit, VXID_END, Vxid};
 pub use units::Units;
-
-#[cfg(test)]
-mod tests;

@@ -12,6 +12,3 @@ mod selection;
 
 pub use lines::{group_text, raw_line};
 pub use selection::{RuleText, SelectFault, Selection, Sides};
-
-#[cfg(test)]
-mod tests;

@@ -13,6 +13,3 @@ mod number;
 
 pub use names::{name_of, names_differ};
 pub use number::Tag;
-
-#[cfg(test)]
-mod tests;

@@ -1,9 +1,11 @@
-use super::*;
+//! The text of groups and raw lines.
+
+use crate::support::{all_shown, record_of};
 use std::alloc::Global;
-use std::test::*;
+use std::test::Fail;
 use txn_rows::{Group, Kind, Member, Members, Reason};
-use vsl_record::{Mark, Record, Records};
-use vsl_tags::Tag;
+use vsl_record::Records;
+use vsl_select::{group_text, raw_line};
 
 /// A transaction: its VXID, kind and level, and the tags and payloads of its records.
 #[derive(Drop)]
@@ -110,11 +112,6 @@ const CASES: &[Case] = &[
     },
 ];
 
-fn record_of(alloc: Global, tag: u8, payload: &[u8]) -> Result<Record, Fail> {
-    let tag = Tag::from_number(tag).ok_or("no such tag")?;
-    Ok(Record::new(alloc, tag, Mark::Client, payload)?)
-}
-
 fn member_of(alloc: Global, shape: &Shape) -> Result<Member, Fail> {
     let mut records = Records::new(alloc);
     for (tag, payload) in shape.records {
@@ -136,15 +133,6 @@ fn group_of(alloc: Global, shapes: &[Shape]) -> Result<Group, Fail> {
         members.push(member_of(alloc, shape)?)?;
     }
     Ok(Group { members })
-}
-
-fn all_shown(alloc: Global) -> Result<Selection, Fail> {
-    let sides = Sides {
-        backend: false,
-        client: false,
-        esi: false,
-    };
-    Ok(Selection::new(alloc, sides, Vec::new(alloc), false)?)
 }
 
 #[test]

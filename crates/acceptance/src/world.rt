@@ -1,7 +1,7 @@
-//! What no clause says: which calls fail, how pieces are cut, and that calls succeed with their answer.
+//! A world in memory: which calls fail, how pieces are cut, and that calls succeed with their answer.
 
-use crate::{Failed, MemWorld, WholeFault, World, WorldFault, read_whole, write_all};
 use std::test::Fail;
+use vio::{Failed, MemWorld, WholeFault, World, WorldFault, read_whole, write_all};
 
 /// The bytes of the files and pieces below.
 const TEXT: &[u8] = b"abcde";
