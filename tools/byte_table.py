@@ -10,6 +10,7 @@ decoder follows the rules of the format alone; no output of the program is used.
 """
 
 import struct
+import textwrap
 
 HEADER = b"VSLOG-1\n"
 UNIT_TOP = 0xFE
@@ -98,6 +99,14 @@ def ranges(values):
     return [tuple(pair) for pair in found]
 
 
+def print_bytes(name, values, form):
+    """Prints a table of a hundred bytes, in lines of at most a hundred columns."""
+    print("pub const %s: [u8; 100] = [" % name)
+    text = ", ".join(form % value for value in values) + ","
+    print(textwrap.fill(text, 99, initial_indent="    ", subsequent_indent="    "))
+    print("];")
+
+
 def main():
     backend = spell(3, BACKEND, [(BEGIN, b"bereq 2 fetch"), (END, b"")])
     client = spell(
@@ -107,9 +116,9 @@ def main():
     assert len(data) == 100 and len(backend) == 36 and len(client) == 56
     assert read(data) == (2, True)
 
-    places, early = [], []
+    first, last, others, also, early = [], [], [], [], []
     for place, old in enumerate(data):
-        whole, others = [], {}
+        whole, left = [], {}
         for value in range(256):
             changed = data[:place] + bytes([value]) + data[place + 1 :]
             units, is_whole = read(changed)
@@ -117,33 +126,44 @@ def main():
                 assert units == 2, (place, value, units)
                 whole.append(value)
             else:
-                others.setdefault(units, []).append(value)
-        assert old in whole
+                left.setdefault(units, []).append(value)
+        for low, high in ranges(whole):
+            if low <= old <= high:
+                first.append(low)
+                last.append(high)
+            else:
+                also.append((place, low, high))
         # what most of the other values leave; the rest are listed one by one
-        most = max(others, key=lambda units: len(others[units]), default=2)
-        places.append((ranges(whole), most))
-        for units, values in others.items():
+        most = max(left, key=lambda units: len(left[units]), default=2)
+        others.append(most)
+        for units, values in left.items():
             if units != most:
                 early += [(place, value, units) for value in values]
+    assert len(first) == 100
 
     print(HEAD)
-    print("pub const REQUEST_WITH_FETCH: [u8; 100] = [")
-    for i in range(0, len(data), 16):
-        print("    " + ", ".join("0x%02x" % b for b in data[i : i + 16]) + ",")
-    print("];")
+    print_bytes("REQUEST_WITH_FETCH", data, "0x%02x")
     print()
-    print("/// For each place of the file: the values, as ranges with both ends, with which it stays whole")
-    print("/// and has two units, and how many units each other value leaves, but for those of `ENDS_EARLY`.")
-    print("pub const PLACES: [(&[(u8, u8)], usize); 100] = [")
-    for whole, most in places:
-        text = ", ".join("(%d, %d)" % pair for pair in whole)
-        print("    (&[%s], %d)," % (text, most))
+    print("/// For each place of the file the least value of the range round its own byte with which it stays")
+    print("/// whole and has two units.")
+    print_bytes("FIRST_WHOLE", first, "%d")
+    print()
+    print("/// The greatest value of that range.")
+    print_bytes("LAST_WHOLE", last, "%d")
+    print()
+    print("/// How many units the other values leave, but for those of `ALSO_WHOLE` and `ENDS_EARLY`.")
+    print_bytes("OTHERS", others, "%d")
+    print()
+    print("/// A place, and another range of values with which the file stays whole and has two units: both ends.")
+    print("pub const ALSO_WHOLE: [(usize, u8, u8); %d] = [" % len(also))
+    for row in also:
+        print("    (%d, %d, %d)," % row)
     print("];")
     print()
     print("/// A place, a value and how many units it leaves: the header counts fewer words, up to the end of")
     print("/// a record, so that the unit is whole and no unit follows it.")
     text = ", ".join("(%d, %d, %d)" % row for row in sorted(early))
-    print("pub const ENDS_EARLY: [(usize, u8, usize); %d] = [%s];" % (len(early), text))
+    print("pub const ENDS_EARLY: [(usize, u8, u8); %d] = [%s];" % (len(early), text))
 
 
 if __name__ == "__main__":

@@ -1,6 +1,10 @@
 //! Log files of every kind, whole, cut and changed.
 
-use crate::byte_table::{ENDS_EARLY, PLACES, REQUEST_WITH_FETCH};
+ghost use Rattle.std.specs.Prelude.{◌<◌};
+
+use crate::byte_table::{
+    ALSO_WHOLE, ENDS_EARLY, FIRST_WHOLE, LAST_WHOLE, OTHERS, REQUEST_WITH_FETCH,
+};
 use crate::support::{
     Answer, BAD_FILE, DONE, FETCH, FETCH_GROUPS, HEADER, Log, NO_OPEN, ONE_PING, OPEN_GROUPS,
     PRINT_F, expect_file, expect_run, world_with,
@@ -130,12 +134,15 @@ fn a_file_over_the_limit_prints_nothing(rt: HostRuntime) -> Result<(), Fail> {
     expect_file(&rt, rt.alloc(), &bytes, &unread, "over the limit", 1)
 }
 
-/// Whether the file is whole with this value at this place, and how many units it has; a row says for
-/// the place which values leave it whole, and how many units the others leave.
-fn content_of_changed(place: usize, value: u8, row: &(&[(u8, u8)], usize)) -> (bool, usize) {
-    let (whole, others) = row;
-    for (first, last) in *whole {
-        if *first <= value && value <= *last {
+/// Whether the file is whole with this value at this place, and how many units it has.
+fn content_of_changed(place: usize, value: u8) -> (bool, u8)
+    requires { place < 100 }
+{
+    if FIRST_WHOLE[place] <= value && value <= LAST_WHOLE[place] {
+        return (true, 2);
+    }
+    for (at, first, last) in ALSO_WHOLE {
+        if at == place && first <= value && value <= last {
             return (true, 2);
         }
     }
@@ -144,21 +151,23 @@ fn content_of_changed(place: usize, value: u8, row: &(&[(u8, u8)], usize)) -> (b
             return (false, units);
         }
     }
-    (false, *others)
+    (false, OTHERS[place])
 }
 
 #[test]
 fn a_changed_byte_is_seen_where_it_matters(rt: HostRuntime) -> Result<(), Fail> {
-    for (place, row) in PLACES.iter().enumerate() {
+    for place in 0..REQUEST_WITH_FETCH.len() {
         for value in 0..=255 {
-            let mut bytes = Vec::from_slice(rt.alloc(), &REQUEST_WITH_FETCH)?;
-            if let Some(byte) = bytes.get_mut(place) {
-                *byte = value;
-            }
+            let mut bytes = REQUEST_WITH_FETCH;
+            bytes[place] = value;
             let file = read_file(rt.alloc(), &bytes)?;
-            let (whole, units) = content_of_changed(place, value, row);
+            let (whole, units) = content_of_changed(place, value);
             assert_eq!(rt; file.whole, whole, "{value} at {place}");
-            assert_eq!(rt; file.units.as_slice().len(), units, "{value} at {place}");
+            assert_eq!(rt;
+                file.units.as_slice().len(),
+                usize::from(units),
+                "{value} at {place}"
+            );
         }
     }
     Ok(())

@@ -3,7 +3,7 @@
 ghost use Rattle.std.specs.Prelude.{◌<◌};
 
 use crate::support::{
-    Answer, BY_TRANSACTION, DONE, Line, ONE_PING, all_shown, expect_run, unit_of, world_with,
+    Answer, BY_TRANSACTION, DONE, ONE_PING, all_shown, expect_run, unit_of, world_with,
 };
 use std::alloc::Global;
 use std::process::Abort;
@@ -37,101 +37,13 @@ const END: u8 = 44;
 
 const DEBUG: u8 = 1;
 
-/// Units of a client, and the groups that they give, each by its kind, its reason and how many records it has.
-#[derive(Clone, Copy)]
-struct Case {
-    name: &'static str,
-    grouping: Grouping,
-    units: &'static [(Vxid, &'static [Line<'static>])],
-    groups: &'static [(Kind, Reason, usize)],
-    /// How many transactions are pending.
-    rows: usize,
-}
-
-const CASES: [Case; 4] = [
-    Case {
-        name: "a request that ends is one group",
-        grouping: Grouping::Vxid,
-        units: &[(
-            9,
-            &[(42, b"req 1 rxreq"), (49, b"Start: 1.0 0.0 0.0"), (44, b"")],
-        )],
-        groups: &[(Kind::Request, Reason::Rxreq, 3)],
-        rows: 0,
-    },
-    Case {
-        name: "a request that has not ended is none",
-        grouping: Grouping::Vxid,
-        units: &[(9, &[(42, b"req 1 rxreq")])],
-        groups: &[],
-        rows: 1,
-    },
-    Case {
-        name: "raw records are groups",
-        grouping: Grouping::Raw,
-        units: &[
-            (0, &[(3, b"Rd ping")]),
-            (9, &[(42, b"req 1 rxreq"), (44, b"")]),
-        ],
-        groups: &[
-            (Kind::Record, Reason::Other, 1),
-            (Kind::Record, Reason::Other, 1),
-            (Kind::Record, Reason::Other, 1),
-        ],
-        rows: 0,
-    },
-    Case {
-        name: "records after an End begin a new transaction",
-        grouping: Grouping::Vxid,
-        units: &[
-            (8, &[(42, b"sess 0 HTTP/1")]),
-            (9, &[(42, b"req 8 esi"), (44, b"")]),
-            (9, &[(42, b"bereq 8 fetch")]),
-            (8, &[(44, b"")]),
-        ],
-        groups: &[
-            (Kind::Request, Reason::Esi, 2),
-            (Kind::Session, Reason::Other, 2),
-        ],
-        rows: 1,
-    },
-];
-
-fn table_of(alloc: Global, grouping: Grouping) -> Result<Table, Fail> {
+fn table_of(alloc: Global) -> Result<Table, Fail> {
     let options = GroupOptions {
-        grouping: if grouping == Grouping::Raw {
-            Grouping::Raw
-        } else {
-            Grouping::Vxid
-        },
+        grouping: Grouping::Vxid,
         limit: 1000,
         timeout: 120,
     };
     Ok(Table::new(alloc, options)?)
-}
-
-#[test]
-fn units_give_groups(rt: HostRuntime) -> Result<(), Fail> {
-    for case in CASES {
-        let name = case.name;
-        let mut table = table_of(rt.alloc(), case.grouping)?;
-        let mut groups = Vec::new(rt.alloc());
-        for (vxid, lines) in case.units {
-            table.step(&unit_of(rt.alloc(), *vxid, lines)?, &mut groups)?;
-        }
-        assert_eq!(rt; groups.len(), case.groups.len(), "{name}");
-        for (group, wanted) in groups.iter().zip(case.groups) {
-            assert_eq!(rt; group.members.as_slice().len(), 1, "{name}");
-            for member in group.members.as_slice() {
-                assert_eq!(rt; member.kind, wanted.0, "{name}");
-                assert_eq!(rt; member.reason, wanted.1, "{name}");
-                assert_eq!(rt; member.records.as_slice().len(), wanted.2, "{name}");
-            }
-        }
-        assert_eq!(rt; table.rows(), case.rows, "{name}");
-        assert_eq!(rt; table.unfinished(), case.rows, "{name}");
-    }
-    Ok(())
 }
 
 #[test]
@@ -212,7 +124,7 @@ const HOSTILE: &[(&str, Records, &str)] = &[
 ];
 
 fn groups_of(alloc: Global, lines: Records) -> Result<Vec<Group>, Fail> {
-    let mut table = table_of(alloc, Grouping::Vxid)?;
+    let mut table = table_of(alloc)?;
     let mut groups = Vec::new(alloc);
     for (vxid, tag, payload) in lines {
         let unit = unit_of(alloc, *vxid, &[(*tag, payload.as_bytes())])?;
@@ -261,7 +173,7 @@ fn payload_at(at: u8) -> [u8; 2]
 fn expect_once(rt: &impl Abort, alloc: Global, length: u8) -> Result<(), Fail>
     requires { length < 100 }
 {
-    let mut table = table_of(alloc, Grouping::Vxid)?;
+    let mut table = table_of(alloc)?;
     let mut groups = Vec::new(alloc);
     for at in 0..length {
         let tag = if at % 7 == 6 { END } else { DEBUG };

@@ -7,4 +7,4 @@ use Rattle.acceptance.proofs.units.records.Goals as goal
 pub loop-preserved : goal.loop-preserved
 loop-preserved c =
     All-same (λ (r : Record). r.mark ≡ Client) _ _ c.in_ok-push.ensures.items
-    (All-push (λ (r : Record). r.mark ≡ Client) c.loop.records.items c.in_ok-new.field-0 c.loop.invariant c.in_ok-new.ensures.made.1)
+    (All-push (λ (r : Record). r.mark ≡ Client) c.loop.records.items c.in_ok-record_of.field-0 c.loop.invariant c.in_ok-record_of.ensures)
