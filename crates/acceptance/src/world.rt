@@ -104,8 +104,16 @@ fn a_handle_keeps_the_file_that_was_opened(rt: HostRuntime) -> Result<(), Fail> 
         );
         assert_eq!(rt; world.content(h), bytes, "after reading {h}");
     }
-    let mut buf = [0; 8];
+    Ok(())
+}
+
+#[test]
+fn other_names_and_handles_are_refused(rt: HostRuntime) -> Result<(), Fail> {
+    let mut world = MemWorld::new(rt.alloc())?;
+    world.file("f", TEXT)?;
+    assert_eq!(rt; world.open("f"), Ok(3));
     assert_eq!(rt; world.open("g"), Err(WorldFault::Failed));
+    let mut buf = [0; 8];
     for h in [1, 2, 5] {
         assert_eq!(rt; world.read(h, &mut buf), Err(Failed), "a read of {h}");
     }
