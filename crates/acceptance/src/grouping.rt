@@ -37,13 +37,37 @@ const END: u8 = 44;
 
 const DEBUG: u8 = 1;
 
-fn table_of(alloc: Global) -> Result<Table, Fail> {
+fn table_of(alloc: Global, is_raw: bool) -> Result<Table, Fail> {
     let options = GroupOptions {
-        grouping: Grouping::Vxid,
+        grouping: if is_raw {
+            Grouping::Raw
+        } else {
+            Grouping::Vxid
+        },
         limit: 1000,
         timeout: 120,
     };
     Ok(Table::new(alloc, options)?)
+}
+
+#[test]
+fn a_table_keeps_what_is_pending_and_no_raw_record(rt: HostRuntime) -> Result<(), Fail> {
+    let selection = all_shown(rt.alloc())?;
+    let line = b"         9 Begin          c req 1 rxreq\n".as_slice();
+    for (is_raw, pending, want) in [(false, 1, b"".as_slice()), (true, 0, line)] {
+        let mut table = table_of(rt.alloc(), is_raw)?;
+        let mut groups = Vec::new(rt.alloc());
+        let unit = unit_of(rt.alloc(), 9, &[(BEGIN, b"req 1 rxreq")])?;
+        table.step(&unit, &mut groups)?;
+        let mut text = Vec::new(rt.alloc());
+        for group in &groups {
+            group_text(group, &selection, false, &mut text)?;
+        }
+        assert_eq!(rt; text.as_slice(), want, "raw: {is_raw}");
+        assert_eq!(rt; table.rows(), pending, "raw: {is_raw}");
+        assert_eq!(rt; table.unfinished(), pending, "raw: {is_raw}");
+    }
+    Ok(())
 }
 
 #[test]
@@ -81,7 +105,7 @@ fn payloads_claim_what_they_should(rt: HostRuntime) -> Result<(), Fail> {
 /// Records of a client, each a unit: its VXID, its tag and its payload.
 type Records = &'static [(Vxid, u8, &'static str)];
 
-/// Logs that no server writes, and the text of their groups, each group worked by hand.
+/// Logs that few servers write, and the text of their groups, each group worked by hand.
 const HOSTILE: &[(&str, Records, &str)] = &[
     (
         "an End without a Begin",
@@ -124,7 +148,7 @@ const HOSTILE: &[(&str, Records, &str)] = &[
 ];
 
 fn groups_of(alloc: Global, lines: Records) -> Result<Vec<Group>, Fail> {
-    let mut table = table_of(alloc)?;
+    let mut table = table_of(alloc, false)?;
     let mut groups = Vec::new(alloc);
     for (vxid, tag, payload) in lines {
         let unit = unit_of(alloc, *vxid, &[(*tag, payload.as_bytes())])?;
@@ -173,7 +197,7 @@ fn payload_at(at: u8) -> [u8; 2]
 fn expect_once(rt: &impl Abort, alloc: Global, length: u8) -> Result<(), Fail>
     requires { length < 100 }
 {
-    let mut table = table_of(alloc)?;
+    let mut table = table_of(alloc, false)?;
     let mut groups = Vec::new(alloc);
     for at in 0..length {
         let tag = if at % 7 == 6 { END } else { DEBUG };
