@@ -1,6 +1,6 @@
 # Short names for the commands of this repository. `make help` lists them.
 
-.PHONY: help check crate edits plant gate fmt docs build run demo
+.PHONY: help check crate edits plant gate fmt docs definitions build run demo
 
 help: ## prints this list
 	@sed -n 's/^\([a-z]*\):.*## /\1\t/p' $(MAKEFILE_LIST)
@@ -17,7 +17,7 @@ edits: ## tries the must-fail edits of one crate, or of all: NAME=vtools
 plant: ## tries wrong bodies in one crate: NAME=vtools
 	cd crates/$(NAME) && rt plant
 
-gate: ## the merge gate: proofs, edits, tests, programs, documents and examples
+gate: ## the merge gate: proofs, edits, tests, programs, documents and command lines
 	.ci/run
 
 fmt: ## lays out every crate
@@ -26,12 +26,20 @@ fmt: ## lays out every crate
 docs: ## checks the documents
 	tools/check_docs.sh
 
+definitions: ## makes docs/DEFINITIONS.md from specs/ and src/
+	tools/definitions.py --write
+
 build: ## proves and builds bin/vtools
 	cd crates/vtools && rt run -- --version
 	install -D crates/vtools/out/vtools bin/vtools
 
-run: build ## runs bin/vtools: ARGS="varnishlog -g raw -r FILE"
+run: build ## runs bin/vtools: ARGS="varnishlog -r FILE"
 	bin/vtools $(ARGS)
 
+.PHONY: cases
+cases: build ## runs the command lines of cases/, and those that take a shell, over the proved program
+	tools/check_cases.sh
+	tools/check_edges.sh
+
 demo: ## prints the first lines of a real log, by an unproved build that is thrown away
-	cd crates/vtools && rt try --data log=../../examples/real-1.vslog -- varnishlog -g raw -r log | sed -n 1,20p
+	@tools/demo.sh

@@ -116,7 +116,7 @@ def main():
     assert len(data) == 100 and len(backend) == 36 and len(client) == 56
     assert read(data) == (2, True)
 
-    first, last, others, also, early = [], [], [], [], []
+    first, last, also, early = [], [], [], []
     for place, old in enumerate(data):
         whole, left = [], {}
         for value in range(256):
@@ -133,11 +133,10 @@ def main():
                 last.append(high)
             else:
                 also.append((place, low, high))
-        # what most of the other values leave; the rest are listed one by one
-        most = max(left, key=lambda units: len(left[units]), default=2)
-        others.append(most)
+        # the other values leave the units before the changed one; the rest are listed one by one
+        before = 0 if place < len(HEADER + backend) else 1
         for units, values in left.items():
-            if units != most:
+            if units != before:
                 early += [(place, value, units) for value in values]
     assert len(first) == 100
 
@@ -151,9 +150,6 @@ def main():
     print("/// The greatest value of that range.")
     print_bytes("LAST_WHOLE", last, "%d")
     print()
-    print("/// How many units the other values leave, but for those of `ALSO_WHOLE` and `ENDS_EARLY`.")
-    print_bytes("OTHERS", others, "%d")
-    print()
     print("/// A place, and another range of values with which the file stays whole and has two units: both ends.")
     print("pub const ALSO_WHOLE: [(usize, u8, u8); %d] = [" % len(also))
     for row in also:
@@ -161,9 +157,10 @@ def main():
     print("];")
     print()
     print("/// A place, a value and how many units it leaves: the header counts fewer words, up to the end of")
-    print("/// a record, so that the unit is whole and no unit follows it.")
+    print("/// a record, so that the unit is whole and no unit follows it. The values that stand nowhere here")
+    print("/// leave the units before the changed one.")
     text = ", ".join("(%d, %d, %d)" % row for row in sorted(early))
-    print("pub const ENDS_EARLY: [(usize, u8, u8); %d] = [%s];" % (len(early), text))
+    print("pub const ENDS_EARLY: [(usize, u8, usize); %d] = [%s];" % (len(early), text))
 
 
 if __name__ == "__main__":

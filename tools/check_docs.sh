@@ -1,5 +1,5 @@
 #!/bin/sh
-# Checks the documents against the repository, with a shell and its usual tools. It proves nothing.
+# Checks the documents against the repository, with a shell, its usual tools and python3. It proves nothing.
 set -eu
 LC_ALL=C
 export LC_ALL
@@ -16,43 +16,28 @@ fail() {
     exit 1
 }
 
-# The files that are committed: all but what is made, the examples and the programs' data.
-find . -type f ! -path './.git/*' ! -path './bin/*' ! -path '*/out/*' ! -path './examples/*' ! -path './crates/*/data/*' >"$work/files"
+# The files that are committed: all but what is made, and but the data of examples, cases and programs.
+find . -type f ! -path './.git/*' ! -path './bin/*' ! -path '*/out/*' ! -path './examples/*' ! -path './cases/*/*' ! -path './crates/*/data/*' >"$work/files"
 
-for file in README.md CHANGELOG.md CONTRIBUTING.md docs/ARCHITECTURE.md docs/DEFINITIONS.md docs/FORMATS.md \
-    docs/DECISIONS.md docs/man/vtools.1; do
+for file in README.md CHANGELOG.md CONTRIBUTING.md docs/ARCHITECTURE.md docs/PROOF.md docs/DEFINITIONS.md \
+    docs/FORMATS.md docs/DECISIONS.md docs/man/vtools.1; do
     [ -s "$file" ] || fail "$file is missing"
 done
 
-# Each crate of crates.txt is named in README and ARCHITECTURE.
+# Each crate of crates.txt is named in PROOF and ARCHITECTURE.
 sed -n 's/^\([a-z0-9_]*\)\( staticlib\)\{0,1\}:.*/\1/p' crates.txt >"$work/crates"
 [ -s "$work/crates" ] || fail "crates.txt names no crate"
 while read -r crate; do
-    for file in README.md docs/ARCHITECTURE.md; do
+    for file in docs/PROOF.md docs/ARCHITECTURE.md; do
         grep -qF "\`$crate\`" "$file" || fail "$file does not name the crate $crate"
     done
 done <"$work/crates"
 
-# DEFINITIONS has each `pub` item of specs/ with the comment above it, and nothing else.
-awk '
-    FNR == 1 { text = "" }
-    /^-- / { text = text (text == "" ? "" : " ") substr($0, 4); next }
-    /^infix/ { next }
-    /^(abbrev |unfoldable )?pub / && !/^pub (mod|use) / {
-        name = $2
-        if ($1 != "pub" || $2 == "record" || $2 == "data") name = $3
-        print FILENAME "\t" name "\t" text
-    }
-    { text = "" }
-' crates/*/specs/*.antt | sort >"$work/specs"
-awk -F ' [|] ' '/^[|] `/ {
-    name = substr($1, 4, length($1) - 4)
-    file = substr($4, 2, length($4) - 2)
-    print file "\t" name "\t" $2
-}' docs/DEFINITIONS.md | sort >"$work/definitions"
-[ -s "$work/specs" ] || fail "specs/ defines nothing"
-diff "$work/specs" "$work/definitions" >"$work/differ" ||
-    fail "docs/DEFINITIONS.md and specs/ differ ('<' is in specs/, '>' in the document):" "$work/differ"
+# DEFINITIONS is what the comments of specs/ and the clauses of src/ make.
+python3 tools/definitions.py >"$work/definitions" 2>"$work/errors" ||
+    fail "tools/definitions.py failed:" "$work/errors"
+diff docs/DEFINITIONS.md "$work/definitions" >"$work/differ" ||
+    fail "docs/DEFINITIONS.md is not what \`make definitions\` writes ('>' is new):" "$work/differ"
 
 # The options of a text: words that begin with '-' and a letter.
 options() {

@@ -1,6 +1,6 @@
 #!/usr/bin/env bash
 # Makes the first allocation of the stored run fail, then the second, and so on, in unproved builds of
-# half a minute each. Each run must end with status 3, its message and a front of the row's output, or
+# half a minute each. Each run must end with status 3, its message and a prefix of the row's output, or
 # with status 0 and the whole row. It ends after three whole runs in a row. It is no part of the gate.
 set -euo pipefail
 cd "$(dirname "${BASH_SOURCE[0]}")/../crates/vtools"
@@ -30,7 +30,7 @@ for ((n = 1; n <= most_runs && whole < whole_at_end; n++)); do
         ;;
     3)
         grep -qx 'vtools: out of memory' "$work/err" || fail "$n" "status 3 without its message"
-        head -c "$(wc -c <"$work/out")" stdout | cmp -s - "$work/out" || fail "$n" "no front of the row"
+        head -c "$(wc -c <"$work/out")" stdout | cmp -s - "$work/out" || fail "$n" "no prefix of the row"
         refused=$((refused + 1))
         whole=0
         ;;

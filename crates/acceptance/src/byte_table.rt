@@ -31,14 +31,6 @@ pub const LAST_WHOLE: [u8; 100] = [
     0, 0, 92, 2, 0, 0, 64,
 ];
 
-/// How many units the other values leave, but for those of `ALSO_WHOLE` and `ENDS_EARLY`.
-pub const OTHERS: [u8; 100] = [
-    0, 0, 0, 0, 0, 0, 0, 0, 0, 0, 0, 0, 0, 0, 0, 0, 0, 0, 0, 0, 2, 2, 2, 2, 2, 2, 2, 2, 2, 2, 2, 2,
-    2, 0, 0, 0, 0, 0, 0, 0, 0, 0, 0, 0, 1, 1, 1, 1, 1, 1, 1, 1, 1, 1, 1, 1, 2, 2, 2, 2, 2, 2, 2, 2,
-    2, 2, 2, 1, 1, 1, 1, 1, 1, 1, 1, 1, 2, 2, 2, 2, 2, 2, 2, 2, 2, 2, 2, 2, 2, 1, 1, 1, 1, 1, 1, 1,
-    1, 1, 1, 1,
-];
-
 /// A place, and another range of values with which the file stays whole and has two units: both ends.
 pub const ALSO_WHOLE: [(usize, u8, u8); 4] = [
     (12, 24, 24),
@@ -48,5 +40,6 @@ pub const ALSO_WHOLE: [(usize, u8, u8); 4] = [
 ];
 
 /// A place, a value and how many units it leaves: the header counts fewer words, up to the end of
-/// a record, so that the unit is whole and no unit follows it.
-pub const ENDS_EARLY: [(usize, u8, u8); 3] = [(8, 7, 1), (44, 6, 2), (44, 12, 2)];
+/// a record, so that the unit is whole and no unit follows it. The values that stand nowhere here
+/// leave the units before the changed one.
+pub const ENDS_EARLY: [(usize, u8, usize); 3] = [(8, 7, 1), (44, 6, 2), (44, 12, 2)];

@@ -1,37 +1,15 @@
 //! Calls of the world that fail.
 
 use crate::support::{
-    Answer, DONE, FETCH, FETCH_GROUPS, Log, NO_OPEN, NOT_BUILT, ONE_PING, OPEN_GROUPS, PRINT_F,
-    READ_FAULT, WRITE_FAULT, expect_run, world_with,
+    Answer, Ending, FETCH, FETCH_GROUPS, Log, ONE_PING, OPEN_GROUPS, PRINT_F, expect_run, refused,
+    taken, world_with,
 };
 use std::alloc::Global;
 use std::process::Abort;
 use std::test::Fail;
-use varnish_tools::RunRecord;
 
-/// The most bytes that a call moves in a sweep.
+/// The most bytes that a call moves.
 const PIECE: usize = 3;
-
-#[test]
-fn a_failed_second_write_leaves_the_first(rt: HostRuntime) -> Result<(), Fail> {
-    // an open, reads of 10, 10, 8 and 0 bytes, a write, and the write that fails
-    let mut world = world_with(rt.alloc(), ONE_PING.bytes)?;
-    world.piece(10);
-    world.fail(7)?;
-    let want = Answer {
-        output: b"         0",
-        ..WRITE_FAULT
-    };
-    expect_run(
-        &rt,
-        rt.alloc(),
-        PRINT_F,
-        &mut world,
-        &want,
-        "the second write",
-        7,
-    )
-}
 
 /// Adds what is written before the call of this number fails, counts the calls, and says whether it fails here.
 fn write_until(
@@ -60,96 +38,54 @@ fn answer_without_call<'a>(
     // the last read finds the end
     let reads = log.bytes.len().div_ceil(PIECE) + 1;
     if failing <= 1 {
-        return Ok(NO_OPEN);
+        return Ok(refused(Ending::NoOpen));
     }
     if failing <= 1 + reads {
-        return Ok(READ_FAULT);
+        return Ok(refused(Ending::ReadFault));
     }
     let mut call = 1 + reads;
     let mut units: u64 = 0;
     let mut flush: &[u8] = b"";
-    let mut failed = false;
-    for unit in log.units {
+    for (_, unit_text, unit_flush) in log.units {
         units = units.saturating_add(1);
-        flush = unit.flush;
-        failed = write_until(failing, &mut call, unit.text, text)?;
-        if failed {
-            break;
+        flush = *unit_flush;
+        if write_until(failing, &mut call, *unit_text, text)? {
+            return Ok(taken(Ending::WriteFault, units, text));
         }
     }
-    if !failed {
-        failed = write_until(failing, &mut call, flush, text)?;
+    if write_until(failing, &mut call, flush, text)? {
+        return Ok(taken(Ending::WriteFault, units, text));
     }
-    let base = if failed { WRITE_FAULT } else { DONE };
-    Ok(Answer {
-        run: RunRecord::Counted { units, items: 1 },
-        output: text,
-        ..base
-    })
+    Ok(taken(Ending::Done, units, text))
 }
 
-/// Lets each call of a run fail in turn, which makes so many.
-fn expect_faults(
-    rt: &impl Abort,
-    alloc: Global,
-    what: &str,
-    log: &Log,
-    calls: u8,
-) -> Result<(), Fail> {
+/// Lets each call of a run fail in turn, which makes so many, and then one after them.
+fn expect_faults(rt: &impl Abort, alloc: Global, log: &Log, calls: u8) -> Result<(), Fail> {
     let mut text = Vec::new(alloc);
-    for failing in 1..=calls {
-        let want = answer_without_call(log, usize::from(failing), &mut text)?;
-        assert!(rt; want.status != 0, "a call too many: {what}, {failing}");
+    for failing in 1..=calls.saturating_add(1) {
+        let at = usize::from(failing);
+        let want = answer_without_call(log, at, &mut text)?;
+        let is_done = matches!(want.ending, Ending::Done);
+        assert_eq!(rt; is_done, failing > calls, "{}, {at}", log.name);
         let mut world = world_with(alloc, log.bytes)?;
         world.piece(PIECE);
         world.fail(u64::from(failing))?;
-        expect_run(
-            rt,
-            alloc,
-            log.words,
-            &mut world,
-            &want,
-            what,
-            usize::from(failing),
-        )?;
+        expect_run(rt, alloc, log.words, &mut world, &want, log.name, at)?;
     }
-    let want = answer_without_call(log, usize::MAX, &mut text)?;
-    let mut world = world_with(alloc, log.bytes)?;
-    world.piece(PIECE);
-    world.fail(u64::from(calls) + 1)?;
-    expect_run(rt, alloc, log.words, &mut world, &want, what, usize::MAX)
+    Ok(())
 }
 
 #[test]
 fn each_failing_call_has_its_fault(rt: HostRuntime) -> Result<(), Fail> {
     // an open, 10 reads and one at the end, and 12 writes
-    expect_faults(&rt, rt.alloc(), "a call for a ping", &ONE_PING, 24)?;
+    expect_faults(&rt, rt.alloc(), &ONE_PING, 24)?;
     // an open, 34 reads and one at the end, 24 writes for the first unit and 37 for the second
-    expect_faults(&rt, rt.alloc(), "a call for a request", &FETCH, 97)?;
+    expect_faults(&rt, rt.alloc(), &FETCH, 97)?;
     // the same reads, 28 writes for the first transaction and 39 for the second
-    expect_faults(
-        &rt,
-        rt.alloc(),
-        "a call for two transactions",
-        &FETCH_GROUPS,
-        103,
-    )?;
+    expect_faults(&rt, rt.alloc(), &FETCH_GROUPS, 103)?;
     // an open, 23 reads and one at the end, 28 writes for the second unit and 38 for the flush
-    expect_faults(&rt, rt.alloc(), "a call for a flush", &OPEN_GROUPS, 91)
+    expect_faults(&rt, rt.alloc(), &OPEN_GROUPS, 91)
 }
-
-/// Messages of 22 and 23 bytes take eight writes: the number of a write where nothing is opened before
-/// it, its number after an open, and how many bytes of the message stand before it.
-const MESSAGE_WRITES: [(u64, u64, usize); 8] = [
-    (1, 2, 0),
-    (2, 3, 3),
-    (3, 4, 6),
-    (4, 5, 9),
-    (5, 6, 12),
-    (6, 7, 15),
-    (7, 8, 18),
-    (8, 9, 21),
-];
 
 /// Lets two calls fail, of which the second writes a message after so many of its bytes.
 fn expect_cut_message(
@@ -157,7 +93,7 @@ fn expect_cut_message(
     alloc: Global,
     words: &[&str],
     calls: (u64, u64),
-    want: &Answer<'_>,
+    ending: Ending,
     written: usize,
 ) -> Result<(), Fail> {
     let mut world = world_with(alloc, ONE_PING.bytes)?;
@@ -165,17 +101,23 @@ fn expect_cut_message(
     world.fail(calls.0)?;
     world.fail(calls.1)?;
     let want = Answer {
-        errors: want.errors.get(..written).ok_or("a longer message")?,
-        ..*want
+        written,
+        ..refused(ending)
     };
     expect_run(rt, alloc, words, &mut world, &want, "a message", written)
 }
 
 #[test]
 fn a_message_that_fails_changes_nothing_else(rt: HostRuntime) -> Result<(), Fail> {
-    for (alone, after_open, written) in MESSAGE_WRITES {
-        expect_cut_message(&rt, rt.alloc(), &[], (alone, alone), &NOT_BUILT, written)?;
-        expect_cut_message(&rt, rt.alloc(), PRINT_F, (1, after_open), &NO_OPEN, written)?;
+    // messages of 22 and 23 bytes take eight writes; words that are not built make no other call
+    let session = ["varnishlog", "-g", "session", "-r", "f"];
+    for write in 0..8u8 {
+        let written = usize::from(write) * PIECE;
+        let call = u64::from(write) + 1;
+        let not_built = Ending::NotBuilt;
+        expect_cut_message(&rt, rt.alloc(), &session, (call, call), not_built, written)?;
+        let calls = (1, call + 1);
+        expect_cut_message(&rt, rt.alloc(), PRINT_F, calls, Ending::NoOpen, written)?;
     }
     Ok(())
 }

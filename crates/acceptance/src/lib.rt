@@ -1,9 +1,10 @@
-//! What no contract says: the tests of all libraries, most of them over a world in memory.
+//! What no contract says and no command line shows: the tests of all libraries, most of them over a
+//! world in memory. Whole command lines are data, in `cases/`.
 //!
 //! A contract here speaks of a call that had its memory. So a program that always answers want of
-//! memory meets every contract; it is refused by `files::a_header_prints_nothing_and_a_record_one_line`.
-//! Each other test has ample memory too, and one of a whole run compares the whole answer: the status,
-//! the fault, the run record, and what stands on standard output and standard error.
+//! memory meets every contract; the cases refuse it, and so does each test here, which has ample memory.
+//! One of a whole run compares the whole answer: the status, the fault, the run record, and what stands
+//! on standard output and standard error.
 //!
 //! They stand here, and not in their crates, because a crate with tests is proved twice. Expected values
 //! come from the format's rules and from the manuals, never from the program.
@@ -16,16 +17,10 @@ mod faults;
 #[cfg(test)]
 mod files;
 #[cfg(test)]
-mod grouping;
-#[cfg(test)]
-mod lines;
+mod groups;
 #[cfg(test)]
 mod support;
 #[cfg(test)]
-mod tags;
-#[cfg(test)]
 mod units;
-#[cfg(test)]
-mod words;
 #[cfg(test)]
 mod world;

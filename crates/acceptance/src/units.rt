@@ -10,22 +10,13 @@ use std::test::Fail;
 use vsl_record::{Mark, Record, RecordFault, Unit, UnitFault, WordFault, read_unit};
 use vsl_tags::Tag;
 
-/// A unit of one record: CLI "Rd ping", of no transaction and no side.
+/// A unit of one record: CLI "Rd ping", of no transaction and no mark.
 const ONE_PING: [u32; 5] = [
     0xfe00_0005,
     0x0300_0007,
     0x0000_0000,
     0x7020_6452,
     0x0067_6e69,
-];
-
-/// The same, but for the byte that fills the last word.
-const FILLED_WITH_ONE: [u32; 5] = [
-    0xfe00_0005,
-    0x0300_0007,
-    0x0000_0000,
-    0x7020_6452,
-    0x0167_6e69,
 ];
 
 /// How many records have the longest payload. Each takes 1,002 words, all 1,048,092.
@@ -146,20 +137,19 @@ fn one_ping_is_read(rt: HostRuntime) -> Result<(), Fail> {
 
 #[test]
 fn words_that_are_no_unit_are_bad(rt: HostRuntime) {
+    let mut filled_with_one = ONE_PING;
+    filled_with_one[4] = 0x0167_6e69;
     let cases = [
         ("no words", &ONE_PING[..0]),
         ("a unit without its last word", &ONE_PING[..4]),
         ("a record without its unit's header", &ONE_PING[1..]),
         (
             "a last word that is not filled with zero",
-            &FILLED_WITH_ONE[..],
+            &filled_with_one[..],
         ),
     ];
     for (what, words) in cases {
-        assert_eq!(rt;
-            read_unit(rt.alloc(), words).err(),
-            Some(WordFault::Bad),
-            "{what}"
-        );
+        let refused = read_unit(rt.alloc(), words).err();
+        assert_eq!(rt; refused, Some(WordFault::Bad), "{what}");
     }
 }

@@ -65,12 +65,8 @@ fn a_call_moves_one_piece_at_most(rt: HostRuntime) -> Result<(), Fail> {
         world.piece(most);
         let mut buf = [0; 8];
         let h = world.open("f")?;
-        assert_eq!(rt;
-            world.read(h, &mut buf)?,
-            count,
-            "a read in pieces of {most}"
-        );
-        assert_eq!(rt; world.write(1, TEXT)?, count, "a write in pieces of {most}");
+        assert_eq!(rt; world.read(h, &mut buf)?, count, "a read of {most}");
+        assert_eq!(rt; world.write(1, TEXT)?, count, "a write of {most}");
         write_all(&mut world, 2, TEXT)?;
         assert_eq!(rt; world.content(2), TEXT, "a whole write in pieces of {most}");
         let rest = read_whole(rt.alloc(), &mut world, h, 5)?;
@@ -97,11 +93,8 @@ fn a_handle_keeps_the_file_that_was_opened(rt: HostRuntime) -> Result<(), Fail> 
         assert_eq!(rt; world.content(h), bytes, "before reading {h}");
     }
     for (h, bytes) in [(old, TEXT), (new, b"new".as_slice()), (0, b"in".as_slice())] {
-        assert_eq!(rt;
-            read_whole(rt.alloc(), &mut world, h, 5)?.as_slice(),
-            bytes,
-            "of {h}"
-        );
+        let whole = read_whole(rt.alloc(), &mut world, h, 5)?;
+        assert_eq!(rt; whole.as_slice(), bytes, "of {h}");
         assert_eq!(rt; world.content(h), bytes, "after reading {h}");
     }
     Ok(())
@@ -118,11 +111,8 @@ fn other_names_and_handles_are_refused(rt: HostRuntime) -> Result<(), Fail> {
         assert_eq!(rt; world.read(h, &mut buf), Err(Failed), "a read of {h}");
     }
     for h in [0, 3, 5] {
-        assert_eq!(rt;
-            world.write(h, TEXT),
-            Err(WorldFault::Failed),
-            "a write to {h}"
-        );
+        let refused = world.write(h, TEXT);
+        assert_eq!(rt; refused, Err(WorldFault::Failed), "a write to {h}");
     }
     Ok(())
 }

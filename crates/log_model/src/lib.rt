@@ -1,5 +1,10 @@
-//! Definitions that several crates cite and that name no type of any of them.
+//! Definitions that several crates cite, and the one error that all share.
 //!
-//! The crate has no code. `specs/Faults.antt` says when a count of faults rose, and
-//! `specs/Interleaving.antt` when a list is an interleaving of others.
+//! `NoMemory` is the answer where there was no memory for a value. `specs/Faults.antt` says when a count of
+//! faults rose, `specs/Interleaving.antt` when a list is an interleaving of others, and
+//! `specs/Prefix.antt` when a list is the first part of another.
 #![tactic(auto)]
+
+mod fault;
+
+pub use fault::NoMemory;

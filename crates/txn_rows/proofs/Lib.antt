@@ -2,3 +2,4 @@ mod ClaimLemmas
 pub mod RowLemmas
 mod StepLemmas
 mod TakenLemmas
+pub mod GroupingLemmas

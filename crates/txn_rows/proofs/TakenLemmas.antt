@@ -3,6 +3,7 @@ use Rattle.std.proofs.Common.{◌≡◌, ◌+◌, ℕ, Bool, true, false, not, e
 use Rattle.std.specs.Prelude.{count_by}
 use Rattle.std.specs.List.{sum_by}
 use Rattle.std.proofs.lemmas.List.Sums.{sum_by-append, sum_by-cons}
+use Rattle.vsl_tags.specs.Tags.{begin_tag, end_tag}
 use Rattle.vsl_record.specs.declared.record_type.Record.{Record}
 use Rattle.vsl_record.specs.Unit.{LogUnit, Log}
 use Rattle.txn_rows.specs.declared.group.Grouping.{Grouping}
@@ -13,9 +14,9 @@ use Rattle.txn_rows.specs.declared.group.Member.{Member}
 use Rattle.txn_rows.specs.declared.group.Group.{Group}
 use Rattle.txn_rows.specs.declared.claim.Claim.{Claim}
 use Rattle.txn_rows.specs.Claim.{claim_of}
-use Rattle.txn_rows.specs.Transaction.{Transaction, empty_transaction, is_unknown, is_pending, is_open, with_newest, with_transaction, with_record, with_kind, with_end, claimed_kind, begin_tag, end_tag, after_record}
-use Rattle.txn_rows.specs.Grouping.{State, Reported, no_state, reported, step, steps, unit_step, unit_steps, passes_over}
-use Rattle.txn_rows.specs.Taken.{count_in_groups, count_in_pending, taken}
+use Rattle.txn_rows.specs.Transaction.{Transaction, empty_transaction, is_unknown, is_pending, is_open, with_newest, with_transaction, with_record, with_kind, with_end, claimed_kind, after_record}
+use Rattle.txn_rows.specs.Grouping.{State, Report, no_state, report_of, step, steps, unit_step, unit_steps, passes_over}
+use Rattle.txn_rows.specs.Taken.{count_in_groups, count_in_pending, taken_records}
 use Rattle.txn_rows.proofs.RowLemmas.{pending_in, or_true}
 
 -- how many records of a transaction pass
@@ -111,20 +112,20 @@ group_count test m groups =
     omega (arith, one, sum_by-cons (count_of_group test) g groups)
 
 -- what is reported leaves the pending
-reported_count : (test : Record → Bool) (pending : List Transaction) → count_in_groups test (reported pending).groups + count_in_pending test (reported pending).state.pending ≡ count_in_pending test pending
+reported_count : (test : Record → Bool) (pending : List Transaction) → count_in_groups test (report_of pending).groups + count_in_pending test (report_of pending).state.pending ≡ count_in_pending test pending
 reported_count test [] = refl
 reported_count test (t ∷ pending) =
     let rest = reported_count test pending in
     let whole = sum_by-cons (count_of test) t pending in
-    by_cases (count_in_groups test (reported (t ∷ pending)).groups + count_in_pending test (reported (t ∷ pending)).state.pending ≡ count_in_pending test (t ∷ pending)) t.ended
-    (λ e. rw e (omega (arith, rest, whole, group_count test (record { vxid = t.vxid; kind = t.kind; reason = t.reason; level = 1; parent = 0; records = t.records }) (reported pending).groups)))
-    (λ e. rw e (omega (arith, rest, whole, sum_by-cons (count_of test) t (reported pending).state.pending)))
+    by_cases (count_in_groups test (report_of (t ∷ pending)).groups + count_in_pending test (report_of (t ∷ pending)).state.pending ≡ count_in_pending test (t ∷ pending)) t.ended
+    (λ e. rw e (omega (arith, rest, whole, group_count test (record { vxid = t.vxid; kind = t.kind; reason = t.reason; level = 1; parent = 0; records = t.records }) (report_of pending).groups)))
+    (λ e. rw e (omega (arith, rest, whole, sum_by-cons (count_of test) t (report_of pending).state.pending)))
 
 -- one record, records, a unit and units keep the count
-abbrev Counted : (Record → Bool) → Reported → State → List Record → Type 0
+abbrev Counted : (Record → Bool) → Report → State → List Record → Type 0
 Counted test r before records = count_in_groups test r.groups + count_in_pending test r.state.pending ≡ count_in_pending test before.pending + count_by test records
 
-grouped_count : (test : Record → Bool) (vxid : ℕ) (rec : Record) (s : State) → Counted test (reported (after_record vxid rec s.pending)) s (rec ∷ [])
+grouped_count : (test : Record → Bool) (vxid : ℕ) (rec : Record) (s : State) → Counted test (report_of (after_record vxid rec s.pending)) s (rec ∷ [])
 grouped_count test vxid rec s = reported_count test (after_record vxid rec s.pending) ∙ after_record_count test vxid rec s.pending
 
 step_count : (test : Record → Bool) (grouping : Grouping) (vxid : ℕ) (rec : Record) (s : State) → Counted test (step grouping vxid rec s) s (rec ∷ [])
@@ -134,26 +135,26 @@ step_count test Request vxid rec s = grouped_count test vxid rec s
 step_count test Session vxid rec s = grouped_count test vxid rec s
 
 -- what follows a first step
-then_count : (test : Record → Bool) (first others : Reported) (s : State) (xs ys : List Record) → Counted test first s xs → Counted test others first.state ys → Counted test (record { state = others.state; groups = first.groups ++ others.groups }) s (xs ++ ys)
+then_count : (test : Record → Bool) (first others : Report) (s : State) (xs ys : List Record) → Counted test first s xs → Counted test others first.state ys → Counted test (record { state = others.state; groups = first.groups ++ others.groups }) s (xs ++ ys)
 then_count test first others s xs ys a b =
     omega (arith, a, b, sum_by-append (count_of_group test) first.groups others.groups, sum_by-append (λ (r : Record). cond (test r) 1 0) xs ys)
 
 steps_count : (test : Record → Bool) (grouping : Grouping) (vxid : ℕ) (records : List Record) (s : State) → Counted test (steps grouping vxid records s) s records
 steps_count test grouping vxid [] s = omega arith
 steps_count test grouping vxid (rec ∷ records) s =
-    let first : Reported = step grouping vxid rec s in
+    let first : Report = step grouping vxid rec s in
     then_count test first (steps grouping vxid records first.state) s (rec ∷ []) records (step_count test grouping vxid rec s) (steps_count test grouping vxid records first.state)
 
 unit_count : (test : Record → Bool) (passed : Bool) (grouping : Grouping) (u : LogUnit) (s : State) → Counted test (cond passed (record { state = s; groups = [] }) (steps grouping u.vxid u.records s)) s (cond passed [] u.records)
 unit_count test true grouping u s = omega arith
 unit_count test false grouping u s = steps_count test grouping u.vxid u.records s
 
-units_count : (test : Record → Bool) (grouping : Grouping) (units : Log) (s : State) → Counted test (unit_steps grouping units s) s (taken grouping units)
+units_count : (test : Record → Bool) (grouping : Grouping) (units : Log) (s : State) → Counted test (unit_steps grouping units s) s (taken_records grouping units)
 units_count test grouping [] s = omega arith
 units_count test grouping (u ∷ units) s =
-    let first : Reported = unit_step grouping u s in
-    then_count test first (unit_steps grouping units first.state) s (cond (passes_over grouping u.vxid) [] u.records) (taken grouping units) (unit_count test (passes_over grouping u.vxid) grouping u s) (units_count test grouping units first.state)
+    let first : Report = unit_step grouping u s in
+    then_count test first (unit_steps grouping units first.state) s (cond (passes_over grouping u.vxid) [] u.records) (taken_records grouping units) (unit_count test (passes_over grouping u.vxid) grouping u s) (units_count test grouping units first.state)
 
 -- each record that is taken is in one group or pending, once
-pub each_taken_once : (grouping : Grouping) (units : Log) (test : Record → Bool) → count_in_groups test (unit_steps grouping units no_state).groups + count_in_pending test (unit_steps grouping units no_state).state.pending ≡ count_by test (taken grouping units)
+pub each_taken_once : (grouping : Grouping) (units : Log) (test : Record → Bool) → count_in_groups test (unit_steps grouping units no_state).groups + count_in_pending test (unit_steps grouping units no_state).state.pending ≡ count_by test (taken_records grouping units)
 each_taken_once grouping units test = omega (arith, units_count test grouping units no_state)

@@ -12,12 +12,12 @@ use Rattle.txn_rows.specs.declared.group.Cause.TheVariants.{Flush}
 use Rattle.txn_rows.specs.declared.group.Group.{Group}
 use Rattle.txn_rows.specs.Transaction.{Transaction, after_record, with_oldest_forced}
 
--- what stands between two records: the pending transactions
+-- the pending transactions, between two records
 pub record State : Type 0 where
   pub pending : List Transaction
 
 -- a state, and the groups that were reported on the way to it
-pub record Reported : Type 0 where
+pub record Report : Type 0 where
   pub state : State
   pub groups : List Group
 
@@ -34,18 +34,18 @@ abbrev pub raw_group : ℕ → Record → Group
 raw_group vxid rec = record { members = record { vxid = vxid; kind = kinds.Record; reason = Other; level = 0; parent = 0; records = rec ∷ [] } ∷ [] }
 
 -- each transaction that has ended is reported as a group by itself, and leaves
-abbrev pub reported : List Transaction → Reported
-reported pending = record { state = record { pending = filter (λ t. not t.ended) pending }; groups = map group_of (filter (λ t. t.ended) pending) }
+abbrev pub report_of : List Transaction → Report
+report_of pending = record { state = record { pending = filter (λ t. not t.ended) pending }; groups = map group_of (filter (λ t. t.ended) pending) }
 
--- one record: under raw grouping it is a group, and what is pending stays; request and session are not built, and `Table::new` refuses them
-abbrev pub step : Grouping → ℕ → Record → State → Reported
+-- one record: under raw grouping it is a group, and what is pending stays; request and session are not built: `Table::new` takes neither
+abbrev pub step : Grouping → ℕ → Record → State → Report
 step Raw vxid rec state = record { state = state; groups = raw_group vxid rec ∷ [] }
-step Vxid vxid rec state = reported (after_record vxid rec state.pending)
-step Request vxid rec state = reported (after_record vxid rec state.pending)
-step Session vxid rec state = reported (after_record vxid rec state.pending)
+step Vxid vxid rec state = report_of (after_record vxid rec state.pending)
+step Request vxid rec state = report_of (after_record vxid rec state.pending)
+step Session vxid rec state = report_of (after_record vxid rec state.pending)
 
 -- records one after another
-abbrev pub steps : Grouping → ℕ → List Record → State → Reported
+abbrev pub steps : Grouping → ℕ → List Record → State → Report
 steps grouping vxid [] state = record { state = state; groups = [] }
 steps grouping vxid (rec ∷ records) state =
     let first = step grouping vxid rec state in
@@ -60,11 +60,11 @@ passes_over Request vxid = vxid == 0
 passes_over Session vxid = vxid == 0
 
 -- one unit
-abbrev pub unit_step : Grouping → LogUnit → State → Reported
+abbrev pub unit_step : Grouping → LogUnit → State → Report
 unit_step grouping u state = if passes_over grouping u.vxid then record { state = state; groups = [] } else steps grouping u.vxid u.records state
 
 -- units one after another
-abbrev pub unit_steps : Grouping → Log → State → Reported
+abbrev pub unit_steps : Grouping → Log → State → Report
 unit_steps grouping [] state = record { state = state; groups = [] }
 unit_steps grouping (u ∷ units) state =
     let first = unit_step grouping u state in
@@ -76,11 +76,11 @@ abbrev pub unfinished : State → ℕ
 unfinished state = length (filter (λ t. not t.ended) state.pending)
 
 -- the oldest transaction that has not ended is force-completed
-abbrev pub force : Cause → State → Reported
-force cause state = reported (with_oldest_forced cause state.pending)
+abbrev pub force : Cause → State → Report
+force cause state = report_of (with_oldest_forced cause state.pending)
 
 -- so many are force-completed, the oldest first
-abbrev pub forces : ℕ → Cause → State → Reported
+abbrev pub forces : ℕ → Cause → State → Report
 forces zero cause state = record { state = state; groups = [] }
 forces (suc n) cause state =
     let first = force cause state in
@@ -88,7 +88,7 @@ forces (suc n) cause state =
     record { state = others.state; groups = first.groups ++ others.groups }
 
 -- all that have not ended are force-completed, the oldest first
-abbrev pub flush : State → Reported
+abbrev pub flush : State → Report
 flush state = forces (unfinished state) Flush state
 
 -- the groups of units that follow one another, flushed at their end or not

@@ -3,5 +3,5 @@ pub mod Transaction
 pub mod Grouping
 pub mod TableState
 pub mod Table
-pub mod Rows
 pub mod Taken
+pub mod inside

@@ -1,4 +1,4 @@
--- What a table tells.
+-- What a table tells (this project's choice).
 use Rattle.std.specs.Prelude.{Bool}
 use Rattle.txn_rows.specs.declared.group.GroupOptions.{GroupOptions}
 use Rattle.txn_rows.specs.Grouping.{State}

@@ -1,4 +1,4 @@
--- Counting records: how many that pass a test stand in groups, in a state, and in the units that a grouping takes.
+-- Counting records: how many that pass a test stand in groups, in a state, and in the units that a grouping takes (this project's choice).
 use Rattle.std.specs.Prelude.{ℕ, if◌then◌else◌, Bool, List, [], ◌∷◌, ◌++◌, count_by}
 use Rattle.std.specs.List.{sum_by}
 use Rattle.vsl_record.specs.declared.record_type.Record.{Record}
@@ -18,6 +18,6 @@ abbrev pub count_in_pending : (Record → Bool) → List Transaction → ℕ
 count_in_pending test pending = sum_by (λ (t : Transaction). count_by test t.records) pending
 
 -- the records of a log that a grouping doesn't pass over, in order
-abbrev pub taken : Grouping → Log → List Record
-taken grouping [] = []
-taken grouping (u ∷ units) = (if passes_over grouping u.vxid then [] else u.records) ++ taken grouping units
+abbrev pub taken_records : Grouping → Log → List Record
+taken_records grouping [] = []
+taken_records grouping (u ∷ units) = (if passes_over grouping u.vxid then [] else u.records) ++ taken_records grouping units

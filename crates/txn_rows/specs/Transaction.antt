@@ -1,7 +1,9 @@
 -- Pending transactions, and the rules by which a record changes them. Each rule is a function of the whole list,
--- in the order in which transactions began, and asks its questions by a search.
+-- in the order in which transactions began, and asks its questions by a search (vsl(7); the texts of synthesized records are this
+-- project's choice).
 use Rattle.std.specs.Prelude.{ℕ, ◌==◌, ◌&&◌, not, if◌then◌else◌, Bool, true, false, List, [], ◌∷◌, ◌++◌, Option, Some, None, codes}
 use Rattle.std.specs.List.{list_any}
+use Rattle.vsl_tags.specs.Tags.{begin_tag, end_tag, vsl_tag}
 use Rattle.vsl_record.specs.declared.mark.Mark.{Mark}
 use Rattle.vsl_record.specs.declared.mark.Mark.TheVariants.{Plain}
 use Rattle.vsl_record.specs.declared.record_type.Record.{Record}
@@ -22,18 +24,6 @@ pub record Transaction : Type 0 where
   pub records : List Record
   -- whether its End was seen, or it was force-completed
   pub ended : Bool
-
--- the number of the tag Begin
-abbrev pub begin_tag : ℕ
-begin_tag = 42
-
--- the number of the tag End
-abbrev pub end_tag : ℕ
-end_tag = 44
-
--- the number of the tag VSL
-abbrev pub vsl_tag : ℕ
-vsl_tag = 45
 
 -- a transaction of which no record was seen
 abbrev pub empty_transaction : ℕ → Transaction
@@ -84,16 +74,16 @@ with_end vxid rec pending = if rec.tag == end_tag then with_newest vxid (λ t. r
 abbrev pub after_record : ℕ → Record → List Transaction → List Transaction
 after_record vxid rec pending = with_end vxid rec (with_kind vxid rec (with_record vxid rec (with_transaction vxid pending)))
 
--- the text of a cause (this project's choice)
+-- the text of a cause
 abbrev pub cause_text : Cause → List ℕ
 cause_text Flush = codes "flush"
 
--- the side of a transaction's first record, or none
+-- the mark of a transaction's first record, or none
 abbrev pub first_mark : List Record → Mark
 first_mark [] = Plain
 first_mark (rec ∷ records) = rec.mark
 
--- a transaction is force-completed: it gets a VSL record with the cause and an End `synth`, and has ended (varnishlog(1); texts are this project's choice)
+-- a transaction is force-completed: it gets a VSL record with the cause and an End `synth`, and has ended (varnishlog(1))
 abbrev pub forced : Cause → Transaction → Transaction
 forced cause t = record t {
   records = t.records ++ record { tag = vsl_tag; mark = first_mark t.records; payload = cause_text cause } ∷ record { tag = end_tag; mark = first_mark t.records; payload = codes "synth" } ∷ [];

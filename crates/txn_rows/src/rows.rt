@@ -3,16 +3,14 @@
 ghost use Rattle.std.specs.Prelude.{◌≡◌, ◌<◌, length, false, true, map, [], ◌∷◌, IfOk, OnOk, IfSome, IfNone};
 ghost use Rattle.txn_rows.specs.Transaction.{is_pending, with_transaction, claimed_kind};
 ghost use Rattle.txn_rows.specs.Grouping.{group_of};
-ghost use Rattle.txn_rows.specs.Rows.{transaction_of, IsNewestRow, with_one};
+ghost use Rattle.txn_rows.specs.inside.Rows.{transaction_of, IsNewestRow, grown_by};
 
 use crate::claim::{Claim, read_claim};
 use crate::group::{Group, Kind, Member, Members, Reason};
+use log_model::NoMemory;
 use std::alloc::Global;
-use vio::NoMemory;
 use vsl_record::{Record, Records, Vxid};
-
-/// The number of the tag `Begin`.
-const BEGIN: u8 = 42;
+use vsl_tags::Tag;
 
 /// A pending transaction; none of these has ended.
 #[derive(Drop)]
@@ -23,7 +21,7 @@ pub(crate) struct Row {
     pub(crate) records: Records,
 }
 
-/// The place of the newest row of a transaction number.
+/// The place of the newest row of a VXID.
 fn newest_row(rows: &[Row], vxid: Vxid) -> Option<usize>
     ensures some { IfSome result (λ at. IsNewestRow vxid at rows.now) }
     ensures none { IfNone result (is_pending vxid (map transaction_of rows.now) ≡ false) }
@@ -38,7 +36,7 @@ fn newest_row(rows: &[Row], vxid: Vxid) -> Option<usize>
     None
 }
 
-/// The place of the newest row of a transaction number; where there is none, a new one begins.
+/// The place of the newest row of a VXID; where there is none, a new one begins.
 pub(crate) fn open_row(alloc: Global, rows: &mut Vec<Row>, vxid: Vxid) -> Result<usize, NoMemory>
     ensures newest { IfOk result (λ at. IsNewestRow vxid at rows.new.items) }
     ensures pending { OnOk result (map transaction_of rows.new.items ≡ with_transaction vxid (map transaction_of rows.old.items)) }
@@ -64,13 +62,13 @@ fn empty_row(alloc: Global, vxid: Vxid) -> Row
 }
 
 /// Adds a copy of a record to a row; a Begin may tell the row's kind.
-pub(crate) fn add_record(alloc: Global, row: &mut Row, one: &Record) -> Result<(), NoMemory>
-    ensures { OnOk result (transaction_of row.new ≡ with_one one.now (transaction_of row.old)) }
+pub(crate) fn add_record(alloc: Global, row: &mut Row, rec: &Record) -> Result<(), NoMemory>
+    ensures { OnOk result (transaction_of row.new ≡ grown_by rec.now (transaction_of row.old)) }
 {
-    let copy = one.to_owned(alloc)?;
+    let copy = rec.to_owned(alloc)?;
     row.records.push(copy)?;
-    if one.tag.number() == BEGIN {
-        take_claim(row, read_claim(one.payload.as_slice()));
+    if rec.tag == Tag::BEGIN {
+        take_claim(row, read_claim(rec.payload.as_slice()));
     }
     Ok(())
 }
@@ -89,7 +87,7 @@ fn take_claim(row: &mut Row, claim: Option<Claim>)
 }
 
 /// A row as a group.
-pub(crate) fn report(alloc: Global, row: Row) -> Result<Group, NoMemory>
+pub(crate) fn group_of_row(alloc: Global, row: Row) -> Result<Group, NoMemory>
     ensures { IfOk result (λ group. group ≡ group_of (transaction_of row)) }
 {
     let Row {

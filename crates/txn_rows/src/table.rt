@@ -1,19 +1,16 @@
 //! The table of pending transactions.
 
-ghost use Rattle.std.specs.Prelude.{◌≡◌, ◌⊎◌, ◌+◌, Bool, count_by, ◌<◌, ◌++◌, ℕ, List, true, false, length, IfOk, OnOk, OnErr, IsErr};
-ghost use Rattle.vsl_record.specs.Unit.{Log};
-ghost use Rattle.vsl_record.specs.declared.record_type.Record.{Record};
-ghost use Rattle.txn_rows.specs.Grouping.{no_state, unit_step, unfinished, flush, passes_over, unit_steps};
-ghost use Rattle.txn_rows.specs.Taken.{count_in_groups, count_in_pending, taken};
-ghost use Rattle.txn_rows.specs.Table.{Steps, StepsPart};
+ghost use Rattle.std.specs.Prelude.{◌≡◌, ◌⊎◌, ◌<◌, true, false, length, IfOk, OnOk, OnErr, IsErr};
+ghost use Rattle.txn_rows.specs.Grouping.{no_state, unit_step, unfinished, flush, passes_over};
+ghost use Rattle.txn_rows.specs.Table.{TableStepped, TableFailed};
 
 use crate::group::{Group, GroupOptions, Grouping};
 use crate::rows::Row;
 use crate::steps::{flush_rows, take_records};
+use log_model::NoMemory;
 use std::alloc::Global;
 use std::marker::Model;
 use std::mem;
-use vio::NoMemory;
 use vsl_record::{Unit, Vxid};
 
 /// For how many transactions there is room at first.
@@ -31,7 +28,7 @@ pub struct Table {
 
 impl Model for Table {
     ghost use Rattle.txn_rows.specs.TableState.{TableState};
-    ghost use Rattle.txn_rows.specs.Rows.{state_of};
+    ghost use Rattle.txn_rows.specs.inside.Rows.{state_of};
 
     ghost Value = { TableState };
 
@@ -54,8 +51,8 @@ impl Table {
 
     /// Takes the records of a unit in order, and adds the groups that they complete.
     pub fn step(&mut self, unit: &Unit, out: &mut Vec<Group>) -> Result<(), NoMemory>
-        ensures ok { OnOk result (Steps (unit_step self.old.options.grouping unit.now self.old.state) self.old self.new out.old.items out.new.items) }
-        ensures err { OnErr result (StepsPart (unit_step self.old.options.grouping unit.now self.old.state) self.old self.new out.old.items out.new.items) }
+        ensures ok { OnOk result (TableStepped (unit_step self.old.options.grouping unit.now self.old.state) self.old self.new out.old.items out.new.items) }
+        ensures err { OnErr result (TableFailed (unit_step self.old.options.grouping unit.now self.old.state) self.old self.new out.old.items out.new.items) }
         ensures failed { self.old.failed ≡ true → IsErr result × (out.new.items ≡ out.old.items) }
     {
         if self.failed {
@@ -78,8 +75,8 @@ impl Table {
 
     /// Force-completes every transaction that has not ended, the oldest first, and adds their groups.
     pub fn flush(&mut self, out: &mut Vec<Group>) -> Result<(), NoMemory>
-        ensures ok { OnOk result (Steps (flush self.old.state) self.old self.new out.old.items out.new.items) }
-        ensures err { OnErr result (StepsPart (flush self.old.state) self.old self.new out.old.items out.new.items) }
+        ensures ok { OnOk result (TableStepped (flush self.old.state) self.old self.new out.old.items out.new.items) }
+        ensures err { OnErr result (TableFailed (flush self.old.state) self.old self.new out.old.items out.new.items) }
         ensures failed { self.old.failed ≡ true → IsErr result × (out.new.items ≡ out.old.items) }
     {
         if self.failed {
@@ -89,6 +86,13 @@ impl Table {
         let flushed = flush_rows(self.alloc, rows, out);
         self.failed = flushed.is_err();
         flushed
+    }
+
+    /// How the records are grouped.
+    pub fn grouping(&self) -> Grouping
+        ensures { result ≡ self.now.options.grouping }
+    {
+        self.options.grouping
     }
 
     /// How many transactions are pending.
@@ -113,10 +117,3 @@ fn passes_over(grouping: Grouping, vxid: Vxid) -> bool
 {
     grouping != Grouping::Raw && vxid == 0
 }
-
-/// The law that each record of a log that a grouping takes stands in one group or is pending, once. It does nothing.
-pub fn each_record_once()
-    ensures { (grouping : Grouping) (units : Log) (test : Record → Bool) →
-        let run = unit_steps grouping units no_state in
-        count_in_groups test run.groups + count_in_pending test run.state.pending ≡ count_by test (taken grouping units) }
-{}

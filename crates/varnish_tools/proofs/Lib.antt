@@ -1,4 +1,4 @@
-mod WritingLemmas
-mod PrintingLemmas
-mod RunLemmas
+mod PrinterLemmas
+mod LoopLemmas
+mod LogFileLemmas
 mod ToolLemmas

@@ -1,5 +1,5 @@
 -- The job that the words of a command line state (varnishlog(1); only these words are built).
-use Rattle.std.specs.Prelude.{◌≡◌, ◌⊎◌, ℕ, ◌&&◌, not, if◌then◌else◌, List, [], ◌∷◌, Option, Some, None, codes}
+use Rattle.std.specs.Prelude.{ℕ, ◌&&◌, not, if◌then◌else◌, List, [], ◌∷◌, Option, Some, None, codes}
 use Rattle.std.specs.Str.{bytes_eq}
 use Rattle.txn_rows.specs.declared.group.Grouping.{Grouping}
 use Rattle.txn_rows.specs.declared.group.Grouping.TheVariants.{Raw, Vxid}
@@ -9,10 +9,6 @@ pub record Job : Type 0 where
   pub grouping : Grouping
   -- the name of the log file
   pub file : List ℕ
-
--- the groupings that are built
-abbrev pub IsBuilt : Grouping → Type 0
-IsBuilt grouping = (grouping ≡ Raw) ⊎ (grouping ≡ Vxid)
 
 -- the grouping of a value of `-g`: `raw` or `vxid`; others are not built
 abbrev pub grouping_named : List ℕ → Option Grouping

@@ -1,5 +1,8 @@
 pub mod Job
+pub mod Objects
+pub mod Faults
 pub mod Run
 pub mod Output
-pub mod Theorem
-pub mod Steps
+pub mod Printer
+pub mod Promise
+pub mod inside

@@ -2,7 +2,8 @@
 
 ghost use Rattle.std.specs.Prelude.{◌≡◌, map, MatchOption, IfSome};
 ghost use Rattle.std.specs.String.{string_bytes};
-ghost use Rattle.varnish_tools.specs.Job.{job_of, grouping_named, IsBuilt};
+ghost use Rattle.varnish_tools.specs.Job.{job_of, grouping_named};
+ghost use Rattle.varnish_tools.specs.inside.Jobs.{IsBuilt};
 
 use txn_rows::Grouping;
 

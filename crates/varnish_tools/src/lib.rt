@@ -2,22 +2,25 @@
 //!
 //! `run_tools` reads the words, opens and reads the log that they name, writes the defined text to
 //! standard output and the defined message to standard error, and answers the status. Its contract is
-//! the main theorem of this project, `IsFaithful` in `specs/Theorem.antt`.
+//! the main theorem of this project, `IsFaithful` in `specs/Promise.antt`.
 //!
-//! Start with `specs/Job.antt`, `specs/Output.antt` and `specs/Theorem.antt`.
+//! Start with `specs/Job.antt`, `specs/Faults.antt` and `specs/Promise.antt`.
 //! Source: varnishlog(1); messages and statuses are this project's choice.
 #![tactic(auto)]
 
 mod fault;
 mod job;
+mod log_file;
 mod message;
 mod name;
 mod outcome;
-mod print;
+mod printer;
 mod run;
+mod source;
 mod tools;
 
 pub use fault::ToolFault;
 pub use name::Name;
 pub use outcome::{Outcome, RunRecord};
+pub use printer::{PrintFault, Printer};
 pub use tools::run_tools;

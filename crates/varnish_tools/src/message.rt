@@ -1,7 +1,7 @@
 //! The messages of faults, and their statuses.
 
 ghost use Rattle.std.specs.Prelude.{◌≡◌, ◌++◌, codes, IfOk};
-ghost use Rattle.varnish_tools.specs.Output.{message, fault_message, status_of};
+ghost use Rattle.varnish_tools.specs.Faults.{message, status_of};
 
 use crate::fault::ToolFault;
 use std::alloc::{AllocError, Global};

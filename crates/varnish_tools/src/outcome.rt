@@ -1,4 +1,6 @@
-//! What the top call answers.
+//! What the top call answers, and what a run does.
+
+ghost use Rattle.std.specs.Prelude.{◌≡◌, Some};
 
 use crate::fault::ToolFault;
 
@@ -25,4 +27,33 @@ pub struct Outcome {
     pub fault: Option<ToolFault>,
     /// What was taken of the input.
     pub run: RunRecord,
+}
+
+/// What a run took, and why it stopped early, if it did.
+#[derive(Drop)]
+pub(crate) struct Ran {
+    pub fault: Option<ToolFault>,
+    pub run: RunRecord,
+}
+
+/// What a run answers where nothing was taken.
+pub(crate) fn refused(fault: ToolFault) -> Ran
+    ensures fault { result.fault ≡ Some fault }
+    ensures run { result.run ≡ RunRecord.Nothing }
+{
+    Ran {
+        fault: Some(fault),
+        run: RunRecord::Nothing,
+    }
+}
+
+/// What a run answers where so many units were taken.
+pub(crate) fn counted(fault: Option<ToolFault>, units: u64) -> Ran
+    ensures fault { result.fault ≡ fault }
+    ensures run { result.run ≡ RunRecord.Counted units 1 }
+{
+    Ran {
+        fault,
+        run: RunRecord::Counted { units, items: 1 },
+    }
 }

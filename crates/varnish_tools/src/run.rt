@@ -1,117 +1,56 @@
-//! A run over a log file: it is opened and read whole, and the groups of its units are printed.
+//! A run: units from a source are given to a printer, and it is ended where the source has given all.
 
-ghost use Rattle.std.specs.Prelude.{◌≡◌, IfOk, OnErr};
-ghost use Rattle.varnish_tools.specs.Job.{IsBuilt};
-ghost use Rattle.varnish_tools.specs.Theorem.{sink_name};
-ghost use Rattle.varnish_tools.specs.Steps.{RunsJob, IsStopped, PrintsFile, IsPrintStopped};
+ghost use Rattle.std.specs.Prelude.{◌≡◌, ◌<◌, ◌^◌, [], ◌∷◌, true, false, IsTrue, IfOk, IfErr};
+ghost use Rattle.vio.specs.World.{Writing};
+ghost use Rattle.vio.specs.Touches.{Touches};
+ghost use Rattle.varnish_tools.specs.Printer.{Represents};
+ghost use Rattle.varnish_tools.specs.inside.Loop.{RanToEnd, RanUntil};
 
-use crate::fault::ToolFault;
-use crate::job::Job;
-use crate::name::Name;
-use crate::outcome::RunRecord;
-use crate::print::{Reporter, print_flush, print_units};
-use std::alloc::Global;
-use vio::{NoMemory, WholeFault, World, WorldFault, read_whole};
-use vsl_file::read_file;
+use crate::printer::{PrintFault, Printer};
+use crate::source::{Source, SourceFault};
+use vio::World;
 
-/// The most bytes of a log file that are read.
-const LOG_LIMIT: u64 = 16_777_216;
-
-/// What a run took, and why it stopped early, if it did.
+/// Why a run stopped early, and how many units' text was begun.
 #[derive(Drop)]
-pub struct Ran {
-    pub fault: Option<ToolFault>,
-    pub run: RunRecord,
+pub enum Stopped {
+    /// The source stopped after so many units.
+    BySource(SourceFault, u64),
+    /// The printer stopped at the last of so many units, or after it.
+    ByPrinter(PrintFault, u64),
 }
 
-/// What a run answers where nothing was taken.
-pub fn refused(fault: ToolFault) -> Ran
-    ensures fault { result.fault ≡ Some fault }
-    ensures run { result.run ≡ RunRecord.Nothing }
-{
-    Ran {
-        fault: Some(fault),
-        run: RunRecord::Nothing,
-    }
-}
-
-/// What a run answers where so many units were taken.
-fn counted(fault: Option<ToolFault>, units: u64) -> Ran
-    ensures fault { result.fault ≡ fault }
-    ensures run { result.run ≡ RunRecord.Counted units 1 }
-{
-    Ran {
-        fault,
-        run: RunRecord::Counted { units, items: 1 },
-    }
-}
-
-/// What a run answers where a write of the text failed, and so many units' text was begun.
-fn unwritten(alloc: Global, fault: WorldFault, units: u64) -> Result<Ran, NoMemory>
-    ensures { IfOk result (λ r. (fault ≡ WorldFault.Failed)
-        × (r.fault ≡ Some (ToolFault.WriteFault sink_name)) × (r.run ≡ RunRecord.Counted units 1)) }
-{
-    match fault {
-        WorldFault::Failed => {
-            let name = Name::new(alloc, "-")?;
-            Ok(counted(Some(ToolFault::WriteFault { name }), units))
-        }
-        WorldFault::NoMemory => Err(NoMemory),
-    }
-}
-
-/// Prints the groups of the units of the job's log file, whose bytes these are.
-fn print_file<W: World>(
-    alloc: Global,
-    job: &Job<'_>,
+/// Prints the units of a source, and answers how many they are.
+pub fn print_source<W: World, S: Source>(
     world: &mut W,
-    bytes: &[u8],
-) -> Result<Ran, NoMemory>
-    requires { IsBuilt job.now.grouping }
-    ensures printed { IfOk result (λ r. PrintsFile (record { grouping = job.now.grouping; file = job.now.file.now }) bytes.now r.fault r.run (W.seen world.old) (W.seen world.new)) }
-    ensures memory { OnErr result (IsPrintStopped (record { grouping = job.now.grouping; file = job.now.file.now }) bytes.now (W.seen world.old) (W.seen world.new)) }
+    source: &mut S,
+    printer: &mut Printer,
+) -> Result<u64, Stopped>
+    requires named { IsTrue ((W.seen world.old).names Writing printer.old.sink printer.old.name) }
+    requires given { (W.seen world.old).given printer.old.sink ≡ true }
+    requires new { Represents printer.old [] }
+    requires fresh { S.gave source.old source.old (W.seen world.old) (W.seen world.old) [] false }
+    requires few { S.most source.old < 2 ^ 64 }
+    ensures touches { Touches (S.reads source.old) (printer.old.sink ∷ []) [] (W.seen world.old) (W.seen world.new) }
+    ensures ran { IfOk result (λ n. RanToEnd (S.gave source.old source.new (W.seen world.old) (W.seen world.new)) printer.old n (W.seen world.old) (W.seen world.new)) }
+    ensures stopped { IfErr result (λ s. RanUntil s (S.gave source.old source.new (W.seen world.old) (W.seen world.new))
+        (λ fault units. S.stopped source.old source.new fault (W.seen world.old) (W.seen world.new) units) printer.old (W.seen world.old) (W.seen world.new)) }
 {
-    let file = read_file(alloc, bytes)?;
-    let units = file.units.as_slice();
-    let mut reporter = Reporter::new(alloc, job.grouping)?;
-    if let Err(stopped) = print_units(world, job.grouping, &mut reporter, units) {
-        return unwritten(alloc, stopped.fault, stopped.units);
-    }
-    if !file.whole {
-        let name = Name::new(alloc, job.file)?;
-        let fault = ToolFault::BadFile { name };
-        return Ok(counted(Some(fault), units.len() as u64));
-    }
-    if let Err(fault) = print_flush(world, &mut reporter) {
-        return unwritten(alloc, fault, units.len() as u64);
-    }
-    Ok(counted(None, units.len() as u64))
-}
-
-/// Prints the groups of the job's log file.
-pub fn run_job<W: World>(alloc: Global, job: &Job<'_>, world: &mut W) -> Result<Ran, NoMemory>
-    requires { IsBuilt job.now.grouping }
-    ensures ran { IfOk result (λ r. RunsJob (record { grouping = job.now.grouping; file = job.now.file.now }) r.fault r.run (W.seen world.old) (W.seen world.new)) }
-    ensures memory { OnErr result (IsStopped (record { grouping = job.now.grouping; file = job.now.file.now }) (W.seen world.old) (W.seen world.new)) }
-{
-    let handle = match world.open(job.file) {
-        Ok(handle) => handle,
-        Err(WorldFault::Failed) => {
-            let name = Name::new(alloc, job.file)?;
-            return Ok(refused(ToolFault::NoOpen { name }));
+    let mut units = 0;
+    loop {
+        match source.advance(world) {
+            Ok(true) => {
+                units += 1;
+                if let Err(fault) = printer.unit(world, source.unit()) {
+                    return Err(Stopped::ByPrinter(fault, units));
+                }
+            }
+            Ok(false) => {
+                if let Err(fault) = printer.end(world) {
+                    return Err(Stopped::ByPrinter(fault, units));
+                }
+                return Ok(units);
+            }
+            Err(fault) => return Err(Stopped::BySource(fault, units)),
         }
-        Err(WorldFault::NoMemory) => return Err(NoMemory),
-    };
-    match read_whole(alloc, world, handle, LOG_LIMIT) {
-        Ok(bytes) => print_file(alloc, job, world, &bytes),
-        Err(WholeFault::Failed) => {
-            let name = Name::new(alloc, job.file)?;
-            Ok(refused(ToolFault::ReadFault { name }))
-        }
-        Err(WholeFault::TooLarge) => {
-            let name = Name::new(alloc, job.file)?;
-            Ok(refused(ToolFault::BadFile { name }))
-        }
-        Err(WholeFault::NoMemory) => Err(NoMemory),
     }
 }

@@ -1,24 +1,27 @@
 //! The top call.
 
-ghost use Rattle.std.specs.Prelude.{map, IfOk, OnOk, OnErr};
-ghost use Rattle.varnish_tools.specs.Steps.{RunsWords, Reports, ReportsPart};
+ghost use Rattle.std.specs.Prelude.{map, [], ◌∷◌, IfOk, OnOk, OnErr};
 ghost use Rattle.std.specs.String.{string_bytes};
-ghost use Rattle.varnish_tools.specs.Theorem.{IsFaithful, IsComplete, IsCutShort};
+ghost use Rattle.varnish_tools.specs.Job.{job_of};
+ghost use Rattle.varnish_tools.specs.Faults.{fault_message};
+ghost use Rattle.varnish_tools.specs.Objects.{TouchesJob, streams_of, sources_of, sinks_of, calls_of};
+ghost use Rattle.vio.specs.World.{Opening};
+ghost use Rattle.vio.specs.Touches.{Touches};
+ghost use Rattle.varnish_tools.specs.Promise.{WorksOff, WritesPrefix, WritesError, IsFaithful, IsComplete, IsCutShort};
+ghost use Rattle.varnish_tools.specs.inside.Report.{ReportsPart};
 
 use crate::fault::ToolFault;
 use crate::job::read_job;
+use crate::log_file::run_job;
 use crate::message::{message_of, status_of};
-use crate::outcome::Outcome;
-use crate::run::{Ran, refused, run_job};
+use crate::outcome::{Outcome, Ran, refused};
 use std::alloc::Global;
-use vio::{NoMemory, World, WorldFault, write_all};
-
-/// The handle of standard error.
-const ERRORS: u32 = 2;
+use vio::{ERRORS, NoMemory, World, WorldFault, write_all};
 
 /// Writes the message of a fault to standard error. That this write fails changes nothing else.
 fn report<W: World>(alloc: Global, world: &mut W, fault: &Option<ToolFault>) -> Result<(), NoMemory>
-    ensures ok { OnOk result (Reports fault.now (W.seen world.old) (W.seen world.new)) }
+    ensures touches { Touches [] (ERRORS ∷ []) [] (W.seen world.old) (W.seen world.new) }
+    ensures ok { OnOk result (WritesError (fault_message fault.now) (W.seen world.old) (W.seen world.new)) }
     ensures memory { OnErr result (ReportsPart fault.now (W.seen world.old) (W.seen world.new)) }
 {
     let Some(fault) = fault else {
@@ -34,8 +37,10 @@ fn report<W: World>(alloc: Global, world: &mut W, fault: &Option<ToolFault>) -> 
 
 /// Works off the words, but for the message of a fault.
 fn run_words<W: World>(alloc: Global, words: &[String], world: &mut W) -> Result<Ran, NoMemory>
-    ensures ran { IfOk result (λ r. RunsWords (map string_bytes words.now) r.fault r.run (W.seen world.old) (W.seen world.new)) }
-    ensures memory { OnErr result (IsCutShort (map string_bytes words.now) (W.seen world.old) (W.seen world.new)) }
+    ensures touches { let job = job_of (map string_bytes words.now) in
+        Touches (streams_of (sources_of job)) (streams_of (sinks_of job)) (calls_of job Opening) (W.seen world.old) (W.seen world.new) }
+    ensures prefix { WritesPrefix (job_of (map string_bytes words.now)) (W.seen world.old) (W.seen world.new) }
+    ensures works { IfOk result (λ r. WorksOff (job_of (map string_bytes words.now)) r.fault r.run (W.seen world.old) (W.seen world.new)) }
 {
     match read_job(words) {
         Some(job) => run_job(alloc, &job, world),
@@ -58,6 +63,8 @@ pub fn run_tools<W: World>(
     words: &[String],
     world: &mut W,
 ) -> Result<Outcome, NoMemory>
+    ensures touches { TouchesJob (job_of (map string_bytes words.now)) (W.seen world.old) (W.seen world.new) }
+    ensures prefix { WritesPrefix (job_of (map string_bytes words.now)) (W.seen world.old) (W.seen world.new) }
     ensures faithful { IfOk result (λ o. IsFaithful (map string_bytes words.now) o (W.seen world.old) (W.seen world.new)) }
     ensures complete { IfOk result (λ o. IsComplete (map string_bytes words.now) o (W.seen world.old) (W.seen world.new)) }
     ensures memory { OnErr result (IsCutShort (map string_bytes words.now) (W.seen world.old) (W.seen world.new)) }

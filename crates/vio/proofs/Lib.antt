@@ -1,2 +1,3 @@
 pub mod WholeLemmas
 mod MemoryLemmas
+pub mod TouchLemmas

@@ -1,12 +1,19 @@
 -- What several reads or writes of one handle come to: for `write_all` and `read_whole`, and for callers with loops of their own.
-use Rattle.std.proofs.Common.{◌≡◌, ℕ, List, [], ◌++◌, take, drop, refl, sym, ◌∙◌, ap, subst, arith, rules, Some, append_assoc, Result, OnErr, Ok, Err}
+use Rattle.std.proofs.Common.{◌≡◌, ℕ, ◌<◌, length, length-append, List, [], ◌++◌, take, drop, refl, sym, ◌∙◌, ap, subst, arith, rules, Option, Some, append_assoc, Result, OnOk, OnErr, Ok, Err}
 use Rattle.std.proofs.lemmas.List.{append-nil, take-append-drop}
+use Rattle.log_model.specs.Prefix.{IsPrefix, IsProperPrefix}
+use Rattle.log_model.proofs.PrefixLemmas.{prefix_append}
+use Rattle.vio.specs.Writes.{WroteOn, Gained, GainsSome}
 use Rattle.vio.specs.World.{Seen, CallKind, NoCountFalls, FaultsRose, Loses, Read, Wrote, OnlyCounts, ReadSome}
 
 -- what a call leaves where it has no value
 pub OnErr-always : {T E P : Type 0} (r : Result T E) → P → OnErr r P
 OnErr-always (Ok x) p = Prim.search rules
 OnErr-always (Err e) p = p
+
+pub OnOk-always : {T E P : Type 0} (r : Result T E) → P → OnOk r P
+OnOk-always (Ok x) p = p
+OnOk-always (Err e) p = Prim.search rules
 
 -- counts of faults
 
@@ -42,7 +49,7 @@ Wrote-none h s = record {
 pub Wrote-then : {h : ℕ} {s t u : Seen} (a b : List ℕ) → Wrote h a s t → Wrote h b t u → Wrote h (a ++ b) s u
 Wrote-then a b p q = record {
   counts = NoCountFalls-then p.counts q.counts;
-  gains = λ front told. q.gains (front ++ a) (p.gains front told) ∙ ap Some (append_assoc front a b);
+  gains = λ prefix told. q.gains (prefix ++ a) (p.gains prefix told) ∙ ap Some (append_assoc prefix a b);
   left = λ i. q.left i ∙ p.left i;
   other_written = λ i other. q.other_written i other ∙ p.other_written i other;
   names = λ k i n. q.names k i n ∙ p.names k i n;
@@ -53,20 +60,40 @@ Wrote-then a b p q = record {
 pub Wrote-fault : {h : ℕ} {bytes : List ℕ} {s t u : Seen} → Wrote h bytes s t → OnlyCounts t u → Wrote h bytes s u
 Wrote-fault p q = record {
   counts = NoCountFalls-then p.counts q.counts;
-  gains = λ front told. q.written _ ∙ p.gains front told;
+  gains = λ prefix told. q.written _ ∙ p.gains prefix told;
   left = λ i. q.left i ∙ p.left i;
   other_written = λ i other. q.written i ∙ p.other_written i other;
   names = λ k i n. q.names k i n ∙ p.names k i n;
   given = λ i. q.given i ∙ p.given i;
 }
 
--- a front of the piece was written, and the rest was not
+-- a prefix of the piece was written, and the rest was not
 pub record IsPartlyWritten (h : ℕ) (piece rest : List ℕ) (before now : Seen) : Type 0 where
   pub done : List ℕ
   pub whole : piece ≡ done ++ rest
   pub wrote : Wrote h done before now
 
--- a further write takes a front of the rest
+-- a refused write leaves something of the piece
+pub IsPartlyWritten-fault : {h : ℕ} {piece rest : List ℕ} {s t u : Seen} → 0 < length rest → IsPartlyWritten h piece rest s t → OnlyCounts t u → WroteOn h [] (λ text. IsProperPrefix text piece) s u
+IsPartlyWritten-fault {rest = rest} some p q = record {
+  added = p.done;
+  is = record { prefix = record { rest = rest; is = p.whole }; shorter = omega (arith, some, ap length p.whole, length-append p.done rest) };
+  wrote = Wrote-fault p.wrote q;
+}
+
+-- a text that was written on to another is written on from there
+pub WroteOn-then : {h : ℕ} {a b : List ℕ} {IsSo : List ℕ → Type 0} {s t u : Seen} → WroteOn h a (λ text. text ≡ b) s t → WroteOn h b IsSo t u → WroteOn h a IsSo s u
+WroteOn-then {a = a} {IsSo = IsSo} p q = record {
+  added = p.added ++ q.added;
+  is = subst IsSo (ap (λ text. text ++ q.added) (sym p.is) ∙ append_assoc a p.added q.added) q.is;
+  wrote = Wrote-then p.added q.added p.wrote q.wrote;
+}
+
+-- what was so is also otherwise
+pub WroteOn-weaker : {h : ℕ} {a : List ℕ} {IsSo IsToo : List ℕ → Type 0} {s t : Seen} → ((text : List ℕ) → IsPrefix a text → IsSo text → IsToo text) → WroteOn h a IsSo s t → WroteOn h a IsToo s t
+WroteOn-weaker {a = a} also p = record { added = p.added; is = also (a ++ p.added) (prefix_append a p.added) p.is; wrote = p.wrote }
+
+-- a further write takes a prefix of the rest
 pub IsPartlyWritten-then : {h : ℕ} {piece : List ℕ} {s t u : Seen} (n : ℕ) (rest : List ℕ)
     → IsPartlyWritten h piece rest s t → Wrote h (take n rest) t u → IsPartlyWritten h piece (drop n rest) s u
 IsPartlyWritten-then n rest p q = record {
@@ -130,3 +157,14 @@ Read-fault bytes p q = record {
     given = λ i. q.given i ∙ p.given i;
   };
 }
+
+-- what a handle gained
+
+pub some_since : (IsSo : List ℕ → Type 0) (x y z : Option (List ℕ)) → y ≡ x → GainsSome IsSo y z → GainsSome IsSo x z
+some_since IsSo x y z e p = λ a told. p a (e ∙ told)
+
+pub some_until : (IsSo : List ℕ → Type 0) (x y z : Option (List ℕ)) → z ≡ y → GainsSome IsSo x y → GainsSome IsSo x z
+some_until IsSo x y z e p = λ a told. let g = p a told in (g.0, g.1, e ∙ g.2)
+
+pub gained_so : {IsSo IsToo : List ℕ → Type 0} {x y : Option (List ℕ)} → ((text : List ℕ) → IsSo text → IsToo text) → Gained IsSo x y → Gained IsToo x y
+gained_so also p = record { text = p.text; is = also p.text p.is; gains = p.gains }

@@ -1,4 +1,6 @@
 pub mod World
+pub mod Writes
+pub mod Touches
 pub mod Sources
 pub mod Memory
 pub mod Streams

@@ -1,4 +1,4 @@
--- Bytes that are read from their front, and files that are found by their name (this project's choice).
+-- Bytes that are read from their beginning, and files that are found by their name (this project's choice).
 use Rattle.std.specs.Prelude.{ℕ, List, [], ◌∷◌, Option, Some, None, drop, if◌then◌else◌}
 use Rattle.std.specs.Str.{bytes_eq}
 use Rattle.vio.specs.declared.file.Source.{Source}

@@ -1,4 +1,4 @@
--- The standard streams of a world in memory.
+-- The standard streams of a world in memory (this project's choice).
 use Rattle.std.specs.Prelude.{refl, ◌≡◌, ℕ, ◌+◌, ◌<◌, nat_lt, true}
 use Rattle.std.proofs.Common.{lit<}
 use Rattle.std.proofs.Math.Nat.{lt_of_lt_of_le, le-add_right}

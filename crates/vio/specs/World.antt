@@ -39,7 +39,7 @@ pub record FaultsRose (k : CallKind) (h : ℕ) (before now : Seen) : Type 0 wher
 abbrev pub Gains : Option (List ℕ) → Option (List ℕ) → List ℕ → Type 0
 Gains before now bytes = (a : List ℕ) → before ≡ Some a → now ≡ Some (a ++ bytes)
 
--- what was told lost these bytes at its front; where nothing is told nothing is claimed
+-- what was told lost these bytes at its beginning; where nothing is told nothing is claimed
 abbrev pub Loses : Option (List ℕ) → Option (List ℕ) → List ℕ → Type 0
 Loses before now bytes = (a : List ℕ) → before ≡ Some a → (rest : List ℕ) × (a ≡ bytes ++ rest) × (now ≡ Some rest)
 
@@ -97,21 +97,6 @@ pub record HasStreams (now : Seen) : Type 0 where
   pub input : now.names Reading 0 (codes "-") ≡ true
   pub output : now.names Writing 1 (codes "-") ≡ true
   pub error : now.names Writing 2 (codes "stderr") ≡ true
-
--- a part of the bytes was written to a handle, from their front
-pub record WrotePart (h : ℕ) (bytes : List ℕ) (before now : Seen) : Type 0 where
-  pub done : List ℕ
-  pub rest : List ℕ
-  pub whole : bytes ≡ done ++ rest
-  pub wrote : Wrote h done before now
-
--- a front of the bytes was written to a handle, and not all of them
-pub record WroteFront (h : ℕ) (bytes : List ℕ) (before now : Seen) : Type 0 where
-  pub done : List ℕ
-  pub rest : List ℕ
-  pub whole : bytes ≡ done ++ rest
-  pub some : rest ≢ []
-  pub wrote : Wrote h done before now
 
 -- some bytes were read from a handle
 pub record ReadSome (h : ℕ) (before now : Seen) : Type 0 where

@@ -4,6 +4,7 @@ ghost use Rattle.std.specs.Prelude.{◌≡◌};
 ghost use Rattle.vio.specs.declared.fault.WorldFault.TheVariants as world_faults;
 ghost use Rattle.vio.specs.declared.fault.WholeFault.TheVariants as whole_faults;
 
+use log_model::NoMemory;
 use std::alloc::{AllocError, AllocFailed};
 use thiserror::Error;
 
@@ -11,11 +12,6 @@ use thiserror::Error;
 #[derive(Clone, Copy, Debug, PartialEq, Eq, Error)]
 #[error("the call failed")]
 pub struct Failed;
-
-/// There was no memory for a value.
-#[derive(Clone, Copy, Debug, PartialEq, Eq, Error)]
-#[error("out of memory")]
-pub struct NoMemory;
 
 /// Why a call of a world is refused.
 #[derive(Clone, Copy, Debug, PartialEq, Eq, Error)]
@@ -40,18 +36,6 @@ pub enum WholeFault {
     /// There was no memory for the bytes.
     #[error("out of memory")]
     NoMemory,
-}
-
-impl From<AllocError> for NoMemory {
-    fn from(_e: AllocError) -> NoMemory {
-        NoMemory
-    }
-}
-
-impl<T: Drop> From<AllocFailed<T>> for NoMemory {
-    fn from(_e: AllocFailed<T>) -> NoMemory {
-        NoMemory
-    }
 }
 
 impl From<AllocError> for WorldFault {

@@ -33,7 +33,7 @@ pub struct OpenFile {
 impl Source {
     ghost use Rattle.vio.specs.Sources.{left_of};
 
-    /// Moves bytes into the front of `buf`, at most `most` of them; 0 counts as 1.
+    /// Moves bytes into the first part of `buf`, at most `most` of them; 0 counts as 1.
     pub fn take_piece(&mut self, buf: &mut [u8], most: usize) -> usize
         ensures fits { result ≤ length buf.old }
         ensures moved { take result buf.new ≡ take result (left_of self.old) }

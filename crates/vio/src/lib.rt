@@ -14,7 +14,8 @@ mod memory;
 mod whole;
 mod world;
 
-pub use fault::{Failed, NoMemory, WholeFault, WorldFault};
+pub use fault::{Failed, WholeFault, WorldFault};
+pub use log_model::NoMemory;
 pub use memory::MemWorld;
 pub use whole::{read_whole, write_all};
-pub use world::World;
+pub use world::{ERRORS, INPUT, OUTPUT, World};

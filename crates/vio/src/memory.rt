@@ -2,9 +2,10 @@
 
 ghost use Rattle.std.specs.Prelude.{◌≡◌, ◌≢◌, ◌<◌, ◌≤◌, ◌+◌, ◌==◌, ℕ, List, length, take, codes, Some, IfOk, OnOk, OnErr};
 
-use crate::fault::{Failed, NoMemory, WorldFault};
+use crate::fault::{Failed, WorldFault};
 use crate::file::{MemFile, OpenFile, Source, find_bytes};
 use crate::world::World;
+use log_model::NoMemory;
 use std::alloc::Global;
 
 /// How many bytes of output a new world has room for.
@@ -251,13 +252,13 @@ impl World for MemWorld {
             return Err(WorldFault::Failed);
         }
         let n = piece.len().min(self.most.max(1));
-        let (front, _) = piece.split_at(n);
+        let (prefix, _) = piece.split_at(n);
         if h == 1 {
-            self.write_output(front)?;
+            self.write_output(prefix)?;
             return Ok(n);
         }
         if h == 2 {
-            self.write_errors(front)?;
+            self.write_errors(prefix)?;
             return Ok(n);
         }
         self.count_fault();

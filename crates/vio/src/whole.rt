@@ -2,7 +2,9 @@
 
 ghost use Rattle.std.specs.Prelude.{◌≡◌, ◌<◌, ◌≤◌, ℕ, List, [], length, IfOk, OnOk, OnErr, Some, vec_len};
 ghost use Rattle.std.specs.Result.{IsErrOf};
-ghost use Rattle.vio.specs.World.{Reading, Writing, Read, ReadSome, ReadPast, Wrote, WrotePart, WroteFront, FaultsRose, IsAtEnd};
+ghost use Rattle.log_model.specs.Prefix.{IsProperPrefix};
+ghost use Rattle.vio.specs.Writes.{WroteOn};
+ghost use Rattle.vio.specs.World.{Reading, Writing, Read, ReadSome, ReadPast, Wrote, FaultsRose, IsAtEnd};
 
 use crate::fault::{WholeFault, WorldFault};
 use crate::world::World;
@@ -11,11 +13,10 @@ use std::alloc::Global;
 /// How many bytes `read_whole` asks for at once.
 const PIECE: usize = 65536;
 
-/// Writes the whole piece to a handle. After a refusal a front of the piece was written.
+/// Writes the whole piece to a handle. After a refusal a proper prefix of the piece was written.
 pub fn write_all<W: World>(world: &mut W, h: u32, piece: &[u8]) -> Result<(), WorldFault>
     ensures ok { OnOk result (Wrote h piece.now (W.seen world.old) (W.seen world.new)) }
-    ensures err { OnErr result (WrotePart h piece.now (W.seen world.old) (W.seen world.new)) }
-    ensures left { IsErrOf result WorldFault.Failed → WroteFront h piece.now (W.seen world.old) (W.seen world.new) }
+    ensures err { OnErr result (WroteOn h [] (λ text. IsProperPrefix text piece.now) (W.seen world.old) (W.seen world.new)) }
     ensures failed { IsErrOf result WorldFault.Failed → FaultsRose Writing h (W.seen world.old) (W.seen world.new) }
 {
     let mut rest = piece;
@@ -52,8 +53,8 @@ pub fn read_whole<W: World>(
         if n == 0 {
             return Ok(bytes);
         }
-        let (front, _) = buffer.split_at(n);
-        bytes.extend_from_slice(front)?;
+        let (prefix, _) = buffer.split_at(n);
+        bytes.extend_from_slice(prefix)?;
     }
     Err(WholeFault::TooLarge)
 }

@@ -7,6 +7,15 @@ ghost use Rattle.vio.specs.World.{Seen, Opening, Reading, Writing, Opened, Read,
 
 use crate::fault::{Failed, WorldFault};
 
+/// The handle of standard input.
+pub const INPUT: u32 = 0;
+
+/// The handle of standard output.
+pub const OUTPUT: u32 = 1;
+
+/// The handle of standard error.
+pub const ERRORS: u32 = 2;
+
 /// Files and standard streams.
 ///
 /// Handles 0, 1 and 2 are standard input, output and error. No call lowers a count of faults, and a
@@ -24,7 +33,7 @@ pub trait World: Send {
             HasNewFault ((seen self.old).faults Opening name.now) ((seen self.new).faults Opening name.now) }
         ensures memory { IsErrOf result WorldFault.NoMemory → NoNewFaults (seen self.old) (seen self.new) };
 
-    /// Reads bytes into the front of `buf`: at least one, or none at the end or for an empty `buf`.
+    /// Reads bytes into the first part of `buf`: at least one, or none at the end or for an empty `buf`.
     fn read(&mut self, h: u32, buf: &mut [u8]) -> Result<usize, Failed>
         ensures fits { IfOk result (λ n. n ≤ length buf.old) }
         ensures ok { IfOk result (λ n. Read h (take n buf.new) (seen self.old) (seen self.new)) }
@@ -34,7 +43,7 @@ pub trait World: Send {
         ensures err { OnErr result (OnlyCounts (seen self.old) (seen self.new)) }
         ensures failed { OnErr result (FaultsRose Reading h (seen self.old) (seen self.new)) };
 
-    /// Writes a front of the piece: at least one byte of a piece that isn't empty.
+    /// Writes a prefix of the piece: at least one byte of a piece that isn't empty.
     fn write(&mut self, h: u32, piece: &[u8]) -> Result<usize, WorldFault>
         ensures fits { IfOk result (λ n. n ≤ length piece.now) }
         ensures ok { IfOk result (λ n. Wrote h (take n piece.now) (seen self.old) (seen self.new)) }

@@ -17,7 +17,7 @@ fetch_length = refl
 
 -- four bytes of a header are no log, and the fifth is missed
 early : DiffersFirst 4 (codes "VSLO")
-early = record { inside = omega arith; front = refl; differs = λ h. cc }
+early = record { inside = omega arith; prefix = refl; differs = λ h. cc }
 
 -- a file without its last byte stops early, at the second unit
 stopped : stops_early (14 ∷ 0 ∷ 0 ∷ 0xfe ∷ 7 ∷ []) ≡ true

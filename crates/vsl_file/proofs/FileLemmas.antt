@@ -1,25 +1,27 @@
 -- A file's units and ending: one content for each list of bytes, and the ending that follows from what was read.
-use Rattle.std.proofs.Common.{◌≡◌, ◌≢◌, ℕ, zero, suc, ◌+◌, ◌-◌, ◌<◌, ◌≤◌, Bool, true, false, leb, eqb, ◌&&◌, ◌⊎◌, inl, inr, Option, unwrap_or, List, [], ◌∷◌, ◌++◌, length, take, drop, refl, sym, ap, subst, ◌∙◌, append_assoc, arith}
+use Rattle.std.proofs.Common.{◌≡◌, ◌≢◌, ℕ, ◌+◌, ◌-◌, ◌<◌, ◌≤◌, Bool, true, false, leb, eqb, ◌&&◌, ◌⊎◌, inl, inr, List, [], ◌∷◌, ◌++◌, length, take, drop, refl, sym, ap, subst, ◌∙◌, append_assoc, arith}
 use Rattle.std.specs.Prelude.{slice_get}
-use Rattle.std.proofs.lemmas.Bool.{cases_lt, cases_eq, cases_order, ne_eqb, lt-leb, le-leb, both_ways, and_right}
+use Rattle.std.proofs.lemmas.Bool.{cases_lt, ne_eqb, lt-leb, le-leb, both_ways, and_right}
+use Rattle.std.proofs.Math.Bool.{and-true}
 use Rattle.std.proofs.lemmas.List.{take_all, append_cancel_left, take-append-drop, length-append}
 use Rattle.vsl_record.specs.Unit.{Log}
 use Rattle.vsl_file.specs.File.{FileEnding, Whole, NotALog, Damaged, TooLarge, IsFile, IsSplit, DiffersFirst, BeginsNoUnit, stops_early, is_whole, most_bytes, bytes_read, file_header, log_bytes}
-use Rattle.vsl_file.specs.Reading.{IsReadUp}
+use Rattle.vsl_file.specs.inside.FileReading.{IsReadUp}
+use Rattle.vsl_file.proofs.HeaderLemmas.{slice_get-append, one_place, begins_or_not}
 use Rattle.vsl_file.proofs.UnitLemmas.{short_begins_none, stopped_begins_none, one_log}
 
 -- how a log ends, by what is left after its units
-abbrev EndsSo : List ℕ → List ℕ → FileEnding → Type 0
-EndsSo bytes rest Whole = (length bytes ≤ most_bytes) × (rest ≡ [])
-EndsSo bytes rest (NotALog at) = ⊥
-EndsSo bytes rest (Damaged at) = (rest ≢ []) × (at + length rest ≡ length (bytes_read bytes)) × (most_bytes < length bytes → stops_early rest ≡ false)
-EndsSo bytes rest TooLarge = (most_bytes < length bytes) × (stops_early rest ≡ true)
+abbrev LogEndsSo : List ℕ → List ℕ → FileEnding → Type 0
+LogEndsSo bytes rest Whole = (length bytes ≤ most_bytes) × (rest ≡ [])
+LogEndsSo bytes rest (NotALog at) = ⊥
+LogEndsSo bytes rest (Damaged at) = (rest ≢ []) × (at + length rest ≡ length (bytes_read bytes)) × (most_bytes < length bytes → stops_early rest ≡ false)
+LogEndsSo bytes rest TooLarge = (most_bytes < length bytes) × (stops_early rest ≡ true)
 
 -- a file that is a log, with what is left after its units
 record IsLogFile (bytes : List ℕ) (units : Log) (ending : FileEnding) (rest : List ℕ) : Type 0 where
   pub split : IsSplit (bytes_read bytes) units rest
   pub no_more : BeginsNoUnit rest
-  pub ends : EndsSo bytes rest ending
+  pub ends : LogEndsSo bytes rest ending
 
 -- a file that is no log
 record IsNoLog (bytes : List ℕ) (units : Log) (ending : FileEnding) (at : ℕ) : Type 0 where
@@ -40,13 +42,8 @@ opened bytes units (NotALog at) file = inl (at, record { none = file.0; is = ref
 opened bytes units (Damaged at) file = inr (file.0, record { split = file.3; no_more = file.2; ends = (file.1, file.4, file.5) })
 opened bytes units TooLarge file = inr (file.1.0, record { split = file.1.1; no_more = stopped_begins_none file.1.0 file.1.2; ends = (file.0, file.1.2) })
 
--- a test beside one that holds
-and_true : (b : Bool) → (b && true) ≡ b
-and_true true = refl
-and_true false = refl
-
 -- what is left determines how a log ends
-one_ending : (bytes rest : List ℕ) (d e : FileEnding) → EndsSo bytes rest d → EndsSo bytes rest e → d ≡ e
+one_ending : (bytes rest : List ℕ) (d e : FileEnding) → LogEndsSo bytes rest d → LogEndsSo bytes rest e → d ≡ e
 one_ending bytes rest (NotALog at) e p q = absurd p
 one_ending bytes rest d (NotALog at) p q = absurd q
 one_ending bytes rest Whole Whole p q = refl
@@ -59,12 +56,6 @@ one_ending bytes rest TooLarge Whole p q = absurd (omega (arith, p.0, q.0))
 one_ending bytes rest TooLarge (Damaged at) p q = absurd (both_ways (stops_early rest) (q.2 p.0) p.1)
 one_ending bytes rest TooLarge TooLarge p q = refl
 
--- bytes that go on after the header differ from it nowhere
-same_header : (header : List ℕ) (at : ℕ) (more : List ℕ) → at < length header → slice_get (header ++ more) at ≡ slice_get header at
-same_header [] at more lt = absurd (omega arith)
-same_header (h ∷ header) zero more lt = refl
-same_header (h ∷ header) (suc at) more lt = same_header header at more (omega arith)
-
 -- the bytes of a log go on after the header
 log_begins : (bytes : List ℕ) (units : Log) (rest : List ℕ) → IsSplit (bytes_read bytes) units rest → bytes ≡ file_header ++ (log_bytes units ++ rest ++ drop most_bytes bytes)
 log_begins bytes units rest split =
@@ -73,28 +64,7 @@ log_begins bytes units rest split =
 -- bytes are not both a log and none
 not_both : (bytes : List ℕ) (units : Log) (rest : List ℕ) (at : ℕ) → IsSplit (bytes_read bytes) units rest → DiffersFirst at bytes → ⊥
 not_both bytes units rest at split differs =
-    differs.differs (ap (λ (x : List ℕ). slice_get x at) (log_begins bytes units rest split) ∙ same_header file_header at (log_bytes units ++ rest ++ drop most_bytes bytes) differs.inside)
-
--- an element of the first ones is that of the list
-slice_get-take : (bytes : List ℕ) (n at : ℕ) → at < n → slice_get (take n bytes) at ≡ slice_get bytes at
-slice_get-take bytes zero at lt = absurd (omega arith)
-slice_get-take [] (suc n) at lt = refl
-slice_get-take (b ∷ bytes) (suc n) zero lt = refl
-slice_get-take (b ∷ bytes) (suc n) (suc at) lt = slice_get-take bytes n at (omega arith)
-
--- no byte before the first that differs is one
-before : (bytes : List ℕ) (at other : ℕ) → DiffersFirst at bytes → DiffersFirst other bytes → at < other → ⊥
-before bytes at other p q lt =
-    p.differs (sym (slice_get-take bytes other at lt) ∙ ap (λ (x : List ℕ). slice_get x at) q.front ∙ slice_get-take file_header other at lt)
-
--- there is one first byte that differs
-one_place : (bytes : List ℕ) (at other : ℕ) → DiffersFirst at bytes → DiffersFirst other bytes → at ≡ other
-one_place bytes at other p q =
-    elim (cases_order at other) [
-      | inl same ↦ same
-      | inr (inl lt) ↦ absurd (before bytes at other p q lt)
-      | inr (inr lt) ↦ absurd (before bytes other at q p lt)
-    ]
+    differs.differs (ap (λ (x : List ℕ). slice_get x at) (log_begins bytes units rest split) ∙ slice_get-append file_header (log_bytes units ++ rest ++ drop most_bytes bytes) at differs.inside)
 
 -- the same for logs
 same_logs : (bytes : List ℕ) (us vs : Log) (d e : FileEnding) (rest left : List ℕ) → IsLogFile bytes us d rest → IsLogFile bytes vs e left → (us ≡ vs) × (d ≡ e)
@@ -102,7 +72,7 @@ same_logs bytes us vs d e rest left p q =
     let parts : file_header ++ (log_bytes us ++ rest) ≡ file_header ++ (log_bytes vs ++ left) =
     sym (append_assoc file_header (log_bytes us) rest) ∙ sym p.split.parts ∙ q.split.parts ∙ append_assoc file_header (log_bytes vs) left in
     let same = one_log us vs rest left p.split.are_units q.split.are_units p.no_more q.no_more (append_cancel_left file_header (log_bytes us ++ rest) (log_bytes vs ++ left) parts) in
-    (same.0, one_ending bytes left d e (subst (λ (x : List ℕ). EndsSo bytes x d) same.1 p.ends) q.ends)
+    (same.0, one_ending bytes left d e (subst (λ (x : List ℕ). LogEndsSo bytes x d) same.1 p.ends) q.ends)
 
 -- a file's bytes determine its units and its ending
 pub one_content_of : (bytes : List ℕ) (us vs : Log) (d e : FileEnding) → IsFile bytes us d → IsFile bytes vs e → (us ≡ vs) × (d ≡ e)
@@ -118,24 +88,14 @@ one_content_of bytes us vs d e file other =
       ]
     ]
 
--- where a list doesn't begin with another there is a first difference
-differs_in : (header bytes : List ℕ) → ((more : List ℕ) → bytes ≢ header ++ more) → (at : ℕ) × (at < length header) × (take at bytes ≡ take at header) × (slice_get bytes at ≢ slice_get header at)
-differs_in [] bytes other = absurd (other bytes refl)
-differs_in (h ∷ header) [] other = (0, omega arith, refl, λ e. cc)
-differs_in (h ∷ header) (b ∷ bytes) other =
-    elim (cases_eq b h) [
-      | inl same ↦
-          let after = differs_in header bytes (λ more e. other more (ap (λ (x : ℕ). x ∷ bytes) same ∙ ap (λ (x : List ℕ). h ∷ x) e)) in
-          (suc after.0, omega (arith, after.1), ap (λ (x : ℕ). x ∷ take after.0 bytes) same ∙ ap (λ (x : List ℕ). h ∷ x) after.2, after.3)
-      | inr different ↦ (0, omega arith, refl, λ e. different (ap (λ (o : Option ℕ). unwrap_or o b) e))
-    ]
-
 -- a file that doesn't begin with the header is no log
 pub no_log : (bytes : List ℕ) → ((more : List ℕ) → bytes_read bytes ≢ file_header ++ more) → (ending : FileEnding) × IsFile bytes [] ending × (false ≡ is_whole ending)
 unfolding most_bytes
 no_log bytes other =
-    let first = differs_in file_header bytes (λ more e. other (take (most_bytes - 8) more) (ap (take most_bytes) e ∙ refl)) in
-    (NotALog first.0, (refl, record { inside = first.1; front = first.2; differs = first.3 }), refl)
+    elim (begins_or_not file_header bytes) [
+      | inl (more, is) ↦ absurd (other (take (most_bytes - 8) more) (ap (take most_bytes) is))
+      | inr (at, first) ↦ (NotALog at, (refl, record { inside = first.0; prefix = first.1; differs = first.2 }), refl)
+    ]
 
 -- the bytes that follow a log's units are no more than all
 rest_within : (bytes : List ℕ) (units : Log) (rest : List ℕ) → IsSplit bytes units rest → length rest ≤ length bytes
@@ -165,7 +125,7 @@ log_ending : (bytes : List ℕ) (units : Log) (rest : List ℕ) → IsSplit (byt
 log_ending bytes units rest split none =
     elim (cases_lt most_bytes (length bytes)) [
       | inl large ↦ rw (and_right (eqb (length rest) 0) (leb (length bytes) most_bytes) (lt-leb (length bytes) most_bytes large)) (stops_or_not bytes units rest (stops_early rest) refl split none large)
-      | inr small ↦ rw (le-leb (length bytes) most_bytes small) (rw (and_true (eqb (length rest) 0)) (small_log bytes units rest split none small))
+      | inr small ↦ rw (le-leb (length bytes) most_bytes small) (rw (and-true (eqb (length rest) 0)) (small_log bytes units rest split none small))
     ]
 
 -- a file that begins with the header, and was read up, has an ending

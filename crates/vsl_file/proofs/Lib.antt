@@ -1,6 +1,7 @@
 mod Examples
-mod WordLemmas
 mod UnitLemmas
-mod StepLemmas
+mod HeaderLemmas
+mod ReaderLemmas
+mod ReaderStateLemmas
 mod FileLemmas
 mod EveryFileLemmas

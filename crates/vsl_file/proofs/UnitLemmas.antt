@@ -1,19 +1,20 @@
--- The bytes of units: what the first four count, and that no unit's bytes begin another's.
-use Rattle.std.proofs.Common.{◌≡◌, ℕ, ◌+◌, ◌*◌, ◌/◌, ◌%◌, ◌<◌, ◌≤◌, true, eqb, ltb, leb, ◌&&◌, List, [], ◌∷◌, ◌++◌, length, refl, sym, ap, ◌∙◌, append_assoc, arith}
+-- The bytes of units: what the first four tell, and that no unit's bytes begin another's.
+use Rattle.std.proofs.Common.{◌≡◌, ◌≢◌, ℕ, ◌+◌, ◌*◌, ◌/◌, ◌%◌, ◌<◌, ◌≤◌, true, eqb, ltb, leb, ◌&&◌, List, [], ◌∷◌, ◌++◌, length, take, drop, refl, sym, ap, ◌∙◌, append_assoc, arith}
 use Rattle.std.specs.Int.{w32, from_le_bytes}
 use Rattle.std.specs.List.{AllByRecursion}
 use Rattle.std.proofs.lemmas.Bool.{ltb-true, and_parts}
-use Rattle.std.proofs.lemmas.List.{length-append, append_cancel_left}
+use Rattle.std.proofs.lemmas.List.{append-nil, length-append, append_cancel_left, length-take-le, take-append-drop, take-append-le, take_at, drop_at}
 use Rattle.std.proofs.lemmas.List.Concat.{flat_map-cons}
 use Rattle.std.proofs.lemmas.Nat.{from_le_bytes-to_le_bytes_4}
 use Rattle.vsl_record.specs.Unit.{LogUnit, Log}
-use Rattle.vsl_record.specs.Words.{IsUnit, unit_words, word_of, header_mark, body_words, most_words}
-use Rattle.vsl_record.proofs.ReadingLemmas.{unit_prefix_free, unit_words_small, length_unit_words-at_least}
+use Rattle.vsl_record.specs.Words.{IsUnit, unit_words, word_of, word_bytes, header_mark, body_words, most_words, words_in}
+use Rattle.vsl_record.proofs.UnitReadingLemmas.{unit_prefix_free, unit_words_small, length_unit_words-at_least}
+use Rattle.vsl_record.proofs.Steps.{IsBytes, below_take}
+use Rattle.vsl_record.proofs.WordLemmas.{length-words_in, length-word_bytes, words_in-take, words_in-word_bytes, words_in_again, word_bytes-words_in}
 use Rattle.vsl_file.specs.File.{unit_bytes, log_bytes, BeginsNoUnit, stops_early}
-use Rattle.vsl_file.specs.Reading.{words_in, IsUnitSize}
-use Rattle.vsl_file.proofs.WordLemmas.{length-word_bytes, words_in-word_bytes}
+use Rattle.vsl_file.specs.inside.FileReading.{IsHeadSize, NeverBegins, BeginsWithUnit, BeginsWithUnits}
 
--- no unit's bytes are the front of another's
+-- no unit's bytes begin another's
 unit_bytes_prefix_free : (u v : LogUnit) (a b : List ℕ) → IsUnit u → IsUnit v → unit_bytes u ++ a ≡ unit_bytes v ++ b → (u ≡ v) × (a ≡ b)
 unit_bytes_prefix_free u v a b fits_u fits_v e =
     let words_u = words_in-word_bytes (unit_words u) a (unit_words_small u fits_u) in
@@ -34,36 +35,96 @@ short_begins_none bytes short = λ u more fits e. omega (arith, length_with_unit
 head_is : (bytes : List ℕ) (u : LogUnit) (more : List ℕ) → IsUnit u → bytes ≡ unit_bytes u ++ more → from_le_bytes w32 bytes ≡ header_mark + (1 + length (body_words u))
 head_is bytes u more fits e = ap (from_le_bytes w32) e ∙ from_le_bytes-to_le_bytes_4 (header_mark + (1 + length (body_words u))) (unit_words_small u fits 0)
 
--- the low three bytes of the first word of a unit's bytes count the unit's words
-head_counts : (bytes : List ℕ) (u : LogUnit) (more : List ℕ) → IsUnit u → bytes ≡ unit_bytes u ++ more → from_le_bytes w32 bytes % 16777216 ≡ length (unit_words u)
-head_counts bytes u more fits e =
+-- four bytes settle the first word
+le_prefix : (bytes more : List ℕ) → 4 ≤ length bytes → from_le_bytes w32 (bytes ++ more) ≡ from_le_bytes w32 bytes
+le_prefix (a ∷ b ∷ c ∷ d ∷ bytes) more enough = refl
+le_prefix short more enough = absurd (omega (arith, enough))
+
+-- the first word of a unit
+record IsHead (u : LogUnit) (head : ℕ) : Type 0 where
+  pub top : head / 16777216 ≡ 254
+  pub count : head % 16777216 ≡ length (unit_words u)
+  pub least : 3 ≤ head % 16777216
+  pub most : head % 16777216 ≤ 1048576
+
+head_fits : (bytes more rest : List ℕ) (u : LogUnit) → 4 ≤ length bytes → IsUnit u → bytes ++ more ≡ unit_bytes u ++ rest → IsHead u (from_le_bytes w32 bytes)
+head_fits bytes more rest u enough fits e =
     let size : 1 + length (body_words u) ≤ 1048576 = omega (arith, fits.size) in
-    let low : (header_mark + (1 + length (body_words u))) % 16777216 ≡ 1 + length (body_words u) = omega arith in
-    ap (λ (w : ℕ). w % 16777216) (head_is bytes u more fits e) ∙ low ∙ omega arith
+    let some : 3 ≤ 1 + length (body_words u) = omega (arith, length_unit_words-at_least u fits) in
+    let head : from_le_bytes w32 bytes ≡ header_mark + (1 + length (body_words u)) = sym (le_prefix bytes more enough) ∙ head_is (bytes ++ more) u rest fits e in
+    record { top = omega arith; count = omega arith; least = omega arith; most = omega arith }
 
--- bytes with fewer than their first word counts begin no unit
-pub cut_begins_none : (bytes : List ℕ) → length bytes < 4 * (from_le_bytes w32 bytes % 16777216) → BeginsNoUnit bytes
-cut_begins_none bytes cut = λ u more fits e. omega (arith, head_counts bytes u more fits e, length_with_unit bytes u more e)
+pub never_top : (bytes : List ℕ) → 4 ≤ length bytes → from_le_bytes w32 bytes / 16777216 ≢ 254 → NeverBegins bytes
+never_top bytes enough other = λ more u rest fits e. other (head_fits bytes more rest u enough fits e).top
 
--- four times what the first word counts is the size of a unit at the front
-pub size_of : (bytes : List ℕ) → 4 * (from_le_bytes w32 bytes % 16777216) ≤ length bytes → IsUnitSize (4 * (from_le_bytes w32 bytes % 16777216)) bytes
-size_of bytes long = record {
-  words = (from_le_bytes w32 bytes % 16777216, refl);
-  within = long;
-  only = λ u more fits e. length-word_bytes (unit_words u) ∙ ap (λ (n : ℕ). 4 * n) (sym (head_counts bytes u more fits e));
+pub never_few : (bytes : List ℕ) → 4 ≤ length bytes → from_le_bytes w32 bytes % 16777216 < 3 → NeverBegins bytes
+never_few bytes enough few = λ more u rest fits e. let head = head_fits bytes more rest u enough fits e in omega (arith, head.least)
+
+pub never_many : (bytes : List ℕ) → 4 ≤ length bytes → 1048576 < from_le_bytes w32 bytes % 16777216 → NeverBegins bytes
+never_many bytes enough many = λ more u rest fits e. let head = head_fits bytes more rest u enough fits e in omega (arith, head.most)
+
+pub head_sized : (bytes : List ℕ) → 4 ≤ length bytes → 3 ≤ from_le_bytes w32 bytes % 16777216 → from_le_bytes w32 bytes % 16777216 ≤ 1048576 → IsHeadSize (4 * (from_le_bytes w32 bytes % 16777216)) bytes
+head_sized bytes enough some few = record {
+  least = omega arith;
+  most = omega arith;
+  only = λ u more rest fits e. let head = head_fits bytes more rest u enough fits e in omega (arith, head.count, length-word_bytes (unit_words u));
 }
+
+-- fewer bytes than the header counts begin no unit
+pub cut_unit : (size : ℕ) (bytes : List ℕ) → IsHeadSize size bytes → length bytes < size → BeginsNoUnit bytes
+cut_unit size bytes sized cut = λ u rest fits e.
+    omega (arith, sized.only u [] rest fits (append-nil bytes ∙ e), ap length e, length-append (unit_bytes u) rest)
+
+pub never_now : (bytes : List ℕ) → NeverBegins bytes → BeginsNoUnit bytes
+never_now bytes never = λ u more fits e. never [] u more fits (append-nil bytes ∙ e)
 
 -- bytes that stop early begin no unit
 pub stopped_begins_none : (bytes : List ℕ) → stops_early bytes ≡ true → BeginsNoUnit bytes
-stopped_begins_none [] e = short_begins_none [] (omega arith)
-stopped_begins_none (a ∷ []) e = short_begins_none (a ∷ []) (omega arith)
-stopped_begins_none (a ∷ b ∷ []) e = short_begins_none (a ∷ b ∷ []) (omega arith)
-stopped_begins_none (a ∷ b ∷ c ∷ []) e = short_begins_none (a ∷ b ∷ c ∷ []) (omega arith)
-stopped_begins_none (a ∷ b ∷ c ∷ d ∷ bytes) e =
-    let test : ltb (4 + length bytes) (4 * (word_of a b c d % 16777216)) ≡ true = (and_parts (eqb (word_of a b c d / 16777216) 254 && leb 3 (word_of a b c d % 16777216) && leb (word_of a b c d % 16777216) most_words) (ltb (4 + length bytes) (4 * (word_of a b c d % 16777216))) e).1 in
-    let cut : 4 + length bytes < 4 * (word_of a b c d % 16777216) = ltb-true _ _ test in
+stopped_begins_none (a ∷ b ∷ c ∷ d ∷ bytes) e = λ u more fits is.
+    let head = head_fits (a ∷ b ∷ c ∷ d ∷ bytes) [] more u (omega arith) fits (append-nil (a ∷ b ∷ c ∷ d ∷ bytes) ∙ is) in
+    let test = and_parts (eqb (word_of a b c d / 16777216) 254 && leb 3 (word_of a b c d % 16777216) && leb (word_of a b c d % 16777216) most_words) (ltb (4 + length bytes) (4 * (word_of a b c d % 16777216))) e in
+    let cut : 4 + length bytes < 4 * (word_of a b c d % 16777216) = ltb-true _ _ test.1 in
     let same : from_le_bytes w32 (a ∷ b ∷ c ∷ d ∷ bytes) ≡ word_of a b c d = omega arith in
-    cut_begins_none (a ∷ b ∷ c ∷ d ∷ bytes) (omega (arith, cut, ap (λ (w : ℕ). w % 16777216) same))
+    omega (arith, cut, ap (λ (w : ℕ). w % 16777216) same, head.count, length_with_unit (a ∷ b ∷ c ∷ d ∷ bytes) u more is)
+stopped_begins_none short e = short_begins_none short (omega arith)
+
+-- ---- the unit that begins bytes
+
+-- where the words begin with a unit's, so do the bytes
+pub unit_begins : (bytes : List ℕ) (u : LogUnit) (rest : List ℕ) → IsBytes bytes → words_in bytes ≡ unit_words u ++ rest → bytes ≡ unit_bytes u ++ drop (4 * length (unit_words u)) bytes
+unit_begins bytes u rest all e =
+    let n : ℕ = length (unit_words u) in
+    let long : 4 * length (unit_words u) ≤ length bytes = omega (arith, length-words_in bytes, ap length e, length-append (unit_words u) rest) in
+    let first : words_in (take (4 * n) bytes) ≡ unit_words u = words_in-take n bytes ∙ ap (take n) e ∙ take_at (unit_words u) rest n refl in
+    let is : take (4 * n) bytes ≡ unit_bytes u = sym (word_bytes-words_in n (take (4 * n) bytes) (length-take-le (4 * n) bytes long) (below_take 256 (4 * n) bytes (omega arith) all)) ∙ ap word_bytes first in
+    sym (take-append-drop (4 * n) bytes) ∙ ap (λ (x : List ℕ). x ++ drop (4 * n) bytes) is
+
+-- a unit that is read of as many bytes as the header counts begins the bytes
+pub sized_found : (bytes part : List ℕ) (size count : ℕ) (u : LogUnit) → IsBytes bytes → IsHeadSize size bytes → part ≡ take size bytes → IsUnit u → take count (words_in part) ≡ unit_words u → BeginsWithUnit bytes u (drop size bytes)
+sized_found bytes part size count u all sized is fits found =
+    let words : words_in part ≡ unit_words u ++ drop count (words_in part) = sym (take-append-drop count (words_in part)) ∙ ap (λ (ws : List ℕ). ws ++ drop count (words_in part)) found in
+    let part_small : IsBytes part = rw is (below_take 256 size bytes (omega arith) all) in
+    let stands = unit_begins part u (drop count (words_in part)) part_small words in
+    let after : List ℕ = drop (4 * length (unit_words u)) part ++ drop size bytes in
+    let parts : bytes ≡ unit_bytes u ++ after =
+    sym (take-append-drop size bytes) ∙ ap (λ (x : List ℕ). x ++ drop size bytes) (sym is ∙ stands) ∙ append_assoc (unit_bytes u) (drop (4 * length (unit_words u)) part) (drop size bytes) in
+    let rest : drop size bytes ≡ after = ap (drop size) parts ∙ drop_at (unit_bytes u) after size (sized.only u [] after fits (append-nil bytes ∙ parts)) in
+    record { is_unit = fits; parts = parts ∙ ap (λ (x : List ℕ). unit_bytes u ++ x) (sym rest) }
+
+-- where none is read of them, no unit begins the bytes, however they go on
+pub sized_refused : (bytes part : List ℕ) (size : ℕ) → IsHeadSize size bytes → size ≤ length bytes → part ≡ take size bytes → ((u : LogUnit) (rest : List ℕ) → IsUnit u → words_in part ≡ unit_words u ++ rest → ⊥) → NeverBegins bytes
+sized_refused bytes part size sized enough is refused = λ more u x fits e.
+    let prefix : take size bytes ≡ unit_bytes u = sym (take-append-le size bytes more enough) ∙ ap (take size) e ∙ take_at (unit_bytes u) x size (sized.only u more x fits e) in
+    refused u [] fits (ap words_in (is ∙ prefix) ∙ words_in_again (unit_words u) (unit_words_small u fits) ∙ sym (append-nil (unit_words u)))
+
+-- a unit takes bytes
+pub unit_takes_bytes : (bytes : List ℕ) (u : LogUnit) (rest : List ℕ) → BeginsWithUnit bytes u rest → length rest < length bytes
+unit_takes_bytes bytes u rest begins = omega (arith, length_with_unit bytes u rest begins.parts, length_unit_words-at_least u begins.is_unit)
+
+-- ---- the units that begin bytes
+
+pub begins_with_none : (bytes : List ℕ) → BeginsWithUnits bytes [] bytes
+begins_with_none bytes = record { are_units = tt; parts = refl }
 
 -- the bytes of a unit, those of others, and what follows
 pub regroup : (u : LogUnit) (us : Log) (a : List ℕ) → log_bytes (u ∷ us) ++ a ≡ unit_bytes u ++ (log_bytes us ++ a)

@@ -45,7 +45,7 @@ is_whole TooLarge = false
 -- the byte is the first that differs from the header's, or that is missing
 pub record DiffersFirst (at : ℕ) (bytes : List ℕ) : Type 0 where
   pub inside : at < length file_header
-  pub front : take at bytes ≡ take at file_header
+  pub prefix : take at bytes ≡ take at file_header
   pub differs : slice_get bytes at ≢ slice_get file_header at
 
 -- the bytes are the header, these units, and the rest
@@ -53,7 +53,7 @@ pub record IsSplit (bytes : List ℕ) (units : Log) (rest : List ℕ) : Type 0 w
   pub are_units : AllByRecursion IsUnit units
   pub parts : bytes ≡ file_header ++ log_bytes units ++ rest
 
--- the bytes of no unit stand at the front
+-- the bytes of no unit begin them
 abbrev pub BeginsNoUnit : List ℕ → Type 0
 BeginsNoUnit bytes = (u : LogUnit) (more : List ℕ) → IsUnit u → bytes ≢ unit_bytes u ++ more
 

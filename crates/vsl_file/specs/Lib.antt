@@ -1,2 +1,3 @@
 pub mod File
-pub mod Reading
+pub mod ReaderState
+pub mod inside

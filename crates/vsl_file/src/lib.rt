@@ -6,6 +6,10 @@
 //! Start with `specs/File.antt`. The format is this project's choice; it is not Varnish's own.
 #![tactic(auto)]
 
+mod laws;
+mod reader;
 mod reading;
 
-pub use reading::{FileUnits, every_file, one_content, read_file};
+pub use laws::{every_file, one_content};
+pub use reader::{FileFault, FileReader, FileStep, Gathered, gather};
+pub use reading::{FileUnits, read_file};

@@ -1,16 +1,17 @@
 //! Reading a whole file.
 
-ghost use Rattle.std.specs.Prelude.{◌≡◌, ◌≢◌, ◌==◌, ◌&&◌, ◌<◌, ◌++◌, ℕ, List, length, slice_index, nat_le, IfOk, IfSome, IfNone};
+ghost use Rattle.std.specs.Prelude.{◌≡◌, ◌≢◌, ◌==◌, ◌&&◌, ◌≤◌, ◌++◌, ℕ, List, length, drop, nat_le, IfOk, IfSome, IfNone};
 ghost use Rattle.vsl_record.specs.Unit.{Log};
 ghost use Rattle.vsl_file.specs.File.{FileEnding, IsFile, is_whole, file_header, bytes_read, most_bytes, BeginsNoUnit};
-ghost use Rattle.vsl_file.specs.Reading.{words_in, IsUnitSize, BeginsWithUnit, IsReadUp};
+ghost use Rattle.vsl_file.specs.inside.FileReading.{IsHeadSize, NeverBegins, BeginsWithUnit, IsReadUp};
 
+use bytes::Bytes;
 use std::alloc::Global;
 use vio::NoMemory;
-use vsl_record::{Unit, Units, WordFault, read_unit};
+use vsl_record::{Unit, Units, WordFault, read_unit_bytes};
 
 /// The bytes with which a log file begins.
-const HEADER: [u8; 8] = *b"VSLOG-1\n";
+pub(crate) const HEADER: [u8; 8] = *b"VSLOG-1\n";
 
 /// The most bytes of a file that are read: 2^40.
 const MOST_BYTES: usize = 1_099_511_627_776;
@@ -23,16 +24,6 @@ pub struct FileUnits {
     /// Whether the file is a log of at most 2^40 bytes that ends after a whole unit or its header.
     pub whole: bool,
 }
-
-/// The law that a file's bytes determine its units and its ending. It does nothing.
-pub fn one_content()
-    ensures { (bytes : List ℕ) (us vs : Log) (d e : FileEnding) → IsFile bytes us d → IsFile bytes vs e → (us ≡ vs) × (d ≡ e) }
-{}
-
-/// The law that every list of bytes has units and an ending as a file. It does nothing.
-pub fn every_file()
-    ensures { (bytes : List ℕ) → ((i : ℕ) → slice_index bytes i < 256) → (units : Log) × (ending : FileEnding) × IsFile bytes units ending }
-{}
 
 /// Reads the units of a log file from all its bytes.
 ///
@@ -74,7 +65,7 @@ fn first_bytes(bytes: &[u8]) -> &[u8]
 
 /// The bytes after the header, where the bytes begin with it.
 #[tactic(auto, using(std::proofs::lemmas::Slice::Eq::strip_prefix_is))]
-fn after_header(bytes: &[u8]) -> Option<&[u8]>
+pub(crate) fn after_header(bytes: &[u8]) -> Option<&[u8]>
     ensures some { IfSome result (λ body. bytes.now ≡ file_header ++ body.now) }
     ensures none { IfNone result ((body : List ℕ) → bytes.now ≢ file_header ++ body) }
 {
@@ -89,68 +80,75 @@ fn is_read_whole(bytes: &[u8], rest: &[u8]) -> bool
     rest.is_empty() && bytes.len() <= MOST_BYTES
 }
 
-/// Reads all units at the front of the bytes, and what is left.
+/// Reads all units that begin the bytes, and what is left.
 fn read_units(alloc: Global, bytes: &[u8]) -> Result<(Units, &[u8]), NoMemory>
     ensures { IfOk result (λ x. IsReadUp bytes.now x.0 x.1.now) }
 {
-    let mut words = Vec::new(alloc);
     let mut units = Units::new(alloc);
     let mut rest = bytes;
-    while let Some((unit, after)) = next_unit(alloc, &mut words, rest)? {
+    while let Some((unit, after)) = next_unit(alloc, rest)? {
         units.push(unit)?;
         rest = after;
     }
     Ok((units, rest))
 }
 
-/// Reads the unit at the front of the bytes, and what is left. The words are a buffer: what they
-/// were is lost.
-fn next_unit<'a>(
-    alloc: Global,
-    words: &mut Vec<u32>,
-    bytes: &'a [u8],
-) -> Result<Option<(Unit, &'a [u8])>, NoMemory>
+/// Reads the unit that begins the bytes, and what is left.
+fn next_unit(alloc: Global, bytes: &[u8]) -> Result<Option<(Unit, &[u8])>, NoMemory>
     ensures some { IfOk result (λ o. IfSome o (λ x. BeginsWithUnit bytes.now x.0 x.1.now)) }
     ensures none { IfOk result (λ o. IfNone o (BeginsNoUnit bytes.now)) }
 {
-    let Some(size) = unit_size(bytes) else {
+    if bytes.len() < 4 {
+        return Ok(None);
+    }
+    let Some(size) = head_size(bytes) else {
         return Ok(None);
     };
-    let (front, rest) = bytes.split_at(size);
-    fill_words(words, front)?;
-    match read_unit(alloc, words) {
-        Ok((unit, _)) => Ok(Some((unit, rest))),
+    if bytes.len() < size {
+        return Ok(None);
+    }
+    let Some(unit) = read_sized(alloc, bytes, size)? else {
+        return Ok(None);
+    };
+    let (_, rest) = bytes.split_at(size);
+    Ok(Some((unit, rest)))
+}
+
+/// Reads the unit of this size that begins the bytes.
+pub(crate) fn read_sized(alloc: Global, bytes: &[u8], size: usize) -> Result<Option<Unit>, NoMemory>
+    requires sized { IsHeadSize size bytes.now }
+    requires enough { size ≤ length bytes.now }
+    ensures some { IfOk result (λ o. IfSome o (λ u. BeginsWithUnit bytes.now u (drop size bytes.now))) }
+    ensures none { IfOk result (λ o. IfNone o (NeverBegins bytes.now)) }
+{
+    let (part, _) = bytes.split_at(size);
+    let content = Bytes::copy_from_slice(alloc, part)?;
+    match read_unit_bytes(alloc, content) {
+        Ok((unit, _)) => Ok(Some(unit)),
         Err(WordFault::Bad) => Ok(None),
         Err(WordFault::NoMemory) => Err(NoMemory),
     }
 }
 
-/// How many bytes the unit at the front has, as its header says, where there are as many.
-fn unit_size(bytes: &[u8]) -> Option<usize>
-    ensures some { IfSome result (λ size. IsUnitSize size bytes.now) }
-    ensures none { IfNone result (BeginsNoUnit bytes.now) }
+/// How many bytes the unit that begins the bytes has, as its header says, where that can be a unit's header.
+pub(crate) fn head_size(bytes: &[u8]) -> Option<usize>
+    requires { 4 ≤ length bytes.now }
+    ensures some { IfSome result (λ size. IsHeadSize size bytes.now) }
+    ensures none { IfNone result (NeverBegins bytes.now) }
 {
     let [a, b, c, d, ..] = bytes else {
         return None;
     };
     let head = u32::from_le_bytes([*a, *b, *c, *d]);
-    let size = 4 * (head % 16_777_216) as usize;
-    if bytes.len() < size {
+    if head / 16_777_216 != 254 {
         return None;
     }
-    Some(size)
-}
-
-/// Makes the words those of the bytes.
-fn fill_words(words: &mut Vec<u32>, bytes: &[u8]) -> Result<(), NoMemory>
-    ensures { IfOk result (λ _. words.new.items ≡ words_in bytes.now) }
-{
-    words.clear();
-    words.reserve(bytes.len() / 4)?;
-    let mut rest = bytes;
-    while let [a, b, c, d, after @ ..] = rest {
-        words.push(u32::from_le_bytes([*a, *b, *c, *d]))?;
-        rest = after;
+    let count = head % 16_777_216;
+    if count < 3 {
+        return None;
     }
-    Ok(())
+    if count > 1_048_576 {
+        return None;
+    }
+    Some(4 * count as usize)
 }

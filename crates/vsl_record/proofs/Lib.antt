@@ -1,9 +1,9 @@
-mod CountLemmas
 pub mod Examples
 mod LoopLemmas
 pub mod Steps
+pub mod WordLemmas
 mod PayloadLemmas
 mod MarkLemmas
 mod RecordLemmas
-pub mod ReadingLemmas
-mod FrontLemmas
+pub mod UnitReadingLemmas
+mod UnitPrefixLemmas

@@ -1,51 +1,38 @@
 -- Lists of bytes and of words, and steps of a reading that did not fail.
-use Rattle.std.proofs.Common.{◌≡◌, ℕ, zero, suc, ◌^◌, ◌<◌, Bool, true, false, List, [], ◌∷◌, ◌++◌, take, get_or, Result, Ok, Err, refl, arith, inl, inr}
-use Rattle.std.specs.Prelude.{IsErr}
+use Rattle.std.proofs.Common.{◌≡◌, ℕ, zero, suc, ◌+◌, ◌^◌, ◌<◌, Bool, true, false, List, [], ◌∷◌, ◌++◌, take, drop, get_or, Result, Ok, Err, refl, subst, arith, inl, inr}
 use Rattle.std.proofs.lemmas.Bool.{cases_lt}
-use Rattle.std.proofs.lemmas.List.{length-take, get_or-take, get_or_past}
-use Rattle.vsl_record.specs.Reading.{ReadingFault, ◌>>=◌, wanted}
+use Rattle.std.proofs.lemmas.List.{length-take, get_or-take, get_or_past, get_or-drop}
+use Rattle.vsl_record.specs.inside.UnitReading.{ReadingFault, ◌>>=◌, wanted}
+
+-- each number is below a limit
+abbrev pub AllBelow : ℕ → List ℕ → Type 0
+AllBelow limit xs = (i : ℕ) → get_or xs i 0 < limit
 
 -- each number is below 256
 abbrev pub IsBytes : List ℕ → Type 0
-IsBytes bytes = (i : ℕ) → get_or bytes i 0 < 256
+IsBytes bytes = AllBelow 256 bytes
 
 -- each number is below 2^32
 abbrev pub IsWords : List ℕ → Type 0
-IsWords words = (i : ℕ) → get_or words i 0 < 2 ^ 32
+IsWords words = AllBelow (2 ^ 32) words
 
--- no bytes are bytes
-pub IsBytes-nil : IsBytes []
-IsBytes-nil i = omega arith
+pub below_cons : (limit x : ℕ) (xs : List ℕ) → x < limit → AllBelow limit xs → AllBelow limit (x ∷ xs)
+below_cons limit x xs here after zero = here
+below_cons limit x xs here after (suc i) = after i
 
--- the first numbers of a list whose numbers are all below a limit
-take_below : (limit n : ℕ) (xs : List ℕ) → 0 < limit → ((i : ℕ) → get_or xs i 0 < limit) → (i : ℕ) → get_or (take n xs) i 0 < limit
-take_below limit n xs some all i =
+pub below_append : (limit : ℕ) (xs ys : List ℕ) → AllBelow limit xs → AllBelow limit ys → AllBelow limit (xs ++ ys)
+below_append limit [] ys all_x all_y = all_y
+below_append limit (x ∷ xs) ys all_x all_y = below_cons limit x (xs ++ ys) (all_x 0) (below_append limit xs ys (λ i. all_x (suc i)) all_y)
+
+pub below_take : (limit n : ℕ) (xs : List ℕ) → 0 < limit → AllBelow limit xs → AllBelow limit (take n xs)
+below_take limit n xs some all i =
     elim (cases_lt i n) [
       | inl lt ↦ rw (get_or-take n xs i 0 lt) (all i)
       | inr le ↦ rw (get_or_past (take n xs) i 0 (omega (arith, length-take n xs))) some
     ]
 
--- the first bytes of bytes
-pub IsBytes-take : (n : ℕ) (bytes : List ℕ) → IsBytes bytes → IsBytes (take n bytes)
-IsBytes-take n bytes all = take_below 256 n bytes (omega arith) all
-
--- the first words of words
-pub IsWords-take : (n : ℕ) (words : List ℕ) → IsWords words → IsWords (take n words)
-IsWords-take n words all = take_below (2 ^ 32) n words (omega arith) all
-
--- no words are words
-pub IsWords-nil : IsWords []
-IsWords-nil i = omega arith
-
--- a word before words
-pub IsWords-cons : (w : ℕ) (words : List ℕ) → w < 2 ^ 32 → IsWords words → IsWords (w ∷ words)
-IsWords-cons w words here after zero = here
-IsWords-cons w words here after (suc i) = after i
-
--- words before words
-pub IsWords-append : (a b : List ℕ) → IsWords a → IsWords b → IsWords (a ++ b)
-IsWords-append [] b all_a all_b = all_b
-IsWords-append (w ∷ a) b all_a all_b = IsWords-cons w (a ++ b) (all_a 0) (IsWords-append a b (λ i. all_a (suc i)) all_b)
+pub below_drop : (limit n : ℕ) (xs : List ℕ) → AllBelow limit xs → AllBelow limit (drop n xs)
+below_drop limit n xs all i = rw get_or-drop (all (n + i))
 
 -- the value of a step that did not fail
 pub bind_ok : {A B : Type 0} (r : Result A ReadingFault) (f : A → Result B ReadingFault) (y : B) → (r >>= f) ≡ Ok y → (x : A) × (r ≡ Ok x) × (f x ≡ Ok y)
@@ -64,7 +51,6 @@ done x = Ok x
 pub ok_is : {A : Type 0} (x y : A) → done x ≡ done y → x ≡ y
 ok_is x y e = cc
 
--- a reading with no value has a fault
-pub err_unless : {A : Type 0} (r : Result A ReadingFault) → ((x : A) → r ≡ Ok x → ⊥) → IsErr r
-err_unless (Ok x) never = absurd (never x refl)
-err_unless (Err d) never = refl
+-- and what holds of the one holds of the other
+pub ok_along : {A : Type 0} (P : A → Type 0) (x y : A) → done x ≡ done y → P x → P y
+ok_along P x y e p = subst P (ok_is x y e) p

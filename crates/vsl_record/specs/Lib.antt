@@ -1,6 +1,4 @@
 pub mod Payload
 pub mod Unit
 pub mod Words
-pub mod RawLine
-pub mod Reading
-pub mod ReadingSteps
+pub mod inside

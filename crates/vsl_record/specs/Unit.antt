@@ -5,11 +5,11 @@ use Rattle.vsl_record.specs.declared.mark.Mark.{Mark}
 use Rattle.vsl_record.specs.declared.record_type.Record.{Record}
 use Rattle.vsl_record.specs.Payload.{IsPayload}
 
--- one more than the highest transaction number (VXID); the bound is this project's choice
+-- one more than the highest VXID; the bound is this project's choice
 abbrev pub vxid_end : ℕ
 vxid_end = 1073741824
 
--- a unit: what a worker writes at once, records of one transaction number (VXID) and one side; what a unit must meet stands in `IsUnit`
+-- a unit: what a worker writes at once, records of one VXID and one mark; what a unit must meet stands in `IsUnit`
 pub record LogUnit : Type 0 where
   pub vxid : ℕ
   pub mark : Mark
@@ -19,8 +19,8 @@ pub record LogUnit : Type 0 where
 abbrev pub Log : Type 0
 Log = List LogUnit
 
--- a record of a unit on this side: its tag is a tag, and its payload has at most 4,000 bytes
+-- a record of a unit of this mark: its tag is a tag, and its payload has at most 4,000 bytes
 pub record IsRecordOf (mark : Mark) (rec : Record) : Type 0 where
   pub tag : IsTag rec.tag
-  pub on_side : rec.mark ≡ mark
+  pub has_mark : rec.mark ≡ mark
   pub payload : IsPayload rec.payload

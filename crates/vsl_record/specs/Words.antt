@@ -1,7 +1,7 @@
 -- The words of a unit (this project's choice). All words are 32-bit numbers.
 use Rattle.std.specs.Prelude.{ℕ, ◌+◌, ◌*◌, ◌<◌, ◌≤◌, List, [], ◌∷◌, length}
 use Rattle.std.specs.List.{flat_map, AllByRecursion}
-use Rattle.std.specs.Int.{w32, to_le_bytes}
+use Rattle.std.specs.Int.{w32, to_le_bytes, from_le_bytes}
 use Rattle.vsl_record.specs.declared.mark.Mark.{Mark}
 use Rattle.vsl_record.specs.declared.mark.Mark.TheVariants.{Client, Backend, Plain}
 use Rattle.vsl_record.specs.declared.record_type.Record.{Record}
@@ -15,7 +15,7 @@ header_mark = 0xFE00_0000
 abbrev pub most_words : ℕ
 most_words = 1048576
 
--- what a side adds to the word of a transaction number: bit 30 for a client, bit 31 for a backend, nothing for none
+-- what a mark adds to the word of a VXID: bit 30 for a client, bit 31 for a backend, nothing for none
 abbrev pub mark_bits : Mark → ℕ
 mark_bits Client = 1073741824
 mark_bits Backend = 2147483648
@@ -33,7 +33,7 @@ packed (a ∷ b ∷ []) = word_of a b 0 0 ∷ []
 packed (a ∷ b ∷ c ∷ []) = word_of a b c 0 ∷ []
 packed (a ∷ b ∷ c ∷ d ∷ bytes) = word_of a b c d ∷ packed bytes
 
--- the words of a record: its tag and length, the transaction number with the side, and the payload
+-- the words of a record: its tag and length, the VXID with the mark, and the payload
 abbrev pub record_words : ℕ → Record → List ℕ
 record_words vxid rec = (16777216 * rec.tag + length rec.payload) ∷ (vxid + mark_bits rec.mark) ∷ packed rec.payload
 
@@ -45,7 +45,7 @@ body_words u = flat_map (record_words u.vxid) u.records
 abbrev pub unit_words : LogUnit → List ℕ
 unit_words u = (header_mark + (1 + length (body_words u))) ∷ body_words u
 
--- what a unit must meet, and then it has words: its transaction number is in range, it has a record, each record is on its side, has one
+-- what a unit must meet, and then it has words: its VXID is in range, it has a record, each record is of its mark, has one
 -- of the tags and at most 4,000 bytes of payload, and the words are not too many
 pub record IsUnit (u : LogUnit) : Type 0 where
   pub vxid : u.vxid < vxid_end
@@ -56,3 +56,11 @@ pub record IsUnit (u : LogUnit) : Type 0 where
 -- the bytes of a list of words, the lowest byte of each word first
 abbrev pub word_bytes : List ℕ → List ℕ
 word_bytes words = flat_map (to_le_bytes w32) words
+
+-- the words of a list of bytes: four bytes a word, the lowest first; one to three bytes at the end are no word
+abbrev pub words_in : List ℕ → List ℕ
+words_in [] = []
+words_in (a ∷ []) = []
+words_in (a ∷ b ∷ []) = []
+words_in (a ∷ b ∷ c ∷ []) = []
+words_in (a ∷ b ∷ c ∷ d ∷ bytes) = from_le_bytes w32 (a ∷ b ∷ c ∷ d ∷ []) ∷ words_in bytes

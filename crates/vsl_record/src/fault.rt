@@ -38,7 +38,7 @@ pub enum UnitFault {
 /// Why words are no unit.
 #[derive(Clone, Copy, Debug, PartialEq, Eq, Error)]
 pub enum WordFault {
-    /// No front of the words is the words of a unit.
+    /// The words of no unit begin these words.
     #[error("no unit")]
     Bad,
     /// There was no memory for the unit.

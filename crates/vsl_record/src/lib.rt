@@ -1,14 +1,16 @@
 //! Records and units of a log, and a unit's words.
 //!
-//! A worker writes the log in units: records of one transaction number (VXID) and one side. A unit has
-//! one spelling as 32-bit words, and no spelling begins another. `read_unit` reads a unit from the
-//! front of a list of words; it never looks past the words that the unit's header counts.
+//! A worker writes the log in units: records of one VXID and one mark. A unit has
+//! one spelling as 32-bit words, and no spelling begins another. `read_unit` reads the unit that
+//! begins a list of words, and never looks past the words that the unit's header counts;
+//! `read_unit_bytes` reads it from bytes, which the records then share.
 //!
-//! Start with `specs/Unit.antt` and `specs/Words.antt`; `specs/RawLine.antt` has the text of a record.
+//! Start with `specs/Unit.antt` and `specs/Words.antt`.
 //! Source: vsl(7); the words are this project's choice.
 #![tactic(auto)]
 
 mod fault;
+mod laws;
 mod mark;
 mod payload;
 mod reading;
@@ -16,12 +18,15 @@ mod record_type;
 mod records;
 mod unit;
 mod units;
+mod words;
 
 pub use fault::{RecordFault, UnitFault, WordFault};
+pub use laws::one_spelling;
 pub use mark::Mark;
 pub use payload::{MAX_PAYLOAD, Payload};
-pub use reading::{one_spelling, read_unit};
+pub use reading::read_unit_bytes;
 pub use record_type::Record;
 pub use records::Records;
 pub use unit::{MAX_UNIT_WORDS, Unit, VXID_END, Vxid};
 pub use units::Units;
+pub use words::read_unit;

@@ -1,24 +1,24 @@
-//! The side of a transaction.
+//! The mark of a transaction.
 
 ghost use Rattle.std.specs.Prelude.{◌≡◌};
-ghost use Rattle.vsl_record.specs.Reading.{mark_of};
+ghost use Rattle.vsl_record.specs.inside.UnitReading.{mark_of};
 
 use crate::unit::VXID_END;
 
-/// The side that a transaction belongs to (vsl(7)).
+/// Whose a transaction is, a client's, a backend's or neither's (vsl(7)).
 #[derive(Clone, Copy, Debug, PartialEq, Eq)]
 pub enum Mark {
-    /// A client's side, printed `c`.
+    /// A client's, printed `c`.
     Client,
-    /// A backend's side, printed `b`.
+    /// A backend's, printed `b`.
     Backend,
-    /// Neither side, printed `-`.
+    /// Neither's, printed `-`.
     Plain,
 }
 
 impl Mark {
-    /// The side that the word with a record's transaction number tells in its two highest bits. Both
-    /// bits together are no side; that is tested elsewhere.
+    /// The mark that the word with a record's VXID tells in its two highest bits. Both
+    /// bits together are no mark; that is tested elsewhere.
     pub(crate) fn of_id(id: u32) -> Mark
         ensures { result ≡ mark_of id }
     {

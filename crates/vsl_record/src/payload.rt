@@ -3,6 +3,8 @@
 ghost use Rattle.std.specs.Prelude.{◌≡◌, ◌≤◌, length, IfOk};
 ghost use Rattle.vsl_record.specs.Payload.{most_payload, IsPayload};
 
+use crate::laws::are_bytes;
+use bytes::Bytes;
 use std::alloc::{AllocError, Global};
 use std::marker::Model;
 
@@ -12,7 +14,7 @@ pub const MAX_PAYLOAD: usize = 4000;
 /// What a record says: 0 to 4,000 bytes of any value. Contracts see it as the list of its bytes.
 #[derive(Debug, Drop)]
 pub struct Payload {
-    bytes: Vec<u8>,
+    bytes: Bytes,
 }
 
 impl Model for Payload {
@@ -21,9 +23,9 @@ impl Model for Payload {
 
     ghost Value = { List ℕ };
 
-    ghost view = { λ p. p.bytes.items };
+    ghost view = { λ p. p.bytes };
 
-    ghost invariant = { λ p. IsPayload p.bytes.items };
+    ghost invariant = { λ p. IsPayload p.bytes };
 }
 
 impl Payload {
@@ -32,15 +34,25 @@ impl Payload {
         requires { length bytes.now ≤ most_payload }
         ensures { IfOk result (λ payload. payload ≡ bytes.now) }
     {
-        Ok(Payload::from_vec(Vec::from_slice(alloc, bytes)?))
+        are_bytes(bytes);
+        Ok(Payload::from_bytes(Bytes::copy_from_slice(alloc, bytes)?))
     }
 
     /// The payload of these bytes, with no copy.
-    pub(crate) fn from_vec(bytes: Vec<u8>) -> Payload
-        requires { length bytes.items ≤ most_payload }
-        ensures { result ≡ bytes.items }
+    pub(crate) fn from_bytes(bytes: Bytes) -> Payload
+        requires { IsPayload bytes }
+        ensures { result ≡ bytes }
     {
         Payload { bytes }
+    }
+
+    /// The same payload, with no copy of its bytes.
+    pub fn share(&self) -> Result<Payload, AllocError>
+        ensures { IfOk result (λ payload. payload ≡ self.now) }
+    {
+        Ok(Payload {
+            bytes: self.bytes.clone()?,
+        })
     }
 
     /// The bytes, of which there are at most 4,000.
@@ -48,6 +60,6 @@ impl Payload {
         ensures bytes { result.now ≡ self.now }
         ensures payload { IsPayload self.now }
     {
-        &self.bytes
+        self.bytes.as_slice()
     }
 }

@@ -11,12 +11,12 @@ use crate::payload::{MAX_PAYLOAD, Payload};
 use std::alloc::{AllocError, Global};
 use vsl_tags::Tag;
 
-/// One line of a log: what it is about, whose side it belongs to, and its bytes (vsl(7)).
+/// What a worker writes of one event: what it is about, its mark, and its bytes (vsl(7)).
 #[derive(Debug, Drop)]
 pub struct Record {
-    /// What the line is about.
+    /// What the record is about.
     pub tag: Tag,
-    /// The side of its transaction.
+    /// The mark of its transaction.
     pub mark: Mark,
     /// What it says.
     pub payload: Payload,
@@ -42,7 +42,7 @@ impl Record {
         })
     }
 
-    /// How many words the record takes, whatever its transaction number: two, and one for each four bytes of
+    /// How many words the record takes, whatever its VXID: two, and one for each four bytes of
     /// payload or less.
     pub fn words(&self) -> usize
         ensures words { (vxid : ℕ) → result ≡ length (record_words vxid self.now) }
@@ -54,13 +54,13 @@ impl Record {
     }
 
     /// A copy of the record.
-    pub fn to_owned(&self, alloc: Global) -> Result<Record, AllocError>
+    pub fn to_owned(&self, _alloc: Global) -> Result<Record, AllocError>
         ensures { IfOk result (λ r. r ≡ self.now) }
     {
         Ok(Record {
             tag: self.tag,
             mark: self.mark,
-            payload: Payload::from_slice(alloc, self.payload.as_slice())?,
+            payload: self.payload.share()?,
         })
     }
 }

@@ -31,11 +31,11 @@ impl Records {
         }
     }
 
-    pub fn push(&mut self, one: Record) -> Result<(), AllocFailed<Record>>
-        ensures ok { OnOk result (self.new ≡ self.old ++ one ∷ []) }
+    pub fn push(&mut self, rec: Record) -> Result<(), AllocFailed<Record>>
+        ensures ok { OnOk result (self.new ≡ self.old ++ rec ∷ []) }
         ensures err { OnErr result (self.new ≡ self.old) }
     {
-        self.items.push(one)
+        self.items.push(rec)
     }
 
     pub fn as_slice(&self) -> &[Record]

@@ -12,16 +12,16 @@ use crate::mark::Mark;
 use crate::record_type::Record;
 use std::marker::Model;
 
-/// The number of a transaction (vsl(7)): below `VXID_END`.
+/// A VXID (vsl(7)), the number of a transaction: below `VXID_END`.
 pub type Vxid = u32;
 
-/// One more than the highest transaction number. This project's choice.
+/// One more than the highest VXID. This project's choice.
 pub const VXID_END: Vxid = 1_073_741_824;
 
 /// The most words that a unit has. This project's choice.
 pub const MAX_UNIT_WORDS: usize = 1_048_576;
 
-/// What a worker writes at once: one or more records of one transaction and one side (vsl(7)).
+/// What a worker writes at once: one or more records of one transaction and one mark (vsl(7)).
 #[derive(Debug, Drop)]
 pub struct Unit {
     vxid: Vxid,
@@ -41,10 +41,10 @@ impl Model for Unit {
 }
 
 impl Unit {
-    /// The unit of these records, which are all on this side.
+    /// The unit of these records, which are all of this mark.
     pub fn new(vxid: Vxid, mark: Mark, records: Vec<Record>) -> Result<Unit, UnitFault>
         requires in_range { vxid < vxid_end }
-        requires on_side { All (λ r. r.mark ≡ mark) records.items }
+        requires has_mark { All (λ r. r.mark ≡ mark) records.items }
         ensures made { IfOk result (λ u. (u.vxid ≡ vxid) × (u.mark ≡ mark) × (u.records ≡ records.items)) }
         ensures unit { IfOk result (λ u. IsUnit u) }
         ensures empty { result ≡ Err UnitFault.Empty ↔ length records.items ≡ 0 }
@@ -75,14 +75,14 @@ impl Unit {
         }
     }
 
-    /// The number of the transaction.
+    /// The VXID.
     pub fn vxid(&self) -> Vxid
         ensures { result ≡ self.now.vxid }
     {
         self.vxid
     }
 
-    /// The side of every record.
+    /// The mark of every record.
     pub fn mark(&self) -> Mark
         ensures { result ≡ self.now.mark }
     {
@@ -105,8 +105,8 @@ fn count_words(records: &[Record]) -> u64
     ensures payloads { All (λ r. IsPayload r.payload) records.now }
 {
     let mut words: u64 = 1;
-    for one in records {
-        words = words.saturating_add(one.words() as u64);
+    for rec in records {
+        words = words.saturating_add(rec.words() as u64);
     }
     words
 }

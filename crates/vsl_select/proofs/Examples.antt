@@ -2,6 +2,7 @@
 use Rattle.std.proofs.Common.{ℕ, ◌≡◌, List, [], ◌∷◌, refl}
 use Rattle.std.specs.Prelude.{true, false, codes}
 use Rattle.std.specs.Fmt.{digits}
+use Rattle.vsl_tags.specs.Tags.{begin_tag, end_tag, vsl_tag}
 use Rattle.vsl_record.specs.declared.mark.Mark.TheVariants.{Client, Backend}
 use Rattle.vsl_record.specs.declared.record_type.Record.{Record}
 use Rattle.txn_rows.specs.declared.group.Kind.{Kind}
@@ -21,12 +22,12 @@ transaction vxid kind level records = record { vxid = vxid; kind = kind; reason 
 -- a request that a flush ended
 abbrev pub forced_request : Member
 forced_request = transaction 9 kinds.Request 1
-    (client_record 42 (codes "req 1 rxreq") ∷ client_record 45 (codes "flush") ∷ client_record 44 (codes "synth") ∷ [])
+    (client_record begin_tag (codes "req 1 rxreq") ∷ client_record vsl_tag (codes "flush") ∷ client_record end_tag (codes "synth") ∷ [])
 
 -- the fetch that a request caused, below it
 abbrev pub fetch : Member
 fetch = transaction 3 kinds.BeReq 2
-    (record { tag = 42; mark = Backend; payload = codes "bereq 2 fetch" } ∷ record { tag = 44; mark = Backend; payload = [] } ∷ [])
+    (record { tag = begin_tag; mark = Backend; payload = codes "bereq 2 fetch" } ∷ record { tag = end_tag; mark = Backend; payload = [] } ∷ [])
 
 -- a record by itself
 abbrev pub ping : Member
@@ -36,10 +37,10 @@ ping = transaction 0 kinds.Record 0 (record { tag = 3; mark = Backend; payload =
 abbrev pub nothing_yet : Member
 nothing_yet = transaction 5 kinds.Session 1 []
 
-abbrev pub group_of : List Member → Group
-group_of members = record { members = members }
+abbrev pub group_with : List Member → Group
+group_with members = record { members = members }
 
-forced_text : group_text false (group_of (forced_request ∷ []))
+forced_text : group_text false (group_with (forced_request ∷ []))
     ≡ codes "*   << Request  >> 9         \n-   Begin          req 1 rxreq\n-   VSL            flush\n-   End            synth\n\n"
 unfolding digits
 forced_text = refl
@@ -63,7 +64,7 @@ fourth_header : header (transaction 6 kinds.Session 4 []) ≡ codes "*4* << Sess
 unfolding digits
 fourth_header = refl
 
-twelfth_line : record_line false (transaction 6 kinds.Session 12 []) (client_record 44 []) ≡ codes "-12- End            \n"
+twelfth_line : record_line false (transaction 6 kinds.Session 12 []) (client_record end_tag []) ≡ codes "-12- End            \n"
 unfolding digits
 twelfth_line = refl
 
@@ -72,7 +73,7 @@ unfolding digits
 record_header = refl
 
 -- a record by itself has its raw line, and no header and no empty line
-raw_group : group_text false (group_of (ping ∷ [])) ≡ codes "         0 CLI            b Rd ping\n"
+raw_group : group_text false (group_with (ping ∷ [])) ≡ codes "         0 CLI            b Rd ping\n"
 unfolding digits
 raw_group = refl
 
@@ -80,11 +81,11 @@ raw_group = refl
 empty_member : member_text false nothing_yet ≡ []
 empty_member = refl
 
-empty_group : group_text false (group_of (nothing_yet ∷ nothing_yet ∷ [])) ≡ []
+empty_group : group_text false (group_with (nothing_yet ∷ nothing_yet ∷ [])) ≡ []
 empty_group = refl
 
 -- one transaction with records is enough for the empty line
-partly_empty_group : group_text false (group_of (nothing_yet ∷ fetch ∷ []))
+partly_empty_group : group_text false (group_with (nothing_yet ∷ fetch ∷ []))
     ≡ codes "**  << BeReq    >> 3         \n--  Begin          bereq 2 fetch\n--  End            \n\n"
 unfolding digits
 partly_empty_group = refl

@@ -1,3 +1,5 @@
-mod ExtendsLemmas
+mod AddedLemmas
 mod PartLemmas
+mod RawLineExamples
 pub mod Examples
+pub mod RawLemmas

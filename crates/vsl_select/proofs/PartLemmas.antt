@@ -1,8 +1,10 @@
 -- The parts of a line.
-use Rattle.std.proofs.Common.{ℕ, ◌≡◌, Bool, true, false, List, [], ◌∷◌, ◌++◌, length, refl, ap, ◌∙◌, arith}
+use Rattle.std.proofs.Common.{ℕ, suc, ◌-◌, ◌<◌, ◌≤◌, ◌≡◌, Bool, true, false, List, [], ◌∷◌, ◌++◌, length, take, drop, get_or, refl, sym, ap, ◌∙◌, append_assoc, arith}
+use Rattle.std.proofs.lemmas.List.{append-nil, take-append-drop, take_all}
+use Rattle.std.proofs.lemmas.List.Concat.{flat_map-append}
 use Rattle.std.specs.Prelude.{not, ◌==◌, ◌||◌, nat_lt}
 use Rattle.std.specs.List.{list_any}
-use Rattle.vsl_record.specs.RawLine.{escaped, escaped_byte}
+use Rattle.vsl_select.specs.RawLine.{escaped, escaped_byte}
 use Rattle.vsl_select.specs.Lines.{is_some_of}
 
 -- whether a list has an element, by its length
@@ -31,3 +33,22 @@ escaped_head b rest e = rw e refl
 pub escaped_plain : (payload : List ℕ) → list_any is_control payload ≡ false → escaped payload ≡ payload
 escaped_plain [] e = refl
 escaped_plain (b ∷ rest) e = escaped_head b (escaped rest) (or_left (is_control b) (list_any is_control rest) e) ∙ ap (λ (x : List ℕ). b ∷ x) (escaped_plain rest (or_right (is_control b) (list_any is_control rest) e))
+
+-- a run that is printed as it is, and what follows
+escaped_run : (n : ℕ) (rest plain after : List ℕ) → plain ≡ take n rest → after ≡ drop n rest → list_any is_control (take n rest) ≡ false → escaped rest ≡ plain ++ escaped after
+escaped_run n rest plain after plain_is after_is test =
+    ap escaped (sym (take-append-drop n rest)) ∙ flat_map-append escaped_byte (take n rest) (drop n rest) ∙ ap (λ (x : List ℕ). x ++ escaped (drop n rest)) (escaped_plain (take n rest) test ∙ sym plain_is) ∙ ap (λ (x : List ℕ). plain ++ escaped x) (sym after_is)
+
+-- the run ends the payload
+pub run_end : (n : ℕ) (rest plain after : List ℕ) → plain ≡ take n rest → after ≡ drop n rest → list_any is_control (take n rest) ≡ false → length after < 1 → plain ≡ escaped rest
+run_end n rest plain [] plain_is after_is test short = sym (escaped_run n rest plain [] plain_is after_is test ∙ append-nil plain)
+run_end n rest plain (b ∷ after) plain_is after_is test short = absurd (omega (arith, short))
+
+-- a byte follows the run
+pub run_step : (n : ℕ) (out mid new rest plain after text : List ℕ) → plain ≡ take n rest → after ≡ drop n rest → list_any is_control (take n rest) ≡ false → 1 ≤ length after
+    → mid ≡ out ++ plain → new ≡ mid ++ escaped_byte (get_or after 0 0) → out ++ escaped rest ≡ text → new ++ escaped (take (length after - 1) (drop 1 after)) ≡ text
+run_step n out mid new rest plain [] text plain_is after_is test some mid_is new_is so_far = absurd (omega (arith, some))
+run_step n out mid new rest plain (b ∷ after) text plain_is after_is test some mid_is new_is so_far =
+    let whole : take (suc (length after) - 1) after ≡ after = take_all (suc (length after) - 1) after (omega arith) in
+    ap (λ (x : List ℕ). new ++ escaped x) whole ∙ ap (λ (x : List ℕ). x ++ escaped after) (new_is ∙ ap (λ (x : List ℕ). x ++ escaped_byte b) mid_is)
+    ∙ append_assoc (out ++ plain) (escaped_byte b) (escaped after) ∙ append_assoc out plain (escaped (b ∷ after)) ∙ ap (λ (x : List ℕ). out ++ x) (sym (escaped_run n rest plain (b ∷ after) plain_is after_is test)) ∙ so_far

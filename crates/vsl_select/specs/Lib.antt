@@ -1,3 +1,3 @@
-pub mod Extends
+pub mod RawLine
 pub mod Lines
 pub mod Shown

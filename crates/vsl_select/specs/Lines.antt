@@ -3,18 +3,19 @@ use Rattle.std.specs.Prelude.{ℕ, ◌==◌, nat_le, if◌then◌else◌, Bool, 
 use Rattle.std.specs.List.{flat_map, list_all, list_any}
 use Rattle.vsl_tags.specs.Tags.{tag_name}
 use Rattle.vsl_record.specs.declared.record_type.Record.{Record}
-use Rattle.vsl_record.specs.RawLine.{at_left, escaped, raw_line}
+use Rattle.vsl_select.specs.RawLine.{at_left, escaped, raw_line}
 use Rattle.txn_rows.specs.declared.group.Kind.{Kind}
 use Rattle.txn_rows.specs.declared.group.Kind.TheVariants as kinds
 use Rattle.txn_rows.specs.declared.group.Member.{Member}
 use Rattle.txn_rows.specs.declared.group.Group.{Group}
 
--- the level field: for 1 to 3 as many characters, left in 3 columns; above, the level between two; then a space
+-- the level field: up to level 3 as many characters, left in 3 columns; above, the level between two; then a space; no grouping
+-- gives a header or a record line level 0, whose field is blank
 abbrev pub level_field : ℕ → ℕ → List ℕ
 level_field character level =
     if nat_le level 3 then at_left 3 (replicate level character) ++ codes " " else character ∷ decimal level ++ character ∷ codes " "
 
--- the title of a transaction of this kind
+-- the title of a transaction of this kind; no grouping gives a record by itself a header, so the last title is never printed
 abbrev pub title : Kind → List ℕ
 title kinds.Session = codes "<< Session  >>"
 title kinds.Request = codes "<< Request  >>"
@@ -43,20 +44,21 @@ is_some_of (x ∷ xs) = true
 abbrev pub member_text : Bool → Member → List ℕ
 member_text verbose m = if is_some_of m.records then header m ++ flat_map (record_line verbose m) m.records else []
 
--- whether a group is of records by themselves, which stand at level 0
+-- whether a group is of records by themselves: all its members stand at level 0
 abbrev pub is_raw : Group → Bool
 is_raw group = list_all (λ m. m.level == 0) group.members
 
--- the text of records by themselves: their raw lines
-abbrev pub raw_text : Member → List ℕ
-raw_text m = flat_map (raw_line m.vxid) m.records
+-- the text of a member of records by themselves: their raw lines
+abbrev pub member_raw_lines : Member → List ℕ
+member_raw_lines m = flat_map (raw_line m.vxid) m.records
 
 -- whether any of the transactions has a record
 abbrev pub is_shown : Group → Bool
 is_shown group = list_any (λ m. is_some_of m.records) group.members
 
--- the text of a group, of which nothing is hidden: the texts of its transactions, and an empty line where anything was printed; records by themselves have their raw lines alone
+-- the text of a group, of which nothing is hidden: of records by themselves their raw lines alone; of transactions their texts, and
+-- an empty line where anything was printed; no grouping gives a member of level 0 beside others, and here it has a header
 abbrev pub group_text : Bool → Group → List ℕ
 group_text verbose group =
-    if is_raw group then flat_map raw_text group.members
+    if is_raw group then flat_map member_raw_lines group.members
     else flat_map (member_text verbose) group.members ++ (if is_shown group then codes "\n" else [])

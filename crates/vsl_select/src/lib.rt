@@ -1,7 +1,7 @@
 //! What of a group is shown, and its text.
 //!
 //! Groups go in; the lines that the tools print come out, at the end of a list of bytes. For now nothing is
-//! hidden: a selection has no rule and no side.
+//! hidden, whatever the selection.
 //!
 //! Start with `specs/Lines.antt`. Source: varnishlog(1).
 #![tactic(auto)]

@@ -3,17 +3,17 @@
 ghost use Rattle.std.specs.Prelude.{◌≡◌, ◌==◌, ◌++◌, [], if◌then◌else◌, codes, decimal, OnOk, OnErr};
 ghost use Rattle.std.specs.List.{flat_map, list_all, list_any};
 ghost use Rattle.vsl_tags.specs.Tags.{tag_name};
-ghost use Rattle.vsl_record.specs.RawLine.{at_left, at_right, escaped, raw_line};
-ghost use Rattle.vsl_select.specs.Extends.{Extends};
-ghost use Rattle.vsl_select.specs.Lines.{header, record_text, record_line, is_some_of, member_text, raw_text, is_shown, group_text};
+ghost use Rattle.vsl_select.specs.RawLine.{at_left, at_right, escaped, raw_line};
+ghost use Rattle.log_model.specs.Prefix.{IsPrefix};
+ghost use Rattle.vsl_select.specs.Lines.{header, record_text, record_line, is_some_of, member_text, member_raw_lines, is_shown, group_text};
 
 use crate::parts::{
     letter_of, put_byte, put_escaped, put_left, put_level, put_text, put_vxid_left, put_vxid_right,
     title_of,
 };
 use crate::selection::Selection;
+use log_model::NoMemory;
 use txn_rows::{Group, Member};
-use vio::NoMemory;
 use vsl_record::{Payload, Record, Vxid};
 use vsl_tags::{Tag, name_of};
 
@@ -21,21 +21,21 @@ use vsl_tags::{Tag, name_of};
 const TAG_COLUMNS: usize = 14;
 
 /// Adds the end of a line: the payload and a line feed.
-#[tactic(auto, using(crate::proofs::ExtendsLemmas::extending))]
+#[tactic(auto, using(crate::proofs::AddedLemmas::adding))]
 fn put_payload(out: &mut Vec<u8>, payload: &Payload) -> Result<(), NoMemory>
     ensures ok { OnOk result (out.new.items ≡ out.old.items ++ (escaped payload.now ++ codes "\n")) }
-    ensures keeps { Extends out.old.items out.new.items }
+    ensures keeps { IsPrefix out.old.items out.new.items }
 {
     put_escaped(out, payload.as_slice())?;
     put_byte(out, b'\n')?;
     Ok(())
 }
 
-/// Adds the start of a raw line, up to the tag.
-#[tactic(auto, using(crate::proofs::ExtendsLemmas::extending))]
-fn put_raw_start(out: &mut Vec<u8>, vxid: Vxid, tag: Tag) -> Result<(), NoMemory>
+/// Adds the prefix of a raw line, up to the tag.
+#[tactic(auto, using(crate::proofs::AddedLemmas::adding))]
+fn put_raw_prefix(out: &mut Vec<u8>, vxid: Vxid, tag: Tag) -> Result<(), NoMemory>
     ensures ok { OnOk result (out.new.items ≡ out.old.items ++ (at_right 10 (decimal vxid) ++ codes " " ++ at_left 14 (tag_name tag))) }
-    ensures keeps { Extends out.old.items out.new.items }
+    ensures keeps { IsPrefix out.old.items out.new.items }
 {
     put_vxid_right(out, vxid)?;
     put_byte(out, b' ')?;
@@ -44,35 +44,35 @@ fn put_raw_start(out: &mut Vec<u8>, vxid: Vxid, tag: Tag) -> Result<(), NoMemory
 }
 
 /// Adds the raw line of a record, or a part of it.
-#[tactic(auto, using(crate::proofs::ExtendsLemmas::extending))]
-fn put_raw_line(out: &mut Vec<u8>, vxid: Vxid, line: &Record) -> Result<(), NoMemory>
-    ensures ok { OnOk result (out.new.items ≡ out.old.items ++ raw_line vxid line.now) }
-    ensures keeps { Extends out.old.items out.new.items }
+#[tactic(auto, using(crate::proofs::AddedLemmas::adding))]
+fn put_raw_line(out: &mut Vec<u8>, vxid: Vxid, rec: &Record) -> Result<(), NoMemory>
+    ensures ok { OnOk result (out.new.items ≡ out.old.items ++ raw_line vxid rec.now) }
+    ensures keeps { IsPrefix out.old.items out.new.items }
 {
-    put_raw_start(out, vxid, line.tag)?;
-    put_text(out, &[b' ', letter_of(line.mark), b' '])?;
-    put_payload(out, &line.payload)?;
+    put_raw_prefix(out, vxid, rec.tag)?;
+    put_text(out, &[b' ', letter_of(rec.mark), b' '])?;
+    put_payload(out, &rec.payload)?;
     Ok(())
 }
 
 /// Adds the raw lines of records by themselves.
-#[tactic(auto, using(crate::proofs::ExtendsLemmas::extending))]
+#[tactic(auto, using(crate::proofs::AddedLemmas::adding))]
 fn put_raw_lines(out: &mut Vec<u8>, member: &Member) -> Result<(), NoMemory>
-    ensures ok { OnOk result (out.new.items ≡ out.old.items ++ raw_text member.now) }
-    ensures keeps { Extends out.old.items out.new.items }
+    ensures ok { OnOk result (out.new.items ≡ out.old.items ++ member_raw_lines member.now) }
+    ensures keeps { IsPrefix out.old.items out.new.items }
 {
     let vxid = member.vxid;
-    for line in member.records.as_slice() {
-        put_raw_line(out, vxid, line)?;
+    for rec in member.records.as_slice() {
+        put_raw_line(out, vxid, rec)?;
     }
     Ok(())
 }
 
 /// Adds the raw lines of a group of records by themselves.
-#[tactic(auto, using(crate::proofs::ExtendsLemmas::extending))]
+#[tactic(auto, using(crate::proofs::AddedLemmas::adding))]
 fn put_raw_members(out: &mut Vec<u8>, members: &[Member]) -> Result<(), NoMemory>
-    ensures ok { OnOk result (out.new.items ≡ out.old.items ++ flat_map raw_text members.now) }
-    ensures keeps { Extends out.old.items out.new.items }
+    ensures ok { OnOk result (out.new.items ≡ out.old.items ++ flat_map member_raw_lines members.now) }
+    ensures keeps { IsPrefix out.old.items out.new.items }
 {
     for member in members {
         put_raw_lines(out, member)?;
@@ -81,10 +81,10 @@ fn put_raw_members(out: &mut Vec<u8>, members: &[Member]) -> Result<(), NoMemory
 }
 
 /// Adds the end of a header: the VXID and a line feed.
-#[tactic(auto, using(crate::proofs::ExtendsLemmas::extending))]
+#[tactic(auto, using(crate::proofs::AddedLemmas::adding))]
 fn put_header_end(out: &mut Vec<u8>, vxid: Vxid) -> Result<(), NoMemory>
     ensures ok { OnOk result (out.new.items ≡ out.old.items ++ (codes " " ++ at_left 10 (decimal vxid) ++ codes "\n")) }
-    ensures keeps { Extends out.old.items out.new.items }
+    ensures keeps { IsPrefix out.old.items out.new.items }
 {
     put_byte(out, b' ')?;
     put_vxid_left(out, vxid)?;
@@ -93,10 +93,10 @@ fn put_header_end(out: &mut Vec<u8>, vxid: Vxid) -> Result<(), NoMemory>
 }
 
 /// Adds a transaction's header.
-#[tactic(auto, using(crate::proofs::ExtendsLemmas::extending))]
+#[tactic(auto, using(crate::proofs::AddedLemmas::adding))]
 fn put_header(out: &mut Vec<u8>, member: &Member) -> Result<(), NoMemory>
     ensures ok { OnOk result (out.new.items ≡ out.old.items ++ header member.now) }
-    ensures keeps { Extends out.old.items out.new.items }
+    ensures keeps { IsPrefix out.old.items out.new.items }
 {
     put_level(out, b'*', member.level)?;
     put_text(out, title_of(member.kind))?;
@@ -105,45 +105,45 @@ fn put_header(out: &mut Vec<u8>, member: &Member) -> Result<(), NoMemory>
 }
 
 /// Adds the text of a record in its transaction, after the level.
-#[tactic(auto, using(crate::proofs::ExtendsLemmas::extending))]
-fn put_record_text(out: &mut Vec<u8>, line: &Record) -> Result<(), NoMemory>
-    ensures ok { OnOk result (out.new.items ≡ out.old.items ++ record_text line.now) }
-    ensures keeps { Extends out.old.items out.new.items }
+#[tactic(auto, using(crate::proofs::AddedLemmas::adding))]
+fn put_record_text(out: &mut Vec<u8>, rec: &Record) -> Result<(), NoMemory>
+    ensures ok { OnOk result (out.new.items ≡ out.old.items ++ record_text rec.now) }
+    ensures keeps { IsPrefix out.old.items out.new.items }
 {
-    put_left(out, TAG_COLUMNS, name_of(line.tag).as_bytes())?;
+    put_left(out, TAG_COLUMNS, name_of(rec.tag).as_bytes())?;
     put_byte(out, b' ')?;
-    put_payload(out, &line.payload)?;
+    put_payload(out, &rec.payload)?;
     Ok(())
 }
 
 /// Adds the line of a record in its transaction.
-#[tactic(auto, using(crate::proofs::ExtendsLemmas::extending))]
+#[tactic(auto, using(crate::proofs::AddedLemmas::adding))]
 fn put_record(
     out: &mut Vec<u8>,
     verbose: bool,
     member: &Member,
-    line: &Record,
+    rec: &Record,
 ) -> Result<(), NoMemory>
-    ensures ok { OnOk result (out.new.items ≡ out.old.items ++ record_line verbose member.now line.now) }
-    ensures keeps { Extends out.old.items out.new.items }
+    ensures ok { OnOk result (out.new.items ≡ out.old.items ++ record_line verbose member.now rec.now) }
+    ensures keeps { IsPrefix out.old.items out.new.items }
 {
     put_level(out, b'-', member.level)?;
     if verbose {
-        put_raw_line(out, member.vxid, line)?;
+        put_raw_line(out, member.vxid, rec)?;
     } else {
-        put_record_text(out, line)?;
+        put_record_text(out, rec)?;
     }
     Ok(())
 }
 
 /// Adds the lines of a transaction's records.
-#[tactic(auto, using(crate::proofs::ExtendsLemmas::extending))]
+#[tactic(auto, using(crate::proofs::AddedLemmas::adding))]
 fn put_records(out: &mut Vec<u8>, verbose: bool, member: &Member) -> Result<(), NoMemory>
     ensures ok { OnOk result (out.new.items ≡ out.old.items ++ flat_map (record_line verbose member.now) member.now.records) }
-    ensures keeps { Extends out.old.items out.new.items }
+    ensures keeps { IsPrefix out.old.items out.new.items }
 {
-    for line in member.records.as_slice() {
-        put_record(out, verbose, member, line)?;
+    for rec in member.records.as_slice() {
+        put_record(out, verbose, member, rec)?;
     }
     Ok(())
 }
@@ -157,10 +157,10 @@ fn has_records(member: &Member) -> bool
 }
 
 /// Adds a transaction's header and its records, if it has any.
-#[tactic(auto, using(crate::proofs::ExtendsLemmas::extending))]
+#[tactic(auto, using(crate::proofs::AddedLemmas::adding))]
 fn put_member(out: &mut Vec<u8>, verbose: bool, member: &Member) -> Result<(), NoMemory>
     ensures ok { OnOk result (out.new.items ≡ out.old.items ++ member_text verbose member.now) }
-    ensures keeps { Extends out.old.items out.new.items }
+    ensures keeps { IsPrefix out.old.items out.new.items }
 {
     if has_records(member) {
         put_header(out, member)?;
@@ -170,10 +170,10 @@ fn put_member(out: &mut Vec<u8>, verbose: bool, member: &Member) -> Result<(), N
 }
 
 /// Adds the texts of transactions, in order.
-#[tactic(auto, using(crate::proofs::ExtendsLemmas::extending))]
+#[tactic(auto, using(crate::proofs::AddedLemmas::adding))]
 fn put_members(out: &mut Vec<u8>, verbose: bool, members: &[Member]) -> Result<(), NoMemory>
     ensures ok { OnOk result (out.new.items ≡ out.old.items ++ flat_map (member_text verbose) members.now) }
-    ensures keeps { Extends out.old.items out.new.items }
+    ensures keeps { IsPrefix out.old.items out.new.items }
 {
     for member in members {
         put_member(out, verbose, member)?;
@@ -196,10 +196,10 @@ fn have_records(members: &[Member]) -> bool
 }
 
 /// Adds the empty line after a group, if anything of it was printed.
-#[tactic(auto, using(crate::proofs::ExtendsLemmas::extending))]
+#[tactic(auto, using(crate::proofs::AddedLemmas::adding))]
 fn put_group_end(out: &mut Vec<u8>, group: &Group) -> Result<(), NoMemory>
     ensures ok { OnOk result (out.new.items ≡ out.old.items ++ (if is_shown group.now then codes "\n" else [])) }
-    ensures keeps { Extends out.old.items out.new.items }
+    ensures keeps { IsPrefix out.old.items out.new.items }
 {
     if have_records(group.members.as_slice()) {
         put_byte(out, b'\n')?;
@@ -208,10 +208,10 @@ fn put_group_end(out: &mut Vec<u8>, group: &Group) -> Result<(), NoMemory>
 }
 
 /// Adds the text of a group, or a part of it.
-#[tactic(auto, using(crate::proofs::ExtendsLemmas::extending))]
+#[tactic(auto, using(crate::proofs::AddedLemmas::adding))]
 fn put_group(out: &mut Vec<u8>, verbose: bool, group: &Group) -> Result<(), NoMemory>
     ensures ok { OnOk result (out.new.items ≡ out.old.items ++ group_text verbose group.now) }
-    ensures keeps { Extends out.old.items out.new.items }
+    ensures keeps { IsPrefix out.old.items out.new.items }
 {
     if are_raw(group.members.as_slice()) {
         put_raw_members(out, group.members.as_slice())?;
@@ -223,13 +223,13 @@ fn put_group(out: &mut Vec<u8>, verbose: bool, group: &Group) -> Result<(), NoMe
 }
 
 /// Adds the raw line of a record (varnishlog(1), `-g raw`). After want of memory the list is as it was.
-#[tactic(auto, using(crate::proofs::ExtendsLemmas::cut_back))]
-pub fn raw_line(vxid: Vxid, line: &Record, out: &mut Vec<u8>) -> Result<(), NoMemory>
-    ensures ok { OnOk result (out.new.items ≡ out.old.items ++ raw_line vxid line.now) }
+#[tactic(auto, using(crate::proofs::AddedLemmas::cut_back))]
+pub fn raw_line(vxid: Vxid, rec: &Record, out: &mut Vec<u8>) -> Result<(), NoMemory>
+    ensures ok { OnOk result (out.new.items ≡ out.old.items ++ raw_line vxid rec.now) }
     ensures err { OnErr result (out.new.items ≡ out.old.items) }
 {
     let length = out.len();
-    let added = put_raw_line(out, vxid, line);
+    let added = put_raw_line(out, vxid, rec);
     if added.is_err() {
         out.truncate(length);
     }
@@ -238,7 +238,7 @@ pub fn raw_line(vxid: Vxid, line: &Record, out: &mut Vec<u8>) -> Result<(), NoMe
 
 /// Adds the text of a group. Nothing is hidden, whatever the selection. After want of memory the list is as it
 /// was.
-#[tactic(auto, using(crate::proofs::ExtendsLemmas::cut_back))]
+#[tactic(auto, using(crate::proofs::AddedLemmas::cut_back))]
 pub fn group_text(
     group: &Group,
     selection: &Selection,

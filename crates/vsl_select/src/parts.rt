@@ -2,15 +2,15 @@
 //!
 //! Each writer adds its text, or a part of it where it answers want of memory.
 
-ghost use Rattle.std.specs.Prelude.{◌≡◌, ◌≤◌, ◌<◌, ◌==◌, ◌||◌, ◌∷◌, [], ◌++◌, nat_lt, replicate, decimal, OnOk};
+ghost use Rattle.std.specs.Prelude.{◌≡◌, ◌≤◌, ◌<◌, ◌==◌, ◌||◌, ◌∷◌, [], ◌++◌, false, length, take, nat_lt, replicate, decimal, OnOk};
 ghost use Rattle.std.specs.List.{list_any};
-ghost use Rattle.vsl_record.specs.RawLine.{at_right, at_left, escaped_byte, escaped, hex_digit, mark_letter};
-ghost use Rattle.vsl_select.specs.Extends.{Extends};
+ghost use Rattle.vsl_select.specs.RawLine.{at_right, at_left, escaped_byte, escaped, hex_digit, mark_letter};
+ghost use Rattle.log_model.specs.Prefix.{IsPrefix};
 ghost use Rattle.vsl_select.specs.Lines.{level_field, title};
 
 use itoa::Buffer;
+use log_model::NoMemory;
 use txn_rows::Kind;
-use vio::NoMemory;
 use vsl_record::{Mark, Vxid};
 
 /// The columns of a VXID: on the right in a raw line, on the left in a header.
@@ -20,42 +20,42 @@ const VXID_COLUMNS: usize = 10;
 const SPACES: &[u8] = b"                ";
 
 /// Adds a text as it is.
-#[tactic(auto, using(crate::proofs::ExtendsLemmas::extending))]
+#[tactic(auto, using(crate::proofs::AddedLemmas::adding))]
 pub(crate) fn put_text(out: &mut Vec<u8>, text: &[u8]) -> Result<(), NoMemory>
     ensures ok { OnOk result (out.new.items ≡ out.old.items ++ text.now) }
-    ensures keeps { Extends out.old.items out.new.items }
+    ensures keeps { IsPrefix out.old.items out.new.items }
 {
     out.extend_from_slice(text)?;
     Ok(())
 }
 
 /// Adds a byte as it is.
-#[tactic(auto, using(crate::proofs::ExtendsLemmas::extending))]
+#[tactic(auto, using(crate::proofs::AddedLemmas::adding))]
 pub(crate) fn put_byte(out: &mut Vec<u8>, byte: u8) -> Result<(), NoMemory>
     ensures ok { OnOk result (out.new.items ≡ out.old.items ++ byte ∷ []) }
-    ensures keeps { Extends out.old.items out.new.items }
+    ensures keeps { IsPrefix out.old.items out.new.items }
 {
     out.push(byte)?;
     Ok(())
 }
 
 /// Adds this many spaces.
-#[tactic(auto, using(crate::proofs::ExtendsLemmas::extending))]
+#[tactic(auto, using(crate::proofs::AddedLemmas::adding))]
 fn put_spaces(out: &mut Vec<u8>, count: usize) -> Result<(), NoMemory>
     requires { count ≤ 16 }
     ensures ok { OnOk result (out.new.items ≡ out.old.items ++ replicate count 32) }
-    ensures keeps { Extends out.old.items out.new.items }
+    ensures keeps { IsPrefix out.old.items out.new.items }
 {
     put_text(out, &SPACES[..count])?;
     Ok(())
 }
 
 /// Adds a text at the left of its columns.
-#[tactic(auto, using(crate::proofs::ExtendsLemmas::extending))]
+#[tactic(auto, using(crate::proofs::AddedLemmas::adding))]
 pub(crate) fn put_left(out: &mut Vec<u8>, columns: usize, text: &[u8]) -> Result<(), NoMemory>
     requires { columns ≤ 16 }
     ensures ok { OnOk result (out.new.items ≡ out.old.items ++ at_left columns text.now) }
-    ensures keeps { Extends out.old.items out.new.items }
+    ensures keeps { IsPrefix out.old.items out.new.items }
 {
     put_text(out, text)?;
     put_spaces(out, columns.saturating_sub(text.len()))?;
@@ -63,10 +63,10 @@ pub(crate) fn put_left(out: &mut Vec<u8>, columns: usize, text: &[u8]) -> Result
 }
 
 /// Adds a VXID at the right of its columns.
-#[tactic(auto, using(crate::proofs::ExtendsLemmas::extending))]
+#[tactic(auto, using(crate::proofs::AddedLemmas::adding))]
 pub(crate) fn put_vxid_right(out: &mut Vec<u8>, vxid: Vxid) -> Result<(), NoMemory>
     ensures ok { OnOk result (out.new.items ≡ out.old.items ++ at_right 10 (decimal vxid)) }
-    ensures keeps { Extends out.old.items out.new.items }
+    ensures keeps { IsPrefix out.old.items out.new.items }
 {
     let mut buffer = Buffer::new();
     let digits = buffer.format(vxid).as_bytes();
@@ -76,20 +76,20 @@ pub(crate) fn put_vxid_right(out: &mut Vec<u8>, vxid: Vxid) -> Result<(), NoMemo
 }
 
 /// Adds a VXID at the left of its columns.
-#[tactic(auto, using(crate::proofs::ExtendsLemmas::extending))]
+#[tactic(auto, using(crate::proofs::AddedLemmas::adding))]
 pub(crate) fn put_vxid_left(out: &mut Vec<u8>, vxid: Vxid) -> Result<(), NoMemory>
     ensures ok { OnOk result (out.new.items ≡ out.old.items ++ at_left 10 (decimal vxid)) }
-    ensures keeps { Extends out.old.items out.new.items }
+    ensures keeps { IsPrefix out.old.items out.new.items }
 {
     let mut buffer = Buffer::new();
     put_left(out, VXID_COLUMNS, buffer.format(vxid).as_bytes())
 }
 
 /// Adds a level above 3 between two of the character.
-#[tactic(auto, using(crate::proofs::ExtendsLemmas::extending))]
+#[tactic(auto, using(crate::proofs::AddedLemmas::adding))]
 fn put_high_level(out: &mut Vec<u8>, character: u8, level: u32) -> Result<(), NoMemory>
     ensures ok { OnOk result (out.new.items ≡ out.old.items ++ character ∷ decimal level ++ character ∷ 32 ∷ []) }
-    ensures keeps { Extends out.old.items out.new.items }
+    ensures keeps { IsPrefix out.old.items out.new.items }
 {
     let mut buffer = Buffer::new();
     put_byte(out, character)?;
@@ -99,10 +99,10 @@ fn put_high_level(out: &mut Vec<u8>, character: u8, level: u32) -> Result<(), No
 }
 
 /// Adds the level, in this character, and a space.
-#[tactic(auto, using(crate::proofs::ExtendsLemmas::extending))]
+#[tactic(auto, using(crate::proofs::AddedLemmas::adding))]
 pub(crate) fn put_level(out: &mut Vec<u8>, character: u8, level: u32) -> Result<(), NoMemory>
     ensures ok { OnOk result (out.new.items ≡ out.old.items ++ level_field character level) }
-    ensures keeps { Extends out.old.items out.new.items }
+    ensures keeps { IsPrefix out.old.items out.new.items }
 {
     match level {
         0 => put_text(out, b"    "),
@@ -126,7 +126,7 @@ pub(crate) fn title_of(kind: Kind) -> &'static [u8]
     }
 }
 
-/// The letter of a side in a raw line.
+/// The letter of a mark in a raw line.
 pub(crate) fn letter_of(mark: Mark) -> u8
     ensures { result ≡ mark_letter mark }
 {
@@ -153,10 +153,10 @@ fn has_escape(byte: u8) -> bool
 }
 
 /// Adds a byte of a payload.
-#[tactic(auto, using(crate::proofs::ExtendsLemmas::extending))]
+#[tactic(auto, using(crate::proofs::AddedLemmas::adding))]
 fn put_escaped_byte(out: &mut Vec<u8>, byte: u8) -> Result<(), NoMemory>
     ensures ok { OnOk result (out.new.items ≡ out.old.items ++ escaped_byte byte) }
-    ensures keeps { Extends out.old.items out.new.items }
+    ensures keeps { IsPrefix out.old.items out.new.items }
 {
     if has_escape(byte) {
         put_text(
@@ -168,30 +168,56 @@ fn put_escaped_byte(out: &mut Vec<u8>, byte: u8) -> Result<(), NoMemory>
     }
 }
 
-/// Adds a payload, byte by byte.
-#[tactic(auto, using(crate::proofs::ExtendsLemmas::extending))]
+/// How many bytes before the first escape are printed as they are.
+#[tactic(auto, using(std::proofs::lemmas::List::Folds::list_any_more))]
+fn plain_length(bytes: &[u8]) -> usize
+    ensures within { result ≤ length bytes.now }
+    ensures plain { list_any (λ b. nat_lt b 32 || (b == 127)) (take result bytes.now) ≡ false }
+{
+    for at in 0..bytes.len() {
+        if has_escape(bytes[at]) {
+            return at;
+        }
+    }
+    bytes.len()
+}
+
+/// Adds a payload, run by run.
+#[tactic(auto, using(crate::proofs::AddedLemmas::adding))]
 fn put_with_escapes(out: &mut Vec<u8>, payload: &[u8]) -> Result<(), NoMemory>
     ensures ok { OnOk result (out.new.items ≡ out.old.items ++ escaped payload.now) }
-    ensures keeps { Extends out.old.items out.new.items }
+    ensures keeps { IsPrefix out.old.items out.new.items }
 {
-    for byte in payload {
+    let mut rest = payload;
+    while !rest.is_empty() {
+        let (plain, after) = rest.split_at(plain_length(rest));
+        put_text(out, plain)?;
+        let [byte, behind @ ..] = after else {
+            return Ok(());
+        };
         put_escaped_byte(out, *byte)?;
+        rest = behind;
     }
     Ok(())
 }
 
-/// Whether any byte of a payload is printed as an escape.
+/// Whether any byte of a payload is printed as an escape. It looks at all bytes, which is faster than to stop.
+#[tactic(auto, using(std::proofs::lemmas::List::Folds::list_any_more))]
 fn has_any_escape(payload: &[u8]) -> bool
     ensures { result ≡ list_any (λ b. nat_lt b 32 || (b == 127)) payload.now }
 {
-    payload.iter().any(|byte| has_escape(*byte))
+    let mut found = false;
+    for byte in payload {
+        found |= has_escape(*byte);
+    }
+    found
 }
 
 /// Adds a payload; at once where no byte of it needs an escape, as in most.
-#[tactic(auto, using(crate::proofs::ExtendsLemmas::extending))]
+#[tactic(auto, using(crate::proofs::AddedLemmas::adding))]
 pub(crate) fn put_escaped(out: &mut Vec<u8>, payload: &[u8]) -> Result<(), NoMemory>
     ensures ok { OnOk result (out.new.items ≡ out.old.items ++ escaped payload.now) }
-    ensures keeps { Extends out.old.items out.new.items }
+    ensures keeps { IsPrefix out.old.items out.new.items }
 {
     if has_any_escape(payload) {
         put_with_escapes(out, payload)

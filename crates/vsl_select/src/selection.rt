@@ -3,10 +3,10 @@
 ghost use Rattle.std.specs.Prelude.{◌≡◌, length, false, IfOk, IsOk};
 ghost use Rattle.vsl_select.specs.Shown.{is_shown_member, is_shown_record};
 
+use log_model::NoMemory;
 use std::alloc::Global;
 use thiserror::Error;
 use txn_rows::Member;
-use vio::NoMemory;
 use vsl_record::Record;
 
 /// Whose transactions are shown (varnishlog(1), `-b`, `-c`, `-E`).
@@ -67,8 +67,8 @@ impl Selection {
     }
 
     /// Whether the record is shown, in a transaction that is.
-    pub fn shows(&self, line: &Record) -> Result<bool, NoMemory>
-        ensures shown { IfOk result (λ b. b ≡ is_shown_record line.now) }
+    pub fn shows(&self, rec: &Record) -> Result<bool, NoMemory>
+        ensures shown { IfOk result (λ b. b ≡ is_shown_record rec.now) }
         ensures answered { IsOk result }
     {
         Ok(true)

@@ -1,21 +1,22 @@
--- The tags of log records: their numbers and names (vsl(7), in this project's subset).
+-- The tags of log records: their numbers and names (vsl(7), in this project's subset; which tags there are, and their order, are
+-- this project's choice).
 use Rattle.std.specs.Prelude.{ℕ, ◌+◌, ◌-◌, ◌≤◌, List, [], ◌∷◌, ◌++◌, map, slice_index_or, codes}
 use Rattle.std.specs.List.{position_or_len}
 use Rattle.std.specs.Str.{bytes_eq, str_to_ascii_lowercase}
 
--- the lowest number of a tag (this project's choice)
+-- the lowest number of a tag
 abbrev pub first_tag : ℕ
 first_tag = 1
 
--- the highest number of a tag (this project's choice)
+-- the highest number of a tag
 abbrev pub last_tag : ℕ
 last_tag = 92
 
--- the tags are the numbers from the lowest to the highest (this project's choice)
+-- the tags are the numbers from the lowest to the highest
 abbrev pub IsTag : ℕ → Type 0
 IsTag n = (first_tag ≤ n) × (n ≤ last_tag)
 
--- the names of tags 1 to 52, in order (names: vsl(7); order: this project's choice)
+-- the names of tags 1 to 52, in order
 abbrev pub single_names : List (List ℕ)
 single_names =
     codes "Debug" ∷
@@ -72,26 +73,38 @@ single_names =
     codes "H2TxBody" ∷
     []
 
--- the endings of a message's eight tags, in order (names: vsl(7); order: this project's choice)
+-- the endings of a message's eight tags, in order
 abbrev pub message_endings : List (List ℕ)
 message_endings =
     codes "Method" ∷ codes "URL" ∷ codes "Status" ∷ codes "Reason" ∷ codes "Protocol" ∷ codes "Header" ∷ codes "Unset" ∷ codes "Lost" ∷ []
 
--- a message's eight tags are its name before each ending (vsl(7))
+-- a message's eight tags are its name before each ending
 abbrev pub message_names : List ℕ → List (List ℕ)
 message_names message = map (λ ending. message ++ ending) message_endings
 
--- the names of all tags, in the order of their numbers: the single ones, then those of the five messages (names: vsl(7); order: this project's choice)
+-- the names of all tags, in the order of their numbers: the single ones, then those of the five messages
 abbrev pub tag_names : List (List ℕ)
 tag_names =
     single_names ++ message_names (codes "Req") ++ message_names (codes "Resp") ++ message_names (codes "Bereq") ++ message_names (codes "Beresp")
     ++ message_names (codes "Obj")
 
--- the name of the tag with this number, for a tag's number alone; the first name is that of the lowest number (this project's choice)
+-- the name of the tag with this number, for a tag's number alone; the first name is that of the lowest number
 abbrev pub tag_name : ℕ → List ℕ
 tag_name n = slice_index_or tag_names (n - first_tag) []
 
--- the most bytes that a name has, as `Backend_health` (vsl(7))
+-- the number of the tag `Begin`
+abbrev pub begin_tag : ℕ
+begin_tag = 42
+
+-- the number of the tag `End`
+abbrev pub end_tag : ℕ
+end_tag = 44
+
+-- the number of the tag `VSL`
+abbrev pub vsl_tag : ℕ
+vsl_tag = 45
+
+-- the most bytes that a name has, as `Backend_health`
 abbrev pub longest_name : ℕ
 longest_name = 14
 

@@ -8,8 +8,10 @@
 //! are this project's choice.
 #![tactic(auto)]
 
+mod laws;
 mod names;
 mod number;
 
-pub use names::{name_of, names_differ};
+pub use laws::names_differ;
+pub use names::name_of;
 pub use number::Tag;

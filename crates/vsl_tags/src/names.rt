@@ -1,6 +1,7 @@
-ghost use Rattle.std.specs.Prelude.{◌≡◌, ℕ, ◌≤◌, length};
-ghost use Rattle.std.specs.Str.{str_to_ascii_lowercase};
-ghost use Rattle.vsl_tags.specs.Tags.{IsTag, longest_name, number_of_lower, tag_name};
+//! The names of tags.
+
+ghost use Rattle.std.specs.Prelude.{◌≡◌, ◌≤◌, length};
+ghost use Rattle.vsl_tags.specs.Tags.{longest_name, tag_name};
 
 use crate::number::Tag;
 
@@ -110,10 +111,3 @@ pub fn name_of(tag: Tag) -> &'static str
 {
     NAMES[usize::from(tag.number()) - 1]
 }
-
-/// A law, with no code: a name in lower case finds its tag, and so no two names are alike, also
-/// without regard to case.
-pub fn names_differ()
-    ensures found { (n : ℕ) → IsTag n → number_of_lower (str_to_ascii_lowercase (tag_name n)) ≡ n }
-    ensures differ { (m n : ℕ) → IsTag m → IsTag n → str_to_ascii_lowercase (tag_name m) ≡ str_to_ascii_lowercase (tag_name n) → m ≡ n }
-{}

@@ -1,3 +1,5 @@
+//! The numbers of tags.
+
 ghost use Rattle.std.specs.Prelude.{◌≡◌, IfSome, OnSome, IfNone};
 ghost use Rattle.vsl_tags.specs.Tags.{IsTag};
 
@@ -29,6 +31,15 @@ impl Model for Tag {
 }
 
 impl Tag {
+    /// `Begin`, with which a transaction begins.
+    pub const BEGIN: Tag = Tag { number: 42 };
+
+    /// `End`, with which a transaction ends.
+    pub const END: Tag = Tag { number: 44 };
+
+    /// `VSL`, a message of the log itself.
+    pub const VSL: Tag = Tag { number: 45 };
+
     /// The tag with this number, as 42 for `Begin`.
     pub fn from_number(n: u8) -> Option<Tag>
         ensures number { IfSome result (λ tag. tag ≡ n) }

@@ -8,7 +8,7 @@ use crate::words::{Question, read_question};
 use std::alloc::Global;
 use std::io::Eprint;
 use varnish_tools::run_tools;
-use vio::{NoMemory, World, WorldFault, write_all};
+use vio::{NoMemory, OUTPUT, World, WorldFault, write_all};
 
 /// What `vtools --version` prints.
 const VERSION: &str = "vtools 0.1 (unreleased)\n";
@@ -30,9 +30,6 @@ Prints the records of the log file FILE, a group of them when it is complete.
 Exit status: 0 done, 1 the input or the outside failed, 2 the command line was
 refused, 3 out of memory.
 ";
-
-/// The handle of standard output.
-const OUTPUT: u32 = 1;
 
 /// Prints a text, and answers 0, or 1 where a write failed, or 3 where there was no memory.
 fn answer<W: World>(world: &mut W, rt: &impl Eprint, text: &str) -> u8

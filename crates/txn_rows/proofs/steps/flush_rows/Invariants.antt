@@ -1,7 +1,7 @@
 -- the groups so far, and those of the rows that are left
 use Rattle.std.proofs.Common.{◌≡◌, ◌++◌, map}
 use Rattle.std.specs.Vec.Iter.{into_iter_items}
-use Rattle.txn_rows.specs.Rows.{flushed_group}
+use Rattle.txn_rows.specs.inside.Rows.{flushed_group}
 use Rattle.txn_rows.proofs.steps.flush_rows.Given as goal
 
 abbrev pub invariant-loop-row : goal.invariant-loop-row

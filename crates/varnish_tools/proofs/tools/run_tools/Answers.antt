@@ -1,12 +1,23 @@
+use Rattle.std.proofs.Common.{map}
+use Rattle.std.specs.String.{string_bytes}
 use Rattle.vio.proofs.WholeLemmas.{OnErr-always}
-use Rattle.varnish_tools.proofs.ToolLemmas.{is_faithful, is_complete, cut_in_message}
+use Rattle.varnish_tools.specs.Job.{job_of}
+use Rattle.varnish_tools.proofs.ToolLemmas.{is_faithful, is_complete, cut_in_message, prefix_until}
 use Rattle.varnish_tools.proofs.tools.run_tools.Goals as goal
 
 pub returns-in_err-report-clause-memory : goal.returns-in_err-report-clause-memory
-returns-in_err-report-clause-memory g c = OnErr-always _ (cut_in_message _ _ _ _ _ _ c.in_ok-fault.ensures.ran c.in_err-report.ensures.memory)
+returns-in_err-report-clause-memory g c = OnErr-always _
+    (cut_in_message (map string_bytes c.args.words.now) _ _ _ _ _ c.in_ok-fault.ensures.touches c.in_ok-fault.ensures.works c.in_err-report.ensures.touches c.in_err-report.ensures.memory)
+
+pub returns-in_err-report-clause-prefix : goal.returns-in_err-report-clause-prefix
+returns-in_err-report-clause-prefix g c = prefix_until (job_of (map string_bytes c.args.words.now)) _ _ _ c.report.ensures.touches c.run_words.ensures.prefix
+
+pub returns-clause-prefix : goal.returns-clause-prefix
+returns-clause-prefix g c = prefix_until (job_of (map string_bytes c.args.words.now)) _ _ _ c.report.ensures.touches c.run_words.ensures.prefix
 
 pub returns-clause-faithful : goal.returns-clause-faithful
-returns-clause-faithful g c = is_faithful _ _ _ _ _ _ _ c.status_of-status.ensures c.in_ok-fault.ensures.ran c.in_ok-report.ensures.ok
+returns-clause-faithful g c =
+    is_faithful (map string_bytes c.args.words.now) _ _ _ _ _ _ c.status_of-status.ensures c.in_ok-fault.ensures.touches c.in_ok-fault.ensures.works c.in_ok-report.ensures.touches c.in_ok-report.ensures.ok
 
 pub returns-clause-complete : goal.returns-clause-complete
-returns-clause-complete g c = is_complete _ _ _ _ (is_faithful _ _ _ _ _ _ _ c.status_of-status.ensures c.in_ok-fault.ensures.ran c.in_ok-report.ensures.ok)
+returns-clause-complete g c = is_complete (map string_bytes c.args.words.now) _ _ _ (returns-clause-faithful g c)

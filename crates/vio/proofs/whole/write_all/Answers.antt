@@ -1,4 +1,4 @@
--- After a piece, the front that was written is longer by what the call took.
+-- After a piece, the prefix that was written is longer by what the call took.
 use Rattle.vio.proofs.WholeLemmas.{IsPartlyWritten-then}
 use Rattle.vio.proofs.whole.write_all.Goals as goal
 

@@ -1,4 +1,4 @@
--- A front of the piece has been written, and the rest is left.
+-- A prefix of the piece has been written, and the rest is left.
 use Rattle.std.proofs.Common.{length}
 use Rattle.vio.proofs.WholeLemmas.{IsPartlyWritten}
 use Rattle.vio.proofs.whole.write_all.Given as goal

@@ -1,5 +1,5 @@
 use Rattle.std.proofs.Common.{length}
-use Rattle.vsl_file.specs.Reading.{BeginsWithUnits}
+use Rattle.vsl_file.specs.inside.FileReading.{BeginsWithUnits}
 use Rattle.vsl_file.proofs.reading.read_units.Given as goal
 
 -- the units so far, and the bytes that are left

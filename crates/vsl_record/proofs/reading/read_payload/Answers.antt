@@ -1,32 +1,22 @@
-use Rattle.std.proofs.Common.{◌≡◌, ◌+◌, ◌++◌, get_or, length, ap, arith, length-append, length-take, length-drop}
-use Rattle.vsl_record.specs.Reading.{four, unpacked}
-use Rattle.vsl_record.proofs.LoopLemmas.{bytes_of_word, payload_begins, payload_short, payload_goes_on}
+use Rattle.std.proofs.Common.{true, false, ◌+◌, ◌*◌, ◌/◌, ◌∙◌, length, ap, sym, refl, arith, length-drop}
+use Rattle.vsl_record.proofs.WordLemmas.{length-words_in}
+use Rattle.vsl_record.proofs.PayloadLemmas.{unpacked_cut, unpacked_held}
 use Rattle.vsl_record.proofs.reading.read_payload.Goals as goal
 
-pub loop-left-init : goal.loop-left-init
-loop-left-init c = record {
-  read = λ at. (at, payload_begins c.in_ok-bytes.bytes.items c.args.words.now c.args.count at c.in_ok-bytes.ensures.items);
-  room = grind (arith, c.in_ok-bytes.ensures.items);
-  shorter = omega arith;
-}
+pub returns-then-len-size-clause-read : goal.returns-then-len-size-clause-read
+returns-then-len-size-clause-read c = λ at. unpacked_cut c.args.count at c.args.bytes.now (omega (arith, c.if-len-size.true, c.len.ensures.value))
 
-pub returns-in_default-clause-read : goal.returns-in_default-clause-read
-returns-in_default-clause-read c = λ at.
-    let so_far = c.loop-left.invariant.read at in
-    payload_short c.loop-left.bytes.items c.loop-left.rest.now c.loop-left.left so_far.0 (unpacked c.args.count at c.args.words.now) c.loop-left-test.true (omega arith) so_far.1
-
-pub loop-left-preserved : goal.loop-left-preserved
-loop-left-preserved c =
-    let made : c.extend_from_slice.new.self.items ≡ c.loop-left.bytes.items ++ four (get_or c.loop-left.rest.now 0 0) = grind (arith, bytes_of_word) in
-    record {
-      read = λ at.
-          let so_far = c.loop-left.invariant.read at in
-          (so_far.0 + 1, payload_goes_on c.loop-left.bytes.items c.extend_from_slice.new.self.items c.loop-left.rest.now c.loop-left.left so_far.0 (unpacked c.args.count at c.args.words.now) c.loop-left-test.true c.in-len1-up.len_at_least made so_far.1);
-      room = omega (arith, simp length-append at (ap length made));
-      shorter = simp (length-take, length-drop) (omega arith);
-    }
+pub returns-then-not-is_padded-clause-read : goal.returns-then-not-is_padded-clause-read
+returns-then-not-is_padded-clause-read c = λ at.
+    rw (unpacked_held c.args.count at c.args.bytes.now c.as_slice-2.result.now c.split_to.new.self false (omega (arith, c.if-len-size.false, c.len.ensures.value)) (rw c.as_slice.ensures at c.are_bytes.ensures)
+    (c.as_slice-2.ensures ∙ c.in_ok-held.ensures.front) c.in_ok-held.ensures.rest (sym c.if-not-is_padded.true ∙ c.is_padded.ensures)) refl
 
 pub returns-clause-read : goal.returns-clause-read
 returns-clause-read c = λ at.
-    let so_far = c.loop-left.invariant.read at in
-    rw so_far.1 at (c.read_last.ensures.read so_far.0)
+    unpacked_held c.args.count at c.args.bytes.now c.as_slice-2.result.now c.split_to.new.self true (omega (arith, c.if-len-size.false, c.len.ensures.value)) (rw c.as_slice.ensures at c.are_bytes.ensures)
+    (c.as_slice-2.ensures ∙ c.in_ok-held.ensures.front) c.in_ok-held.ensures.rest (sym c.if-not-is_padded.false ∙ c.is_padded.ensures)
+    ∙ rw (c.as_slice-2.ensures, ← c.truncate.ensures, ← c.from_bytes.ensures) refl
+
+pub returns-clause-shorter : goal.returns-clause-shorter
+returns-clause-shorter c =
+    omega (arith, length-words_in c.split_to.new.self, length-words_in c.args.bytes.now, ap length c.in_ok-held.ensures.rest, length-drop (4 * ((c.args.count + 3) / 4)) c.args.bytes.now)

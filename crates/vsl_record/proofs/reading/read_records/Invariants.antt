@@ -1,14 +1,15 @@
 -- the records so far and those that are still read are the whole, from some place on
 use Rattle.std.proofs.Common.{◌≡◌, ℕ, ◌+◌, ◌-◌, ◌≤◌, length}
-use Rattle.vsl_record.specs.Reading.{records_at}
+use Rattle.vsl_record.specs.Words.{words_in}
+use Rattle.vsl_record.specs.inside.UnitReading.{records_at}
 use Rattle.vsl_record.proofs.LoopLemmas.{with_records}
 use Rattle.vsl_record.proofs.reading.read_records.Given as goal
 
-abbrev pub invariant-loop-rest : goal.invariant-loop-rest
-invariant-loop-rest l = record {
-  read : (place : ℕ) × (with_records l.records.items (records_at (length l.words - length l.records.items) l.id place l.rest) ≡ records_at (length l.words) l.id 1 l.words);
-  room : length l.records.items + length l.rest ≤ length l.words;
+abbrev pub invariant-loop-bytes : goal.invariant-loop-bytes
+invariant-loop-bytes l = record {
+  read : (place : ℕ) × (with_records l.records.items (records_at (length (words_in l.initial.bytes) - length l.records.items) l.id place (words_in l.bytes)) ≡ records_at (length (words_in l.initial.bytes)) l.id 1 (words_in l.initial.bytes));
+  room : length l.records.items + length (words_in l.bytes) ≤ length (words_in l.initial.bytes);
 }
 
-abbrev pub decreases-loop-rest : goal.decreases-loop-rest
-decreases-loop-rest l = length l.rest
+abbrev pub decreases-loop-bytes : goal.decreases-loop-bytes
+decreases-loop-bytes l = length (words_in l.bytes)

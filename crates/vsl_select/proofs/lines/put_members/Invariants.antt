@@ -1,3 +1,4 @@
+-- the texts of the transactions so far were added
 use Rattle.std.proofs.Common.{◌≡◌, ◌++◌, take}
 use Rattle.std.specs.List.{flat_map}
 use Rattle.vsl_select.specs.Lines.{member_text}

@@ -1,7 +1,8 @@
+-- the raw lines of the members so far were added
 use Rattle.std.proofs.Common.{◌≡◌, ◌++◌, take}
 use Rattle.std.specs.List.{flat_map}
-use Rattle.vsl_select.specs.Lines.{raw_text}
+use Rattle.vsl_select.specs.Lines.{member_raw_lines}
 use Rattle.vsl_select.proofs.lines.put_raw_members.Given as goal
 
 abbrev pub invariant-loop-member : goal.invariant-loop-member
-invariant-loop-member l = l.out.items ≡ l.initial.out.items ++ flat_map raw_text (take l.member-index l.members)
+invariant-loop-member l = l.out.items ≡ l.initial.out.items ++ flat_map member_raw_lines (take l.member-index l.members)

@@ -1,4 +1,4 @@
--- The bytes below the index are those at the front of what was left.
+-- The bytes below the index are those at the beginning of what was left.
 use Rattle.std.proofs.Common.{◌≡◌, take}
 use Rattle.vio.specs.Sources.{left_of}
 use Rattle.vio.proofs.file.Source.take_piece.Given as goal

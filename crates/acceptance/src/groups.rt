@@ -1,0 +1,171 @@
+//! Claims, tables and texts: what no command line reaches.
+
+use crate::support::{Line, all_shown, record_of};
+use std::alloc::Global;
+use std::process::Abort;
+use std::test::Fail;
+use txn_rows::{Group, GroupOptions, Grouping, Kind, Member, Members, Reason, Table, read_claim};
+use vsl_record::{Mark, Records, Unit, Vxid};
+use vsl_select::{group_text, raw_line};
+
+const BEGIN: u8 = 42;
+
+const END: u8 = 44;
+
+#[test]
+fn a_begin_claims_a_kind_a_vxid_and_a_reason(rt: HostRuntime) -> Result<(), Fail> {
+    let cases: [(&[u8], Kind, Vxid, Reason); 6] = [
+        (b"req 1 rxreq", Kind::Request, 1, Reason::Rxreq),
+        (b"bereq 2 fetch", Kind::BeReq, 2, Reason::Other),
+        (b"sess 0 HTTP/1", Kind::Session, 0, Reason::Other),
+        (b"req 0000000002 esi x", Kind::Request, 2, Reason::Esi),
+        (
+            b" req\t1073741823",
+            Kind::Request,
+            1_073_741_823,
+            Reason::Other,
+        ),
+        (b"\treq\t \t7\trxreq\t", Kind::Request, 7, Reason::Rxreq),
+    ];
+    for (payload, kind, vxid, reason) in cases {
+        let claim = read_claim(payload).ok_or("a claim")?;
+        assert_eq!(rt;
+            (claim.kind, claim.vxid, claim.reason),
+            (kind, vxid, reason)
+        );
+    }
+    Ok(())
+}
+
+/// Adds the text of groups to another text, and compares it.
+fn expect_text(
+    rt: &impl Abort,
+    alloc: Global,
+    groups: &[Group],
+    verbose: bool,
+    want: &[u8],
+) -> Result<(), Fail> {
+    let selection = all_shown(alloc)?;
+    let mut text = Vec::from_slice(alloc, b"before\n")?;
+    for group in groups {
+        group_text(group, &selection, verbose, &mut text)?;
+    }
+    let mut wanted = Vec::from_slice(alloc, b"before\n")?;
+    wanted.extend_from_slice(want)?;
+    assert_eq!(rt; text.as_slice(), wanted.as_slice());
+    Ok(())
+}
+
+fn table_of(alloc: Global, is_raw: bool) -> Result<Table, Fail> {
+    let options = GroupOptions {
+        grouping: if is_raw {
+            Grouping::Raw
+        } else {
+            Grouping::Vxid
+        },
+        limit: 1000,
+        timeout: 120,
+    };
+    Ok(Table::new(alloc, options)?)
+}
+
+#[test]
+fn a_table_keeps_what_is_pending_and_no_raw_record(rt: HostRuntime) -> Result<(), Fail> {
+    let line = b"         9 Begin          c req 1 rxreq\n".as_slice();
+    let flushed =
+        b"*   << Request  >> 9         \n-   Begin          req 1 rxreq\n-   VSL            flush\n-   End            synth\n\n".as_slice();
+    for (is_raw, pending, stepped, want) in [
+        (false, 1, b"".as_slice(), flushed),
+        (true, 0, line, line),
+    ] {
+        let mut table = table_of(rt.alloc(), is_raw)?;
+        let mut groups = Vec::new(rt.alloc());
+        let begin = record_of(rt.alloc(), BEGIN, b"req 1 rxreq")?;
+        let records = Vec::from_array(rt.alloc(), [begin])?;
+        table.step(&Unit::new(9, Mark::Client, records)?, &mut groups)?;
+        expect_text(&rt, rt.alloc(), &groups, false, stepped)?;
+        assert_eq!(rt; table.rows(), pending, "raw: {is_raw}");
+        assert_eq!(rt; table.unfinished(), pending, "raw: {is_raw}");
+        table.flush(&mut groups)?;
+        expect_text(&rt, rt.alloc(), &groups, false, want)?;
+        assert_eq!(rt; table.rows(), 0, "raw: {is_raw}");
+    }
+    Ok(())
+}
+
+fn member_of(
+    alloc: Global,
+    vxid: Vxid,
+    kind: Kind,
+    level: u32,
+    lines: &[Line<'_>],
+) -> Result<Member, Fail> {
+    let mut records = Records::new(alloc);
+    for (tag, payload) in lines {
+        records.push(record_of(alloc, *tag, *payload)?)?;
+    }
+    Ok(Member {
+        vxid,
+        kind,
+        reason: Reason::Other,
+        level,
+        parent: 0,
+        records,
+    })
+}
+
+/// A transaction's VXID, kind, level and records.
+type Shape<'a> = (Vxid, Kind, u32, &'a [Line<'a>]);
+
+#[test]
+fn a_group_has_its_text(rt: HostRuntime) -> Result<(), Fail> {
+    let begin: &[Line<'_>] = &[(BEGIN, b"bereq 2 fetch")];
+    let end: &[Line<'_>] = &[(END, b"")];
+    let cases: [(bool, &[Shape<'_>], &[u8]); 5] = [
+        (
+            false,
+            &[(2, Kind::Request, 1, end), (3, Kind::BeReq, 2, begin)],
+            b"*   << Request  >> 2         \n-   End            \n**  << BeReq    >> 3         \n--  Begin          bereq 2 fetch\n\n",
+        ),
+        (
+            false,
+            &[(7, Kind::Unknown, 3, end)],
+            b"*** << Unknown  >> 7         \n--- End            \n\n",
+        ),
+        (
+            false,
+            &[(4294967295, Kind::Session, 12, end)],
+            b"*12* << Session  >> 4294967295\n-12- End            \n\n",
+        ),
+        (
+            true,
+            &[(3, Kind::BeReq, 1, begin)],
+            b"*   << BeReq    >> 3         \n-            3 Begin          c bereq 2 fetch\n\n",
+        ),
+        (false, &[(5, Kind::Session, 1, &[])], b""),
+    ];
+    for (verbose, shapes, want) in cases {
+        let mut members = Members::new(rt.alloc());
+        for (vxid, kind, level, lines) in shapes {
+            members.push(member_of(rt.alloc(), *vxid, *kind, *level, *lines)?)?;
+        }
+        let groups = Vec::from_array(rt.alloc(), [Group { members }])?;
+        expect_text(&rt, rt.alloc(), &groups, verbose, want)?;
+    }
+    Ok(())
+}
+
+#[test]
+fn a_raw_line_is_added_and_all_is_shown(rt: HostRuntime) -> Result<(), Fail> {
+    let begin = record_of(rt.alloc(), BEGIN, b"req 1 rxreq")?;
+    let mut out = Vec::from_slice(rt.alloc(), b"before\n")?;
+    raw_line(2, &begin, &mut out)?;
+    assert_eq!(rt;
+        out.as_slice(),
+        b"before\n         2 Begin          c req 1 rxreq\n".as_slice()
+    );
+    let selection = all_shown(rt.alloc())?;
+    assert!(rt; selection.shows(&begin)?);
+    assert!(rt; selection.shows_member(&member_of(rt.alloc(), 5, Kind::Session, 1, &[])?));
+    Ok(())
+}

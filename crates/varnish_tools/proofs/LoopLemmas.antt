@@ -1,0 +1,187 @@
+-- What a run's loop comes to, call by call.
+use Rattle.std.proofs.Common.{◌≡◌, ℕ, ◌+◌, ◌-◌, ◌<◌, ◌≤◌, Bool, true, false, List, [], ◌∷◌, ◌++◌, length, length-append, take, IsTrue, Option, Some, refl, sym, ap, subst, ◌∙◌, append_assoc, arith}
+use Rattle.std.proofs.lemmas.List.{append-nil, take-append-le, take_all}
+use Rattle.log_model.specs.Prefix.{IsPrefix, IsProperPrefix}
+use Rattle.log_model.proofs.PrefixLemmas.{prefix_append, prefix_then}
+use Rattle.log_model.specs.Faults.{HasNewFault}
+use Rattle.vio.specs.World.{Seen, Writing, NoCountFalls, Gains, Wrote}
+use Rattle.vio.proofs.WholeLemmas.{NoCountFalls-then, gained_so}
+use Rattle.vio.specs.Writes.{WroteOn, Gained}
+use Rattle.vio.specs.Touches.{Touches}
+use Rattle.vsl_record.specs.Unit.{LogUnit, Log}
+use Rattle.txn_rows.specs.declared.group.Grouping.{Grouping}
+use Rattle.txn_rows.specs.declared.group.GroupOptions.{GroupOptions}
+use Rattle.varnish_tools.specs.declared.source.SourceFault.{SourceFault}
+use Rattle.varnish_tools.specs.declared.printer.PrintFault.{PrintFault}
+use Rattle.varnish_tools.specs.declared.printer.PrintFault.TheVariants.{WriteFault, NoMemory}
+use Rattle.varnish_tools.specs.declared.run.Stopped.TheVariants.{BySource, ByPrinter}
+use Rattle.varnish_tools.specs.Printer.{PrinterState, Represents, IsSamePrinter, HasPrintCause, IsLeft, due, due_text}
+use Rattle.varnish_tools.specs.inside.Loop.{Running, IsLeftOf, RanToEnd, RanUntil}
+use Rattle.varnish_tools.proofs.PrinterLemmas.{due_first}
+use Rattle.vio.proofs.TouchLemmas.{touches_none, touches_wrote, touches_then, touches_read}
+
+-- before the first unit
+pub running_none : (IsGiven : Log → Type 0) (reads : List ℕ) (p : PrinterState) (s : Seen) → IsGiven [] → Represents p [] → Running IsGiven reads p p 0 s s
+running_none IsGiven reads p s given new = record {
+  units = [];
+  given = given;
+  count = refl;
+  same = record { options = refl; sink = refl; name = refl };
+  represents = new;
+  gains = λ a told. told ∙ ap Some (sym (append-nil a));
+  touches = touches_none reads (p.sink ∷ []) [] s;
+}
+
+-- what a printer wrote on to its text, since before that text
+gains_on : (p q : PrinterState) (us vs : Log) (b : Bool) (IsSo : List ℕ → List ℕ → Type 0) (s t u v : Seen) → IsSamePrinter p q
+    → Gains (s.written p.sink) (t.written p.sink) (due p us false) → u.written p.sink ≡ t.written p.sink → WroteOn q.sink (due q us false) (IsSo (due q vs b)) u v
+    → Gained (λ text. IsPrefix (due p us false) text × IsSo (due p vs b) text) (s.written p.sink) (v.written p.sink)
+gains_on p q us vs b IsSo s t u v same gains unread more =
+    let back : WroteOn p.sink (due p us false) (IsSo (due p vs b)) u v = subst (λ (g : Grouping). WroteOn p.sink (due_text g us false) (IsSo (due_text g vs b)) u v)
+    (ap (λ (o : GroupOptions). o.grouping) same.options)
+    (subst (λ (h : ℕ). WroteOn h (due q us false) (IsSo (due q vs b)) u v) same.sink more) in
+    record {
+      text = due p us false ++ back.added;
+      is = (prefix_append (due p us false) back.added, back.is);
+      gains = λ a told. back.wrote.gains (a ++ due p us false) (unread ∙ gains a told) ∙ ap Some (append_assoc a (due p us false) back.added);
+    }
+
+-- a call of the source touches no sink
+unread : (reads : List ℕ) (h : ℕ) (t u : Seen) → Touches reads [] [] t u → u.written h ≡ t.written h
+unread reads h t u p = p.written h (λ o. o)
+
+-- where the printer wrote, after the source was read
+touches_printed : (reads : List ℕ) (p q : PrinterState) (a : List ℕ) (IsSo : List ℕ → Type 0) (s t u v : Seen) → IsSamePrinter p q → Touches reads (p.sink ∷ []) [] s t → Touches reads [] [] t u
+    → WroteOn q.sink a IsSo u v → Touches reads (p.sink ∷ []) [] s v
+touches_printed reads p q a IsSo s t u v same first read wrote =
+    touches_then (touches_then first (touches_read reads p.sink t u read)) (subst (λ (h : ℕ). Touches reads (h ∷ []) [] u v) same.sink (touches_wrote reads q.sink wrote.added u v wrote.wrote))
+
+-- one unit more was given and printed
+pub running_more : (IsGiven IsNow : Log → Type 0) (reads : List ℕ) (p q r : PrinterState) (n : ℕ) (u : LogUnit) (s t v w : Seen)
+    → (run : Running IsGiven reads p q n s t) → Touches reads [] [] t v → ((bytes : List ℕ) → Wrote q.sink bytes v w → IsNow (run.units ++ u ∷ [])) → IsSamePrinter q r
+    → ((us : Log) → Represents q us → Represents r (us ++ u ∷ []))
+    → ((us : Log) → Represents q us → WroteOn q.sink (due q us false) (λ text. text ≡ due q (us ++ u ∷ []) false) v w)
+    → Running IsNow reads p r (n + 1) s w
+running_more IsGiven IsNow reads p q r n u s t v w run read stays same takes writes =
+    let wrote = writes run.units run.represents in
+    let gained = gains_on p q run.units (run.units ++ u ∷ []) false (λ whole text. text ≡ whole) s t v w run.same run.gains (unread reads p.sink t v read) wrote in record {
+      units = run.units ++ u ∷ [];
+      given = stays wrote.added wrote.wrote;
+      count = omega (arith, run.count, length-append run.units (u ∷ []));
+      same = record { options = same.options ∙ run.same.options; sink = same.sink ∙ run.same.sink; name = same.name ∙ run.same.name };
+      represents = takes run.units run.represents;
+      gains = λ a told. gained.gains a told ∙ ap (λ (text : List ℕ). Some (a ++ text)) gained.is.1;
+      touches = touches_printed reads p q _ _ s t v w run.same run.touches read wrote;
+    }
+
+-- the source stopped
+pub source_stopped : (IsGiven : Log → Type 0) (reads : List ℕ) (gave : Log → Bool → Type 0) (stopped : SourceFault → Log → Type 0) (fault : SourceFault) (p q : PrinterState) (n : ℕ) (s t u : Seen)
+    → (run : Running IsGiven reads p q n s t) → Touches reads [] [] t u → stopped fault run.units → RanUntil (BySource fault n) gave stopped p s u
+source_stopped IsGiven reads gave stopped fault p q n s t u run read stop = record {
+  units = run.units;
+  given = stop;
+  count = run.count;
+  gains = record { text = due p run.units false; is = refl; gains = λ a told. unread reads p.sink t u read ∙ run.gains a told };
+}
+
+-- the text of units without their last one
+without_last : (us : Log) (u : LogUnit) → take (length (us ++ u ∷ []) - 1) (us ++ u ∷ []) ≡ us
+without_last us u =
+    let count : length (us ++ u ∷ []) - 1 ≡ length us = omega (arith, length-append us (u ∷ [])) in
+    let enough : length us ≤ length us = omega arith in
+    ap (λ (k : ℕ). take k (us ++ u ∷ [])) count ∙ rw take-append-le (take_all (length us) us enough)
+
+left_at : (fault : PrintFault) (p : PrinterState) (us : Log) (u : LogUnit) (text : List ℕ) → IsPrefix (due p us false) text → IsLeft fault (due p (us ++ u ∷ []) false) text → IsLeftOf fault p (us ++ u ∷ []) false text
+left_at (WriteFault name) p us u text least left = record { some = omega (arith, length-append us (u ∷ [])); least = rw (without_last us u) least; left = left }
+left_at NoMemory p us u text least left = left
+
+-- something of a text is missing only where there is one
+some_units : (p : PrinterState) (us : Log) (text : List ℕ) → IsProperPrefix text (due p us true) → 0 < length us
+some_units p [] text left = absurd (omega (arith, left.shorter))
+some_units p (u ∷ us) text left = omega arith
+
+left_at_end : (fault : PrintFault) (p : PrinterState) (us : Log) (text : List ℕ) → IsPrefix (due p us false) text → IsLeft fault (due p us true) text → IsLeftOf fault p us true text
+left_at_end (WriteFault name) p us text least left = record {
+  some = some_units p us text left;
+  least = prefix_then (due_first p.table.options.grouping us (length us - 1) false) least;
+  left = left;
+}
+left_at_end NoMemory p us text least left = left
+
+cause_since : (fault : PrintFault) (name now : List ℕ) (s t u : Seen) → now ≡ name → NoCountFalls s t → HasPrintCause fault now t u → HasPrintCause fault name s u
+cause_since (WriteFault blamed) name now s t u same counts cause =
+    let here : (blamed ≡ name) × HasNewFault (t.faults Writing name) (u.faults Writing name) = subst (λ (x : List ℕ). (blamed ≡ x) × HasNewFault (t.faults Writing x) (u.faults Writing x)) same cause in
+    (here.0, omega (arith, counts.each Writing name, here.1))
+cause_since NoMemory name now s t u same counts cause = tt
+
+-- the printer stopped at one unit more
+pub printer_stopped : (IsGiven : Log → Type 0) (reads : List ℕ) (gave : Log → Bool → Type 0) (stopped : SourceFault → Log → Type 0) (fault : PrintFault) (p q : PrinterState) (n : ℕ) (u : LogUnit) (s t v w : Seen)
+    → (run : Running IsGiven reads p q n s t) → Touches reads [] [] t v → ((bytes : List ℕ) → Wrote q.sink bytes v w → gave (run.units ++ u ∷ []) false)
+    → HasPrintCause fault q.name v w
+    → ((us : Log) → Represents q us → WroteOn q.sink (due q us false) (IsLeft fault (due q (us ++ u ∷ []) false)) v w)
+    → RanUntil (ByPrinter fault (n + 1)) gave stopped p s w
+printer_stopped IsGiven reads gave stopped fault p q n u s t v w run read stays cause refused =
+    let left = refused run.units run.represents in (
+      cause_since fault p.name q.name s v w run.same.name (NoCountFalls-then run.touches.counts read.counts) cause,
+      (
+        false,
+        record {
+          units = run.units ++ u ∷ [];
+          given = stays left.added left.wrote;
+          count = omega (arith, run.count, length-append run.units (u ∷ []));
+          gains = gained_so (λ text so. left_at fault p run.units u text so.0 so.1)
+              (gains_on p q run.units (run.units ++ u ∷ []) false (IsLeft fault) s t v w run.same run.gains (unread reads p.sink t v read) left);
+        },
+      ),
+    )
+
+-- the printer stopped at its end
+pub end_stopped : (IsGiven : Log → Type 0) (reads : List ℕ) (gave : Log → Bool → Type 0) (stopped : SourceFault → Log → Type 0) (fault : PrintFault) (p q : PrinterState) (n : ℕ) (s t v w : Seen)
+    → (run : Running IsGiven reads p q n s t) → Touches reads [] [] t v → ((bytes : List ℕ) → Wrote q.sink bytes v w → gave run.units true)
+    → HasPrintCause fault q.name v w
+    → ((us : Log) → Represents q us → WroteOn q.sink (due q us false) (IsLeft fault (due q us true)) v w)
+    → RanUntil (ByPrinter fault n) gave stopped p s w
+end_stopped IsGiven reads gave stopped fault p q n s t v w run read stays cause refused =
+    let left = refused run.units run.represents in (
+      cause_since fault p.name q.name s v w run.same.name (NoCountFalls-then run.touches.counts read.counts) cause,
+      (
+        true,
+        record {
+          units = run.units;
+          given = stays left.added left.wrote;
+          count = run.count;
+          gains = gained_so (λ text so. left_at_end fault p run.units text so.0 so.1)
+              (gains_on p q run.units run.units true (IsLeft fault) s t v w run.same run.gains (unread reads p.sink t v read) left);
+        },
+      ),
+    )
+
+-- all was given and printed
+pub ran_to_end : (IsGiven : Log → Type 0) (reads : List ℕ) (gave : Log → Bool → Type 0) (p q : PrinterState) (n : ℕ) (s t v w : Seen)
+    → (run : Running IsGiven reads p q n s t) → Touches reads [] [] t v → ((bytes : List ℕ) → Wrote q.sink bytes v w → gave run.units true)
+    → ((us : Log) → Represents q us → WroteOn q.sink (due q us false) (λ text. text ≡ due q us true) v w)
+    → RanToEnd gave p n s w
+ran_to_end IsGiven reads gave p q n s t v w run read stays writes =
+    let wrote = writes run.units run.represents in record {
+      units = run.units;
+      given = stays wrote.added wrote.wrote;
+      count = run.count;
+      gains = gained_so (λ text so. so.1) (gains_on p q run.units run.units true (λ whole text. text ≡ whole) s t v w run.same run.gains (unread reads p.sink t v read) wrote);
+    }
+
+-- what the run touched, where the printer wrote last
+pub touches_last : (IsGiven : Log → Type 0) (reads : List ℕ) (p q : PrinterState) (n : ℕ) (h : ℕ) (bytes : List ℕ) (s t v w : Seen) → Running IsGiven reads p q n s t → Touches reads [] [] t v
+    → h ≡ q.sink → Wrote h bytes v w → Touches reads (p.sink ∷ []) [] s w
+touches_last IsGiven reads p q n h bytes s t v w run read is wrote =
+    touches_then (touches_then run.touches (touches_read reads p.sink t v read)) (subst (λ (k : ℕ). Touches reads (k ∷ []) [] v w) (is ∙ run.same.sink) (touches_wrote reads h bytes v w wrote))
+
+-- the sink keeps its name
+pub named_still : (IsGiven : Log → Type 0) (reads : List ℕ) (p q : PrinterState) (n : ℕ) (s t u : Seen) → Running IsGiven reads p q n s t → Touches reads [] [] t u → s.given p.sink ≡ true
+    → IsTrue (s.names Writing p.sink p.name) → IsTrue (u.names Writing q.sink q.name)
+named_still IsGiven reads p q n s t u run read given named =
+    let kept : u.names Writing p.sink p.name ≡ s.names Writing p.sink p.name = read.names Writing p.sink p.name (run.touches.given p.sink given) ∙ run.touches.names Writing p.sink p.name given in
+    rw (run.same.sink, run.same.name, kept) named
+
+-- the unit at which a cursor stands is the one that it gave
+pub unit_given : (IsGiven : Log → Type 0) (current : Option LogUnit) (units : Log) (u : LogUnit) → (w : LogUnit) × (current ≡ Some w) × IsGiven (units ++ w ∷ []) → current ≡ Some u → IsGiven (units ++ u ∷ [])
+unit_given IsGiven current units u next is = let same : next.0 ≡ u = cc (next.1, is) in subst (λ (x : LogUnit). IsGiven (units ++ x ∷ [])) same next.2

@@ -1,0 +1,52 @@
+-- What a printer represents: the units that it was given, whose text is due at its sink (this project's choice).
+use Rattle.std.specs.Prelude.{◌≡◌, ℕ, Bool, false, List}
+use Rattle.log_model.specs.Faults.{HasNewFault}
+use Rattle.log_model.specs.Prefix.{IsPrefix, IsProperPrefix}
+use Rattle.vio.specs.World.{Seen, Writing}
+use Rattle.vsl_record.specs.Unit.{Log}
+use Rattle.txn_rows.specs.declared.group.Grouping.{Grouping}
+use Rattle.txn_rows.specs.Grouping.{no_state, unit_steps, groups_of}
+use Rattle.txn_rows.specs.TableState.{TableState}
+use Rattle.varnish_tools.specs.declared.printer.PrintFault.{PrintFault}
+use Rattle.varnish_tools.specs.declared.printer.PrintFault.TheVariants.{WriteFault, NoMemory}
+use Rattle.varnish_tools.specs.Output.{groups_text}
+
+-- what a printer tells: the table of what is pending, and the handle of its sink and the name that faults give it
+pub record PrinterState : Type 0 where
+  pub table : TableState
+  pub sink : ℕ
+  pub name : List ℕ
+
+-- the printer was given these units, and no call was refused
+pub record Represents (p : PrinterState) (units : Log) : Type 0 where
+  pub state : p.table.state ≡ (unit_steps p.table.options.grouping units no_state).state
+  pub sound : p.table.failed ≡ false
+
+-- the text that is due for these units, where they have ended or not
+abbrev pub due_text : Grouping → Log → Bool → List ℕ
+due_text grouping units ended = groups_text (groups_of grouping units ended)
+
+-- the text that is due at a printer's sink for these units, where they have ended or not
+abbrev pub due : PrinterState → Log → Bool → List ℕ
+due p units ended = due_text p.table.options.grouping units ended
+
+-- a call keeps options and sink
+pub record IsSamePrinter (old new : PrinterState) : Type 0 where
+  pub options : new.table.options ≡ old.table.options
+  pub sink : new.sink ≡ old.sink
+  pub name : new.name ≡ old.name
+
+-- a handle and its name are these
+pub record IsSink (handle : ℕ) (name : List ℕ) (handle_now : ℕ) (name_now : List ℕ) : Type 0 where
+  pub same_handle : handle_now ≡ handle
+  pub same_name : name_now ≡ name
+
+-- why printing to a sink of this name stops: a failed write was counted for it
+abbrev pub HasPrintCause : PrintFault → List ℕ → Seen → Seen → Type 0
+HasPrintCause (WriteFault name) sink before now = (name ≡ sink) × HasNewFault (before.faults Writing sink) (now.faults Writing sink)
+HasPrintCause NoMemory sink before now = Unit {0}
+
+-- what a refusal leaves of the text that is due: a prefix, and after a failed write not all of it
+abbrev pub IsLeft : PrintFault → List ℕ → List ℕ → Type 0
+IsLeft (WriteFault name) whole text = IsProperPrefix text whole
+IsLeft NoMemory whole text = IsPrefix text whole

@@ -1,0 +1,8 @@
+-- What private steps say of one another; no public contract cites these definitions.
+pub mod Jobs
+pub mod Printing
+pub mod Source
+pub mod Loop
+pub mod ReadLog
+pub mod LogFile
+pub mod Report

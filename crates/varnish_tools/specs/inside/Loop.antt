@@ -1,0 +1,51 @@
+-- What a run's loop did: it took units from a source and gave them to a printer.
+use Rattle.std.specs.Prelude.{◌≡◌, ℕ, ◌-◌, ◌<◌, Bool, true, false, List, [], ◌∷◌, length, take}
+use Rattle.log_model.specs.Prefix.{IsPrefix, IsProperPrefix}
+use Rattle.vio.specs.World.{Seen, Gains}
+use Rattle.vio.specs.Writes.{Gained}
+use Rattle.vio.specs.Touches.{Touches}
+use Rattle.vsl_record.specs.Unit.{Log}
+use Rattle.varnish_tools.specs.declared.source.SourceFault.{SourceFault}
+use Rattle.varnish_tools.specs.declared.printer.PrintFault.{PrintFault}
+use Rattle.varnish_tools.specs.declared.printer.PrintFault.TheVariants.{WriteFault, NoMemory}
+use Rattle.varnish_tools.specs.declared.run.Stopped.{Stopped}
+use Rattle.varnish_tools.specs.declared.run.Stopped.TheVariants.{BySource, ByPrinter}
+use Rattle.varnish_tools.specs.Printer.{PrinterState, Represents, IsSamePrinter, HasPrintCause, due}
+
+-- so many units were given, and a text of them that is so was written
+pub record Printed (IsGiven : Log → Type 0) (IsText : Log → List ℕ → Type 0) (sink n : ℕ) (before now : Seen) : Type 0 where
+  pub units : Log
+  pub given : IsGiven units
+  pub count : n ≡ length units
+  pub gains : Gained (IsText units) (before.written sink) (now.written sink)
+
+-- each unit that was given was printed; the printer goes on
+pub record Running (IsGiven : Log → Type 0) (reads : List ℕ) (p q : PrinterState) (n : ℕ) (before now : Seen) : Type 0 where
+  pub units : Log
+  pub given : IsGiven units
+  pub count : n ≡ length units
+  pub same : IsSamePrinter p q
+  pub represents : Represents q units
+  pub gains : Gains (before.written p.sink) (now.written p.sink) (due p units false)
+  pub touches : Touches reads (p.sink ∷ []) [] before now
+
+-- a failed write left at least the text without the last unit, and not all with it
+pub record LeftOf (p : PrinterState) (units : Log) (all : Bool) (text : List ℕ) : Type 0 where
+  pub some : 0 < length units
+  pub least : IsPrefix (due p (take (length units - 1) units) false) text
+  pub left : IsProperPrefix text (due p units all)
+
+-- what a printer that stopped left of the text of units, which have ended or not
+abbrev pub IsLeftOf : PrintFault → PrinterState → Log → Bool → List ℕ → Type 0
+IsLeftOf (WriteFault name) p units all text = LeftOf p units all text
+IsLeftOf NoMemory p units all text = IsPrefix text (due p units all)
+
+-- all units were given, and all text was written
+abbrev pub RanToEnd : (Log → Bool → Type 0) → PrinterState → ℕ → Seen → Seen → Type 0
+RanToEnd gave p n before now = Printed (λ units. gave units true) (λ units text. text ≡ due p units true) p.sink n before now
+
+-- the run stopped early: where the source stopped, the text of its units was written; where the printer did, what it left
+abbrev pub RanUntil : Stopped → (Log → Bool → Type 0) → (SourceFault → Log → Type 0) → PrinterState → Seen → Seen → Type 0
+RanUntil (BySource fault n) gave stopped p before now = Printed (stopped fault) (λ units text. text ≡ due p units false) p.sink n before now
+RanUntil (ByPrinter fault n) gave stopped p before now =
+    HasPrintCause fault p.name before now × ((all : Bool) × Printed (λ units. gave units all) (λ units text. IsLeftOf fault p units all text) p.sink n before now)

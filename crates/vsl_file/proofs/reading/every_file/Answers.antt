@@ -1,5 +1,0 @@
-use Rattle.vsl_file.proofs.EveryFileLemmas.{every_file_of}
-use Rattle.vsl_file.proofs.reading.every_file.Goals as goal
-
-pub returns : goal.returns
-returns c = every_file_of

@@ -1,5 +1,0 @@
-use Rattle.vsl_file.proofs.FileLemmas.{one_content_of}
-use Rattle.vsl_file.proofs.reading.one_content.Goals as goal
-
-pub returns : goal.returns
-returns c = one_content_of

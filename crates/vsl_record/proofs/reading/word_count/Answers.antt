@@ -1,0 +1,6 @@
+use Rattle.std.proofs.Common.{arith}
+use Rattle.vsl_record.proofs.WordLemmas.{length-words_in}
+use Rattle.vsl_record.proofs.reading.word_count.Goals as goal
+
+pub returns : goal.returns
+returns c = omega (arith, length-words_in c.args.bytes.now, c.len.ensures.value)

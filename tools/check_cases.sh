@@ -1,0 +1,118 @@
+#!/usr/bin/env bash
+# Runs the whole command lines of cases/ over the program that `rt ci` built, or over another: check_cases.sh [PROGRAM]
+# cases/README.md says what a case is. Each runs in a fresh folder, and all that comes out is compared.
+set -euo pipefail
+shopt -s nullglob
+program=$(realpath -m "${1:-$(dirname "${BASH_SOURCE[0]}")/../crates/vtools/out/vtools}")
+cd "$(dirname "${BASH_SOURCE[0]}")/.."
+
+most_seconds=20
+most_diff_lines=12
+
+work=$(mktemp -d)
+trap 'rm -rf "$work"' EXIT
+
+[ -x "$program" ] || {
+    echo "cases: $program is missing: run rt ci first" >&2
+    exit 1
+}
+
+# Says what is wrong with the case that runs.
+wrong() {
+    echo "cases: $name: $1" >&2
+    right=false
+}
+
+# Compares files or folders: same WHAT WANTED GOT
+same() {
+    diff -ar "$2" "$3" >"$work/differ" && return
+    wrong "$1"
+    head -n "$most_diff_lines" "$work/differ" | cut -c 1-160 | cat -A >&2
+}
+
+# Makes the case's files in $made: those of its folder, those that `links` names, and those that hex/ spells.
+make_case() {
+    local to from file bytes
+    cp -R "cases/$name" "$made"
+    mkdir -p "$made/data" "$made/hex"
+    if [ -e "$made/links" ]; then
+        while read -r to from; do
+            cp "$from" "$made/$to" || wrong "links names $from, which is missing"
+        done <"$made/links"
+    fi
+    for file in "$made"/hex/*; do
+        bytes=$(sed -e 's/#.*//' -e 's/ //g' -e 's/../\\x&/g' "$file")
+        bytes=${bytes//$'\n'/}
+        [[ "$bytes" =~ ^(\\x[0-9a-f]{2})+$ ]] || wrong "hex/${file##*/} is not hexadecimal"
+        printf '%b' "$bytes" >"$made/data/${file##*/}"
+    done
+}
+
+# Says what a case lacks, and what it has that no case has.
+check_form() {
+    local file
+    for file in stdout stderr status; do
+        [ -f "$made/$file" ] || wrong "$file is missing"
+    done
+    [ -f "$made/args" ] || [ -f "$made/args.nul" ] || wrong "args is missing"
+    [ ! -f "$made/args" ] || [ ! -f "$made/args.nul" ] || wrong "has both args and args.nul"
+    for file in "$made"/*; do
+        case ${file##*/} in
+        args | args.nul | stdin | stdout | stderr | status | links | hex | data | files) ;;
+        *) wrong "${file##*/} is no file of a case" ;;
+        esac
+    done
+}
+
+# Runs the case, and compares all that comes out.
+run_case() {
+    local words=() input=/dev/null status=0 file
+    if [ -f "$made/args" ]; then
+        mapfile -t words <"$made/args"
+    else
+        mapfile -d '' -t words <"$made/args.nul"
+    fi
+    [ ! -f "$made/stdin" ] || input="$made/stdin"
+
+    mkdir "$work/got"
+    cp -R "$made/data" "$work/got/folder"
+    (cd "$work/got/folder" && exec timeout "$most_seconds" "$program" "${words[@]}") \
+        <"$input" >"$work/got/stdout" 2>"$work/got/stderr" || status=$?
+    echo "$status" >"$work/got/status"
+
+    for file in status stderr stdout; do
+        same "$file differs ('<' is wanted)" "$made/$file" "$work/got/$file"
+    done
+    # what lay there is left as it was, but for what comes out
+    [ ! -d "$made/files" ] || cp -R "$made/files/." "$made/data"
+    same "other files are left" "$made/data" "$work/got/folder"
+}
+
+count=0
+failed=0
+made="$work/made"
+for folder in cases/*; do
+    name=${folder##*/}
+    [ "$folder" != cases/README.md ] || continue
+    right=true
+    rm -rf "$made" "$work/got"
+    if [ -d "$folder" ]; then
+        make_case
+        check_form
+        ! $right || run_case
+    else
+        wrong "is no folder"
+    fi
+    $right || failed=$((failed + 1))
+    count=$((count + 1))
+done
+
+[ "$failed" -eq 0 ] || {
+    echo "cases: $failed of $count failed" >&2
+    exit 1
+}
+[ "$count" -gt 0 ] || {
+    echo "cases: there are none" >&2
+    exit 1
+}
+echo "cases: ok, $count of them"

@@ -1,0 +1,161 @@
+#!/usr/bin/env bash
+# Runs the program that `rt ci` built, or another, where data can't say what is around it: closed and full
+# streams, pipes, large files, little memory: check_edges.sh [PROGRAM]
+set -euo pipefail
+program=$(realpath -m "${1:-$(dirname "${BASH_SOURCE[0]}")/../crates/vtools/out/vtools}")
+cd "$(dirname "${BASH_SOURCE[0]}")/.."
+
+log="$PWD/examples/real-1.vslog"
+lines="$PWD/examples/real-1.raw"
+transactions="$PWD/examples/real-1.vxid"
+one="$PWD/crates/vtools/data/f"
+long="$PWD/cases/a_payload_of_4000_bytes_is_printed/data/f"
+most_seconds=20
+
+work=$(mktemp -d)
+trap 'rm -rf "$work"' EXIT
+
+fail() {
+    echo "edges: $1" >&2
+    exit 1
+}
+
+for file in "$log" "$lines" "$transactions" "$one" "$long"; do
+    [ -f "$file" ] || fail "$file is missing"
+done
+[ -x "$program" ] || fail "$program is missing: run rt ci first"
+cd "$work"
+
+count=0
+newline=$'\n'
+text='         0 CLI            - Rd ping'
+unwritten='vtools: -: write failed'
+cp "$one" one.log
+head -c -1 one.log >cut.log
+printf 'VSLOG-1\n' >header.log
+mkfifo pipe
+
+# Runs the program on words; the caller names the streams, of which the files out and err are two.
+run() {
+    : >status
+    local status=0
+    timeout "$most_seconds" "$program" "$@" || status=$?
+    echo "$status" >status
+}
+
+# Checks the last run: expect WHAT STATUS MESSAGE [OUTPUT]. The message and the output are lines, or nothing.
+expect() {
+    local status
+    status=$(cat status)
+    [ "$status" = "$2" ] || fail "$1: the status is $status, not $2"
+    printf '%s' "${3:+$3$newline}" | cmp -s - err || fail "$1: standard error is not as it should be: $(head -c 300 err)"
+    printf '%s' "${4:+$4$newline}" | cmp -s - out || fail "$1: standard output is not as it should be: $(head -c 300 out)"
+    count=$((count + 1))
+    : >out
+    : >err
+}
+: >out
+: >err
+
+# Standard output is a pipe whose reader has gone.
+for words in "varnishlog -r $log" "varnishlog -g raw -r one.log" --help --version; do
+    exec 3<>pipe
+    exec 4>pipe 3>&-
+    # shellcheck disable=SC2086 # the words stand between spaces
+    run $words >&4 2>err </dev/null
+    exec 4>&-
+    expect "a closed pipe: $words" 1 "$unwritten"
+done
+
+# Standard output is full, or closed. A run that writes nothing doesn't see it.
+for words in "varnishlog -r $log" "varnishlog -g raw -r one.log" --help --version; do
+    # shellcheck disable=SC2086
+    run $words >/dev/full 2>err </dev/null
+    expect "a full output: $words" 1 "$unwritten"
+    # shellcheck disable=SC2086
+    run $words >&- 2>err </dev/null
+    expect "a closed output: $words" 1 "$unwritten"
+done
+run varnishlog -r header.log >/dev/full 2>err </dev/null
+expect "a full output and nothing to write" 0 ""
+run varnishlog -r header.log >&- 2>err </dev/null
+expect "a closed output and nothing to write" 0 ""
+
+# Standard error is full, or closed: the status and the output stay.
+messages() {
+    run "${@:4}" >out 2>/dev/full </dev/null
+    expect "full errors: $1" "$2" "" "$3"
+    run "${@:4}" >out 2>&- </dev/null
+    expect "closed errors: $1" "$2" "" "$3"
+}
+messages "a whole log" 0 "$text" varnishlog -g raw -r one.log
+messages "a cut log" 1 "" varnishlog -g raw -r cut.log
+messages "a missing file" 1 "" varnishlog -g raw -r missing
+messages "other words" 2 "" varnishlog -g session -r one.log
+messages "a word that is not UTF-8" 2 "" $'\xff'
+cmp -s cut.log <(head -c -1 "$one") || fail "closed errors: the log was written to"
+
+# No stream is open, and the log takes the number of one.
+run varnishlog -g raw -r one.log <&- >&- 2>&-
+expect "no stream" 1 ""
+run varnishlog -r header.log <&- >&- 2>&-
+expect "no stream and nothing to write" 0 ""
+run --help <&- >&- 2>&-
+expect "no stream for --help" 1 ""
+run varnishlog -g session -r one.log <&- >&- 2>&-
+expect "no stream for other words" 2 ""
+run varnishlog -g raw -r one.log <&- >out 2>err
+expect "no input" 0 "" "$text"
+cmp -s one.log "$one" || fail "no stream: the log was written to"
+
+# FILE is a pipe, which comes in two pieces, and is opened for no other words.
+(
+    head -c 10 one.log
+    sleep 0.2
+    tail -c +11 one.log
+) >pipe &
+run varnishlog -g raw -r pipe >out 2>err </dev/null
+wait
+expect "FILE a pipe" 0 "" "$text"
+run varnishlog -g session -r pipe >out 2>err </dev/null
+expect "other words open no pipe" 2 "vtools: not built yet"
+run varnishlog -g raw -r /dev/stdin >out 2>err <one.log
+expect "FILE the standard input by its path" 0 "" "$text"
+
+# FILE has the most bytes, and one more; zero bytes are no unit.
+cp one.log large.log
+truncate -s 16777216 large.log
+run varnishlog -g raw -r large.log >out 2>err </dev/null
+expect "a log of 16 MiB" 1 "vtools: large.log: bad log" "$text"
+truncate -s 16777217 large.log
+run varnishlog -g raw -r large.log >out 2>err </dev/null
+expect "a log over 16 MiB" 1 "vtools: large.log: bad log"
+run varnishlog -g raw -r /dev/zero >out 2>err </dev/null
+expect "a file without end" 1 "vtools: /dev/zero: bad log"
+
+# A transaction of 16 MB stays open: with an address space of 30 MB there is no memory for it.
+tail -c +9 "$long" >units
+for _ in {1..12}; do
+    cat units units >twice
+    mv twice units
+done
+cat header.log units >open.log
+(
+    ulimit -v 30000
+    run varnishlog -r open.log >out 2>err </dev/null
+)
+expect "no memory" 3 "vtools: out of memory"
+run varnishlog -r open.log >open 2>err </dev/null
+grep -c '^-   VCL_Log        a*$' open | grep -qx 4096 || fail "memory for 16 MB: the lines differ"
+expect "memory for 16 MB" 0 ""
+
+# The real log is cut in its last unit, which has one record, of no transaction.
+head -c -4 "$log" >real.log
+run varnishlog -g raw -r real.log >real 2>err </dev/null
+head -n -1 "$lines" | cmp -s - real || fail "real traffic, cut: the lines differ"
+expect "real traffic, cut" 1 "vtools: real.log: bad log"
+run varnishlog -r real.log >real 2>err </dev/null
+cmp -s "$transactions" real || fail "real traffic, cut: the transactions differ"
+expect "real traffic, cut, by transaction" 1 "vtools: real.log: bad log"
+
+echo "edges: ok, $count of them"
