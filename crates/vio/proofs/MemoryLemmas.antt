@@ -1,5 +1,5 @@
 -- What a world in memory tells after each change of its parts.
-use Rattle.std.proofs.Common.{◌≡◌, ◌≢◌, ◌<◌, ◌≤◌, ◌+◌, ◌-◌, ℕ, Bool, true, List, [], ◌∷◌, ◌++◌, length, take, drop, set, refl, sym, ◌∙◌, ap, arith, Option, Some, nat_lt, nat_eq, zero, suc, inl, inr, get_or, codes, Vec, Global, if◌then◌else◌}
+use Rattle.std.proofs.Common.{◌≡◌, ◌≢◌, ◌<◌, ◌≤◌, ◌+◌, ◌-◌, ℕ, Bool, true, false, is_some, List, [], ◌∷◌, ◌++◌, length, take, drop, set, refl, sym, ◌∙◌, ap, arith, Option, Some, None, nat_lt, nat_eq, zero, suc, inl, inr, get_or, codes, Vec, Global, if◌then◌else◌}
 use Rattle.std.proofs.lemmas.Bool.{ltb-true, cases_eq, eq-eqb, cond-false, le-ltb, lt-ltb, ne_eqb}
 use Rattle.std.proofs.lemmas.Bool.Decides.{nat_tests}
 use Rattle.std.proofs.lemmas.Option.{slice_get_read, same_Some}
@@ -7,15 +7,15 @@ use Rattle.std.proofs.lemmas.List.{take-append-drop, length_push, length-set}
 use Rattle.std.proofs.lemmas.Slice.Eq.{bytes_eq-Decides}
 use Rattle.std.specs.Option.{option_map}
 use Rattle.std.specs.Str.{bytes_eq}
-use Rattle.log_model.specs.Faults.{HasNewFault}
 use Rattle.std.specs.List.{slice_get}
 use Rattle.vio.specs.declared.file.MemFile.{MemFile}
 use Rattle.vio.specs.declared.file.OpenFile.{OpenFile}
 use Rattle.vio.specs.declared.file.Source.{Source}
 use Rattle.vio.specs.declared.memory.MemWorld.{MemWorld}
-use Rattle.vio.specs.Memory.{opened_at, left_at, has_name, names_at, tells, memory_seen, IsSame, TellsAll, CountsFault}
+use Rattle.vio.specs.Memory.{opened_at, left_at, has_name, names_at, tells, memory_seen, is_answered, TellsAll}
+use Rattle.vio.specs.Plan.{fails_next}
 use Rattle.vio.specs.Sources.{left_of, held_in}
-use Rattle.vio.specs.World.{Seen, CallKind, Opening, Reading, Writing, IsAtEnd, FaultsRose, Read, Wrote, Opened, OnlyCounts}
+use Rattle.vio.specs.World.{CallKind, Opening, Reading, Writing, Read, Opened}
 
 -- places of a list
 
@@ -53,6 +53,12 @@ slice_get-set_other (y ∷ xs) zero (suc j) x other = refl
 slice_get-set_other (y ∷ xs) (suc i) zero x other = refl
 slice_get-set_other (y ∷ xs) (suc i) (suc j) x other = slice_get-set_other xs i j x (λ e. other (omega (arith, e)))
 
+-- past the end of a list there is no element
+pub slice_get-past : (xs : List OpenFile) (i : ℕ) → length xs ≤ i → slice_get xs i ≡ None
+slice_get-past [] i past = refl
+slice_get-past (x ∷ xs) zero past = absurd (omega arith)
+slice_get-past (x ∷ xs) (suc i) past = slice_get-past xs i (omega arith)
+
 -- opened files by their handle
 
 -- the newest handle has the file that was opened
@@ -63,26 +69,19 @@ opened_at-push_same opened file h e = grind (arith, nat_tests, slice_get-push_sa
 pub opened_at-push_other : (opened : List OpenFile) (file : OpenFile) (i : ℕ) → i ≢ length opened + 3 → opened_at (opened ++ file ∷ []) i ≡ opened_at opened i
 opened_at-push_other opened file i other = grind (arith, nat_tests, slice_get-push_other)
 
--- a write to a place changes the file of its handle
-pub opened_at-set_same : (opened : List OpenFile) (place : ℕ) (file : OpenFile) → place < length opened → opened_at (set opened place file) (place + 3) ≡ Some file
-opened_at-set_same opened place file within = grind (arith, nat_tests, slice_get-set_same)
+-- a write to the place of a handle changes its file
+pub opened_at-set_same : (opened : List OpenFile) (h : ℕ) (file : OpenFile) → 3 ≤ h → h - 3 < length opened → opened_at (set opened (h - 3) file) h ≡ Some file
+opened_at-set_same opened h file from within = rw (le-ltb h 3 from) (slice_get-set_same opened (h - 3) file within)
 
--- a write to a place leaves every other handle
-pub opened_at-set_other : (opened : List OpenFile) (place i : ℕ) (file : OpenFile) → i ≢ place + 3 → opened_at (set opened place file) i ≡ opened_at opened i
-opened_at-set_other opened place i file other = grind (arith, nat_tests, slice_get-set_other)
+-- a write to the place of a handle leaves every other handle
+pub opened_at-set_other : (opened : List OpenFile) (h i : ℕ) (file : OpenFile) → 3 ≤ h → i ≢ h → opened_at (set opened (h - 3) file) i ≡ opened_at opened i
+opened_at-set_other opened h i file from other = grind (arith, nat_tests, slice_get-set_other)
 
 -- what a read of the list of opened files gives is the opened file of the handle
 pub opened_at-read : (opened : List OpenFile) (h : ℕ) (file : OpenFile) → 3 ≤ h → h - 3 < length opened
     → file ≡ get_or opened (h - 3) file → opened_at opened h ≡ Some file
 opened_at-read opened h file from within is_read =
     rw (le-ltb h 3 from) (slice_get_read opened (length opened) (h - 3) file refl within is_read)
-
--- the handle of a place has the file there
-pub opened_at-place : (opened : List OpenFile) (place : ℕ) (file : OpenFile) → place < length opened
-    → file ≡ get_or opened place file → opened_at opened (place + 3) ≡ Some file
-opened_at-place opened place file within is_read =
-    let back : place + 3 - 3 ≡ place = omega arith in
-    opened_at-read opened (place + 3) file (omega arith) (omega arith) (rw back is_read)
 
 -- one more opened file gives one more handle
 pub given-more : (n more i : ℕ) → more ≡ n + 1 → i ≢ n + 3 → nat_lt i (3 + more) ≡ nat_lt i (3 + n)
@@ -108,16 +107,17 @@ names_at-same opened now Opening h name same = refl
 names_at-same opened now Reading h name same = ap (λ (b : Bool). if nat_eq h 0 then bytes_eq (codes "-") name else b) same
 names_at-same opened now Writing h name same = refl
 
+-- a handle of no opened file has nothing to read
+pub left_at-none : (opened : List OpenFile) (input : Source) (h : ℕ) → 3 ≤ h → length opened ≤ h - 3 → left_at opened input h ≡ None
+left_at-none opened input h from past = rw (ne_eqb h 0 (omega arith), le-ltb h 3 from, slice_get-past opened (h - 3) past) refl
+
 -- a write that keeps the name of its file leaves the names of all handles
-pub has_name-set : (opened : List OpenFile) (place : ℕ) (file now : OpenFile) → place < length opened
-    → file ≡ get_or opened place file → now.name ≡ file.name → (i : ℕ) (name : List ℕ)
-    → has_name (opened_at (set opened place now) i) name ≡ has_name (opened_at opened i) name
-has_name-set opened place file now within is_file same_name i name = elim (cases_eq i (place + 3)) [
-  | inl e ↦
-      let before : opened_at opened (place + 3) ≡ Some file = opened_at-place opened place file within is_file in
-      let after : opened_at (set opened place now) (place + 3) ≡ Some now = opened_at-set_same opened place now within in
-      rw (e, before, after) (ap (λ (v : Vec ℕ Global). bytes_eq v.items name) same_name)
-  | inr other ↦ ap (λ (o : Option OpenFile). has_name o name) (opened_at-set_other opened place i now other)
+pub has_name-set : (opened : List OpenFile) (h : ℕ) (file now : OpenFile) → 3 ≤ h → opened_at opened h ≡ Some file
+    → opened_at (set opened (h - 3) now) h ≡ Some now → now.name ≡ file.name → (i : ℕ) (name : List ℕ)
+    → has_name (opened_at (set opened (h - 3) now) i) name ≡ has_name (opened_at opened i) name
+has_name-set opened h file now from before after same_name i name = elim (cases_eq i h) [
+  | inl e ↦ rw (e, before, after) (ap (λ (v : Vec ℕ Global). bytes_eq v.items name) same_name)
+  | inr other ↦ ap (λ (o : Option OpenFile). has_name o name) (opened_at-set_other opened h i now from other)
 ]
 
 -- every given handle but output and error tells what it has left
@@ -138,87 +138,6 @@ TellsAll-memory m = record {
   error = (m.errors.items, refl);
   input = (left_of m.input, refl);
   left = left_at-told m.opened.items m.input;
-}
-
--- calls after a change that isn't told
-
--- a change that is not told is one of counts alone
-pub IsSame-counts : {s t : Seen} → IsSame s t → OnlyCounts s t
-IsSame-counts {s = s} {t = t} p = record {
-  counts = record { each = λ k name. omega (arith, p.faults k name) };
-  held = p.held;
-  left = p.left;
-  written = p.written;
-  names = p.names;
-  given = p.given;
-}
-
--- two changes that are not told
-pub IsSame-then : {s t u : Seen} → IsSame s t → IsSame t u → IsSame s u
-IsSame-then p q = record {
-  held = λ n. q.held n ∙ p.held n;
-  left = λ i. q.left i ∙ p.left i;
-  written = λ i. q.written i ∙ p.written i;
-  faults = λ k n. q.faults k n ∙ p.faults k n;
-  names = λ k i n. q.names k i n ∙ p.names k i n;
-  given = λ i. q.given i ∙ p.given i;
-}
-
--- a refused call after a change that is not told
-pub OnlyCounts-after : {s t u : Seen} → IsSame s t → OnlyCounts t u → OnlyCounts s u
-OnlyCounts-after p q = record {
-  counts = record { each = λ k name. omega (arith, p.faults k name, q.counts.each k name) };
-  held = λ n. q.held n ∙ p.held n;
-  left = λ i. q.left i ∙ p.left i;
-  written = λ i. q.written i ∙ p.written i;
-  names = λ k i n. q.names k i n ∙ p.names k i n;
-  given = λ i. q.given i ∙ p.given i;
-}
-
--- a fault that counts for every name counts for those of a handle
-pub FaultsRose-after : (k : CallKind) (h : ℕ) {s t u : Seen} → IsSame s t → CountsFault t u → FaultsRose k h s u
-FaultsRose-after k h p q = record { each = λ name is_named. omega (arith, p.faults k name, q.each k name) }
-
--- a fault after a change that is not told
-pub HasNewFault-after : (k : CallKind) (name : List ℕ) {s t u : Seen} → IsSame s t → CountsFault t u → HasNewFault (s.faults k name) (u.faults k name)
-HasNewFault-after k name p q = omega (arith, p.faults k name, q.each k name)
-
--- an opening after a change that is not told
-pub Opened-after : {name : List ℕ} {h : ℕ} {s t u : Seen} → IsSame s t → Opened name h t u → Opened name h s u
-Opened-after {name = name} {h = h} p q = record {
-  counts = record { each = λ k n. omega (arith, p.faults k n, q.counts.each k n) };
-  fresh = sym (p.given h) ∙ q.fresh;
-  given = q.given;
-  is_named = q.is_named;
-  left = q.left ∙ p.held name;
-  held = λ n. q.held n ∙ p.held n;
-  written = λ i. q.written i ∙ p.written i;
-  other_left = λ i other. q.other_left i other ∙ p.left i;
-  other_names = λ k i n other. q.other_names k i n other ∙ p.names k i n;
-  other_given = λ i other. q.other_given i other ∙ p.given i;
-}
-
--- a read after a change that is not told
-pub Read-after : {h : ℕ} {bytes : List ℕ} {s t u : Seen} → IsSame s t → Read h bytes t u → Read h bytes s u
-Read-after {h = h} p q = record {
-  counts = record { each = λ k name. omega (arith, p.faults k name, q.counts.each k name) };
-  loses = λ a told. q.loses a (p.left h ∙ told);
-  held = λ n. q.held n ∙ p.held n;
-  written = λ i. q.written i ∙ p.written i;
-  other_left = λ i other. q.other_left i other ∙ p.left i;
-  names = λ k i n. q.names k i n ∙ p.names k i n;
-  given = λ i. q.given i ∙ p.given i;
-}
-
--- a write after a change that is not told
-pub Wrote-after : {h : ℕ} {bytes : List ℕ} {s t u : Seen} → IsSame s t → Wrote h bytes t u → Wrote h bytes s u
-Wrote-after {h = h} p q = record {
-  counts = record { each = λ k name. omega (arith, p.faults k name, q.counts.each k name) };
-  gains = λ a told. q.gains a (p.written h ∙ told);
-  left = λ i. q.left i ∙ p.left i;
-  other_written = λ i other. q.other_written i other ∙ p.written i;
-  names = λ k i n. q.names k i n ∙ p.names k i n;
-  given = λ i. q.given i ∙ p.given i;
 }
 
 -- the changes of a world in memory
@@ -244,28 +163,46 @@ Opened-push files opened input output errors faults file h is_next held =
       other_given = λ i other. given-more (length opened) (length (opened ++ file ∷ [])) i (length_push opened file) (λ e. other (e ∙ sym is_next));
     }
 
+-- a piece of standard input was read
+pub Read-input : (files : List MemFile) (opened : List OpenFile) (input : Source) (output errors : List ℕ) (faults n : ℕ) (now : Source)
+    → left_of now ≡ drop n (left_of input)
+    → Read 0 (take n (left_of input)) (tells files opened input output errors faults) (tells files opened now output errors faults)
+Read-input files opened input output errors faults n now left = record {
+  counts = record { each = λ k name. omega arith };
+  loses = λ a told. (drop n (left_of input), same_Some _ _ (sym told) ∙ sym (take-append-drop n (left_of input)), ap Some left);
+  held = λ m. refl;
+  written = λ i. refl;
+  other_left = λ i other. rw (ne_eqb i 0 other) refl;
+  names = λ k i name. refl;
+  given = λ i. refl;
+}
+
 -- a piece of an opened file was read
 pub Read-file : (files : List MemFile) (opened : List OpenFile) (input : Source) (output errors : List ℕ) (faults : ℕ)
-    (place n : ℕ) (file now : OpenFile) → place < length opened → file ≡ get_or opened place file → now.name ≡ file.name
+    (h n : ℕ) (file now : OpenFile) → 3 ≤ h → h - 3 < length opened → opened_at opened h ≡ Some file → now.name ≡ file.name
     → left_of now.source ≡ drop n (left_of file.source)
-    → Read (place + 3) (take n (left_of file.source)) (tells files opened input output errors faults) (tells files (set opened place now) input output errors faults)
-Read-file files opened input output errors faults place n file now within is_file same_name left =
-    let not_input : place + 3 ≢ 0 = omega arith in
-    let before = left_at-opened opened input (place + 3) file not_input (opened_at-place opened place file within is_file) in
-    let after = left_at-opened (set opened place now) input (place + 3) now not_input (opened_at-set_same opened place now within) in
+    → Read h (take n (left_of file.source)) (tells files opened input output errors faults) (tells files (set opened (h - 3) now) input output errors faults)
+Read-file files opened input output errors faults h n file now from within is_file same_name left =
+    let not_input : h ≢ 0 = omega arith in
+    let is_now = opened_at-set_same opened h now from within in
+    let before = left_at-opened opened input h file not_input is_file in
+    let after = left_at-opened (set opened (h - 3) now) input h now not_input is_now in
     record {
       counts = record { each = λ k name. omega arith };
       loses = λ a told. (drop n (left_of file.source), same_Some _ _ (sym told ∙ before) ∙ sym (take-append-drop n (left_of file.source)), after ∙ ap Some left);
       held = λ m. refl;
       written = λ i. refl;
-      other_left = λ i other. left_at-same opened (set opened place now) input i (opened_at-set_other opened place i now other);
-      names = λ k i name. names_at-same opened (set opened place now) k i name (has_name-set opened place file now within is_file same_name i name);
-      given = λ i. ap (λ (m : ℕ). nat_lt i (3 + m)) (length-set opened place now);
+      other_left = λ i other. left_at-same opened (set opened (h - 3) now) input i (opened_at-set_other opened h i now from other);
+      names = λ k i name. names_at-same opened (set opened (h - 3) now) k i name (has_name-set opened h file now from is_file is_now same_name i name);
+      given = λ i. ap (λ (m : ℕ). nat_lt i (3 + m)) (length-set opened (h - 3) now);
     }
 
--- nothing is left of an opened file
-pub IsAtEnd-file : (files : List MemFile) (opened : List OpenFile) (input : Source) (output errors : List ℕ) (faults : ℕ)
-    (h : ℕ) (file : OpenFile) → h ≢ 0 → opened_at opened h ≡ Some file → left_of file.source ≡ []
-    → IsAtEnd h (tells files opened input output errors faults)
-IsAtEnd-file files opened input output errors faults h file other is_file empty a told =
-    same_Some _ _ (sym told ∙ left_at-opened opened input h file other is_file) ∙ empty
+-- what a handle tells that it has left is what its file has left
+pub left_at-is : (opened : List OpenFile) (input : Source) (h : ℕ) (file : OpenFile) → 3 ≤ h → opened_at opened h ≡ Some file
+    → (a : List ℕ) → left_at opened input h ≡ Some a → a ≡ left_of file.source
+left_at-is opened input h file from is_file a told = same_Some _ _ (sym told ∙ left_at-opened opened input h file (omega arith) is_file)
+
+-- the next call is answered where it has something to read, and isn't one that fails
+pub is_answered-left : (m : MemWorld) (h : ℕ) (file : OpenFile) → 3 ≤ h → opened_at m.opened.items h ≡ Some file → fails_next m.plan ≡ false
+    → is_answered (is_some (left_at m.opened.items m.input h)) m ≡ true
+is_answered-left m h file from is_file goes_on = rw (left_at-opened m.opened.items m.input h file (omega arith) is_file, goes_on) refl

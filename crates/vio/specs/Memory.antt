@@ -1,13 +1,16 @@
--- What a world in memory tells (this project's choice).
-use Rattle.std.specs.Prelude.{◌≡◌, ◌≢◌, ℕ, ◌+◌, ◌-◌, Bool, true, false, List, [], length, codes, Option, Some, None, nat_lt, nat_eq, min, ◌^◌, ◌∷◌, ◌++◌, if◌then◌else◌}
+-- What a world in memory tells, and how its calls go (this project's choice).
+use Rattle.std.specs.Prelude.{◌≡◌, ◌≢◌, ℕ, ◌+◌, ◌-◌, Bool, true, false, not, ◌&&◌, List, [], length, codes, Option, Some, None, is_some, Result, Ok, Err, nat_lt, nat_eq, min, ◌^◌, if◌then◌else◌}
 use Rattle.std.specs.List.{slice_get}
-use Rattle.std.specs.Option.{option_map}
+use Rattle.std.specs.Option.{option_map, unwrap_or}
 use Rattle.std.specs.Str.{bytes_eq}
-use Rattle.log_model.specs.Faults.{HasNewFault}
+use Rattle.vio.specs.declared.fault.Failed.{Failed as ReadFailed}
+use Rattle.vio.specs.declared.fault.WorldFault.{WorldFault}
+use Rattle.vio.specs.declared.fault.WorldFault.TheVariants.{Failed, NoMemory}
 use Rattle.vio.specs.declared.file.Source.{Source}
 use Rattle.vio.specs.declared.file.MemFile.{MemFile}
 use Rattle.vio.specs.declared.file.OpenFile.{OpenFile}
 use Rattle.vio.specs.declared.memory.MemWorld.{MemWorld}
+use Rattle.vio.specs.Plan.{CountsCall, fails_next, moved}
 use Rattle.vio.specs.Sources.{left_of, held_in}
 use Rattle.vio.specs.World.{Seen, CallKind, Opening, Reading, Writing}
 
@@ -55,16 +58,16 @@ tells files opened input output errors faults = record {
 abbrev pub memory_seen : MemWorld → Seen
 memory_seen m = tells m.files.items m.opened.items m.input m.output.items m.errors.items m.faults
 
--- all bytes of an opened file
-abbrev pub file_bytes : Option OpenFile → List ℕ
-file_bytes None = []
-file_bytes (Some file) = file.source.bytes.items
+-- what the name of an opened file holds
+abbrev pub held_now : List MemFile → Option OpenFile → List ℕ
+held_now files None = []
+held_now files (Some file) = unwrap_or (held_in files file.name.items) []
 
 -- the whole content behind a handle; of a handle never given nothing
 abbrev pub content_of : MemWorld → ℕ → List ℕ
 content_of m h =
     if nat_eq h 0 then m.input.bytes.items else (if nat_eq h 1 then m.output.items else
-    (if nat_eq h 2 then m.errors.items else file_bytes (opened_at m.opened.items h)))
+    (if nat_eq h 2 then m.errors.items else held_now m.files.items (opened_at m.opened.items h)))
 
 -- no file is held, standard input is empty, nothing was written, no fault was counted, and only the
 -- standard streams are given
@@ -112,36 +115,36 @@ pub record TellsAll (now : Seen) : Type 0 where
   pub input : (a : List ℕ) × (now.left 0 ≡ Some a)
   pub left : (h : ℕ) → now.given h ≡ true → h ≢ 1 → h ≢ 2 → (a : List ℕ) × (now.left h ≡ Some a)
 
--- the count of faults rose, for every kind of call and every name
-pub record CountsFault (before now : Seen) : Type 0 where
-  pub each : (k : CallKind) (name : List ℕ) → HasNewFault (before.faults k name) (now.faults k name)
+-- a call failed: it was counted, and so was a fault; at 2^64 - 1 a count stands still
+pub record MemFails (before now : MemWorld) : Type 0 where
+  pub call : CountsCall before.plan now.plan
+  pub fault : now.faults ≡ min (before.faults + 1) (2 ^ 64 - 1)
 
--- no call was made, none is to fail, and a call moves all that it can
-pub record HasNoPlan (now : MemWorld) : Type 0 where
-  pub calls : now.calls ≡ 0
-  pub failing : now.failing.items ≡ []
-  pub most : now.most ≡ 2 ^ 64 - 1
+-- a call didn't fail: it was counted, and no fault was
+pub record MemAnswers (before now : MemWorld) : Type 0 where
+  pub call : CountsCall before.plan now.plan
+  pub fault : now.faults ≡ before.faults
 
--- the calls that were made, those that are to fail, and the size of a piece are as before
-pub record KeepsPlan (before now : MemWorld) : Type 0 where
-  pub calls : now.calls ≡ before.calls
-  pub failing : now.failing.items ≡ before.failing.items
-  pub most : now.most ≡ before.most
+-- whether the next call is answered: it has its object, and isn't one that fails
+abbrev pub is_answered : Bool → MemWorld → Bool
+is_answered has_object m = has_object && not (fails_next m.plan)
 
--- the call of one more number is to fail
-pub record FailsToo (call : ℕ) (before now : MemWorld) : Type 0 where
-  pub failing : now.failing.items ≡ before.failing.items ++ call ∷ []
-  pub calls : now.calls ≡ before.calls
-  pub most : now.most ≡ before.most
+-- an opening: it fails where its call is to fail or the name isn't there, and nowhere else
+abbrev pub MemOpens : List ℕ → MemWorld → MemWorld → Result ℕ WorldFault → Type 0
+MemOpens name old new (Ok h) = (is_answered (is_some (held_in old.files.items name)) old ≡ true) × MemAnswers old new
+MemOpens name old new (Err NoMemory) = (is_answered (is_some (held_in old.files.items name)) old ≡ true) × MemAnswers old new
+MemOpens name old new (Err Failed) = (is_answered (is_some (held_in old.files.items name)) old ≡ false) × MemFails old new
 
--- a call moves at most so many bytes
-pub record MovesAtMost (most : ℕ) (before now : MemWorld) : Type 0 where
-  pub piece : now.most ≡ most
-  pub calls : now.calls ≡ before.calls
-  pub failing : now.failing.items ≡ before.failing.items
+-- a read into so much room: it fails where its call is to fail or the handle isn't one that is read, and nowhere else; it moves all that
+-- is left and has room, but at most a piece
+abbrev pub MemReads : ℕ → ℕ → MemWorld → MemWorld → Result ℕ ReadFailed → Type 0
+MemReads h room old new (Ok n) = (is_answered (is_some ((memory_seen old).left h)) old ≡ true) × MemAnswers old new
+    × ((a : List ℕ) → (memory_seen old).left h ≡ Some a → n ≡ moved old.plan (min (length a) room))
+MemReads h room old new (Err e) = (is_answered (is_some ((memory_seen old).left h)) old ≡ false) × MemFails old new
 
--- a call was counted; at 2^64 - 1, its last value, the count of calls stands still
-pub record CountsCall (before now : MemWorld) : Type 0 where
-  pub calls : now.calls ≡ min (before.calls + 1) (2 ^ 64 - 1)
-  pub failing : now.failing.items ≡ before.failing.items
-  pub most : now.most ≡ before.most
+-- a write of so many bytes: it fails where its call is to fail or the handle isn't one that is written, and nowhere else; it moves all,
+-- but at most a piece
+abbrev pub MemWrites : ℕ → ℕ → MemWorld → MemWorld → Result ℕ WorldFault → Type 0
+MemWrites h size old new (Ok n) = (is_answered (is_some ((memory_seen old).written h)) old ≡ true) × MemAnswers old new × (n ≡ moved old.plan size)
+MemWrites h size old new (Err NoMemory) = (is_answered (is_some ((memory_seen old).written h)) old ≡ true) × MemAnswers old new
+MemWrites h size old new (Err Failed) = (is_answered (is_some ((memory_seen old).written h)) old ≡ false) × MemFails old new

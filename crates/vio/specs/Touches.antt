@@ -7,7 +7,7 @@ abbrev pub IsOneOf : {A : Type 0} → A → List A → Type 0
 IsOneOf x [] = ⊥
 IsOneOf x (y ∷ ys) = (x ≡ y) ⊎ IsOneOf x ys
 
--- only these handles were read, only these were written, and only files of these names were opened; no count fell
+-- of the handles that were given before, only the first lost bytes; only the second gained any; a new one has one of the names; no count fell
 pub record Touches (sources sinks : List ℕ) (files : List (List ℕ)) (before now : Seen) : Type 0 where
   pub counts : NoCountFalls before now
   pub written : (h : ℕ) → ¬ (IsOneOf h sinks) → now.written h ≡ before.written h

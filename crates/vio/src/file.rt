@@ -1,7 +1,9 @@
 //! The parts of a world in memory.
 
-ghost use Rattle.std.specs.Prelude.{◌≡◌, ℕ, ◌<◌, ◌≤◌, min, max, [], take, drop, length, MatchOption, Some, None};
-ghost use Rattle.std.specs.Str.{bytes_eq};
+ghost use Rattle.std.specs.Prelude.{◌≡◌, ℕ, ◌<◌, ◌≤◌, min, max, [], take, drop, length, MatchOption, Some, None, IfOk};
+
+use log_model::NoMemory;
+use std::alloc::Global;
 
 /// A file: its name and its bytes.
 #[derive(Drop)]
@@ -30,6 +32,30 @@ pub struct OpenFile {
     pub source: Source,
 }
 
+/// Which calls fail, and how many bytes a call moves.
+#[derive(Drop)]
+pub struct Plan {
+    /// How many calls of `open`, `read` and `write` were made; at 2^64 - 1 it stands still.
+    pub calls: u64,
+    /// The numbers of the calls that fail.
+    pub failing: Vec<u64>,
+    /// At most so many bytes are moved by a call; 0 counts as 1.
+    pub most: usize,
+}
+
+impl Plan {
+    ghost use Rattle.vio.specs.Plan.{CountsCall, fails_next};
+
+    /// Counts a call, and says whether it is one that fails.
+    pub fn is_failing_call(&mut self) -> bool
+        ensures counted { CountsCall self.old self.new }
+        ensures fails { result ≡ fails_next self.old }
+    {
+        self.calls = self.calls.saturating_add(1);
+        self.failing.contains(&self.calls)
+    }
+}
+
 impl Source {
     ghost use Rattle.vio.specs.Sources.{left_of};
 
@@ -52,7 +78,18 @@ impl Source {
     }
 }
 
-ghost use Rattle.vio.specs.Sources.{held_in};
+ghost use Rattle.vio.specs.Sources.{held_in, left_of};
+
+/// A file of this name and these bytes, of which none was read.
+pub fn open_file(alloc: Global, name: &[u8], bytes: &[u8]) -> Result<OpenFile, NoMemory>
+    ensures name { IfOk result (λ file. file.name.items ≡ name.now) }
+    ensures left { IfOk result (λ file. left_of file.source ≡ bytes.now) }
+{
+    let name = Vec::from_slice(alloc, name)?;
+    let bytes = Vec::from_slice(alloc, bytes)?;
+    let source = Source { bytes, place: 0 };
+    Ok(OpenFile { name, source })
+}
 
 /// The bytes under a name.
 pub fn find_bytes<'a>(files: &'a [MemFile], name: &[u8]) -> Option<&'a [u8]>

@@ -1,10 +1,10 @@
 //! A world in memory, for tests: it tells every byte.
 
-ghost use Rattle.std.specs.Prelude.{◌≡◌, ◌≢◌, ◌<◌, ◌≤◌, ◌+◌, ◌==◌, ℕ, List, length, take, codes, Some, IfOk, OnOk, OnErr};
+ghost use Rattle.std.specs.Prelude.{◌≡◌, ◌≢◌, ◌<◌, ◌≤◌, ℕ, List, length, take, codes, Some, IfOk, OnOk, OnErr};
 
 use crate::fault::{Failed, WorldFault};
-use crate::file::{MemFile, OpenFile, Source, find_bytes};
-use crate::world::World;
+use crate::file::{MemFile, OpenFile, Plan, Source, find_bytes, open_file};
+use crate::world::{ERRORS, INPUT, OUTPUT, World};
 use log_model::NoMemory;
 use std::alloc::Global;
 
@@ -31,24 +31,18 @@ pub struct MemWorld {
     errors: Vec<u8>,
     /// How many calls failed; at 2^64 - 1 it stands still.
     faults: u64,
-    /// How many calls of `open`, `read` and `write` were made.
-    calls: u64,
-    /// The numbers of the calls that fail.
-    failing: Vec<u64>,
-    /// At most so many bytes are moved by a call; 0 counts as 1.
-    most: usize,
+    /// Which calls fail, and how many bytes they move.
+    plan: Plan,
 }
 
 impl MemWorld {
-    ghost use Rattle.std.specs.List.{list_any};
-    ghost use Rattle.vio.specs.Memory.{memory_seen, content_of, IsNew, Holds, HasInput, IsSame, TellsAll, CountsFault, HasNoPlan, KeepsPlan, FailsToo, MovesAtMost, CountsCall};
-    ghost use Rattle.vio.specs.Sources.{held_in};
-    ghost use Rattle.vio.specs.World.{OnlyCounts, Opened, Read, Wrote, IsAtEnd};
+    ghost use Rattle.vio.specs.Memory.{memory_seen, opened_at, content_of, held_now, IsNew, Holds, HasInput, IsSame, TellsAll};
+    ghost use Rattle.vio.specs.Plan.{HasNoPlan, KeepsPlan, FailsToo, MovesAtMost};
 
     /// A world with no file, an empty standard input, and nothing written. Calls move all they can.
     pub fn new(alloc: Global) -> Result<MemWorld, NoMemory>
         ensures new { IfOk result (λ m. IsNew (memory_seen m)) }
-        ensures plan { IfOk result HasNoPlan }
+        ensures plan { IfOk result (λ m. HasNoPlan m.plan) }
     {
         let output = Vec::with_capacity(alloc, FIRST_ROOM)?;
         Ok(MemWorld {
@@ -62,9 +56,11 @@ impl MemWorld {
             output,
             errors: Vec::new(alloc),
             faults: 0,
-            calls: 0,
-            failing: Vec::new(alloc),
-            most: usize::MAX,
+            plan: Plan {
+                calls: 0,
+                failing: Vec::new(alloc),
+                most: usize::MAX,
+            },
         })
     }
 
@@ -74,7 +70,7 @@ impl MemWorld {
         ensures file { OnOk result (name.now ≢ codes "-" → Holds name.now bytes.now (memory_seen self.old) (memory_seen self.new)) }
         ensures input { OnOk result (name.now ≡ codes "-" → HasInput bytes.now (memory_seen self.old) (memory_seen self.new)) }
         ensures err { OnErr result (IsSame (memory_seen self.old) (memory_seen self.new)) }
-        ensures plan { KeepsPlan self.old self.new }
+        ensures plan { KeepsPlan self.old.plan self.new.plan }
     {
         let bytes = Vec::from_slice(self.alloc, bytes)?;
         if name == "-" {
@@ -90,178 +86,143 @@ impl MemWorld {
     /// Lets the call of this number fail, counted from 1 over `open`, `read` and `write`.
     pub fn fail(&mut self, call: u64) -> Result<(), NoMemory>
         ensures same { IsSame (memory_seen self.old) (memory_seen self.new) }
-        ensures ok { OnOk result (FailsToo call self.old self.new) }
-        ensures err { OnErr result (KeepsPlan self.old self.new) }
+        ensures ok { OnOk result (FailsToo call self.old.plan self.new.plan) }
+        ensures err { OnErr result (KeepsPlan self.old.plan self.new.plan) }
     {
-        self.failing.push(call)?;
+        self.plan.failing.push(call)?;
         Ok(())
     }
 
     /// Lets each read and each write move at most so many bytes; 0 counts as 1.
     pub fn piece(&mut self, most: usize)
         ensures same { IsSame (memory_seen self.old) (memory_seen self.new) }
-        ensures piece { MovesAtMost most self.old self.new }
+        ensures piece { MovesAtMost most self.old.plan self.new.plan }
     {
-        self.most = most;
+        self.plan.most = most;
     }
 
-    /// The content behind a handle: of an opened handle the whole file as it was when it was opened,
-    /// of 0 all of standard input, of 1 and 2 what was written, of a handle never given nothing.
+    /// The content behind a handle: of an opened handle what its name holds now, of 0 all of standard
+    /// input, of 1 and 2 what was written, of a handle never given nothing.
     pub fn content(&self, h: u32) -> &[u8]
         ensures value { result.now ≡ content_of self.now h }
         ensures written { (a : List ℕ) → (memory_seen self.now).written h ≡ Some a → result.now ≡ a }
         ensures tells { TellsAll (⟦<MemWorld as World>⟧.seen self.now) }
     {
-        if h == 0 {
-            return self.input.bytes.as_slice();
+        match h {
+            INPUT => self.input.bytes.as_slice(),
+            OUTPUT => self.output.as_slice(),
+            ERRORS => self.errors.as_slice(),
+            _ => self.named_content(h),
         }
-        if h == 1 {
-            return self.output.as_slice();
-        }
-        if h == 2 {
-            return self.errors.as_slice();
-        }
-        let place = (h - FIRST_HANDLE) as usize;
-        if place < self.opened.len() {
-            return self.opened[place].source.bytes.as_slice();
-        }
-        &[]
     }
 
-    /// Counts a call, and says whether it is one that fails.
-    fn is_failing_call(&mut self) -> bool
-        ensures same { IsSame (memory_seen self.old) (memory_seen self.new) }
-        ensures counted { CountsCall self.old self.new }
-        ensures fails { result ≡ list_any (λ call. call == self.new.calls) self.old.failing.items }
+    /// What the name of an opened handle holds now.
+    fn named_content(&self, h: u32) -> &[u8]
+        ensures { result.now ≡ held_now self.now.files.items (opened_at self.now.opened.items h) }
     {
-        self.calls = self.calls.saturating_add(1);
-        self.failing.contains(&self.calls)
-    }
-
-    /// Counts a fault.
-    fn count_fault(&mut self)
-        ensures counts { OnlyCounts (memory_seen self.old) (memory_seen self.new) }
-        ensures rose { CountsFault (memory_seen self.old) (memory_seen self.new) }
-    {
-        self.faults = self.faults.saturating_add(1);
-    }
-
-    /// Gives a handle to a file of this name and these bytes.
-    fn give_handle(&mut self, name: Vec<u8>, bytes: Vec<u8>) -> Result<u32, NoMemory>
-        requires { held_in self.old.files.items name.items ≡ Some bytes.items }
-        ensures ok { IfOk result (λ h. Opened name.items h (memory_seen self.old) (memory_seen self.new)) }
-        ensures err { OnErr result (IsSame (memory_seen self.old) (memory_seen self.new)) }
-    {
-        let Ok(handle) = u32::try_from(self.opened.len() + FIRST_HANDLE as usize) else {
-            return Err(NoMemory);
+        if h < FIRST_HANDLE {
+            return &[];
+        }
+        let Some(file) = self.opened.get((h - FIRST_HANDLE) as usize) else {
+            return &[];
         };
-        let file = OpenFile {
-            name,
-            source: Source { bytes, place: 0 },
+        let Some(bytes) = find_bytes(&self.files, &file.name) else {
+            return &[];
         };
-        self.opened.push(file)?;
-        Ok(handle)
-    }
-
-    /// Reads a piece of standard input.
-    fn read_input(&mut self, buf: &mut [u8]) -> usize
-        ensures fits { result ≤ length buf.old }
-        ensures ok { Read 0 (take result buf.new) (memory_seen self.old) (memory_seen self.new) }
-        ensures some { result ≡ 0 → 0 < length buf.old → IsAtEnd 0 (memory_seen self.old) }
-        ensures end { result ≡ 0 → 0 < length buf.old → IsAtEnd 0 (memory_seen self.new) }
-    {
-        self.input.take_piece(buf, self.most)
-    }
-
-    /// Reads a piece of an opened file.
-    fn read_file(&mut self, place: usize, buf: &mut [u8]) -> usize
-        requires { place < length self.old.opened.items }
-        ensures fits { result ≤ length buf.old }
-        ensures ok { Read (place + FIRST_HANDLE) (take result buf.new) (memory_seen self.old) (memory_seen self.new) }
-        ensures some { result ≡ 0 → 0 < length buf.old → IsAtEnd (place + FIRST_HANDLE) (memory_seen self.old) }
-        ensures end { result ≡ 0 → 0 < length buf.old → IsAtEnd (place + FIRST_HANDLE) (memory_seen self.new) }
-    {
-        self.opened[place].source.take_piece(buf, self.most)
-    }
-
-    /// Writes to standard output.
-    fn write_output(&mut self, bytes: &[u8]) -> Result<(), NoMemory>
-        ensures ok { OnOk result (Wrote 1 bytes.now (memory_seen self.old) (memory_seen self.new)) }
-        ensures err { OnErr result (IsSame (memory_seen self.old) (memory_seen self.new)) }
-    {
-        self.output.extend_from_slice(bytes)?;
-        Ok(())
-    }
-
-    /// Writes to standard error.
-    fn write_errors(&mut self, bytes: &[u8]) -> Result<(), NoMemory>
-        ensures ok { OnOk result (Wrote 2 bytes.now (memory_seen self.old) (memory_seen self.new)) }
-        ensures err { OnErr result (IsSame (memory_seen self.old) (memory_seen self.new)) }
-    {
-        self.errors.extend_from_slice(bytes)?;
-        Ok(())
+        bytes
     }
 }
 
 impl World for MemWorld {
-    ghost use Rattle.vio.specs.Memory.{memory_seen};
+    ghost use Rattle.std.specs.Result.{IsErrOf};
+    ghost use Rattle.log_model.specs.Faults.{HasNewFault};
+    ghost use Rattle.vio.specs.Memory.{memory_seen, MemOpens, MemReads, MemWrites};
+    ghost use Rattle.vio.specs.World.{Opening, Reading, Writing, Opened, Read, Wrote, OnlyCounts, FaultsRose, NoNewFaults, IsAtEnd};
     ghost use Rattle.vio.specs.Streams.{HasStreams-memory};
 
     ghost seen = { memory_seen };
 
     ghost streams = { HasStreams-memory };
 
-    fn open(&mut self, name: &str) -> Result<u32, WorldFault> {
-        if self.is_failing_call() {
-            self.count_fault();
+    fn open(&mut self, name: &str) -> Result<u32, WorldFault>
+        ensures ok { IfOk result (λ h. Opened name.now h (memory_seen self.old) (memory_seen self.new)) }
+
+        ensures err { OnErr result (OnlyCounts (memory_seen self.old) (memory_seen self.new)) }
+        ensures failed { IsErrOf result WorldFault.Failed →
+            HasNewFault ((memory_seen self.old).faults Opening name.now) ((memory_seen self.new).faults Opening name.now) }
+        ensures memory { IsErrOf result WorldFault.NoMemory → NoNewFaults (memory_seen self.old) (memory_seen self.new) }
+        ensures exact { MemOpens name.now self.old self.new result }
+    {
+        if self.plan.is_failing_call() {
+            self.faults = self.faults.saturating_add(1);
             return Err(WorldFault::Failed);
         }
-        let Some(found) = find_bytes(&self.files, name.as_bytes()) else {
-            self.count_fault();
+        let Some(bytes) = find_bytes(&self.files, name.as_bytes()) else {
+            self.faults = self.faults.saturating_add(1);
             return Err(WorldFault::Failed);
         };
-        let bytes = Vec::from_slice(self.alloc, found)?;
-        let name = Vec::from_slice(self.alloc, name.as_bytes())?;
-        let handle = self.give_handle(name, bytes)?;
+        let file = open_file(self.alloc, name.as_bytes(), bytes)?;
+        let Ok(handle) = u32::try_from(self.opened.len() + FIRST_HANDLE as usize) else {
+            return Err(WorldFault::NoMemory);
+        };
+        self.opened.push(file)?;
         Ok(handle)
     }
 
-    fn read(&mut self, h: u32, buf: &mut [u8]) -> Result<usize, Failed> {
-        if self.is_failing_call() {
-            self.count_fault();
+    fn read(&mut self, h: u32, buf: &mut [u8]) -> Result<usize, Failed>
+        ensures fits { IfOk result (λ n. n ≤ length buf.old) }
+        ensures ok { IfOk result (λ n. Read h (take n buf.new) (memory_seen self.old) (memory_seen self.new)) }
+        ensures some { IfOk result (λ n. n ≡ 0 → 0 < length buf.old → IsAtEnd h (memory_seen self.old)) }
+        ensures end { IfOk result (λ n. n ≡ 0 → 0 < length buf.old → IsAtEnd h (memory_seen self.new)) }
+
+        ensures err { OnErr result (OnlyCounts (memory_seen self.old) (memory_seen self.new)) }
+        ensures failed { OnErr result (FaultsRose Reading h (memory_seen self.old) (memory_seen self.new)) }
+        ensures exact { MemReads h (length buf.old) self.old self.new result }
+    {
+        if self.plan.is_failing_call() {
+            self.faults = self.faults.saturating_add(1);
             return Err(Failed);
         }
-        if h == 0 {
-            return Ok(self.read_input(buf));
+        if h == INPUT {
+            return Ok(self.input.take_piece(buf, self.plan.most));
         }
         if h < FIRST_HANDLE {
-            self.count_fault();
+            self.faults = self.faults.saturating_add(1);
             return Err(Failed);
         }
         let place = (h - FIRST_HANDLE) as usize;
         if place >= self.opened.len() {
-            self.count_fault();
+            self.faults = self.faults.saturating_add(1);
             return Err(Failed);
         }
-        Ok(self.read_file(place, buf))
+        Ok(self.opened[place].source.take_piece(buf, self.plan.most))
     }
 
-    fn write(&mut self, h: u32, piece: &[u8]) -> Result<usize, WorldFault> {
-        if self.is_failing_call() {
-            self.count_fault();
+    fn write(&mut self, h: u32, piece: &[u8]) -> Result<usize, WorldFault>
+        ensures fits { IfOk result (λ n. n ≤ length piece.now) }
+        ensures ok { IfOk result (λ n. Wrote h (take n piece.now) (memory_seen self.old) (memory_seen self.new)) }
+        ensures some { IfOk result (λ n. 0 < length piece.now → 0 < n) }
+
+        ensures err { OnErr result (OnlyCounts (memory_seen self.old) (memory_seen self.new)) }
+        ensures failed { IsErrOf result WorldFault.Failed → FaultsRose Writing h (memory_seen self.old) (memory_seen self.new) }
+        ensures memory { IsErrOf result WorldFault.NoMemory → NoNewFaults (memory_seen self.old) (memory_seen self.new) }
+        ensures exact { MemWrites h (length piece.now) self.old self.new result }
+    {
+        if self.plan.is_failing_call() {
+            self.faults = self.faults.saturating_add(1);
             return Err(WorldFault::Failed);
         }
-        let n = piece.len().min(self.most.max(1));
+        let n = piece.len().min(self.plan.most.max(1));
         let (prefix, _) = piece.split_at(n);
-        if h == 1 {
-            self.write_output(prefix)?;
+        if h == OUTPUT {
+            self.output.extend_from_slice(prefix)?;
             return Ok(n);
         }
-        if h == 2 {
-            self.write_errors(prefix)?;
+        if h == ERRORS {
+            self.errors.extend_from_slice(prefix)?;
             return Ok(n);
         }
-        self.count_fault();
+        self.faults = self.faults.saturating_add(1);
         Err(WorldFault::Failed)
     }
 }

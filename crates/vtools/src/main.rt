@@ -7,6 +7,7 @@
 #![tactic(auto)]
 
 mod answers;
+mod edge;
 mod real_world;
 mod words;
 

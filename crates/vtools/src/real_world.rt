@@ -1,25 +1,19 @@
 //! The files and streams of the system, as a world. It tells no bytes, and has one count for all
 //! faults.
 
-ghost use Rattle.std.specs.Prelude.{◌≡◌, ◌≢◌, ◌+◌, ◌<◌, ◌≤◌, length, IfOk, IsErr};
-ghost use Rattle.log_model.specs.Faults.{HasNewFault};
+ghost use Rattle.std.specs.Prelude.{◌≡◌, ◌≢◌, [], ◌+◌, ◌-◌, ◌<◌, ◌≤◌, ◌↔◌, length, slice_get, IfOk, IfSome, IsErr, IsSome};
 ghost use Rattle.vtools.specs.RealWorld.{real_seen, HasStreams-real};
 
+use crate::edge::{FIRST_FILE, open_answer, read_answer, write_answer};
 use std::alloc::Global;
 use std::fs::File;
 use std::io::{Read, Write};
 use std::{fs, io};
-use vio::{Failed, World, WorldFault};
-
-/// The first handle of an opened file, after those of the standard streams.
-const FIRST_FILE: usize = 3;
-
-/// The most files that are opened, so that each has a handle.
-const MOST_FILES: usize = 4_294_967_292;
+use vio::{ERRORS, Failed, INPUT, OUTPUT, World, WorldFault};
 
 /// The system's files and streams. The file of handle `h` stands at `h - 3`.
 ///
-/// Each call that the system refuses is counted, and none is tried again: also one that a signal cut
+/// What the system answers is taken as `edge` says. No call is tried again: also one that a signal cut
 /// short, which the system does to no program that handles no signal.
 #[derive(Drop)]
 pub struct RealWorld {
@@ -30,7 +24,10 @@ pub struct RealWorld {
 
 impl RealWorld {
     /// A world in which nothing was opened yet.
-    pub fn new(alloc: Global, rt: HostRuntime) -> RealWorld {
+    pub fn new(alloc: Global, rt: HostRuntime) -> RealWorld
+        ensures files { result.files.items ≡ [] }
+        ensures faults { result.faults ≡ 0 }
+    {
         RealWorld {
             rt,
             files: Vec::new(alloc),
@@ -38,44 +35,39 @@ impl RealWorld {
         }
     }
 
-    /// Counts a fault.
-    fn count(&mut self)
-        ensures grew { self.old.faults ≤ self.new.faults }
-        ensures rose { HasNewFault self.old.faults self.new.faults }
-        ensures kept { self.new.files ≡ self.old.files }
+    /// The opened file of a handle.
+    fn file(&self, h: u32) -> Option<&File>
+        ensures found { IfSome result (λ file. slice_get self.now.files.items (h - FIRST_FILE) ≡ Some file.now) }
+        ensures there { IsSome result ↔ (FIRST_FILE ≤ h × h - FIRST_FILE < length self.now.files.items) }
     {
-        self.faults = self.faults.saturating_add(1);
+        let place = (h as usize).checked_sub(FIRST_FILE)?;
+        self.files.get(place)
     }
 
     /// Reads from standard input or from an opened file; other handles are refused.
     fn read_from(&self, h: u32, buf: &mut [u8]) -> io::Result<usize>
         ensures fits { IfOk result (λ n. n ≤ length buf.new) }
         ensures kept { length buf.new ≡ length buf.old }
-
         ensures no_stream { 0 < h → h < 3 → IsErr result }
         ensures no_file { 3 + length self.now.files.items ≤ h → IsErr result }
     {
-        if h == 0 {
+        if h == INPUT {
             return self.rt.stdin().read(buf);
         }
-        let Some(place) = (h as usize).checked_sub(FIRST_FILE) else {
+        let Some(mut file) = self.file(h) else {
             return Err(io::Error::from(io::ErrorKind::InvalidInput));
         };
-        match self.files.get(place) {
-            Some(mut file) => file.read(buf),
-            None => Err(io::Error::from(io::ErrorKind::InvalidInput)),
-        }
+        file.read(buf)
     }
 
     /// Writes to standard output or standard error; other handles are refused.
     fn write_to(&self, h: u32, piece: &[u8]) -> io::Result<usize>
         ensures fits { IfOk result (λ n. n ≤ length piece.now) }
-
         ensures no_stream { h ≢ 1 → h ≢ 2 → IsErr result }
     {
         match h {
-            1 => self.rt.stdout().write(piece),
-            2 => self.rt.stderr().write(piece),
+            OUTPUT => self.rt.stdout().write(piece),
+            ERRORS => self.rt.stderr().write(piece),
             _ => Err(io::Error::from(io::ErrorKind::InvalidInput)),
         }
     }
@@ -87,37 +79,18 @@ impl World for RealWorld {
     ghost streams = { λ w. HasStreams-real (length w.files.items) w.faults };
 
     fn open(&mut self, name: &str) -> Result<u32, WorldFault> {
-        if self.files.len() >= MOST_FILES {
-            self.count();
-            return Err(WorldFault::Failed);
-        }
-        let Ok(file) = fs::open(&self.rt, name) else {
-            self.count();
-            return Err(WorldFault::Failed);
-        };
-        let handle = (self.files.len() + FIRST_FILE) as u32;
-        self.files.push(file)?;
-        Ok(handle)
+        let given = fs::open(&self.rt, name);
+        open_answer(given, &mut self.files, &mut self.faults)
     }
 
     fn read(&mut self, h: u32, buf: &mut [u8]) -> Result<usize, Failed> {
-        match self.read_from(h, buf) {
-            Ok(n) => Ok(n),
-            Err(_) => {
-                self.count();
-                Err(Failed)
-            }
-        }
+        let given = self.read_from(h, buf);
+        read_answer(given, &mut self.faults)
     }
 
     fn write(&mut self, h: u32, piece: &[u8]) -> Result<usize, WorldFault> {
-        match self.write_to(h, piece) {
-            Ok(n) if n > 0 || piece.is_empty() => Ok(n),
-            _ => {
-                self.count();
-                Err(WorldFault::Failed)
-            }
-        }
+        let given = self.write_to(h, piece);
+        write_answer(given, piece, &mut self.faults)
     }
 }
 

@@ -1,6 +1,8 @@
 //! The words of the command line.
 
-ghost use Rattle.std.specs.Prelude.{◌≡◌, map};
+ghost use Rattle.std.specs.Prelude.{◌≡◌, ◌++◌, ◌∷◌, [], ℕ, map, OnOk};
+ghost use Rattle.std.specs.Result.{IsErrOf};
+ghost use Rattle.std.specs.Str.{IsUtf8};
 ghost use Rattle.std.specs.String.{string_bytes};
 ghost use Rattle.vtools.specs.Command.{question_of};
 ghost use Rattle.vtools.specs.declared.words.WordFault.TheVariants.{NoMemory};
@@ -58,6 +60,20 @@ fn argument(alloc: Global, env: &impl Env, place: usize) -> Result<Option<Vec<u8
     Err(AllocError)
 }
 
+/// Adds a word, whole and as the last one. One that isn't UTF-8 is answered by its place.
+fn add_word(words: &mut Vec<String>, place: usize, bytes: Vec<u8>) -> Result<(), WordFault>
+    ensures added { OnOk result (map string_bytes words.new.items ≡ map string_bytes words.old.items ++ bytes.items ∷ []) }
+    ensures text { (p : ℕ) → IsErrOf result (WordFault.NotText p) → (p ≡ place) × ¬ (IsUtf8 bytes.items) }
+{
+    let Ok(word) = String::from_utf8(bytes) else {
+        return Err(WordFault::NotText { place });
+    };
+    if words.push(word).is_err() {
+        return Err(WordFault::NoMemory);
+    }
+    Ok(())
+}
+
 /// The arguments after the program's name. The first one that isn't UTF-8 is answered by its place.
 pub fn read_words(alloc: Global, env: &impl Env) -> Result<Vec<String>, WordFault> {
     let mut words = Vec::new(alloc);
@@ -65,12 +81,7 @@ pub fn read_words(alloc: Global, env: &impl Env) -> Result<Vec<String>, WordFaul
         let Some(bytes) = argument(alloc, env, place)? else {
             break;
         };
-        let Ok(word) = String::from_utf8(bytes) else {
-            return Err(WordFault::NotText { place });
-        };
-        if words.push(word).is_err() {
-            return Err(WordFault::NoMemory);
-        }
+        add_word(&mut words, place, bytes)?;
     }
     Ok(words)
 }

@@ -2,17 +2,14 @@
 use Rattle.vio.proofs.MemoryLemmas.{TellsAll-memory}
 use Rattle.vio.proofs.memory.MemWorld.content.Goals as goal
 
-pub returns-then-h-eq0-clause-tells : goal.returns-then-h-eq0-clause-tells
-returns-then-h-eq0-clause-tells c = TellsAll-memory c.args.self.now
+pub returns-in-0-clause-tells : goal.returns-in-0-clause-tells
+returns-in-0-clause-tells c = TellsAll-memory c.args.self.now
 
-pub returns-then-h-eq1-clause-tells : goal.returns-then-h-eq1-clause-tells
-returns-then-h-eq1-clause-tells c = TellsAll-memory c.args.self.now
+pub returns-in-1-clause-tells : goal.returns-in-1-clause-tells
+returns-in-1-clause-tells c = TellsAll-memory c.args.self.now
 
-pub returns-then-h-eq2-clause-tells : goal.returns-then-h-eq2-clause-tells
-returns-then-h-eq2-clause-tells c = TellsAll-memory c.args.self.now
+pub returns-in-2-clause-tells : goal.returns-in-2-clause-tells
+returns-in-2-clause-tells c = TellsAll-memory c.args.self.now
 
-pub returns-then-place-len-clause-tells : goal.returns-then-place-len-clause-tells
-returns-then-place-len-clause-tells c = TellsAll-memory c.args.self.now
-
-pub returns-clause-tells : goal.returns-clause-tells
-returns-clause-tells c = TellsAll-memory c.args.self.now
+pub returns-in_default-clause-tells : goal.returns-in_default-clause-tells
+returns-in_default-clause-tells c = TellsAll-memory c.args.self.now

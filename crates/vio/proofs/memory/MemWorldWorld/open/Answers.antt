@@ -1,32 +1,15 @@
--- Counting the call changes nothing that is told.
-use Rattle.std.proofs.Common.{◌≡◌, ◌∙◌}
-use Rattle.vio.proofs.MemoryLemmas.{IsSame-counts, IsSame-then, OnlyCounts-after, HasNewFault-after, Opened-after}
-use Rattle.vio.proofs.WholeLemmas.{OnErr-always}
-use Rattle.vio.specs.World.{Opening}
+-- Only one opened file is new.
+use Rattle.std.proofs.Common.{◌≡◌, ◌∙◌, ◌+◌, arith, length, sym, Some}
+use Rattle.vio.proofs.MemoryLemmas.{Opened-push}
+use Rattle.vio.specs.Sources.{left_of, held_in}
 use Rattle.vio.proofs.memory.MemWorldWorld.open.Goals as goal
-
-pub returns-then-is_failing_call-clause-err : goal.returns-then-is_failing_call-clause-err
-returns-then-is_failing_call-clause-err c = OnlyCounts-after c.is_failing_call.ensures.same c.count_fault.ensures.counts
-
-pub returns-then-is_failing_call-clause-failed : goal.returns-then-is_failing_call-clause-failed
-returns-then-is_failing_call-clause-failed c = λ _. HasNewFault-after Opening c.args.name.now c.is_failing_call.ensures.same c.count_fault.ensures.rose
-
-pub returns-in_default-clause-err : goal.returns-in_default-clause-err
-returns-in_default-clause-err c = OnlyCounts-after c.is_failing_call.ensures.same c.count_fault-in_default.ensures.counts
-
-pub returns-in_default-clause-failed : goal.returns-in_default-clause-failed
-returns-in_default-clause-failed c = λ _. HasNewFault-after Opening c.args.name.now c.is_failing_call.ensures.same c.count_fault-in_default.ensures.rose
-
-pub returns-in_err-bytes-clause-err : goal.returns-in_err-bytes-clause-err
-returns-in_err-bytes-clause-err c = OnErr-always c.from_residual.result (IsSame-counts c.is_failing_call.ensures.same)
-
-pub returns-in_err-name-clause-err : goal.returns-in_err-name-clause-err
-returns-in_err-name-clause-err c = OnErr-always c.from_residual-in_err-name.result (IsSame-counts c.is_failing_call.ensures.same)
-
-pub returns-in_err-handle-clause-err : goal.returns-in_err-handle-clause-err
-returns-in_err-handle-clause-err c = OnErr-always c.from_residual-in_err-handle.result (IsSame-counts (IsSame-then c.is_failing_call.ensures.same c.in_err-handle.ensures.err))
 
 pub returns-clause-ok : goal.returns-clause-ok
 returns-clause-ok c =
-    let name : c.in_ok-name.name.items ≡ c.args.name.now = c.in_ok-name.ensures.items ∙ c.as_bytes-2.ensures.value in
-    rw name at (Opened-after c.is_failing_call.ensures.same c.in_ok-handle.ensures.ok)
+    let m = c.args.self.now in
+    let file = c.in_ok-file.file in
+    let name : file.name.items ≡ c.args.name.now = c.in_ok-file.ensures.name ∙ c.as_bytes-2.ensures.value in
+    let next : c.in-Ok.handle ≡ length m.opened.items + 3 = omega (arith, c.in-Ok.ensures.1, c.len.ensures, m.opened.ok.0) in
+    let held : held_in m.files.items file.name.items ≡ Some (left_of file.source) = cc (name, c.in-Some.ensures, c.in_ok-file.ensures.left) in
+    rw (sym name, c.in_ok-push.ensures.items)
+    (Opened-push m.files.items m.opened.items m.input m.output.items m.errors.items m.faults file c.in-Ok.handle next held)

@@ -1,0 +1,73 @@
+//! What the system's calls answer, as answers of a world. Beside these functions nothing is decided
+//! about an answer: each other function at the edge makes one call.
+
+ghost use Rattle.std.specs.Prelude.{◌≡◌, ◌≤◌, ◌+◌, ◌++◌, ◌∷◌, [], ◌↔◌, length, is_err, IfOk, OnOk, OnErr, IsErr};
+ghost use Rattle.std.specs.Result.{IsErrOf};
+ghost use Rattle.vtools.specs.Edge.{counted, answer_to_write};
+
+use std::fs::File;
+use std::io;
+use vio::{Failed, WorldFault};
+
+/// The first handle of an opened file, after those of the standard streams.
+pub const FIRST_FILE: usize = 3;
+
+/// What a read answers: the system's count, or a failure where the system answers an error.
+pub fn read_answer(given: io::Result<usize>, faults: &mut u64) -> Result<usize, Failed>
+    ensures done { IfOk given (λ n. result ≡ Ok n) }
+    ensures refused { OnErr given (IsErr result) }
+    ensures counted { faults.new ≡ counted (is_err given) faults.old }
+    ensures grew { faults.old ≤ faults.new }
+{
+    match given {
+        Ok(n) => Ok(n),
+        Err(_) => {
+            *faults = faults.saturating_add(1);
+            Err(Failed)
+        }
+    }
+}
+
+/// What a write of a piece answers: the system's count, or a failure where the system answers an error,
+/// or 0 for a piece that isn't empty.
+pub fn write_answer(
+    given: io::Result<usize>,
+    piece: &[u8],
+    faults: &mut u64,
+) -> Result<usize, WorldFault>
+    ensures answer { result ≡ answer_to_write given (length piece.now) }
+    ensures counted { faults.new ≡ counted (is_err result) faults.old }
+    ensures grew { faults.old ≤ faults.new }
+{
+    match given {
+        Ok(n) if n > 0 || piece.is_empty() => Ok(n),
+        _ => {
+            *faults = faults.saturating_add(1);
+            Err(WorldFault::Failed)
+        }
+    }
+}
+
+/// What opening a file answers: its handle, or a failure where the system answers an error.
+pub fn open_answer(
+    given: io::Result<File>,
+    files: &mut Vec<File>,
+    faults: &mut u64,
+) -> Result<u32, WorldFault>
+    ensures handle { IfOk result (λ h. h ≡ FIRST_FILE + length files.old.items) }
+    ensures kept { IfOk given (λ file. OnOk result (files.new.items ≡ files.old.items ++ file ∷ [])) }
+    ensures same { OnErr result (files.new.items ≡ files.old.items) }
+    ensures failed { IsErrOf result WorldFault.Failed ↔ IsErr given }
+    ensures counted { faults.new ≡ counted (is_err given) faults.old }
+    ensures grew { faults.old ≤ faults.new }
+{
+    let Ok(file) = given else {
+        *faults = faults.saturating_add(1);
+        return Err(WorldFault::Failed);
+    };
+    let Ok(handle) = u32::try_from(files.len() + FIRST_FILE) else {
+        return Err(WorldFault::NoMemory);
+    };
+    files.push(file)?;
+    Ok(handle)
+}
