@@ -17,9 +17,9 @@ trap 'rm -rf "$work"' EXIT
     exit 1
 }
 
-# Says what is wrong with the case that runs.
+# Says what is wrong with the case that runs, and in which row.
 wrong() {
-    echo "cases: $name: $1" >&2
+    echo "cases: $name$row: $1" >&2
     right=false
 }
 
@@ -48,35 +48,34 @@ make_case() {
     done
 }
 
-# Says what a case lacks, and what it has that no case has.
+# Says what a case lacks, and what it has that no case of its kind has.
 check_form() {
-    local file
-    for file in stdout stderr status; do
-        [ -f "$made/$file" ] || wrong "$file is missing"
+    local file words=0 of_kind="stdout stderr status stdin files"
+    for file in args args.nul rows; do
+        [ ! -f "$made/$file" ] || words=$((words + 1))
     done
-    [ -f "$made/args" ] || [ -f "$made/args.nul" ] || wrong "args is missing"
-    [ ! -f "$made/args" ] || [ ! -f "$made/args.nul" ] || wrong "has both args and args.nul"
+    [ "$words" -eq 1 ] || wrong "has not one of args, args.nul and rows"
+    [ ! -f "$made/rows" ] || of_kind=""
+    for file in stdout stderr status; do
+        [ -z "$of_kind" ] || [ -f "$made/$file" ] || wrong "$file is missing"
+    done
     for file in "$made"/*; do
-        case ${file##*/} in
-        args | args.nul | stdin | stdout | stderr | status | links | hex | data | files) ;;
-        *) wrong "${file##*/} is no file of a case" ;;
+        case " args args.nul rows links hex data $of_kind " in
+        *" ${file##*/} "*) ;;
+        *) wrong "${file##*/} is no file of such a case" ;;
         esac
     done
 }
 
-# Runs the case, and compares all that comes out.
-run_case() {
-    local words=() input=/dev/null status=0 file
-    if [ -f "$made/args" ]; then
-        mapfile -t words <"$made/args"
-    else
-        mapfile -d '' -t words <"$made/args.nul"
-    fi
+# Runs the program on words, and compares all that comes out: run_words WORD..
+run_words() {
+    local input=/dev/null status=0 file
     [ ! -f "$made/stdin" ] || input="$made/stdin"
 
+    rm -rf "$work/got"
     mkdir "$work/got"
     cp -R "$made/data" "$work/got/folder"
-    (cd "$work/got/folder" && exec timeout "$most_seconds" "$program" "${words[@]}") \
+    (cd "$work/got/folder" && exec timeout "$most_seconds" "$program" "$@") \
         <"$input" >"$work/got/stdout" 2>"$work/got/stderr" || status=$?
     echo "$status" >"$work/got/status"
 
@@ -88,14 +87,55 @@ run_case() {
     same "other files are left" "$made/data" "$work/got/folder"
 }
 
+# Runs each row of a case: nothing is written but the row's message, and the row's status is answered.
+run_rows() {
+    local lines=() line words
+    mapfile -t lines <"$made/rows"
+    [ "${#lines[@]}" -gt 0 ] || wrong "rows is empty"
+    : >"$made/stdout"
+    for line in "${lines[@]}"; do
+        rows=$((rows + 1))
+        row=", \`${line%%$'\t'*}\`"
+        if ! [[ "$line" =~ $row_form ]]; then
+            wrong "the row is not words with one space between each two, a tab, a status, a tab, and a message"
+            continue
+        fi
+        IFS=' ' read -ra words <<<"${BASH_REMATCH[1]}"
+        echo "${BASH_REMATCH[4]}" >"$made/status"
+        echo "${BASH_REMATCH[5]}" >"$made/stderr"
+        run_words "${words[@]}"
+    done
+    row=""
+}
+
+# Runs the case.
+run_case() {
+    local words=()
+    if [ -f "$made/rows" ]; then
+        run_rows
+        return
+    fi
+    if [ -f "$made/args" ]; then
+        mapfile -t words <"$made/args"
+    else
+        mapfile -d '' -t words <"$made/args.nul"
+    fi
+    run_words "${words[@]}"
+}
+
+# The words of a row, its status and its message; the words may be none.
+row_form=$'^(([^ \t]+( [^ \t]+)*)?)\t([0-9]+)\t([^\t]+)$'
+
 count=0
+rows=0
 failed=0
+row=""
 made="$work/made"
 for folder in cases/*; do
     name=${folder##*/}
     [ "$folder" != cases/README.md ] || continue
     right=true
-    rm -rf "$made" "$work/got"
+    rm -rf "$made"
     if [ -d "$folder" ]; then
         make_case
         check_form
@@ -115,4 +155,4 @@ done
     echo "cases: there are none" >&2
     exit 1
 }
-echo "cases: ok, $count of them"
+echo "cases: ok, $count of them, with $rows rows"

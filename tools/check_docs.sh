@@ -52,6 +52,36 @@ for page in docs/man/*.1; do
     [ ! -s "$work/unknown" ] || fail "options of $page that are not in docs/FORMATS.md:" "$work/unknown"
 done
 
+# Cells of FORMATS' tables under a heading: those whose first is an option, without quotes and spaces.
+cells() {
+    sed -n "/^### $1\$/,/^##/s/^| *\(\`-.*\) *|\$/\1/p" docs/FORMATS.md | sed -e 's/`//g' -e 's/ *| */|/g'
+}
+
+# FORMATS has the options of each tool, with their kinds, as the tables of the source have them.
+{
+    cells 'Options before the tool' | awk -F'|' '{ print "vtools", $1, $2 }'
+    cells 'Options of the tools' | awk -F'|' '
+        BEGIN { split("varnishlog varnishncsa varnishtop varnishstat", tools, " ") }
+        NF == 6 { for (i = 1; i <= 4; i++) if ($(i + 1) != "") print tools[i], $1, $(i + 1) }'
+} | sort >"$work/tables"
+python3 tools/options.py | sort >"$work/options"
+diff "$work/options" "$work/tables" >"$work/differ" ||
+    fail "options of docs/FORMATS.md that are not those of the source ('<' is the source):" "$work/differ"
+
+# The help is FORMATS' text, and the options that are built are the same in FORMATS, help and man page.
+sed -n '/^const HELP/,/^";/p' crates/vtools/src/answers.rt | sed -e '1d' -e '$d' >"$work/help"
+# shellcheck disable=SC2016 # the backquotes are the document's
+sed -n '/^`vtools --help` prints/,/^`vtools --version`/p' docs/FORMATS.md |
+    sed -n '/^```text/,/^```$/p' | sed -e '1d' -e '$d' | diff "$work/help" - >"$work/differ" ||
+    fail "the help of docs/FORMATS.md is not the program's ('<' is the program's):" "$work/differ"
+cells 'What is built' | cut -d'|' -f1 | options >"$work/built"
+[ -s "$work/built" ] || fail "docs/FORMATS.md has no options that are built"
+options <"$work/help" | diff "$work/built" - >"$work/differ" ||
+    fail "options that are built and not in --help, or the reverse ('<' is docs/FORMATS.md):" "$work/differ"
+sed -n '/^\.SH OPTIONS/,/^\.SH EXIT/p' docs/man/vtools.1 | grep -A 1 '^\.TP' | grep '^\.B' |
+    sed -e 's/\\-/-/g' | options | diff "$work/built" - >"$work/differ" ||
+    fail "options that are built and not options of the man page, or the reverse ('<' is docs/FORMATS.md):" "$work/differ"
+
 # Each file that a must-fail edit changes is there.
 find crates -path '*/must-fail/*.edit' ! -path '*/out/*' >"$work/edits"
 while read -r edit; do

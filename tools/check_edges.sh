@@ -91,7 +91,8 @@ messages() {
 messages "a whole log" 0 "$text" varnishlog -g raw -r one.log
 messages "a cut log" 1 "" varnishlog -g raw -r cut.log
 messages "a missing file" 1 "" varnishlog -g raw -r missing
-messages "other words" 2 "" varnishlog -g session -r one.log
+messages "a job that isn't built" 2 "" varnishlog -g session -r one.log
+messages "words that are refused" 2 "" varnishlog -g raw -r one.log -k0
 messages "a word that is not UTF-8" 2 "" $'\xff'
 cmp -s cut.log <(head -c -1 "$one") || fail "closed errors: the log was written to"
 
@@ -103,12 +104,12 @@ expect "no stream and nothing to write" 0 ""
 run --help <&- >&- 2>&-
 expect "no stream for --help" 1 ""
 run varnishlog -g session -r one.log <&- >&- 2>&-
-expect "no stream for other words" 2 ""
+expect "no stream for a job that isn't built" 2 ""
 run varnishlog -g raw -r one.log <&- >out 2>err
 expect "no input" 0 "" "$text"
 cmp -s one.log "$one" || fail "no stream: the log was written to"
 
-# FILE is a pipe, which comes in two pieces, and is opened for no other words.
+# FILE is a pipe, which comes in two pieces, and is opened for no words that are refused.
 (
     head -c 10 one.log
     sleep 0.2
@@ -118,7 +119,9 @@ run varnishlog -g raw -r pipe >out 2>err </dev/null
 wait
 expect "FILE a pipe" 0 "" "$text"
 run varnishlog -g session -r pipe >out 2>err </dev/null
-expect "other words open no pipe" 2 "vtools: not built yet"
+expect "a job that isn't built opens no pipe" 2 "vtools: not built yet"
+run varnishlog -g raw -r pipe -k0 >out 2>err </dev/null
+expect "words that are refused open no pipe" 2 "vtools: bad value: -k0"
 run varnishlog -g raw -r /dev/stdin >out 2>err <one.log
 expect "FILE the standard input by its path" 0 "" "$text"
 

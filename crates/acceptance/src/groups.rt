@@ -1,40 +1,46 @@
 //! Claims, tables and texts: what no command line reaches.
 
-use crate::support::{Line, all_shown, record_of};
+use crate::support::{all_shown, record_of};
 use std::alloc::Global;
 use std::process::Abort;
 use std::test::Fail;
 use txn_rows::{Group, GroupOptions, Grouping, Kind, Member, Members, Reason, Table, read_claim};
 use vsl_record::{Mark, Records, Unit, Vxid};
 use vsl_select::{group_text, raw_line};
+use vsl_tags::Tag;
 
-const BEGIN: u8 = 42;
+/// The number of a tag, and a payload.
+type Rec<'a> = (u8, &'a [u8]);
 
-const END: u8 = 44;
+fn expect_claim(
+    rt: &impl Abort,
+    payload: &[u8],
+    kind: Kind,
+    vxid: Vxid,
+    reason: Reason,
+) -> Result<(), Fail> {
+    let claim = read_claim(payload).ok_or("a claim")?;
+    assert_eq!(rt; claim.kind, kind);
+    assert_eq!(rt; claim.vxid, vxid);
+    assert_eq!(rt; claim.reason, reason);
+    Ok(())
+}
 
 #[test]
 fn a_begin_claims_a_kind_a_vxid_and_a_reason(rt: HostRuntime) -> Result<(), Fail> {
-    let cases: [(&[u8], Kind, Vxid, Reason); 6] = [
-        (b"req 1 rxreq", Kind::Request, 1, Reason::Rxreq),
-        (b"bereq 2 fetch", Kind::BeReq, 2, Reason::Other),
-        (b"sess 0 HTTP/1", Kind::Session, 0, Reason::Other),
-        (b"req 0000000002 esi x", Kind::Request, 2, Reason::Esi),
-        (
-            b" req\t1073741823",
-            Kind::Request,
-            1_073_741_823,
-            Reason::Other,
-        ),
-        (b"\treq\t \t7\trxreq\t", Kind::Request, 7, Reason::Rxreq),
-    ];
-    for (payload, kind, vxid, reason) in cases {
-        let claim = read_claim(payload).ok_or("a claim")?;
-        assert_eq!(rt;
-            (claim.kind, claim.vxid, claim.reason),
-            (kind, vxid, reason)
-        );
-    }
-    Ok(())
+    expect_claim(&rt, b"req 1 rxreq", Kind::Request, 1, Reason::Rxreq)?;
+    expect_claim(&rt, b"bereq 2 fetch", Kind::BeReq, 2, Reason::Other)?;
+    expect_claim(&rt, b"sess 0 HTTP/1", Kind::Session, 0, Reason::Other)?;
+    expect_claim(&rt, b"req 0000000002 esi x", Kind::Request, 2, Reason::Esi)?;
+    let last = 1_073_741_823;
+    expect_claim(&rt, b" req\t1073741823", Kind::Request, last, Reason::Other)?;
+    expect_claim(
+        &rt,
+        b"\treq\t \t7\trxreq\t",
+        Kind::Request,
+        7,
+        Reason::Rxreq,
+    )
 }
 
 /// Adds the text of groups to another text, and compares it.
@@ -56,41 +62,51 @@ fn expect_text(
     Ok(())
 }
 
-fn table_of(alloc: Global, is_raw: bool) -> Result<Table, Fail> {
-    let options = GroupOptions {
-        grouping: if is_raw {
-            Grouping::Raw
-        } else {
-            Grouping::Vxid
-        },
-        limit: 1000,
-        timeout: 120,
-    };
-    Ok(Table::new(alloc, options)?)
+/// Gives a table a request that begins, and flushes it: what is pending then, and the texts before and after.
+fn expect_table(
+    rt: &impl Abort,
+    alloc: Global,
+    mut table: Table,
+    pending: usize,
+    stepped: &[u8],
+    want: &[u8],
+) -> Result<(), Fail> {
+    let mut groups = Vec::new(alloc);
+    let begin = record_of(alloc, Tag::BEGIN, b"req 1 rxreq")?;
+    let records = Vec::from_array(alloc, [begin])?;
+    table.step(&Unit::new(9, Mark::Client, records)?, &mut groups)?;
+    expect_text(rt, alloc, &groups, false, stepped)?;
+    assert_eq!(rt; table.rows(), pending);
+    assert_eq!(rt; table.unfinished(), pending);
+    table.flush(&mut groups)?;
+    expect_text(rt, alloc, &groups, false, want)?;
+    assert_eq!(rt; table.rows(), 0);
+    Ok(())
 }
 
 #[test]
-fn a_table_keeps_what_is_pending_and_no_raw_record(rt: HostRuntime) -> Result<(), Fail> {
-    let line = b"         9 Begin          c req 1 rxreq\n".as_slice();
+fn a_table_keeps_what_is_pending(rt: HostRuntime) -> Result<(), Fail> {
+    let options = GroupOptions {
+        grouping: Grouping::Vxid,
+        limit: 1000,
+        timeout: 120,
+    };
     let flushed =
-        b"*   << Request  >> 9         \n-   Begin          req 1 rxreq\n-   VSL            flush\n-   End            synth\n\n".as_slice();
-    for (is_raw, pending, stepped, want) in [
-        (false, 1, b"".as_slice(), flushed),
-        (true, 0, line, line),
-    ] {
-        let mut table = table_of(rt.alloc(), is_raw)?;
-        let mut groups = Vec::new(rt.alloc());
-        let begin = record_of(rt.alloc(), BEGIN, b"req 1 rxreq")?;
-        let records = Vec::from_array(rt.alloc(), [begin])?;
-        table.step(&Unit::new(9, Mark::Client, records)?, &mut groups)?;
-        expect_text(&rt, rt.alloc(), &groups, false, stepped)?;
-        assert_eq!(rt; table.rows(), pending, "raw: {is_raw}");
-        assert_eq!(rt; table.unfinished(), pending, "raw: {is_raw}");
-        table.flush(&mut groups)?;
-        expect_text(&rt, rt.alloc(), &groups, false, want)?;
-        assert_eq!(rt; table.rows(), 0, "raw: {is_raw}");
-    }
-    Ok(())
+        b"*   << Request  >> 9         \n-   Begin          req 1 rxreq\n-   VSL            flush\n-   End            synth\n\n";
+    let table = Table::new(rt.alloc(), options)?;
+    expect_table(&rt, rt.alloc(), table, 1, b"", flushed)
+}
+
+#[test]
+fn a_table_keeps_no_raw_record(rt: HostRuntime) -> Result<(), Fail> {
+    let options = GroupOptions {
+        grouping: Grouping::Raw,
+        limit: 1000,
+        timeout: 120,
+    };
+    let line = b"         9 Begin          c req 1 rxreq\n";
+    let table = Table::new(rt.alloc(), options)?;
+    expect_table(&rt, rt.alloc(), table, 0, line, line)
 }
 
 fn member_of(
@@ -98,11 +114,12 @@ fn member_of(
     vxid: Vxid,
     kind: Kind,
     level: u32,
-    lines: &[Line<'_>],
+    given: &[Rec<'_>],
 ) -> Result<Member, Fail> {
     let mut records = Records::new(alloc);
-    for (tag, payload) in lines {
-        records.push(record_of(alloc, *tag, *payload)?)?;
+    for (tag, payload) in given {
+        let tag = Tag::from_number(*tag).ok_or("a tag")?;
+        records.push(record_of(alloc, tag, *payload)?)?;
     }
     Ok(Member {
         vxid,
@@ -115,12 +132,14 @@ fn member_of(
 }
 
 /// A transaction's VXID, kind, level and records.
-type Shape<'a> = (Vxid, Kind, u32, &'a [Line<'a>]);
+type Shape<'a> = (Vxid, Kind, u32, &'a [Rec<'a>]);
 
 #[test]
 fn a_group_has_its_text(rt: HostRuntime) -> Result<(), Fail> {
-    let begin: &[Line<'_>] = &[(BEGIN, b"bereq 2 fetch")];
-    let end: &[Line<'_>] = &[(END, b"")];
+    let begin_number = Tag::BEGIN.number();
+    let end_number = Tag::END.number();
+    let begin: &[Rec<'_>] = &[(begin_number, b"bereq 2 fetch")];
+    let end: &[Rec<'_>] = &[(end_number, b"")];
     let cases: [(bool, &[Shape<'_>], &[u8]); 5] = [
         (
             false,
@@ -146,8 +165,8 @@ fn a_group_has_its_text(rt: HostRuntime) -> Result<(), Fail> {
     ];
     for (verbose, shapes, want) in cases {
         let mut members = Members::new(rt.alloc());
-        for (vxid, kind, level, lines) in shapes {
-            members.push(member_of(rt.alloc(), *vxid, *kind, *level, *lines)?)?;
+        for (vxid, kind, level, given) in shapes {
+            members.push(member_of(rt.alloc(), *vxid, *kind, *level, *given)?)?;
         }
         let groups = Vec::from_array(rt.alloc(), [Group { members }])?;
         expect_text(&rt, rt.alloc(), &groups, verbose, want)?;
@@ -157,7 +176,7 @@ fn a_group_has_its_text(rt: HostRuntime) -> Result<(), Fail> {
 
 #[test]
 fn a_raw_line_is_added_and_all_is_shown(rt: HostRuntime) -> Result<(), Fail> {
-    let begin = record_of(rt.alloc(), BEGIN, b"req 1 rxreq")?;
+    let begin = record_of(rt.alloc(), Tag::BEGIN, b"req 1 rxreq")?;
     let mut out = Vec::from_slice(rt.alloc(), b"before\n")?;
     raw_line(2, &begin, &mut out)?;
     assert_eq!(rt;

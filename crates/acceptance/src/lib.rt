@@ -23,4 +23,6 @@ mod support;
 #[cfg(test)]
 mod units;
 #[cfg(test)]
+mod words;
+#[cfg(test)]
 mod world;

@@ -6,9 +6,10 @@ use crate::byte_table::REQUEST_WITH_FETCH;
 use std::alloc::Global;
 use std::process::Abort;
 use std::test::Fail;
+use tool_words::UsageFault;
 use varnish_tools::{Outcome, RunRecord, ToolFault, run_tools};
 use vio::MemWorld;
-use vsl_record::{Mark, Record, Unit, VXID_END, Vxid};
+use vsl_record::{Mark, Record};
 use vsl_select::{Selection, Sides};
 use vsl_tags::Tag;
 
@@ -88,6 +89,7 @@ pub const OPEN_GROUPS: Log = Log {
 #[derive(Clone, Copy)]
 pub enum Ending {
     Done,
+    BadValue,
     NotBuilt,
     NoOpen,
     ReadFault,
@@ -99,6 +101,7 @@ pub enum Ending {
 fn told(ending: Ending) -> (u8, &'static str, &'static str, &'static str) {
     match ending {
         Ending::Done => (0, "", "", ""),
+        Ending::BadValue => (2, "BadValue", "", "vtools: bad value: -k0\n"),
         Ending::NotBuilt => (2, "NotBuilt", "", "vtools: not built yet\n"),
         Ending::NoOpen => (1, "NoOpen", "f", "vtools: f: cannot open\n"),
         Ending::ReadFault => (1, "ReadFault", "f", "vtools: f: read failed\n"),
@@ -107,14 +110,39 @@ fn told(ending: Ending) -> (u8, &'static str, &'static str, &'static str) {
     }
 }
 
-fn parts_of(fault: &Option<ToolFault>) -> (&'static str, &str) {
+/// The name of a fault's variant.
+fn variant_of(fault: &ToolFault) -> &'static str {
     match fault {
-        None => ("", ""),
-        Some(ToolFault::NotBuilt) => ("NotBuilt", ""),
-        Some(ToolFault::NoOpen { name }) => ("NoOpen", name.as_str()),
-        Some(ToolFault::ReadFault { name }) => ("ReadFault", name.as_str()),
-        Some(ToolFault::WriteFault { name }) => ("WriteFault", name.as_str()),
-        Some(ToolFault::BadFile { name }) => ("BadFile", name.as_str()),
+        ToolFault::Usage(UsageFault::BadValue { .. }) => "BadValue",
+        ToolFault::Usage(_) => "Usage",
+        ToolFault::NotBuilt => "NotBuilt",
+        ToolFault::NoOpen { .. } => "NoOpen",
+        ToolFault::ReadFault { .. } => "ReadFault",
+        ToolFault::WriteFault { .. } => "WriteFault",
+        ToolFault::BadFile { .. } => "BadFile",
+    }
+}
+
+/// The name that a fault tells.
+fn name_in(fault: &ToolFault) -> &str {
+    match fault {
+        ToolFault::Usage(_) => "",
+        ToolFault::NotBuilt => "",
+        ToolFault::NoOpen { name } => name.as_str(),
+        ToolFault::ReadFault { name } => name.as_str(),
+        ToolFault::WriteFault { name } => name.as_str(),
+        ToolFault::BadFile { name } => name.as_str(),
+    }
+}
+
+/// Compares a fault's variant and name with those that are wanted; no fault has neither.
+fn expect_fault(rt: &impl Abort, fault: &Option<ToolFault>, variant: &str, name: &str) {
+    match fault {
+        None => assert_eq!(rt; "", variant),
+        Some(fault) => {
+            assert_eq!(rt; variant_of(fault), variant);
+            assert_eq!(rt; name_in(fault), name);
+        }
     }
 }
 
@@ -176,9 +204,7 @@ pub fn expect_run(
     let (status, variant, name, message) = told(want.ending);
     let message = message.as_bytes();
     let errors = message.get(..want.written).unwrap_or(message);
-    let (got_variant, got_name) = parts_of(&outcome.fault);
-    assert_eq!(rt; got_variant, variant, "{what}, {at}");
-    assert_eq!(rt; got_name, name, "{what}, {at}");
+    expect_fault(rt, &outcome.fault, variant, name);
     assert_eq!(rt; outcome.status, status, "{what}, {at}");
     assert_eq!(rt; outcome.run, want.run, "{what}, {at}");
     assert_eq!(rt; world.content(1), want.output, "{what}, {at}");
@@ -186,14 +212,10 @@ pub fn expect_run(
     Ok(())
 }
 
-/// The number of a tag, and a payload.
-pub type Line<'a> = (u8, &'a [u8]);
-
 /// A client's record.
-pub fn record_of(alloc: Global, tag: u8, payload: &[u8]) -> Result<Record, Fail>
+pub fn record_of(alloc: Global, tag: Tag, payload: &[u8]) -> Result<Record, Fail>
     ensures { IfOk result (λ r. r.mark ≡ Mark.Client) }
 {
-    let tag = Tag::from_number(tag).ok_or("a tag")?;
     Ok(Record::new(alloc, tag, Mark::Client, payload)?)
 }
 

@@ -28,9 +28,6 @@ const LONG: [u8; 4000] = [0x61; 4000];
 /// A last record of 1,924 bytes takes 483 words, and one byte more takes a word more.
 const LAST: [u8; 1925] = [0x62; 1925];
 
-/// The number of VCL_Log.
-const VCL_LOG: u8 = 24;
-
 /// The transaction.
 const VXID: u32 = 5;
 
@@ -39,10 +36,25 @@ fn records(alloc: Global, last: &[u8]) -> Result<Vec<Record>, Fail>
 {
     let mut records = Vec::new(alloc);
     for _ in 0..LONG_RECORDS {
-        records.push(record_of(alloc, VCL_LOG, &LONG)?)?;
+        records.push(record_of(alloc, Tag::VSL, &LONG)?)?;
     }
-    records.push(record_of(alloc, VCL_LOG, last)?)?;
+    records.push(record_of(alloc, Tag::VSL, last)?)?;
     Ok(records)
+}
+
+/// Adds a word so many times.
+fn repeat(words: &mut Vec<u32>, word: u32, times: u32) -> Result<(), Fail> {
+    for _ in 0..times {
+        words.push(word)?;
+    }
+    Ok(())
+}
+
+/// Adds the words of a long record.
+fn add_long(words: &mut Vec<u32>) -> Result<(), Fail> {
+    words.push(0x2d00_0fa0)?;
+    words.push(0x4000_0005)?;
+    repeat(words, 0x6161_6161, 1000)
 }
 
 /// The words of the unit of those records: a header that counts so many, the words of the long records,
@@ -51,11 +63,11 @@ fn words(alloc: Global, count: u32, head: u32, after: &[u32]) -> Result<Vec<u32>
     let mut words = Vec::new(alloc);
     words.push(0xfe00_0000 | count)?;
     for _ in 0..LONG_RECORDS {
-        words.extend_from_slice(&[0x1800_0fa0, 0x4000_0005])?;
-        words.extend_from_slice(&[0x6161_6161; 1000])?;
+        add_long(&mut words)?;
     }
-    words.extend_from_slice(&[head, 0x4000_0005])?;
-    words.extend_from_slice(&[0x6262_6262; 481])?;
+    words.push(head)?;
+    words.push(0x4000_0005)?;
+    repeat(&mut words, 0x6262_6262, 481)?;
     words.extend_from_slice(after)?;
     Ok(words)
 }
@@ -76,7 +88,7 @@ fn expect_same(rt: &impl Abort, read: &Unit, made: &Unit) {
 fn the_longest_unit_is_read(rt: HostRuntime) -> Result<(), Fail> {
     let (last, _) = LAST.split_at(1924);
     let made = Unit::new(VXID, Mark::Client, records(rt.alloc(), last)?)?;
-    let spelled = words(rt.alloc(), 1_048_576, 0x1800_0784, &[])?;
+    let spelled = words(rt.alloc(), 1_048_576, 0x2d00_0784, &[])?;
     assert_eq!(rt; spelled.len(), 1_048_576);
     let (read, taken) = read_unit(rt.alloc(), &spelled)?;
     assert_eq!(rt; taken, 1_048_576);
@@ -88,7 +100,7 @@ fn the_longest_unit_is_read(rt: HostRuntime) -> Result<(), Fail> {
 fn a_unit_of_one_word_more_is_refused(rt: HostRuntime) -> Result<(), Fail> {
     let refused = Unit::new(VXID, Mark::Client, records(rt.alloc(), &LAST)?).err();
     assert_eq!(rt; refused, Some(UnitFault::TooLong { words: 1_048_577 }));
-    let spelled = words(rt.alloc(), 1_048_577, 0x1800_0785, &[0x0000_0062])?;
+    let spelled = words(rt.alloc(), 1_048_577, 0x2d00_0785, &[0x0000_0062])?;
     assert_eq!(rt; spelled.len(), 1_048_577);
     assert_eq!(rt; read_unit(rt.alloc(), &spelled).err(), Some(WordFault::Bad));
     Ok(())
@@ -112,7 +124,7 @@ fn a_payload_has_at_most_4000_bytes(rt: HostRuntime) -> Result<(), Fail> {
 fn a_unit_has_a_record(rt: HostRuntime) -> Result<(), Fail> {
     let refused = Unit::new(7, Mark::Client, Vec::new(rt.alloc())).err();
     assert_eq!(rt; refused, Some(UnitFault::Empty));
-    let end = record_of(rt.alloc(), 44, b"")?;
+    let end = record_of(rt.alloc(), Tag::END, b"")?;
     let made = Unit::new(7, Mark::Client, Vec::from_array(rt.alloc(), [end])?)?;
     assert_eq!(rt; made.vxid(), 7);
     assert_eq!(rt; made.mark(), Mark::Client);

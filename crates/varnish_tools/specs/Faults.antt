@@ -1,8 +1,10 @@
 -- The faults of the tools: a class, a message and a status for each (messages and statuses are this project's choice).
-use Rattle.std.specs.Prelude.{◌≡◌, ℕ, List, [], ◌++◌, Option, Some, None, codes}
+use Rattle.std.specs.Prelude.{ℕ, List, [], ◌++◌, Option, Some, None, unwrap_or, slice_get, codes}
 use Rattle.vio.specs.World.{CallKind, Opening, Reading, Writing}
+use Rattle.tool_words.specs.declared.fault.UsageFault.{UsageFault}
+use Rattle.tool_words.specs.declared.fault.UsageFault.TheVariants.{UnknownTool, UnknownOption, NoValue, BadValue, NotHere, NoTool, NoOnce, NoLog, TwoLogs}
 use Rattle.varnish_tools.specs.declared.fault.ToolFault.{ToolFault}
-use Rattle.varnish_tools.specs.declared.fault.ToolFault.TheVariants.{NotBuilt, NoOpen, ReadFault, WriteFault, BadFile}
+use Rattle.varnish_tools.specs.declared.fault.ToolFault.TheVariants.{Usage, NotBuilt, NoOpen, ReadFault, WriteFault, BadFile}
 
 -- the classes of faults; causes, what is taken and statuses are stated by class
 pub data FaultClass : Type 0 where
@@ -15,24 +17,46 @@ pub data FaultClass : Type 0 where
 
 -- the class of a fault
 abbrev pub class_of : ToolFault → FaultClass
+class_of (Usage fault) = Refused
 class_of NotBuilt = Refused
 class_of (NoOpen name) = Outside Opening name
 class_of (ReadFault name) = Outside Reading name
 class_of (WriteFault name) = Outside Writing name
 class_of (BadFile name) = BadInput name
 
--- the message of a fault, for standard error: one line, where the file's name has no line feed
-abbrev pub message : ToolFault → List ℕ
-message NotBuilt = codes "vtools: not built yet\n"
-message (NoOpen name) = codes "vtools: " ++ name ++ codes ": cannot open\n"
-message (ReadFault name) = codes "vtools: " ++ name ++ codes ": read failed\n"
-message (WriteFault name) = codes "vtools: " ++ name ++ codes ": write failed\n"
-message (BadFile name) = codes "vtools: " ++ name ++ codes ": bad log\n"
+-- the word at a place, counted from 0
+abbrev pub word_at : List (List ℕ) → ℕ → List ℕ
+word_at words place = unwrap_or (slice_get words place) []
+
+-- a line for standard error, after the program's name
+abbrev pub told : List ℕ → List ℕ
+told text = codes "vtools: " ++ text ++ codes "\n"
+
+-- the message of what is wrong with the words, with the whole word
+abbrev pub usage_message : List (List ℕ) → UsageFault → List ℕ
+usage_message words (UnknownTool place) = told (codes "unknown tool: " ++ word_at words place)
+usage_message words (UnknownOption place) = told (codes "unknown option: " ++ word_at words place)
+usage_message words (NoValue place) = told (codes "option needs a value: " ++ word_at words place)
+usage_message words (BadValue place) = told (codes "bad value: " ++ word_at words place)
+usage_message words (NotHere place) = told (codes "not supported here: " ++ word_at words place)
+usage_message words NoTool = told (codes "no tool")
+usage_message words NoOnce = told (codes "give -1 to run once")
+usage_message words NoLog = told (codes "no log")
+usage_message words TwoLogs = told (codes "two logs")
+
+-- the message of a fault of these words, for standard error: one line, where names and words have no line feed
+abbrev pub message : List (List ℕ) → ToolFault → List ℕ
+message words (Usage fault) = usage_message words fault
+message words NotBuilt = told (codes "not built yet")
+message words (NoOpen name) = told (name ++ codes ": cannot open")
+message words (ReadFault name) = told (name ++ codes ": read failed")
+message words (WriteFault name) = told (name ++ codes ": write failed")
+message words (BadFile name) = told (name ++ codes ": bad log")
 
 -- the message where there is a fault
-abbrev pub fault_message : Option ToolFault → List ℕ
-fault_message None = []
-fault_message (Some fault) = message fault
+abbrev pub fault_message : List (List ℕ) → Option ToolFault → List ℕ
+fault_message words None = []
+fault_message words (Some fault) = message words fault
 
 -- the status of a class of faults: 2 where the words were refused, 1 where the input or the outside failed
 abbrev pub class_status : FaultClass → ℕ
@@ -44,8 +68,3 @@ class_status (BadInput name) = 1
 abbrev pub status_of : Option ToolFault → ℕ
 status_of None = 0
 status_of (Some fault) = class_status (class_of fault)
-
--- the words were refused
-abbrev pub IsRefused : Option ToolFault → Type 0
-IsRefused None = ⊥
-IsRefused (Some fault) = class_of fault ≡ Refused

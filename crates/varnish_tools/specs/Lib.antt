@@ -1,4 +1,5 @@
-pub mod Job
+pub mod Built
+pub mod Asked
 pub mod Objects
 pub mod Faults
 pub mod Run

@@ -1,25 +1,25 @@
--- What a job reads and writes: its sources and sinks, and that nothing else is touched (this project's choice).
-use Rattle.std.specs.Prelude.{ℕ, List, [], ◌∷◌, ◌++◌, Option, Some, None, codes}
+-- What a job reads and writes: its sources and sinks, and what is touched (this project's choice).
+use Rattle.std.specs.Prelude.{ℕ, List, [], ◌∷◌, ◌++◌, codes}
 use Rattle.vio.specs.declared.world.TheConstants.{OUTPUT, ERRORS}
 use Rattle.vio.specs.World.{Seen, CallKind, Opening, Reading, Writing}
 use Rattle.vio.specs.Touches.{IsOneOf, Touches}
 use Rattle.vio.specs.Writes.{GainsSome}
-use Rattle.varnish_tools.specs.Job.{Job}
+use Rattle.varnish_tools.specs.Asked.{Asked, Refuse, Work, file_of}
 
 -- an object outside: a file that is opened by its name, or a standard stream, with its handle and name
 pub data Object : Type 0 where
   File : List ℕ → Object
   Stream : ℕ → List ℕ → Object
 
--- what a job reads; words without a job read nothing
-abbrev pub sources_of : Option Job → List Object
-sources_of None = []
-sources_of (Some job) = File job.file ∷ []
+-- what is read: the log file of a job; for refused words nothing
+abbrev pub sources_of : Asked → List Object
+sources_of (Refuse fault) = []
+sources_of (Work job) = File (file_of job) ∷ []
 
--- what a job writes its text to
-abbrev pub sinks_of : Option Job → List Object
-sinks_of None = []
-sinks_of (Some job) = Stream OUTPUT (codes "-") ∷ []
+-- what text is written to: standard output for a job; for refused words nothing
+abbrev pub sinks_of : Asked → List Object
+sinks_of (Refuse fault) = []
+sinks_of (Work job) = Stream OUTPUT (codes "-") ∷ []
 
 -- the names of objects
 abbrev pub names_of : List Object → List (List ℕ)
@@ -39,16 +39,16 @@ streams_of [] = []
 streams_of (File name ∷ objects) = streams_of objects
 streams_of (Stream handle name ∷ objects) = handle ∷ streams_of objects
 
--- the names for which a job makes calls of a kind
-abbrev pub calls_of : Option Job → CallKind → List (List ℕ)
-calls_of job Opening = files_of (sources_of job ++ sinks_of job)
-calls_of job Reading = names_of (sources_of job)
-calls_of job Writing = names_of (sinks_of job)
+-- the names for which calls of a kind are made, but for messages
+abbrev pub calls_of : Asked → CallKind → List (List ℕ)
+calls_of asked Opening = files_of (sources_of asked ++ sinks_of asked)
+calls_of asked Reading = names_of (sources_of asked)
+calls_of asked Writing = names_of (sinks_of asked)
 
--- each standard stream among the sinks of a job gained bytes that are so, where it is told
-abbrev pub SinksGain : (List ℕ → Type 0) → Option Job → Seen → Seen → Type 0
-SinksGain IsSo job before now = (h : ℕ) → IsOneOf h (streams_of (sinks_of job)) → GainsSome IsSo (before.written h) (now.written h)
+-- each standard stream among the sinks gained bytes that are so, where it is told
+abbrev pub SinksGain : (List ℕ → Type 0) → Asked → Seen → Seen → Type 0
+SinksGain IsSo asked before now = (h : ℕ) → IsOneOf h (streams_of (sinks_of asked)) → GainsSome IsSo (before.written h) (now.written h)
 
--- the objects of a job and standard error were touched, and nothing else
-abbrev pub TouchesJob : Option Job → Seen → Seen → Type 0
-TouchesJob job before now = Touches (streams_of (sources_of job)) (ERRORS ∷ streams_of (sinks_of job)) (calls_of job Opening) before now
+-- of handles and names, only the sources, the sinks and standard error were touched; what files hold is left open
+abbrev pub TouchesJob : Asked → Seen → Seen → Type 0
+TouchesJob asked before now = Touches (streams_of (sources_of asked)) (ERRORS ∷ streams_of (sinks_of asked)) (calls_of asked Opening) before now

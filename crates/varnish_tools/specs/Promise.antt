@@ -14,8 +14,9 @@ use Rattle.varnish_tools.specs.declared.fault.ToolFault.{ToolFault}
 use Rattle.varnish_tools.specs.declared.outcome.RunRecord.{RunRecord}
 use Rattle.varnish_tools.specs.declared.outcome.RunRecord.TheVariants.{Nothing}
 use Rattle.varnish_tools.specs.declared.outcome.Outcome.{Outcome}
-use Rattle.varnish_tools.specs.Job.{Job, job_of}
-use Rattle.varnish_tools.specs.Faults.{FaultClass, Refused, Outside, BadInput, class_of, message, fault_message, status_of, IsRefused}
+use Rattle.tool_words.specs.declared.job.Job.{Job}
+use Rattle.varnish_tools.specs.Asked.{Asked, Refuse, Work, asked_of, file_of}
+use Rattle.varnish_tools.specs.Faults.{FaultClass, Refused, Outside, BadInput, class_of, message, fault_message, status_of}
 use Rattle.varnish_tools.specs.Objects.{calls_of, names_of, sources_of, SinksGain}
 use Rattle.varnish_tools.specs.Run.{Run, Ending, Whole, Kept, Faulted, fault_of, no_run, run_of, IsRunOf}
 use Rattle.varnish_tools.specs.Output.{groups_text, sink_text}
@@ -31,34 +32,34 @@ pub record Input : Type 0 where
   pub units : Log
   pub file_ending : FileEnding
 
--- the world tells that the sources of the job hold this; words without a job have no source
-abbrev pub IsInput : Option Job → Seen → Input → Type 0
-IsInput None before input = Unit {0}
-IsInput (Some job) before input = (before.held job.file ≡ Some input.bytes) × IsFile input.bytes input.units input.file_ending
+-- the world tells that the sources hold this; refused words have none
+abbrev pub IsInput : Asked → Seen → Input → Type 0
+IsInput (Refuse fault) before input = Unit {0}
+IsInput (Work job) before input = (before.held (file_of job) ≡ Some input.bytes) × IsFile input.bytes input.units input.file_ending
 
 -- the input is a whole log within the limit
 pub record IsGood (input : Input) : Type 0 where
   pub within : length input.bytes ≤ log_limit
   pub whole : input.file_ending ≡ file.Whole
 
--- why a fault of a class may be answered: a failed call was counted for the very name; on a world that tells nothing of the input a bad one has no cause to show
-abbrev pub HasClassCause : Option Job → FaultClass → Seen → Seen → Type 0
-HasClassCause job Refused before now = job ≡ None
-HasClassCause job (Outside kind name) before now = IsOneOf name (calls_of job kind) × HasNewFault (before.faults kind name) (now.faults kind name)
-HasClassCause job (BadInput name) before now = IsOneOf name (names_of (sources_of job)) × ((input : Input) → IsInput job before input → ¬ (IsGood input))
+-- why a fault of a class may be answered: the words are refused with it; a failed call was counted for the very name; the input is not a good one, as far as the world tells it
+abbrev pub HasClassCause : Asked → ToolFault → FaultClass → Seen → Seen → Type 0
+HasClassCause asked fault Refused before now = asked ≡ Refuse fault
+HasClassCause asked fault (Outside kind name) before now = IsOneOf name (calls_of asked kind) × HasNewFault (before.faults kind name) (now.faults kind name)
+HasClassCause asked fault (BadInput name) before now = IsOneOf name (names_of (sources_of asked)) × ((input : Input) → IsInput asked before input → ¬ (IsGood input))
 
 -- why a fault may be answered: by its class
-abbrev pub HasCause : Option Job → ToolFault → Seen → Seen → Type 0
-HasCause job fault before now = HasClassCause job (class_of fault) before now
+abbrev pub HasCause : Asked → ToolFault → Seen → Seen → Type 0
+HasCause asked fault before now = HasClassCause asked fault (class_of fault) before now
 
--- the run that an input defines where no fault of the world comes
+-- the run that an input defines where no fault of the world comes: all units, or nothing of a file over the limit
 abbrev pub whole_run : Input → Run
 whole_run input = if nat_le (length input.bytes) log_limit then run_of input.units else no_run
 
 -- the text that an input defines where no fault of the world comes
-abbrev pub whole_text : Option Job → Input → List ℕ
-whole_text None input = []
-whole_text (Some job) input = if nat_le (length input.bytes) log_limit then groups_text (groups_of job.grouping input.units (is_whole input.file_ending)) else []
+abbrev pub whole_text : Asked → Input → List ℕ
+whole_text (Refuse fault) input = []
+whole_text (Work job) input = if nat_le (length input.bytes) log_limit then groups_text (groups_of job.grouping input.units (is_whole input.file_ending)) else []
 
 -- what a run takes of its input until a fault of a class
 abbrev pub TakesUntil : FaultClass → Input → Run → Type 0
@@ -83,50 +84,50 @@ abbrev pub ending_begun : Input → Run → Ending → Ending
 ending_begun input run ending = if is_whole input.file_ending && (length run.log == length input.units) then Whole else ending
 
 -- what a sink may gain until a fault of a class: its text; after a failed write at least the text without the last unit that was begun, and not all with it
-abbrev pub IsDueUntil : FaultClass → Option Job → Input → Run → Ending → List ℕ → Type 0
-IsDueUntil Refused job input run ending text = text ≡ sink_text job run ending
-IsDueUntil (Outside Opening name) job input run ending text = text ≡ sink_text job run ending
-IsDueUntil (Outside Reading name) job input run ending text = text ≡ sink_text job run ending
-IsDueUntil (Outside Writing name) job input run ending text =
-    IsPrefix (sink_text job (without_last run) ending) text × IsProperPrefix text (sink_text job run (ending_begun input run ending))
-IsDueUntil (BadInput name) job input run ending text = text ≡ sink_text job run ending
+abbrev pub IsDueUntil : FaultClass → Asked → Input → Run → Ending → List ℕ → Type 0
+IsDueUntil Refused asked input run ending text = text ≡ sink_text asked run ending
+IsDueUntil (Outside Opening name) asked input run ending text = text ≡ sink_text asked run ending
+IsDueUntil (Outside Reading name) asked input run ending text = text ≡ sink_text asked run ending
+IsDueUntil (Outside Writing name) asked input run ending text =
+    IsPrefix (sink_text asked (without_last run) ending) text × IsProperPrefix text (sink_text asked run (ending_begun input run ending))
+IsDueUntil (BadInput name) asked input run ending text = text ≡ sink_text asked run ending
 
 -- what the sink may gain, by how the run ends
-abbrev pub IsDue : Option Job → Input → Run → Ending → List ℕ → Type 0
-IsDue job input run Whole text = text ≡ sink_text job run Whole
-IsDue job input run Kept text = text ≡ sink_text job run Kept
-IsDue job input run (Faulted fault) text = IsDueUntil (class_of fault) job input run (Faulted fault) text
+abbrev pub IsDue : Asked → Input → Run → Ending → List ℕ → Type 0
+IsDue asked input run Whole text = text ≡ sink_text asked run Whole
+IsDue asked input run Kept text = text ≡ sink_text asked run Kept
+IsDue asked input run (Faulted fault) text = IsDueUntil (class_of fault) asked input run (Faulted fault) text
 
--- until a fault of a class that comes before anything is taken, nothing is recorded, and the sinks gain nothing, on every world
-abbrev pub LeavesUntil : FaultClass → Option Job → RunRecord → Seen → Seen → Type 0
-LeavesUntil Refused job run before now = (run ≡ Nothing) × SinksGain (λ text. text ≡ []) job before now
-LeavesUntil (Outside Opening name) job run before now = (run ≡ Nothing) × SinksGain (λ text. text ≡ []) job before now
-LeavesUntil (Outside Reading name) job run before now = (run ≡ Nothing) × SinksGain (λ text. text ≡ []) job before now
-LeavesUntil (Outside Writing name) job run before now = Unit {0}
-LeavesUntil (BadInput name) job run before now = Unit {0}
+-- where the words are refused, or opening or reading fails, nothing was taken: none is recorded, and the sinks gain nothing, on every world
+abbrev pub LeavesUntil : FaultClass → Asked → RunRecord → Seen → Seen → Type 0
+LeavesUntil Refused asked recorded before now = (recorded ≡ Nothing) × SinksGain (λ text. text ≡ []) asked before now
+LeavesUntil (Outside Opening name) asked recorded before now = (recorded ≡ Nothing) × SinksGain (λ text. text ≡ []) asked before now
+LeavesUntil (Outside Reading name) asked recorded before now = (recorded ≡ Nothing) × SinksGain (λ text. text ≡ []) asked before now
+LeavesUntil (Outside Writing name) asked recorded before now = Unit {0}
+LeavesUntil (BadInput name) asked recorded before now = Unit {0}
 
 -- what a run leaves on every world, by its fault
-abbrev pub LeavesSinks : Option ToolFault → Option Job → RunRecord → Seen → Seen → Type 0
-LeavesSinks None job run before now = Unit {0}
-LeavesSinks (Some fault) job run before now = LeavesUntil (class_of fault) job run before now
+abbrev pub LeavesSinks : Option ToolFault → Asked → RunRecord → Seen → Seen → Type 0
+LeavesSinks None asked recorded before now = Unit {0}
+LeavesSinks (Some fault) asked recorded before now = LeavesUntil (class_of fault) asked recorded before now
 
 -- for this input, a run was taken, it ended, and the sinks gained what is due
-pub record WritesSinks (job : Option Job) (input : Input) (fault : Option ToolFault) (taken : RunRecord) (before now : Seen) : Type 0 where
+pub record WritesSinks (asked : Asked) (input : Input) (fault : Option ToolFault) (recorded : RunRecord) (before now : Seen) : Type 0 where
   pub run : Run
   pub ending : Ending
-  pub is_run : IsRunOf taken input.units run
+  pub is_run : IsRunOf recorded input.units run
   pub is_ending : fault_of ending ≡ fault
   pub takes : Takes input run ending
-  pub sinks : SinksGain (IsDue job input run ending) job before now
+  pub sinks : SinksGain (IsDue asked input run ending) asked before now
 
 -- the words were worked off, but for the message
-pub record WorksOff (job : Option Job) (fault : Option ToolFault) (taken : RunRecord) (before now : Seen) : Type 0 where
+pub record WorksOff (asked : Asked) (fault : Option ToolFault) (recorded : RunRecord) (before now : Seen) : Type 0 where
   -- on every world, also one that tells no bytes
-  pub refused : job ≡ None → IsRefused fault
-  pub causes : (f : ToolFault) → fault ≡ Some f → HasCause job f before now
-  pub leaves : LeavesSinks fault job taken before now
+  pub refused : (f : ToolFault) → asked ≡ Refuse f → fault ≡ Some f
+  pub causes : (f : ToolFault) → fault ≡ Some f → HasCause asked f before now
+  pub leaves : LeavesSinks fault asked recorded before now
   -- where the world tells what the sources hold
-  pub writes : (input : Input) → IsInput job before input → WritesSinks job input fault taken before now
+  pub writes : (input : Input) → IsInput asked before input → WritesSinks asked input fault recorded before now
 
 -- standard error gained this text; where the count of its failed writes rose, this text or a prefix of it
 abbrev pub WritesError : List ℕ → Seen → Seen → Type 0
@@ -137,24 +138,24 @@ WritesError text before now =
 -- the main theorem, where the call answers an outcome
 pub record IsFaithful (words : List (List ℕ)) (outcome : Outcome) (before now : Seen) : Type 0 where
   pub status : outcome.status ≡ status_of outcome.fault
-  pub reports : WritesError (fault_message outcome.fault) before now
-  pub works : WorksOff (job_of words) outcome.fault outcome.run before now
+  pub reports : WritesError (fault_message words outcome.fault) before now
+  pub works : WorksOff (asked_of words) outcome.fault outcome.run before now
 
 -- for every answer, the sinks gained a prefix of the text that the input defines
-abbrev pub WritesPrefix : Option Job → Seen → Seen → Type 0
-WritesPrefix job before now = (input : Input) → IsInput job before input → SinksGain (λ text. IsPrefix text (whole_text job input)) job before now
+abbrev pub WritesPrefix : Asked → Seen → Seen → Type 0
+WritesPrefix asked before now = (input : Input) → IsInput asked before input → SinksGain (λ text. IsPrefix text (whole_text asked input)) asked before now
 
--- no call of a job failed
-abbrev pub NoFaultOf : Option Job → Seen → Seen → Type 0
-NoFaultOf job before now = (kind : CallKind) (name : List ℕ) → IsOneOf name (calls_of job kind) → ¬ (HasNewFault (before.faults kind name) (now.faults kind name))
+-- no call of the objects of a command line failed
+abbrev pub NoFaultOf : Asked → Seen → Seen → Type 0
+NoFaultOf asked before now = (kind : CallKind) (name : List ℕ) → IsOneOf name (calls_of asked kind) → ¬ (HasNewFault (before.faults kind name) (now.faults kind name))
 
 -- a good input of a job is worked off without a fault where no call of the job failed
 abbrev pub IsComplete : List (List ℕ) → Outcome → Seen → Seen → Type 0
 IsComplete words outcome before now =
-    (job : Job) (input : Input) → job_of words ≡ Some job → IsInput (Some job) before input → IsGood input → NoFaultOf (Some job) before now →
-    (outcome.fault ≡ None) × (outcome.status ≡ 0) × SinksGain (λ text. text ≡ sink_text (Some job) (run_of input.units) Whole) (Some job) before now
+    (job : Job) (input : Input) → asked_of words ≡ Work job → IsInput (Work job) before input → IsGood input → NoFaultOf (Work job) before now →
+    (outcome.fault ≡ None) × (outcome.status ≡ 0) × SinksGain (λ text. text ≡ sink_text (Work job) (run_of input.units) Whole) (Work job) before now
 
 -- where the call answers want of memory: of a fault's message nothing or a prefix was written
 abbrev pub IsCutShort : List (List ℕ) → Seen → Seen → Type 0
 IsCutShort words before now = Gains (before.written ERRORS) (now.written ERRORS) []
-    ⊎ ((fault : ToolFault) × HasCause (job_of words) fault before now × GainsSome (λ part. IsPrefix part (message fault)) (before.written ERRORS) (now.written ERRORS))
+    ⊎ ((fault : ToolFault) × HasCause (asked_of words) fault before now × GainsSome (λ part. IsPrefix part (message words fault)) (before.written ERRORS) (now.written ERRORS))

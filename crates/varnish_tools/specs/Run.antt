@@ -5,11 +5,11 @@ use Rattle.varnish_tools.specs.declared.fault.ToolFault.{ToolFault}
 use Rattle.varnish_tools.specs.declared.outcome.RunRecord.{RunRecord}
 use Rattle.varnish_tools.specs.declared.outcome.RunRecord.TheVariants.{Nothing, Counted}
 
--- an item of what a cursor took: units that follow one another in the log
+-- what a tool took without a gap: units that follow one another in the log
 pub data HistoryItem : Type 0 where
   UnitRun : Log → HistoryItem
 
--- a run: the log, and what the tool's cursor took of it, in order
+-- a run: the log, as far as it was looked at, and what the tool took of it, in order
 pub record Run : Type 0 where
   pub log : Log
   pub history : List HistoryItem
@@ -27,11 +27,11 @@ fault_of Kept = None
 fault_of (Faulted fault) = Some fault
 
 -- the units that were taken, in order
-abbrev pub taken : List HistoryItem → Log
-taken [] = []
-taken (UnitRun units ∷ items) = units ++ taken items
+abbrev pub taken_units : List HistoryItem → Log
+taken_units [] = []
+taken_units (UnitRun units ∷ items) = units ++ taken_units items
 
--- the run that takes nothing of an empty log
+-- the run that takes nothing
 abbrev pub no_run : Run
 no_run = record { log = []; history = [] }
 
@@ -39,7 +39,7 @@ no_run = record { log = []; history = [] }
 abbrev pub run_of : Log → Run
 run_of units = record { log = units; history = UnitRun units ∷ [] }
 
--- a record of a run over an input of these units: the run takes the first of them, or nothing
+-- the record of a run over an input of these units: it takes so many of them, from the first on, without a gap; or nothing
 abbrev pub IsRunOf : RunRecord → Log → Run → Type 0
 IsRunOf Nothing input run = run ≡ no_run
 IsRunOf (Counted units items) input run = (units ≤ length input) × (items ≡ 1) × (run ≡ run_of (take units input))

@@ -4,15 +4,14 @@
 //! standard output and the defined message to standard error, and answers the status. Its contract is
 //! the main theorem of this project, `IsFaithful` in `specs/Promise.antt`.
 //!
-//! Start with `specs/Job.antt`, `specs/Faults.antt` and `specs/Promise.antt`.
+//! Start with `specs/Asked.antt`, `specs/Faults.antt` and `specs/Promise.antt`.
 //! Source: varnishlog(1); messages and statuses are this project's choice.
 #![tactic(auto)]
 
+mod asked;
 mod fault;
-mod job;
 mod log_file;
 mod message;
-mod name;
 mod outcome;
 mod printer;
 mod run;
@@ -20,7 +19,6 @@ mod source;
 mod tools;
 
 pub use fault::ToolFault;
-pub use name::Name;
 pub use outcome::{Outcome, RunRecord};
 pub use printer::{PrintFault, Printer};
 pub use tools::run_tools;

@@ -1,24 +1,26 @@
 //! A run over a log file: it is opened and read whole, and its units are printed.
 
-ghost use Rattle.std.specs.Prelude.{◌≡◌, [], ◌∷◌, ◌-◌, ℕ, Some, IfOk, OnErr, length};
+ghost use Rattle.std.specs.Prelude.{◌≡◌, [], ◌∷◌, ◌-◌, ℕ, Some, IfOk, OnErr, length, true};
 ghost use Rattle.vio.specs.World.{Seen};
-ghost use Rattle.varnish_tools.specs.inside.Jobs.{IsBuilt, job_at};
+ghost use Rattle.varnish_tools.specs.inside.Jobs.{IsBuilt};
+ghost use Rattle.varnish_tools.specs.Asked.{Work, file_of};
+ghost use Rattle.varnish_tools.specs.Built.{is_built};
 ghost use Rattle.vio.specs.Touches.{Touches};
 ghost use Rattle.varnish_tools.specs.Promise.{WorksOff, WritesPrefix};
 ghost use Rattle.varnish_tools.specs.inside.LogFile.{IsReadWhole, IsOutputPrinter};
 
 use crate::fault::ToolFault;
-use crate::job::Job;
-use crate::name::Name;
 use crate::outcome::{Ran, counted, refused};
 use crate::printer::{PrintFault, Printer};
 use crate::run::{Stopped, print_source};
 use crate::source::{Source, SourceFault};
 use std::alloc::Global;
+use tool_words::Job;
 use txn_rows::{GroupOptions, Grouping};
 use vio::{NoMemory, OUTPUT, WholeFault, World, WorldFault, read_whole};
 use vsl_file::read_file;
 use vsl_record::{Unit, Units};
+use vsl_select::Text;
 
 /// The most bytes of a log file that are read.
 const LOG_LIMIT: u64 = 16_777_216;
@@ -82,25 +84,23 @@ fn output_printer(alloc: Global, grouping: Grouping) -> Result<Printer, NoMemory
         limit: LIMIT,
         timeout: TIMEOUT,
     };
-    let name = Name::new(alloc, "-")?;
+    let name = Text::new(alloc, "-")?;
     Printer::new(alloc, options, OUTPUT, name)
 }
 
 /// Prints the units of the job's log file, whose bytes these are.
 fn print_file<W: World>(
     alloc: Global,
-    job: &Job<'_>,
-    name: Name,
+    job: &Job,
+    name: Text,
     world: &mut W,
     bytes: &[u8],
 ) -> Result<Ran, NoMemory>
     requires built { IsBuilt job.now.grouping }
-    requires named { name ≡ job.now.file.now }
+    requires named { name ≡ file_of job.now }
     ensures touches { Touches [] (OUTPUT ∷ []) [] (W.seen world.old) (W.seen world.new) }
-    ensures prefix { let j = job_at job.now.grouping job.now.file.now in
-        (before : Seen) → IsReadWhole j bytes.now before (W.seen world.old) → WritesPrefix (Some j) before (W.seen world.new) }
-    ensures works { let j = job_at job.now.grouping job.now.file.now in
-        IfOk result (λ r. (before : Seen) → IsReadWhole j bytes.now before (W.seen world.old) → WorksOff (Some j) r.fault r.run before (W.seen world.new)) }
+    ensures prefix { (before : Seen) → IsReadWhole job.now bytes.now before (W.seen world.old) → WritesPrefix (Work job.now) before (W.seen world.new) }
+    ensures works { IfOk result (λ r. (before : Seen) → IsReadWhole job.now bytes.now before (W.seen world.old) → WorksOff (Work job.now) r.fault r.run before (W.seen world.new)) }
 {
     let file = read_file(alloc, bytes)?;
     let mut printer = output_printer(alloc, job.grouping)?;
@@ -124,14 +124,20 @@ fn print_file<W: World>(
 }
 
 /// Prints the groups of the job's log file.
-pub fn run_job<W: World>(alloc: Global, job: &Job<'_>, world: &mut W) -> Result<Ran, NoMemory>
-    requires { IsBuilt job.now.grouping }
-    ensures touches { Touches [] (OUTPUT ∷ []) (job.now.file.now ∷ []) (W.seen world.old) (W.seen world.new) }
-    ensures prefix { WritesPrefix (Some (job_at job.now.grouping job.now.file.now)) (W.seen world.old) (W.seen world.new) }
-    ensures works { IfOk result (λ r. WorksOff (Some (job_at job.now.grouping job.now.file.now)) r.fault r.run (W.seen world.old) (W.seen world.new)) }
+pub fn run_job<W: World>(
+    alloc: Global,
+    job: &Job,
+    file: &str,
+    world: &mut W,
+) -> Result<Ran, NoMemory>
+    requires built { is_built job.now ≡ true }
+    requires named { file.now ≡ file_of job.now }
+    ensures touches { Touches [] (OUTPUT ∷ []) (file_of job.now ∷ []) (W.seen world.old) (W.seen world.new) }
+    ensures prefix { WritesPrefix (Work job.now) (W.seen world.old) (W.seen world.new) }
+    ensures works { IfOk result (λ r. WorksOff (Work job.now) r.fault r.run (W.seen world.old) (W.seen world.new)) }
 {
-    let name = Name::new(alloc, job.file)?;
-    let handle = match world.open(job.file) {
+    let name = Text::new(alloc, file)?;
+    let handle = match world.open(file) {
         Ok(handle) => handle,
         Err(WorldFault::Failed) => return Ok(refused(ToolFault::NoOpen { name })),
         Err(WorldFault::NoMemory) => return Err(NoMemory),

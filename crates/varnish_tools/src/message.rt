@@ -1,31 +1,68 @@
 //! The messages of faults, and their statuses.
 
-ghost use Rattle.std.specs.Prelude.{◌≡◌, ◌++◌, codes, IfOk};
-ghost use Rattle.varnish_tools.specs.Faults.{message, status_of};
+ghost use Rattle.std.specs.Prelude.{◌≡◌, ◌++◌, map, codes, IfOk};
+ghost use Rattle.std.specs.String.{string_bytes};
+ghost use Rattle.varnish_tools.specs.Faults.{message, status_of, told, usage_message, word_at};
 
 use crate::fault::ToolFault;
 use std::alloc::{AllocError, Global};
+use tool_words::UsageFault;
 
-/// The text `vtools: NAME`, then what happened.
-fn about(alloc: Global, name: &str, happened: &str) -> Result<Vec<u8>, AllocError>
-    ensures { IfOk result (λ v. v.items ≡ codes "vtools: " ++ name.now ++ happened.now) }
+/// A line of two texts, after the program's name.
+fn tell(alloc: Global, first: &str, second: &str) -> Result<Vec<u8>, AllocError>
+    ensures { IfOk result (λ v. v.items ≡ told (first.now ++ second.now)) }
 {
     let mut text = Vec::from_slice(alloc, b"vtools: ")?;
-    text.extend_from_slice(name.as_bytes())?;
-    text.extend_from_slice(happened.as_bytes())?;
+    text.extend_from_slice(first.as_bytes())?;
+    text.extend_from_slice(second.as_bytes())?;
+    text.push(b'\n')?;
     Ok(text)
 }
 
-/// The message of a fault, a line for standard error.
-pub fn message_of(alloc: Global, fault: &ToolFault) -> Result<Vec<u8>, AllocError>
-    ensures { IfOk result (λ v. v.items ≡ message fault.now) }
+/// The word at a place.
+fn word_named(words: &[String], place: u32) -> &str
+    ensures { result.now ≡ word_at (map string_bytes words.now) place }
+{
+    match words.get(place as usize) {
+        Some(word) => word.as_str(),
+        None => "",
+    }
+}
+
+/// The message of what is wrong with the words.
+fn usage_message(alloc: Global, words: &[String], fault: UsageFault) -> Result<Vec<u8>, AllocError>
+    ensures { IfOk result (λ v. v.items ≡ usage_message (map string_bytes words.now) fault) }
 {
     match fault {
-        ToolFault::NotBuilt => Vec::from_slice(alloc, b"vtools: not built yet\n"),
-        ToolFault::NoOpen { name } => about(alloc, name.as_str(), ": cannot open\n"),
-        ToolFault::ReadFault { name } => about(alloc, name.as_str(), ": read failed\n"),
-        ToolFault::WriteFault { name } => about(alloc, name.as_str(), ": write failed\n"),
-        ToolFault::BadFile { name } => about(alloc, name.as_str(), ": bad log\n"),
+        UsageFault::UnknownTool { word } => tell(alloc, "unknown tool: ", word_named(words, word)),
+        UsageFault::UnknownOption { word } => {
+            tell(alloc, "unknown option: ", word_named(words, word))
+        }
+        UsageFault::NoValue { word } => {
+            tell(alloc, "option needs a value: ", word_named(words, word))
+        }
+        UsageFault::BadValue { word } => tell(alloc, "bad value: ", word_named(words, word)),
+        UsageFault::NotHere { word } => {
+            tell(alloc, "not supported here: ", word_named(words, word))
+        }
+        UsageFault::NoTool => tell(alloc, "no tool", ""),
+        UsageFault::NoOnce => tell(alloc, "give -1 to run once", ""),
+        UsageFault::NoLog => tell(alloc, "no log", ""),
+        UsageFault::TwoLogs => tell(alloc, "two logs", ""),
+    }
+}
+
+/// The message of a fault of these words, a line for standard error.
+pub fn message_of(alloc: Global, words: &[String], fault: &ToolFault) -> Result<Vec<u8>, AllocError>
+    ensures { IfOk result (λ v. v.items ≡ message (map string_bytes words.now) fault.now) }
+{
+    match fault {
+        ToolFault::Usage(fault) => usage_message(alloc, words, *fault),
+        ToolFault::NotBuilt => tell(alloc, "not built yet", ""),
+        ToolFault::NoOpen { name } => tell(alloc, name.as_str(), ": cannot open"),
+        ToolFault::ReadFault { name } => tell(alloc, name.as_str(), ": read failed"),
+        ToolFault::WriteFault { name } => tell(alloc, name.as_str(), ": write failed"),
+        ToolFault::BadFile { name } => tell(alloc, name.as_str(), ": bad log"),
     }
 }
 
@@ -35,6 +72,7 @@ pub fn status_of(fault: &Option<ToolFault>) -> u8
 {
     match fault {
         None => 0,
+        Some(ToolFault::Usage(_)) => 2,
         Some(ToolFault::NotBuilt) => 2,
         Some(_) => 1,
     }

@@ -10,13 +10,12 @@ ghost use Rattle.varnish_tools.specs.Printer.{Represents, IsSamePrinter, HasPrin
 ghost use Rattle.varnish_tools.specs.inside.Printing.{PutUnit};
 ghost use Rattle.vsl_select.specs.RawLine.{raw_lines};
 
-use crate::name::Name;
 use std::alloc::Global;
 use std::marker::Model;
 use txn_rows::{Group, GroupOptions, Grouping, Table};
 use vio::{NoMemory, World, WorldFault, write_all};
 use vsl_record::Unit;
-use vsl_select::{Selection, Sides, group_text, raw_line};
+use vsl_select::{Selection, Sides, Text, group_text, raw_line};
 
 /// Why printing stopped.
 #[derive(Debug, Drop)]
@@ -24,7 +23,7 @@ pub enum PrintFault {
     /// A write to the sink failed.
     WriteFault {
         /// The sink's name.
-        name: Name,
+        name: Text,
     },
     /// There was no memory.
     NoMemory,
@@ -45,7 +44,7 @@ impl From<NoMemory> for PrintFault {
 struct Sink {
     alloc: Global,
     handle: u32,
-    name: Name,
+    name: Text,
     text: Vec<u8>,
 }
 
@@ -89,7 +88,7 @@ fn put_unit(
     put_groups(out, groups, selection)
 }
 
-/// Writes the buffer, in one write, where there is any text.
+/// Writes the buffer.
 fn print_text<W: World>(world: &mut W, sink: &mut Sink) -> Result<(), PrintFault>
     requires named { IsTrue ((W.seen world.old).names Writing sink.old.handle sink.old.name) }
     ensures same { IsSink sink.old.handle sink.old.name sink.new.handle sink.new.name }
@@ -99,7 +98,7 @@ fn print_text<W: World>(world: &mut W, sink: &mut Sink) -> Result<(), PrintFault
 {
     match write_all(world, sink.handle, &sink.text) {
         Ok(()) => Ok(()),
-        Err(WorldFault::Failed) => match Name::new(sink.alloc, sink.name.as_str()) {
+        Err(WorldFault::Failed) => match Text::new(sink.alloc, sink.name.as_str()) {
             Ok(name) => Err(PrintFault::WriteFault { name }),
             Err(_) => Err(PrintFault::NoMemory),
         },
@@ -149,7 +148,7 @@ impl Printer {
         alloc: Global,
         options: GroupOptions,
         sink: u32,
-        name: Name,
+        name: Text,
     ) -> Result<Printer, NoMemory>
         requires grouping { (options.grouping ≡ Grouping.Raw) ⊎ (options.grouping ≡ Grouping.Vxid) }
         requires limit { 0 < options.limit }

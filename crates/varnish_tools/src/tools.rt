@@ -2,7 +2,7 @@
 
 ghost use Rattle.std.specs.Prelude.{map, [], ◌∷◌, IfOk, OnOk, OnErr};
 ghost use Rattle.std.specs.String.{string_bytes};
-ghost use Rattle.varnish_tools.specs.Job.{job_of};
+ghost use Rattle.varnish_tools.specs.Asked.{asked_of};
 ghost use Rattle.varnish_tools.specs.Faults.{fault_message};
 ghost use Rattle.varnish_tools.specs.Objects.{TouchesJob, streams_of, sources_of, sinks_of, calls_of};
 ghost use Rattle.vio.specs.World.{Opening};
@@ -10,8 +10,8 @@ ghost use Rattle.vio.specs.Touches.{Touches};
 ghost use Rattle.varnish_tools.specs.Promise.{WorksOff, WritesPrefix, WritesError, IsFaithful, IsComplete, IsCutShort};
 ghost use Rattle.varnish_tools.specs.inside.Report.{ReportsPart};
 
+use crate::asked::{file_name, read_job};
 use crate::fault::ToolFault;
-use crate::job::read_job;
 use crate::log_file::run_job;
 use crate::message::{message_of, status_of};
 use crate::outcome::{Outcome, Ran, refused};
@@ -19,15 +19,20 @@ use std::alloc::Global;
 use vio::{ERRORS, NoMemory, World, WorldFault, write_all};
 
 /// Writes the message of a fault to standard error. That this write fails changes nothing else.
-fn report<W: World>(alloc: Global, world: &mut W, fault: &Option<ToolFault>) -> Result<(), NoMemory>
+fn report<W: World>(
+    alloc: Global,
+    words: &[String],
+    world: &mut W,
+    fault: &Option<ToolFault>,
+) -> Result<(), NoMemory>
     ensures touches { Touches [] (ERRORS ∷ []) [] (W.seen world.old) (W.seen world.new) }
-    ensures ok { OnOk result (WritesError (fault_message fault.now) (W.seen world.old) (W.seen world.new)) }
-    ensures memory { OnErr result (ReportsPart fault.now (W.seen world.old) (W.seen world.new)) }
+    ensures ok { OnOk result (WritesError (fault_message (map string_bytes words.now) fault.now) (W.seen world.old) (W.seen world.new)) }
+    ensures memory { OnErr result (ReportsPart (map string_bytes words.now) fault.now (W.seen world.old) (W.seen world.new)) }
 {
     let Some(fault) = fault else {
         return Ok(());
     };
-    let text = message_of(alloc, fault)?;
+    let text = message_of(alloc, words, fault)?;
     match write_all(world, ERRORS, &text) {
         Ok(()) => Ok(()),
         Err(WorldFault::Failed) => Ok(()),
@@ -37,25 +42,24 @@ fn report<W: World>(alloc: Global, world: &mut W, fault: &Option<ToolFault>) -> 
 
 /// Works off the words, but for the message of a fault.
 fn run_words<W: World>(alloc: Global, words: &[String], world: &mut W) -> Result<Ran, NoMemory>
-    ensures touches { let job = job_of (map string_bytes words.now) in
-        Touches (streams_of (sources_of job)) (streams_of (sinks_of job)) (calls_of job Opening) (W.seen world.old) (W.seen world.new) }
-    ensures prefix { WritesPrefix (job_of (map string_bytes words.now)) (W.seen world.old) (W.seen world.new) }
-    ensures works { IfOk result (λ r. WorksOff (job_of (map string_bytes words.now)) r.fault r.run (W.seen world.old) (W.seen world.new)) }
+    ensures touches { let asked = asked_of (map string_bytes words.now) in
+        Touches (streams_of (sources_of asked)) (streams_of (sinks_of asked)) (calls_of asked Opening) (W.seen world.old) (W.seen world.new) }
+    ensures prefix { WritesPrefix (asked_of (map string_bytes words.now)) (W.seen world.old) (W.seen world.new) }
+    ensures works { IfOk result (λ r. WorksOff (asked_of (map string_bytes words.now)) r.fault r.run (W.seen world.old) (W.seen world.new)) }
 {
-    match read_job(words) {
-        Some(job) => run_job(alloc, &job, world),
-        None => Ok(refused(ToolFault::NotBuilt)),
+    match read_job(alloc, words)? {
+        Ok(job) => run_job(alloc, &job, file_name(&job), world),
+        Err(fault) => Ok(refused(fault)),
     }
 }
 
 /// Does what the words of a command line ask for, without the program's name.
 ///
-/// The words are `varnishlog -r FILE`, which groups by transaction, `varnishlog -g vxid -r FILE`, which is
-/// the same, or `varnishlog -g raw -r FILE`, with any FILE but `-`; others are not built. The log file is
-/// read whole. After each unit the text of the groups that it completed goes to standard output in one
-/// write, and after the last unit of a whole log that of the pending ones; then a fault's message goes to
-/// standard error. The status is 0 without a fault, 2 for words that are not built, and else 1. After
-/// `NoMemory` a part of the output was written.
+/// Words that state no job are refused, and so is a job that isn't built: built is varnishlog over a log file, by
+/// transaction or one record by one. The file is read whole. After each unit the text of the groups that it completed
+/// goes to standard output, and after the last unit of a whole log that of the pending ones; then a fault's message goes
+/// to standard error. The status is 0 without a fault, 2 where the words are refused, and else 1. After `NoMemory` a
+/// prefix of the output was written.
 ///
 /// Source: varnishlog(1); messages and statuses are this project's choice.
 pub fn run_tools<W: World>(
@@ -63,14 +67,14 @@ pub fn run_tools<W: World>(
     words: &[String],
     world: &mut W,
 ) -> Result<Outcome, NoMemory>
-    ensures touches { TouchesJob (job_of (map string_bytes words.now)) (W.seen world.old) (W.seen world.new) }
-    ensures prefix { WritesPrefix (job_of (map string_bytes words.now)) (W.seen world.old) (W.seen world.new) }
+    ensures touches { TouchesJob (asked_of (map string_bytes words.now)) (W.seen world.old) (W.seen world.new) }
+    ensures prefix { WritesPrefix (asked_of (map string_bytes words.now)) (W.seen world.old) (W.seen world.new) }
     ensures faithful { IfOk result (λ o. IsFaithful (map string_bytes words.now) o (W.seen world.old) (W.seen world.new)) }
     ensures complete { IfOk result (λ o. IsComplete (map string_bytes words.now) o (W.seen world.old) (W.seen world.new)) }
     ensures memory { OnErr result (IsCutShort (map string_bytes words.now) (W.seen world.old) (W.seen world.new)) }
 {
     let Ran { fault, run } = run_words(alloc, words, world)?;
-    report(alloc, world, &fault)?;
+    report(alloc, words, world, &fault)?;
     let status = status_of(&fault);
     Ok(Outcome { status, fault, run })
 }

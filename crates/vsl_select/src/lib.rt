@@ -9,6 +9,8 @@
 mod lines;
 mod parts;
 mod selection;
+mod text;
 
 pub use lines::{group_text, raw_line};
 pub use selection::{RuleText, SelectFault, Selection, Sides};
+pub use text::{Listed, Text};

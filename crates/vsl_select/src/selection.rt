@@ -3,6 +3,7 @@
 ghost use Rattle.std.specs.Prelude.{◌≡◌, length, false, IfOk, IsOk};
 ghost use Rattle.vsl_select.specs.Shown.{is_shown_member, is_shown_record};
 
+use crate::text::Text;
 use log_model::NoMemory;
 use std::alloc::Global;
 use thiserror::Error;
@@ -22,7 +23,7 @@ pub struct Sides {
 pub struct RuleText {
     pub include: bool,
     pub regex: bool,
-    pub text: String,
+    pub text: Text,
     /// The place of the word that has the text.
     pub word: u32,
 }

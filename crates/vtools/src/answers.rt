@@ -17,18 +17,28 @@ const VERSION: &str = "vtools 0.1 (unreleased)\n";
 const HELP: &str = "\
 vtools: Varnish's logging tools as one program
 
-usage: vtools varnishlog [-g GROUPING] -r FILE
+usage: vtools [OPTIONS] varnishlog [-g GROUPING] -r FILE
 
 Prints the records of the log file FILE, a group of them when it is complete.
 
+  -r FILE           reads the log file FILE, which is any name but -
   -g vxid           groups records by transaction; this is the default
   -g raw            prints each record by itself, in the order of the file
+
+Taken too, and of no effect: -a, -A, -C and -d; -L 1000 and -T 120, which are
+the defaults; before the tool --ring N, --reclen N, --turns N and --feed-first.
+Options stand in any order, letters may share a word, and the last -g counts.
+
+The words of varnishncsa, varnishtop and varnishstat are read, but these tools
+are not built yet.
 
   vtools --help     prints this text
   vtools --version  prints the version
 
 Exit status: 0 done, 1 the input or the outside failed, 2 the command line was
 refused, 3 out of memory.
+
+All options, and which are built: docs/FORMATS.md. Manual: docs/man/vtools.1.
 ";
 
 /// Prints a text, and answers 0, or 1 where a write failed, or 3 where there was no memory.

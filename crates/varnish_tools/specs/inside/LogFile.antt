@@ -3,7 +3,8 @@ use Rattle.std.specs.Prelude.{◌≡◌, ℕ, ◌≤◌, List, [], length, Some,
 use Rattle.vio.specs.declared.world.TheConstants.{OUTPUT}
 use Rattle.vio.specs.World.{Seen, NoCountFalls}
 use Rattle.txn_rows.specs.declared.group.Grouping.{Grouping}
-use Rattle.varnish_tools.specs.Job.{Job}
+use Rattle.tool_words.specs.declared.job.Job.{Job}
+use Rattle.varnish_tools.specs.Asked.{file_of}
 use Rattle.varnish_tools.specs.Promise.{log_limit}
 use Rattle.varnish_tools.specs.Printer.{PrinterState, Represents}
 
@@ -16,7 +17,7 @@ pub record IsSilent (before now : Seen) : Type 0 where
 pub record IsReadWhole (job : Job) (bytes : List ℕ) (before now : Seen) : Type 0 where
   pub silent : IsSilent before now
   pub within : length bytes ≤ log_limit
-  pub all : (file_bytes : List ℕ) → before.held job.file ≡ Some file_bytes → file_bytes ≡ bytes
+  pub all : (file_bytes : List ℕ) → before.held (file_of job) ≡ Some file_bytes → file_bytes ≡ bytes
 
 -- a new printer to standard output
 pub record IsOutputPrinter (grouping : Grouping) (p : PrinterState) : Type 0 where

@@ -1,8 +1,10 @@
 use Rattle.varnish_tools.proofs.ToolLemmas.{works_refused}
 use Rattle.varnish_tools.proofs.tools.run_words.Goals as goal
 
-pub returns-in-Some-clause-prefix : goal.returns-in-Some-clause-prefix
-returns-in-Some-clause-prefix g c = rw c.in-Some.ensures.job c.run_job.ensures.prefix
+pub returns-in-Ok-clause-prefix : goal.returns-in-Ok-clause-prefix
+returns-in-Ok-clause-prefix g c = let asked = rw c.in-Ok.is at c.in_ok-job.ensures.asked in rw asked c.run_job.ensures.prefix
 
-pub returns-in-None-clause-works : goal.returns-in-None-clause-works
-returns-in-None-clause-works g c = rw (c.in-None.ensures.job, c.refused.ensures.fault, c.refused.ensures.run) (works_refused _)
+pub returns-in-Err-clause-works : goal.returns-in-Err-clause-works
+returns-in-Err-clause-works g c =
+    let asked = rw c.in-Err.is at c.in_ok-job.ensures.asked in
+    let refused = rw c.in-Err.is at c.in_ok-job.ensures.refused in rw (asked, c.refused.ensures.fault, c.refused.ensures.run) (works_refused _ _ refused)

@@ -1,0 +1,24 @@
+//! The words of a command line, and the job that they state.
+//!
+//! A list of words goes in, without the program's name, and out comes the job, or the first thing that is
+//! wrong with the words, with the place of the word. Every list of words has one of the two; nothing is
+//! opened and nothing is printed here.
+//!
+//! Start with `specs/Job.antt`; the options of each tool are the tables of `options.rt`, which the
+//! definitions cite as they stand. Source: varnishlog(1), varnishncsa(1), varnishtop(1), varnishstat(1).
+#![tactic(auto)]
+
+mod fault;
+mod fold;
+mod job;
+mod laws;
+mod number;
+mod options;
+mod reading;
+mod whole;
+mod words;
+
+pub use fault::{UsageFault, WordsFault};
+pub use job::{Job, Order, QueryText, StatMode, Tool};
+pub use laws::first_fault_stays;
+pub use words::read_words;

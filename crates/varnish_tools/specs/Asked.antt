@@ -1,0 +1,26 @@
+-- What the words of a command line ask for (this project's choice).
+use Rattle.std.specs.Prelude.{ℕ, if◌then◌else◌, List, [], unwrap_or, Result, Ok, Err}
+use Rattle.tool_words.specs.declared.fault.UsageFault.{UsageFault}
+use Rattle.tool_words.specs.declared.job.Job.{Job}
+use Rattle.tool_words.specs.Job.{job_of}
+use Rattle.varnish_tools.specs.declared.fault.ToolFault.{ToolFault}
+use Rattle.varnish_tools.specs.declared.fault.ToolFault.TheVariants.{Usage, NotBuilt}
+use Rattle.varnish_tools.specs.Built.{is_built}
+
+-- what the words of a command line come to: they are refused with a fault, or state a job
+pub data Asked : Type 0 where
+  Refuse : ToolFault → Asked
+  Work : Job → Asked
+
+-- what is asked for by a job, or by what is wrong with the words; a job that isn't built is refused
+abbrev pub asked_by : Result Job UsageFault → Asked
+asked_by (Err fault) = Refuse (Usage fault)
+asked_by (Ok job) = if is_built job then Work job else Refuse NotBuilt
+
+-- what the words ask for
+abbrev pub asked_of : List (List ℕ) → Asked
+asked_of words = asked_by (job_of words)
+
+-- the name of a job's log file, where it has one
+abbrev pub file_of : Job → List ℕ
+file_of job = unwrap_or job.file []

@@ -1,0 +1,102 @@
+//! What the words of a command line ask for.
+
+ghost use Rattle.std.specs.Prelude.{◌≡◌, map, true, IfOk, MatchResult, IfErr};
+ghost use Rattle.std.specs.String.{string_bytes};
+ghost use Rattle.varnish_tools.specs.Asked.{Refuse, Work, asked_of, file_of};
+ghost use Rattle.varnish_tools.specs.Faults.{Refused, class_of};
+ghost use Rattle.varnish_tools.specs.Built.{is_built, is_built_grouping, is_built_tool, names_file, shows_all};
+
+use crate::fault::ToolFault;
+use std::alloc::Global;
+use tool_words::{Job, Tool, WordsFault, read_words};
+use txn_rows::Grouping;
+use vio::NoMemory;
+use vsl_select::{Sides, Text};
+
+/// Whether the tool is built.
+fn has_tool(tool: Tool) -> bool
+    ensures { result ≡ is_built_tool tool }
+{
+    match tool {
+        Tool::Log => true,
+        Tool::Ncsa => false,
+        Tool::Top => false,
+        Tool::Stat => false,
+    }
+}
+
+/// Whether the grouping is built.
+fn has_grouping(grouping: Grouping) -> bool
+    ensures { result ≡ is_built_grouping grouping }
+{
+    match grouping {
+        Grouping::Raw => true,
+        Grouping::Vxid => true,
+        Grouping::Request => false,
+        Grouping::Session => false,
+    }
+}
+
+/// Whether a log file is named, and not standard input.
+fn has_file(file: &Option<Text>) -> bool
+    ensures { result ≡ names_file file.now }
+{
+    match file {
+        None => false,
+        Some(name) => name.as_str() != "-",
+    }
+}
+
+/// Whether all transactions are shown.
+fn is_all(sides: Sides) -> bool
+    ensures { result ≡ shows_all sides }
+{
+    !sides.backend && !sides.client && !sides.esi
+}
+
+/// Whether a job asks for nothing that isn't built.
+fn is_built_job(job: &Job) -> bool
+    ensures { result ≡ is_built job.now }
+{
+    has_tool(job.tool)
+        && has_file(&job.file)
+        && job.limit == 1000
+        && job.timeout == 120
+        && job.keep.is_none()
+        && is_all(job.sides)
+        && !job.verbose
+        && job.queries.as_slice().is_empty()
+        && job.rules.as_slice().is_empty()
+        && job.write.is_none()
+        && has_grouping(job.grouping)
+}
+
+/// The name of the job's log file.
+pub fn file_name(job: &Job) -> &str
+    ensures { result.now ≡ file_of job.now }
+{
+    match &job.file {
+        Some(name) => name.as_str(),
+        None => "",
+    }
+}
+
+/// The job that the words state, where it is built, or the fault that refuses them.
+pub fn read_job(alloc: Global, words: &[String]) -> Result<Result<Job, ToolFault>, NoMemory>
+    ensures asked { IfOk result (λ r. MatchResult r
+        (λ job. asked_of (map string_bytes words.now) ≡ Work job)
+        (λ fault. asked_of (map string_bytes words.now) ≡ Refuse fault)) }
+    ensures built { IfOk result (λ r. IfOk r (λ job. is_built job ≡ true)) }
+    ensures refused { IfOk result (λ r. IfErr r (λ fault. class_of fault ≡ Refused)) }
+{
+    match read_words(alloc, words) {
+        Ok(job) => {
+            if !is_built_job(&job) {
+                return Ok(Err(ToolFault::NotBuilt));
+            }
+            Ok(Ok(job))
+        }
+        Err(WordsFault::Usage(fault)) => Ok(Err(ToolFault::Usage(fault))),
+        Err(WordsFault::NoMemory) => Err(NoMemory),
+    }
+}
