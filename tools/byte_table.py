@@ -76,16 +76,17 @@ def unit_ends(data, at):
 
 
 def read(data):
-    """How many units the file has, and whether it ends after a whole unit or after its header."""
-    if data[: len(HEADER)] != HEADER:
-        return 0, False
+    """How many units the file has, and the byte at which it is wrong, or None where it is whole."""
+    for at, byte in enumerate(HEADER):
+        if data[at : at + 1] != bytes([byte]):
+            return 0, at
     at, units = len(HEADER), 0
     while at < len(data):
         end = unit_ends(data, at)
         if end is None:
-            return units, False
+            return units, at
         at, units = end, units + 1
-    return units, True
+    return units, None
 
 
 def ranges(values):
@@ -114,30 +115,31 @@ def main():
     )
     data = HEADER + backend + client
     assert len(data) == 100 and len(backend) == 36 and len(client) == 56
-    assert read(data) == (2, True)
+    assert read(data) == (2, None)
 
     first, last, also, early = [], [], [], []
     for place, old in enumerate(data):
         whole, left = [], {}
         for value in range(256):
             changed = data[:place] + bytes([value]) + data[place + 1 :]
-            units, is_whole = read(changed)
-            if is_whole:
+            units, wrong = read(changed)
+            if wrong is None:
                 assert units == 2, (place, value, units)
                 whole.append(value)
             else:
-                left.setdefault(units, []).append(value)
+                left.setdefault((units, wrong), []).append(value)
         for low, high in ranges(whole):
             if low <= old <= high:
                 first.append(low)
                 last.append(high)
             else:
                 also.append((place, low, high))
-        # the other values leave the units before the changed one; the rest are listed one by one
+        # the other values leave the units before the changed one, which is wrong, or a wrong header; the rest are listed
         before = 0 if place < len(HEADER + backend) else 1
-        for units, values in left.items():
-            if units != before:
-                early += [(place, value, units) for value in values]
+        begin = place if place < len(HEADER) else len(HEADER) + before * len(backend)
+        for (units, wrong), values in left.items():
+            if (units, wrong) != (before, begin):
+                early += [(place, value, units, wrong) for value in values]
     assert len(first) == 100
 
     print(HEAD)
@@ -156,11 +158,13 @@ def main():
         print("    (%d, %d, %d)," % row)
     print("];")
     print()
-    print("/// A place, a value and how many units it leaves: the header counts fewer words, up to the end of")
-    print("/// a record, so that the unit is whole and no unit follows it. The values that stand nowhere here")
-    print("/// leave the units before the changed one.")
-    text = ", ".join("(%d, %d, %d)" % row for row in sorted(early))
-    print("pub const ENDS_EARLY: [(usize, u8, usize); %d] = [%s];" % (len(early), text))
+    print("/// A place, a value, how many units it leaves, and the byte at which no unit begins then: the header")
+    print("/// counts fewer words, up to the end of a record, so that the unit is whole and no unit follows it. The")
+    print("/// values that stand nowhere here leave the units before the changed one, or a wrong header.")
+    print("pub const ENDS_EARLY: [(usize, u8, usize, u64); %d] = [" % len(early))
+    for row in sorted(early):
+        print("    (%d, %d, %d, %d)," % row)
+    print("];")
 
 
 if __name__ == "__main__":

@@ -125,16 +125,68 @@ expect "words that are refused open no pipe" 2 "vtools: bad value: -k0"
 run varnishlog -g raw -r /dev/stdin >out 2>err <one.log
 expect "FILE the standard input by its path" 0 "" "$text"
 
-# FILE has the most bytes, and one more; zero bytes are no unit.
-cp one.log large.log
-truncate -s 16777216 large.log
-run varnishlog -g raw -r large.log >out 2>err </dev/null
-expect "a log of 16 MiB" 1 "vtools: large.log: bad log" "$text"
-truncate -s 16777217 large.log
-run varnishlog -g raw -r large.log >out 2>err </dev/null
-expect "a log over 16 MiB" 1 "vtools: large.log: bad log"
+# Standard input is a pipe: the first line comes before the input has ended.
+exec 5<>pipe
+run varnishlog -g raw -r - >out 2>err <pipe 5>&- &
+cat one.log >&5
+for _ in {1..50}; do
+    [ -s out ] && break
+    sleep 0.1
+done
+printf '%s\n' "$text" | cmp -s - out || fail "a pipe that goes on: the line didn't come"
+tail -c +9 one.log | head -c 9 >&5
+exec 5>&-
+wait
+expect "a pipe that ends inside a unit" 1 "vtools: -: damaged at 28" "$text"
+
+# FILE has more than 16 MiB: the units of the real log a hundred times. Zero bytes are no unit.
+tail -c +9 "$log" >units
+(
+    cat header.log
+    for _ in {1..100}; do cat units; done
+) >large.log
+run varnishlog -g raw -r large.log >large 2>err </dev/null
+for _ in {1..100}; do cat "$lines"; done | cmp -s - large || fail "a large log: the lines differ"
+expect "a large log" 0 ""
+run varnishlog -g raw -w large -r large.log >out 2>err </dev/null
+expect "a large log to a file" 0 ""
+run varnishlog -g raw -r large >again 2>err </dev/null
+for _ in {1..100}; do cat "$lines"; done | cmp -s - again || fail "a large log, read back: the lines differ"
+expect "a large log, read back" 0 ""
+rm large large.log again
+cp one.log zeros.log
+truncate -s 16777217 zeros.log
+run varnishlog -g raw -r zeros.log >out 2>err </dev/null
+expect "zeros behind a log" 1 "vtools: zeros.log: damaged at 28" "$text"
 run varnishlog -g raw -r /dev/zero >out 2>err </dev/null
-expect "a file without end" 1 "vtools: /dev/zero: bad log"
+expect "a file without end" 1 "vtools: /dev/zero: not a log at 0"
+
+# What is written is full, a folder, or a pipe whose reader has gone.
+run varnishlog -g raw -w /dev/full -r one.log >out 2>err </dev/null
+expect "a full file" 1 "vtools: /dev/full: write failed"
+run varnishlog -A -g raw -w /dev/full -r header.log >out 2>err </dev/null
+expect "a full file and nothing to write" 0 ""
+run varnishlog -w . -r one.log >out 2>err </dev/null
+expect "a folder that is to be written" 1 "vtools: .: cannot open"
+
+# A transaction of 128 records of 4,000 bytes is written as two units: 65 records, and 63 with what the flush adds.
+tail -c +13 "$long" >record
+id() { head -c 8 record | tail -c 4; }
+(
+    cat header.log
+    for _ in {1..128}; do tail -c +9 "$long"; done
+) >wide.log
+run varnishlog -w wide -r wide.log >out 2>err </dev/null
+(
+    cat header.log
+    printf '\x6b\xfe\x00\xfe'
+    for _ in {1..65}; do cat record; done
+    printf '\x9f\xf6\x00\xfe'
+    for _ in {1..63}; do cat record; done
+    printf '\x05\x00\x00\x2d' && id && printf 'flush\0\0\0'
+    printf '\x05\x00\x00\x2c' && id && printf 'synth\0\0\0'
+) | cmp -s - wide || fail "a wide transaction: the units differ"
+expect "a wide transaction" 0 ""
 
 # A transaction of 16 MB stays open: with an address space of 30 MB there is no memory for it.
 tail -c +9 "$long" >units
@@ -154,11 +206,12 @@ expect "memory for 16 MB" 0 ""
 
 # The real log is cut in its last unit, which has one record, of no transaction.
 head -c -4 "$log" >real.log
+begin=181044
 run varnishlog -g raw -r real.log >real 2>err </dev/null
 head -n -1 "$lines" | cmp -s - real || fail "real traffic, cut: the lines differ"
-expect "real traffic, cut" 1 "vtools: real.log: bad log"
+expect "real traffic, cut" 1 "vtools: real.log: damaged at $begin"
 run varnishlog -r real.log >real 2>err </dev/null
 cmp -s "$transactions" real || fail "real traffic, cut: the transactions differ"
-expect "real traffic, cut, by transaction" 1 "vtools: real.log: bad log"
+expect "real traffic, cut, by transaction" 1 "vtools: real.log: damaged at $begin"
 
 echo "edges: ok, $count of them"

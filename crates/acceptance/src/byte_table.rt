@@ -39,7 +39,11 @@ pub const ALSO_WHOLE: [(usize, u8, u8); 4] = [
     (68, 24, 24),
 ];
 
-/// A place, a value and how many units it leaves: the header counts fewer words, up to the end of
-/// a record, so that the unit is whole and no unit follows it. The values that stand nowhere here
-/// leave the units before the changed one.
-pub const ENDS_EARLY: [(usize, u8, usize); 3] = [(8, 7, 1), (44, 6, 2), (44, 12, 2)];
+/// A place, a value, how many units it leaves, and the byte at which no unit begins then: the header
+/// counts fewer words, up to the end of a record, so that the unit is whole and no unit follows it. The
+/// values that stand nowhere here leave the units before the changed one, or a wrong header.
+pub const ENDS_EARLY: [(usize, u8, usize, u64); 3] = [
+    (8, 7, 1, 36),
+    (44, 6, 2, 68),
+    (44, 12, 2, 92),
+];

@@ -1,8 +1,8 @@
 //! Calls of the world that fail.
 
 use crate::support::{
-    Answer, Ending, FETCH, FETCH_GROUPS, Log, ONE_PING, OPEN_GROUPS, PRINT_F, expect_run, refused,
-    taken, world_with,
+    Answer, Ending, FETCH, FETCH_GROUPS, Log, ONE_PING, OPEN_GROUPS, OPEN_TO_FILE, PING_TO_FILE,
+    PRINT_F, expect_run, refused, taken, world_with,
 };
 use std::alloc::Global;
 use std::process::Abort;
@@ -28,6 +28,20 @@ fn write_until(
     Ok(false)
 }
 
+/// Counts so many calls, and says whether one of them fails.
+fn is_among(failing: usize, call: &mut usize, calls: usize) -> bool {
+    let before = *call;
+    *call = before.saturating_add(calls);
+    before < failing && failing <= *call
+}
+
+/// How many reads bring what was taken of a log up to this byte; then it was taken.
+fn reads_up_to(end: usize, taken: &mut usize) -> usize {
+    let reads = end.saturating_sub(*taken).div_ceil(PIECE);
+    *taken = taken.saturating_add(reads.saturating_mul(PIECE));
+    reads
+}
+
 /// What a run answers whose call of this number fails, counted from 1. The text is a buffer.
 fn answer_without_call<'a>(
     log: &Log,
@@ -35,26 +49,40 @@ fn answer_without_call<'a>(
     text: &'a mut Vec<u8>,
 ) -> Result<Answer<'a>, Fail> {
     text.clear();
-    // the last read finds the end
-    let reads = log.bytes.len().div_ceil(PIECE) + 1;
-    if failing <= 1 {
-        return Ok(refused(Ending::NoOpen));
+    let mut call = 1;
+    if failing <= call {
+        return Ok(refused(Ending::NoOpen("f")));
     }
-    if failing <= 1 + reads {
-        return Ok(refused(Ending::ReadFault));
+    let unwritten = Ending::WriteFault(log.sink.name);
+    if log.sink.handle != 1 && is_among(failing, &mut call, 1) {
+        return Ok(refused(Ending::NoOpen(log.sink.name)));
     }
-    let mut call = 1 + reads;
+    if write_until(failing, &mut call, log.head, text)? {
+        return Ok(taken(unwritten, 0, text));
+    }
+    let mut bytes = 0;
     let mut units: u64 = 0;
     let mut flush: &[u8] = b"";
-    for (_, unit_text, unit_flush) in log.units {
+    let header_reads = reads_up_to(8, &mut bytes);
+    if is_among(failing, &mut call, header_reads) {
+        return Ok(taken(Ending::ReadFault, units, text));
+    }
+    for (end, unit_text, unit_flush) in log.units {
+        if is_among(failing, &mut call, reads_up_to(*end, &mut bytes)) {
+            return Ok(taken(Ending::ReadFault, units, text));
+        }
         units = units.saturating_add(1);
         flush = *unit_flush;
         if write_until(failing, &mut call, *unit_text, text)? {
-            return Ok(taken(Ending::WriteFault, units, text));
+            return Ok(taken(unwritten, units, text));
         }
     }
+    // the last read finds the end
+    if is_among(failing, &mut call, 1) {
+        return Ok(taken(Ending::ReadFault, units, text));
+    }
     if write_until(failing, &mut call, flush, text)? {
-        return Ok(taken(Ending::WriteFault, units, text));
+        return Ok(taken(unwritten, units, text));
     }
     Ok(taken(Ending::Done, units, text))
 }
@@ -64,7 +92,10 @@ fn expect_faults(rt: &impl Abort, alloc: Global, log: &Log, calls: u8) -> Result
     let mut text = Vec::new(alloc);
     for failing in 1..=calls.saturating_add(1) {
         let at = usize::from(failing);
-        let want = answer_without_call(log, at, &mut text)?;
+        let want = Answer {
+            sink: log.sink.handle,
+            ..answer_without_call(log, at, &mut text)?
+        };
         let is_done = matches!(want.ending, Ending::Done);
         assert_eq!(rt; is_done, failing > calls, "{}, {at}", log.name);
         let mut world = world_with(alloc, log.bytes)?;
@@ -85,6 +116,17 @@ fn each_failing_call_has_its_fault(rt: HostRuntime) -> Result<(), Fail> {
     expect_faults(&rt, rt.alloc(), &FETCH_GROUPS, 103)?;
     // an open, 23 reads and one at the end, 28 writes for the second unit and 38 for the flush
     expect_faults(&rt, rt.alloc(), &OPEN_GROUPS, 91)
+}
+
+#[test]
+fn each_failing_call_of_a_run_that_writes_a_file_has_its_fault(
+    rt: HostRuntime,
+) -> Result<(), Fail> {
+    // an open, a creation, 3 writes for the header, 10 reads and one at the end, and 7 writes
+    expect_faults(&rt, rt.alloc(), &PING_TO_FILE, 23)?;
+    // an open, a creation, 3 writes for the header, 23 reads and one at the end, 12 writes for the second unit and 19 for
+    // the flush
+    expect_faults(&rt, rt.alloc(), &OPEN_TO_FILE, 60)
 }
 
 /// Lets two calls fail, of which the second writes a message after so many of its bytes.
@@ -127,7 +169,14 @@ fn a_message_that_fails_changes_nothing_else(rt: HostRuntime) -> Result<(), Fail
             written,
         )?;
         let calls = (1, call + 1);
-        expect_cut_message(&rt, rt.alloc(), PRINT_F, calls, Ending::NoOpen, written)?;
+        expect_cut_message(
+            &rt,
+            rt.alloc(),
+            PRINT_F,
+            calls,
+            Ending::NoOpen("f"),
+            written,
+        )?;
     }
     Ok(())
 }

@@ -5,17 +5,20 @@ ghost use Rattle.std.specs.Prelude.{◌<◌};
 use crate::byte_table::{ALSO_WHOLE, ENDS_EARLY, FIRST_WHOLE, LAST_WHOLE, REQUEST_WITH_FETCH};
 use crate::support::{
     Answer, Ending, FETCH, FETCH_GROUPS, HEADER, Log, ONE_PING, OPEN_GROUPS, PRINT_F, expect_run,
-    refused, taken, world_with,
+    read_content, taken, world_with,
 };
 use std::alloc::Global;
 use std::process::Abort;
 use std::test::Fail;
-use vsl_file::read_file;
+use vio::World;
+use vsl_file::{FileFault, FileReader, put_header, put_unit};
+use vsl_record::{Mark, Record, Unit};
+use vsl_tags::Tag;
 
 /// What the first `cut` bytes of a log answer. The text is a buffer.
 fn answer_of_cut<'a>(log: &Log, cut: usize, text: &'a mut Vec<u8>) -> Result<Answer<'a>, Fail> {
     text.clear();
-    let mut whole = cut == HEADER.len();
+    let mut begin = HEADER.len();
     let mut units: u64 = 0;
     let mut flush: &[u8] = b"";
     for (end, unit_text, unit_flush) in log.units {
@@ -23,11 +26,14 @@ fn answer_of_cut<'a>(log: &Log, cut: usize, text: &'a mut Vec<u8>) -> Result<Ans
             units = units.saturating_add(1);
             flush = *unit_flush;
             text.extend_from_slice(*unit_text)?;
+            begin = *end;
         }
-        whole = whole || *end == cut;
     }
-    if !whole {
-        return Ok(taken(Ending::BadFile, units, text));
+    if cut < HEADER.len() {
+        return Ok(taken(Ending::NotALog(cut as u64), units, text));
+    }
+    if cut != begin {
+        return Ok(taken(Ending::Damaged(begin as u64), units, text));
     }
     text.extend_from_slice(flush)?;
     Ok(taken(Ending::Done, units, text))
@@ -58,52 +64,91 @@ fn a_cut_file_prints_its_whole_units_and_a_whole_one_its_flush(
 }
 
 #[test]
-fn a_file_over_the_limit_is_not_begun(rt: HostRuntime) -> Result<(), Fail> {
+fn a_file_of_more_than_16_mebibytes_is_read_as_far_as_it_is_a_log(
+    rt: HostRuntime,
+) -> Result<(), Fail> {
     let mut bytes = Vec::from_slice(rt.alloc(), ONE_PING.bytes)?;
-    bytes.resize(16_777_216, 0)?;
+    bytes.resize(16_777_217, 0)?;
     let (_, line, _) = ONE_PING.units[0];
-    let most = taken(Ending::BadFile, 1, line);
+    let want = taken(Ending::Damaged(28), 1, line);
     let mut world = world_with(rt.alloc(), &bytes)?;
-    expect_run(&rt, rt.alloc(), PRINT_F, &mut world, &most, "the most", 0)?;
-    bytes.push(0)?;
-    let mut world = world_with(rt.alloc(), &bytes)?;
-    let more = refused(Ending::BadFile);
-    expect_run(&rt, rt.alloc(), PRINT_F, &mut world, &more, "one more", 0)
+    expect_run(&rt, rt.alloc(), PRINT_F, &mut world, &want, "zeros", 0)
 }
 
-/// Whether the file is whole with this value at this place, and how many units it has.
-fn content_of_changed(place: usize, value: u8) -> (bool, usize)
+/// How many units the file has with this value at this place, and why no more, if it isn't whole.
+fn content_of_changed(place: usize, value: u8) -> (usize, Option<FileFault>)
     requires { place < 100 }
 {
     if FIRST_WHOLE[place] <= value && value <= LAST_WHOLE[place] {
-        return (true, 2);
+        return (2, None);
     }
     for (at, first, last) in ALSO_WHOLE {
         if at == place && first <= value && value <= last {
-            return (true, 2);
+            return (2, None);
         }
     }
-    for (at, changed, units) in ENDS_EARLY {
+    for (at, changed, units, wrong) in ENDS_EARLY {
         if at == place && changed == value {
-            return (false, units);
+            return (units, Some(FileFault::Damaged { at: wrong }));
         }
+    }
+    if place < HEADER.len() {
+        return (0, Some(FileFault::NotALog { at: place as u64 }));
     }
     // the first unit is whole where the second one was changed
-    (false, if place < 44 { 0 } else { 1 })
+    if place < 44 {
+        return (0, Some(FileFault::Damaged { at: 8 }));
+    }
+    (1, Some(FileFault::Damaged { at: 44 }))
 }
 
 #[test]
 fn a_changed_byte_is_seen_where_it_matters(rt: HostRuntime) -> Result<(), Fail> {
-    for place in 0..REQUEST_WITH_FETCH.len() {
-        for value in 0..=255 {
-            let mut bytes = REQUEST_WITH_FETCH;
-            bytes[place] = value;
-            let file = read_file(rt.alloc(), &bytes)?;
-            let (whole, units) = content_of_changed(place, value);
-            assert_eq!(rt; file.whole, whole, "{value} at {place}");
-            let count = file.units.as_slice().len();
-            assert_eq!(rt; count, units, "{value} at {place}");
+    for piece in [1, 3, 1000] {
+        for place in 0..REQUEST_WITH_FETCH.len() {
+            for value in 0..=255 {
+                let mut bytes = REQUEST_WITH_FETCH;
+                bytes[place] = value;
+                let content = read_content(rt.alloc(), &bytes, piece)?;
+                let want = content_of_changed(place, value);
+                assert_eq!(rt; content, want, "{value} at {place}");
+            }
         }
     }
+    Ok(())
+}
+
+#[test]
+fn a_reader_that_answered_a_fault_answers_that_one_came_before(
+    rt: HostRuntime,
+) -> Result<(), Fail> {
+    let mut world = world_with(rt.alloc(), b"VSLO")?;
+    let handle = world.open("f")?;
+    let mut reader = FileReader::new(rt.alloc(), handle)?;
+    for want in [
+        FileFault::NotALog { at: 4 },
+        FileFault::FailedBefore,
+        FileFault::FailedBefore,
+    ] {
+        let fault = reader.next(&mut world).err();
+        assert_eq!(rt; fault, Some(want));
+    }
+    Ok(())
+}
+
+#[test]
+fn a_header_and_a_unit_are_written_as_their_bytes(rt: HostRuntime) -> Result<(), Fail> {
+    let mut text = Vec::new(rt.alloc());
+    put_header(&mut text)?;
+    let ping = Record::new(
+        rt.alloc(),
+        Tag::from_number(3).ok_or("CLI is a tag")?,
+        Mark::Plain,
+        b"Rd ping",
+    )?;
+    let mut records = Vec::new(rt.alloc());
+    records.push(ping)?;
+    put_unit(&Unit::new(0, Mark::Plain, records)?, &mut text)?;
+    assert_eq!(rt; text.as_slice(), ONE_PING.bytes);
     Ok(())
 }

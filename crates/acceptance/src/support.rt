@@ -8,7 +8,8 @@ use std::process::Abort;
 use std::test::Fail;
 use tool_words::UsageFault;
 use varnish_tools::{Outcome, RunRecord, ToolFault, run_tools};
-use vio::MemWorld;
+use vio::{MemWorld, World};
+use vsl_file::{FileFault, FileReader, FileStep};
 use vsl_record::{Mark, Record};
 use vsl_select::{Selection, Sides};
 use vsl_tags::Tag;
@@ -26,21 +27,47 @@ const BY_TRANSACTION: &[&str] = &["varnishlog", "-r", "f"];
 /// the log ends with it.
 type UnitText = (usize, &'static [u8], &'static [u8]);
 
-/// A log file, the words that print it, and what they print.
+/// A log file, the words that print it or write it, and what they write.
 #[derive(Clone, Copy)]
 pub struct Log {
     pub name: &'static str,
     pub words: &'static [&'static str],
     pub bytes: &'static [u8],
+    /// What is written before any unit is taken.
+    pub head: &'static [u8],
     pub units: &'static [UnitText],
+    pub sink: Sink,
 }
+
+/// Where a run writes its text: the handle and the name.
+#[derive(Clone, Copy)]
+pub struct Sink {
+    pub handle: u32,
+    pub name: &'static str,
+}
+
+pub const OUTPUT: Sink = Sink {
+    handle: 1,
+    name: "-",
+};
+
+/// The file `out`: it is created after the log was opened.
+pub const OUT: Sink = Sink {
+    handle: 4,
+    name: "out",
+};
+
+/// A log of a unit of one record, of no transaction and no mark.
+const PING_BYTES: &[u8] = b"VSLOG-1\n\x05\x00\x00\xfe\x07\x00\x00\x03\x00\x00\x00\x00Rd ping\x00";
 
 /// A unit of one record, of no transaction and no mark.
 pub const ONE_PING: Log = Log {
     name: "a ping",
     words: PRINT_F,
-    bytes: b"VSLOG-1\n\x05\x00\x00\xfe\x07\x00\x00\x03\x00\x00\x00\x00Rd ping\x00",
+    bytes: PING_BYTES,
+    head: b"",
     units: &[(28, b"         0 CLI            - Rd ping\n", b"")],
+    sink: OUTPUT,
 };
 
 const FETCH_LINES: &[u8] =
@@ -54,7 +81,9 @@ pub const FETCH: Log = Log {
     name: "a request",
     words: PRINT_F,
     bytes: &REQUEST_WITH_FETCH,
+    head: b"",
     units: &[(44, FETCH_LINES, b""), (100, REQUEST_LINES, b"")],
+    sink: OUTPUT,
 };
 
 /// The group of the backend's transaction.
@@ -70,19 +99,58 @@ pub const FETCH_GROUPS: Log = Log {
     name: "two transactions",
     words: BY_TRANSACTION,
     bytes: &REQUEST_WITH_FETCH,
+    head: b"",
     units: &[(44, FETCH_TEXT, b""), (100, REQUEST_TEXT, b"")],
+    sink: OUTPUT,
 };
 
 /// The group of a request that begins and doesn't end.
 const OPEN_TEXT: &[u8] =
     b"*   << Request  >> 9         \n-   Begin          req 1 rxreq\n-   VSL            flush\n-   End            synth\n\n";
 
+/// A log of a request that begins and doesn't end, and then the backend's unit.
+const OPEN_BYTES: &[u8] =
+    b"VSLOG-1\n\x06\x00\x00\xfe\x0b\x00\x00\x2a\x09\x00\x00\x40req 1 rxreq\x00\x09\x00\x00\xfe\x0d\x00\x00\x2a\x03\x00\x00\x80bereq 2 fetch\x00\x00\x00\x00\x00\x00\x2c\x03\x00\x00\x80";
+
 /// A request that begins and doesn't end, and then the backend's unit, by transaction.
 pub const OPEN_GROUPS: Log = Log {
     name: "an open transaction",
     words: BY_TRANSACTION,
-    bytes: b"VSLOG-1\n\x06\x00\x00\xfe\x0b\x00\x00\x2a\x09\x00\x00\x40req 1 rxreq\x00\x09\x00\x00\xfe\x0d\x00\x00\x2a\x03\x00\x00\x80bereq 2 fetch\x00\x00\x00\x00\x00\x00\x2c\x03\x00\x00\x80",
+    bytes: OPEN_BYTES,
+    head: b"",
     units: &[(32, b"", OPEN_TEXT), (68, FETCH_TEXT, OPEN_TEXT)],
+    sink: OUTPUT,
+};
+
+/// The ping, one record by one, as a log file.
+pub const PING_TO_FILE: Log = Log {
+    name: "a ping to a file",
+    words: &["varnishlog", "-g", "raw", "-w", "out", "-r", "f"],
+    bytes: PING_BYTES,
+    head: HEADER,
+    units: &[(
+        28,
+        b"\x05\x00\x00\xfe\x07\x00\x00\x03\x00\x00\x00\x00Rd ping\x00",
+        b"",
+    )],
+    sink: OUT,
+};
+
+/// The request that doesn't end and the backend's unit, by transaction, as a log file.
+pub const OPEN_TO_FILE: Log = Log {
+    name: "an open transaction to a file",
+    words: &["varnishlog", "-w", "out", "-r", "f"],
+    bytes: OPEN_BYTES,
+    head: HEADER,
+    units: &[
+        (32, b"", b""),
+        (
+            68,
+            b"\x09\x00\x00\xfe\x0d\x00\x00\x2a\x03\x00\x00\x80bereq 2 fetch\x00\x00\x00\x00\x00\x00\x2c\x03\x00\x00\x80",
+            b"\x0e\x00\x00\xfe\x0b\x00\x00\x2a\x09\x00\x00\x40req 1 rxreq\x00\x05\x00\x00\x2d\x09\x00\x00\x40flush\x00\x00\x00\x05\x00\x00\x2c\x09\x00\x00\x40synth\x00\x00\x00",
+        ),
+    ],
+    sink: OUT,
 };
 
 /// How a run over the file `f` ends.
@@ -91,23 +159,79 @@ pub enum Ending {
     Done,
     BadValue,
     NotBuilt,
-    NoOpen,
+    /// The file of this name can't be opened or created.
+    NoOpen(&'static str),
     ReadFault,
-    WriteFault,
-    BadFile,
+    /// A write to what has this name failed.
+    WriteFault(&'static str),
+    /// At this byte.
+    NotALog(u64),
+    /// At this byte.
+    Damaged(u64),
 }
 
-/// The status of an ending, the fault's variant and the name that it tells, and the message.
-fn told(ending: Ending) -> (u8, &'static str, &'static str, &'static str) {
+/// The status of an ending.
+fn status_of(ending: Ending) -> u8 {
     match ending {
-        Ending::Done => (0, "", "", ""),
-        Ending::BadValue => (2, "BadValue", "", "vtools: bad value: -k0\n"),
-        Ending::NotBuilt => (2, "NotBuilt", "", "vtools: not built yet\n"),
-        Ending::NoOpen => (1, "NoOpen", "f", "vtools: f: cannot open\n"),
-        Ending::ReadFault => (1, "ReadFault", "f", "vtools: f: read failed\n"),
-        Ending::WriteFault => (1, "WriteFault", "-", "vtools: -: write failed\n"),
-        Ending::BadFile => (1, "BadFile", "f", "vtools: f: bad log\n"),
+        Ending::Done => 0,
+        Ending::BadValue | Ending::NotBuilt => 2,
+        _ => 1,
     }
+}
+
+/// An ending's fault: its variant, the name that it tells, and the place.
+fn fault_of(ending: Ending) -> (&'static str, &'static str, u64) {
+    match ending {
+        Ending::Done => ("", "", 0),
+        Ending::BadValue => ("BadValue", "", 0),
+        Ending::NotBuilt => ("NotBuilt", "", 0),
+        Ending::NoOpen(name) => ("NoOpen", name, 0),
+        Ending::ReadFault => ("ReadFault", "f", 0),
+        Ending::WriteFault(name) => ("WriteFault", name, 0),
+        Ending::NotALog(at) => ("NotALog", "f", at),
+        Ending::Damaged(at) => ("Damaged", "f", at),
+    }
+}
+
+/// What a message says after the name, or all that it says.
+fn what_of(ending: Ending) -> &'static str {
+    match ending {
+        Ending::Done => "",
+        Ending::BadValue => "bad value: -k0",
+        Ending::NotBuilt => "not built yet",
+        Ending::NoOpen(_) => ": cannot open",
+        Ending::ReadFault => ": read failed",
+        Ending::WriteFault(_) => ": write failed",
+        Ending::NotALog(_) => ": not a log at ",
+        Ending::Damaged(_) => ": damaged at ",
+    }
+}
+
+/// Adds a number below 10,000 in decimal.
+fn put_number(text: &mut Vec<u8>, number: u64) -> Result<(), Fail> {
+    for power in [1000, 100, 10, 1] {
+        if number >= power || power == 1 {
+            text.push(b'0' + (number / power % 10) as u8)?;
+        }
+    }
+    Ok(())
+}
+
+/// The message of an ending.
+fn message_of(alloc: Global, ending: Ending) -> Result<Vec<u8>, Fail> {
+    let mut text = Vec::new(alloc);
+    if matches!(ending, Ending::Done) {
+        return Ok(text);
+    }
+    let (_, name, at) = fault_of(ending);
+    for part in ["vtools: ", name, what_of(ending)] {
+        text.extend_from_slice(part.as_bytes())?;
+    }
+    if matches!(ending, Ending::NotALog(_) | Ending::Damaged(_)) {
+        put_number(&mut text, at)?;
+    }
+    text.push(b'\n')?;
+    Ok(text)
 }
 
 /// The name of a fault's variant.
@@ -119,29 +243,34 @@ fn variant_of(fault: &ToolFault) -> &'static str {
         ToolFault::NoOpen { .. } => "NoOpen",
         ToolFault::ReadFault { .. } => "ReadFault",
         ToolFault::WriteFault { .. } => "WriteFault",
-        ToolFault::BadFile { .. } => "BadFile",
+        ToolFault::NotALog { .. } => "NotALog",
+        ToolFault::Damaged { .. } => "Damaged",
+        ToolFault::TooLarge { .. } => "TooLarge",
     }
 }
 
-/// The name that a fault tells.
-fn name_in(fault: &ToolFault) -> &str {
+/// The name and the place that a fault tells.
+fn told_in(fault: &ToolFault) -> (&str, u64) {
     match fault {
-        ToolFault::Usage(_) => "",
-        ToolFault::NotBuilt => "",
-        ToolFault::NoOpen { name } => name.as_str(),
-        ToolFault::ReadFault { name } => name.as_str(),
-        ToolFault::WriteFault { name } => name.as_str(),
-        ToolFault::BadFile { name } => name.as_str(),
+        ToolFault::Usage(_) => ("", 0),
+        ToolFault::NotBuilt => ("", 0),
+        ToolFault::NoOpen { name } => (name.as_str(), 0),
+        ToolFault::ReadFault { name } => (name.as_str(), 0),
+        ToolFault::WriteFault { name } => (name.as_str(), 0),
+        ToolFault::NotALog { name, at } => (name.as_str(), *at),
+        ToolFault::Damaged { name, at } => (name.as_str(), *at),
+        ToolFault::TooLarge { name, limit } => (name.as_str(), *limit),
     }
 }
 
-/// Compares a fault's variant and name with those that are wanted; no fault has neither.
-fn expect_fault(rt: &impl Abort, fault: &Option<ToolFault>, variant: &str, name: &str) {
+/// Compares a fault with that of an ending; no fault has no variant.
+fn expect_fault(rt: &impl Abort, fault: &Option<ToolFault>, ending: Ending) {
+    let (variant, name, at) = fault_of(ending);
     match fault {
         None => assert_eq!(rt; "", variant),
         Some(fault) => {
             assert_eq!(rt; variant_of(fault), variant);
-            assert_eq!(rt; name_in(fault), name);
+            assert_eq!(rt; told_in(fault), (name, at));
         }
     }
 }
@@ -151,6 +280,8 @@ fn expect_fault(rt: &impl Abort, fault: &Option<ToolFault>, variant: &str, name:
 pub struct Answer<'a> {
     pub ending: Ending,
     pub run: RunRecord,
+    /// The handle of what is written, and what it has then.
+    pub sink: u32,
     pub output: &'a [u8],
     /// How many bytes of the message are written, if it has more.
     pub written: usize,
@@ -161,6 +292,7 @@ pub fn refused(ending: Ending) -> Answer<'static> {
     Answer {
         ending,
         run: RunRecord::Nothing,
+        sink: OUTPUT.handle,
         output: b"",
         written: usize::MAX,
     }
@@ -182,6 +314,27 @@ pub fn world_with(alloc: Global, bytes: &[u8]) -> Result<MemWorld, Fail> {
     Ok(world)
 }
 
+/// How many units the file of these bytes has, at most 1,000, and why no more are there, if it isn't whole. It
+/// is read in pieces of so many bytes.
+pub fn read_content(
+    alloc: Global,
+    bytes: &[u8],
+    piece: usize,
+) -> Result<(usize, Option<FileFault>), Fail> {
+    let mut world = world_with(alloc, bytes)?;
+    world.piece(piece);
+    let handle = world.open("f")?;
+    let mut reader = FileReader::new(alloc, handle)?;
+    for units in 0..1000 {
+        match reader.next(&mut world) {
+            Ok(FileStep::Unit(_)) => {}
+            Ok(FileStep::End) => return Ok((units, None)),
+            Err(fault) => return Ok((units, Some(fault))),
+        }
+    }
+    Ok((1000, None))
+}
+
 fn run(alloc: Global, words: &[&str], world: &mut MemWorld) -> Result<Outcome, Fail> {
     let mut typed = Vec::new(alloc);
     for word in words {
@@ -201,13 +354,12 @@ pub fn expect_run(
     at: usize,
 ) -> Result<(), Fail> {
     let outcome = run(alloc, words, world)?;
-    let (status, variant, name, message) = told(want.ending);
-    let message = message.as_bytes();
-    let errors = message.get(..want.written).unwrap_or(message);
-    expect_fault(rt, &outcome.fault, variant, name);
-    assert_eq!(rt; outcome.status, status, "{what}, {at}");
+    let message = message_of(alloc, want.ending)?;
+    let errors = message.get(..want.written).unwrap_or(&message);
+    expect_fault(rt, &outcome.fault, want.ending);
+    assert_eq!(rt; outcome.status, status_of(want.ending), "{what}, {at}");
     assert_eq!(rt; outcome.run, want.run, "{what}, {at}");
-    assert_eq!(rt; world.content(1), want.output, "{what}, {at}");
+    assert_eq!(rt; world.content(want.sink), want.output, "{what}, {at}");
     assert_eq!(rt; world.content(2), errors, "{what}, {at}");
     Ok(())
 }

@@ -7,7 +7,7 @@ use crate::support::record_of;
 use std::alloc::Global;
 use std::process::Abort;
 use std::test::Fail;
-use vsl_record::{Mark, Record, RecordFault, Unit, UnitFault, WordFault, read_unit};
+use vsl_record::{Mark, Record, RecordFault, Unit, UnitFault, WordFault, read_unit, unit_words};
 use vsl_tags::Tag;
 
 /// A unit of one record: CLI "Rd ping", of no transaction and no mark.
@@ -102,7 +102,10 @@ fn a_unit_of_one_word_more_is_refused(rt: HostRuntime) -> Result<(), Fail> {
     assert_eq!(rt; refused, Some(UnitFault::TooLong { words: 1_048_577 }));
     let spelled = words(rt.alloc(), 1_048_577, 0x2d00_0785, &[0x0000_0062])?;
     assert_eq!(rt; spelled.len(), 1_048_577);
-    assert_eq!(rt; read_unit(rt.alloc(), &spelled).err(), Some(WordFault::Bad));
+    assert_eq!(rt;
+        read_unit(rt.alloc(), &spelled).err(),
+        Some(WordFault::BadLength { at: 0 })
+    );
     Ok(())
 }
 
@@ -148,20 +151,98 @@ fn one_ping_is_read(rt: HostRuntime) -> Result<(), Fail> {
 }
 
 #[test]
-fn words_that_are_no_unit_are_bad(rt: HostRuntime) {
-    let mut filled_with_one = ONE_PING;
-    filled_with_one[4] = 0x0167_6e69;
+fn a_unit_tells_its_words(rt: HostRuntime) -> Result<(), Fail> {
+    let (unit, taken) = read_unit(rt.alloc(), &ONE_PING)?;
+    assert_eq!(rt; unit.words(), taken);
+    let all = unit_words(rt.alloc(), &unit)?;
+    assert_eq!(rt; all.as_slice(), ONE_PING.as_slice());
+    for place in 0..unit.words() {
+        assert_eq!(rt; Some(unit.word_at(place)), all.get(place).copied());
+    }
+    Ok(())
+}
+
+/// The words begin with no unit, and this is their first fault.
+fn expect_fault(rt: &impl Abort, alloc: Global, words: &[u32], fault: WordFault) {
+    assert_eq!(rt; read_unit(alloc, words).err(), Some(fault));
+}
+
+#[test]
+fn a_header_at_fault_is_told_before_words_that_are_missing(rt: HostRuntime) {
+    let alloc = rt.alloc();
+    expect_fault(&rt, alloc, &ONE_PING[..0], WordFault::Short);
+    expect_fault(&rt, alloc, &ONE_PING[..4], WordFault::Short);
+    expect_fault(&rt, alloc, &ONE_PING[1..], WordFault::BadTag { at: 0 });
+    expect_fault(&rt, alloc, &[0xfe00_0002], WordFault::BadLength { at: 0 });
+    expect_fault(&rt, alloc, &[0xfe10_0001], WordFault::BadLength { at: 0 });
+    expect_fault(&rt, alloc, &[0xfe10_0000], WordFault::Short);
+}
+
+#[test]
+fn a_first_record_at_fault_is_told(rt: HostRuntime) {
+    let alloc = rt.alloc();
     let cases = [
-        ("no words", &ONE_PING[..0]),
-        ("a unit without its last word", &ONE_PING[..4]),
-        ("a record without its unit's header", &ONE_PING[1..]),
         (
-            "a last word that is not filled with zero",
-            &filled_with_one[..],
+            [0xfe00_0003, 0x0000_0000, 0, 0],
+            WordFault::BadTag { at: 1 },
+        ),
+        (
+            [0xfe00_0003, 0x5d00_0000, 0, 0],
+            WordFault::BadTag { at: 1 },
+        ),
+        (
+            [0xfe00_0003, 0x0300_0fa1, 0xc000_0000, 0],
+            WordFault::BadLength { at: 1 },
+        ),
+        (
+            [0xfe00_0003, 0x0300_0001, 0, 0x61],
+            WordFault::BadLength { at: 1 },
+        ),
+        (
+            [0xfe00_0004, 0x0300_0001, 0xc000_0000, 0x0100_0061],
+            WordFault::BadMark { at: 2 },
+        ),
+        (
+            [0xfe00_0004, 0x0300_0001, 0x8000_0000, 0x0000_0161],
+            WordFault::BadPadding { at: 3 },
         ),
     ];
-    for (what, words) in cases {
-        let refused = read_unit(rt.alloc(), words).err();
-        assert_eq!(rt; refused, Some(WordFault::Bad), "{what}");
+    for (words, fault) in cases {
+        expect_fault(&rt, alloc, &words, fault);
     }
+    let mut filled_with_one = ONE_PING;
+    filled_with_one[4] = 0x0167_6e69;
+    expect_fault(
+        &rt,
+        alloc,
+        &filled_with_one,
+        WordFault::BadPadding { at: 4 },
+    );
+}
+
+#[test]
+fn a_later_record_at_fault_is_told(rt: HostRuntime) {
+    let alloc = rt.alloc();
+    let cases = [
+        ([0x2c00_0000, 0x4000_0008, 0], WordFault::Mixed { at: 4 }),
+        ([0x2c00_0000, 0xc000_0007, 0], WordFault::Mixed { at: 4 }),
+        (
+            [0x5d00_0001, 0x4000_0008, 0x0100_0061],
+            WordFault::BadTag { at: 3 },
+        ),
+        (
+            [0x0300_0001, 0x4000_0007, 0x0100_0061],
+            WordFault::BadPadding { at: 5 },
+        ),
+        (
+            [0x0300_0005, 0x4000_0007, 0x0100_0061],
+            WordFault::BadLength { at: 3 },
+        ),
+    ];
+    for ([head, id, last], fault) in cases {
+        let words = [0xfe00_0006, 0x2c00_0000, 0x4000_0007, head, id, last];
+        expect_fault(&rt, alloc, &words, fault);
+    }
+    let cut = [0xfe00_0004, 0x2c00_0000, 0x4000_0007, 0x2c00_0000];
+    expect_fault(&rt, alloc, &cut, WordFault::BadLength { at: 3 });
 }

@@ -1,11 +1,18 @@
 //! What a world in memory, and whole reads over it, refuse is no want of memory. That calls fail and move bytes as
-//! they should is said by clauses; only that the answer is not `NoMemory` is not.
+//! they should is said by clauses; only that the answer is not `NoMemory` is not. Files are created and written as a
+//! tool would do it.
 
 use std::test::Fail;
-use vio::{ERRORS, Failed, INPUT, MemWorld, OUTPUT, WholeFault, World, WorldFault, read_whole};
+use vio::{
+    Created, ERRORS, Failed, INPUT, MemWorld, OUTPUT, WholeFault, World, WorldFault, read_whole,
+    write_all,
+};
 
 /// The bytes of the files and pieces below.
 const TEXT: &[u8] = b"abcde";
+
+/// The bytes of another file.
+const OTHER: &[u8] = b"xyz";
 
 #[test]
 fn a_text_over_the_limit_is_too_large(rt: HostRuntime) -> Result<(), Fail> {
@@ -46,5 +53,103 @@ fn other_names_and_handles_are_refused(rt: HostRuntime) -> Result<(), Fail> {
         let refused = world.write(h, TEXT);
         assert_eq!(rt; refused, Err(WorldFault::Failed), "a write to {h}");
     }
+    Ok(())
+}
+
+/// How a file is created: whether one is there, whether to append, and what it holds after a write.
+struct Creation {
+    what: &'static str,
+    is_there: bool,
+    append: bool,
+    after: &'static [u8],
+}
+
+const CREATIONS: [Creation; 4] = [
+    Creation {
+        what: "no file, emptied",
+        is_there: false,
+        append: false,
+        after: b"abcde",
+    },
+    Creation {
+        what: "no file, appended to",
+        is_there: false,
+        append: true,
+        after: b"abcde",
+    },
+    Creation {
+        what: "a file, emptied",
+        is_there: true,
+        append: false,
+        after: b"abcde",
+    },
+    Creation {
+        what: "a file, appended to",
+        is_there: true,
+        append: true,
+        after: b"xyzabcde",
+    },
+];
+
+#[test]
+fn a_created_file_gains_each_piece(rt: HostRuntime) -> Result<(), Fail> {
+    for case in &CREATIONS {
+        let mut world = MemWorld::new(rt.alloc())?;
+        world.file("g", OTHER)?;
+        if case.is_there {
+            world.file("f", OTHER)?;
+        }
+        world.piece(2);
+        let empty = !(case.is_there && case.append);
+        let want = Created { handle: 3, empty };
+        assert_eq!(rt; world.create("f", case.append), Ok(want), "{}", case.what);
+        assert_eq!(rt; write_all(&mut world, 3, TEXT), Ok(()), "{}", case.what);
+        assert_eq!(rt; world.content(3), case.after, "{}", case.what);
+        assert_eq!(rt; world.open("g"), Ok(4), "{}", case.what);
+        assert_eq!(rt; world.content(4), OTHER, "{}", case.what);
+    }
+    Ok(())
+}
+
+#[test]
+fn a_created_file_is_not_read_and_an_opened_one_not_written(rt: HostRuntime) -> Result<(), Fail> {
+    let mut world = MemWorld::new(rt.alloc())?;
+    world.file("f", TEXT)?;
+    let created = world.create("g", false);
+    assert_eq!(rt; created.map(|c| c.handle), Ok(3));
+    assert_eq!(rt; world.open("f"), Ok(4));
+    let mut buf = [0; 8];
+    assert_eq!(rt; world.read(3, &mut buf), Err(Failed));
+    assert_eq!(rt; world.write(4, TEXT), Err(WorldFault::Failed));
+    Ok(())
+}
+
+#[test]
+fn a_creation_that_fails_changes_no_file(rt: HostRuntime) -> Result<(), Fail> {
+    let mut world = MemWorld::new(rt.alloc())?;
+    world.file("f", TEXT)?;
+    world.fail(1)?;
+    assert_eq!(rt; world.create("f", false), Err(WorldFault::Failed));
+    assert_eq!(rt; world.open("f"), Ok(3));
+    assert_eq!(rt; world.content(3), TEXT);
+    Ok(())
+}
+
+#[test]
+fn an_opened_file_keeps_its_bytes_while_its_name_is_emptied(rt: HostRuntime) -> Result<(), Fail> {
+    let mut world = MemWorld::new(rt.alloc())?;
+    world.file("f", TEXT)?;
+    assert_eq!(rt; world.open("f"), Ok(3));
+    assert_eq!(rt;
+        world.create("f", false),
+        Ok(Created {
+            handle: 4,
+            empty: true
+        })
+    );
+    assert!(rt; world.content(3).is_empty());
+    let bytes = read_whole(rt.alloc(), &mut world, 3, 8);
+    let bytes = bytes.unwrap_or(Vec::new(rt.alloc()));
+    assert_eq!(rt; bytes.as_slice(), TEXT);
     Ok(())
 }

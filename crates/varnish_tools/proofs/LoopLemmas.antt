@@ -4,21 +4,48 @@ use Rattle.std.proofs.lemmas.List.{append-nil, take-append-le, take_all}
 use Rattle.log_model.specs.Prefix.{IsPrefix, IsProperPrefix}
 use Rattle.log_model.proofs.PrefixLemmas.{prefix_append, prefix_then}
 use Rattle.log_model.specs.Faults.{HasNewFault}
-use Rattle.vio.specs.World.{Seen, Writing, NoCountFalls, Gains, Wrote}
-use Rattle.vio.proofs.WholeLemmas.{NoCountFalls-then, gained_so}
-use Rattle.vio.specs.Writes.{WroteOn, Gained}
+use Rattle.vio.specs.World.{Seen, Writing, NoCountFalls, Wrote}
+use Rattle.vio.proofs.WholeLemmas.{NoCountFalls-then}
+use Rattle.vio.specs.Writes.{WroteOn}
 use Rattle.vio.specs.Touches.{Touches}
 use Rattle.vsl_record.specs.Unit.{LogUnit, Log}
-use Rattle.txn_rows.specs.declared.group.Grouping.{Grouping}
-use Rattle.txn_rows.specs.declared.group.GroupOptions.{GroupOptions}
+use Rattle.varnish_tools.specs.declared.layout.Layout.{Layout}
+use Rattle.varnish_tools.specs.declared.layout.Layout.TheVariants.{Lines, Units}
 use Rattle.varnish_tools.specs.declared.source.SourceFault.{SourceFault}
 use Rattle.varnish_tools.specs.declared.printer.PrintFault.{PrintFault}
 use Rattle.varnish_tools.specs.declared.printer.PrintFault.TheVariants.{WriteFault, NoMemory}
 use Rattle.varnish_tools.specs.declared.run.Stopped.TheVariants.{BySource, ByPrinter}
-use Rattle.varnish_tools.specs.Printer.{PrinterState, Represents, IsSamePrinter, HasPrintCause, IsLeft, due, due_text}
-use Rattle.varnish_tools.specs.inside.Loop.{Running, IsLeftOf, RanToEnd, RanUntil}
+use Rattle.varnish_tools.specs.Output.{laid_out}
+use Rattle.varnish_tools.specs.Printer.{PrinterState, Represents, IsSamePrinter, HasPrintCause, IsLeft, due}
+use Rattle.varnish_tools.specs.inside.Loop.{Added, AddedSome, Running, IsLeftOf, RanToEnd, RanUntil}
 use Rattle.varnish_tools.proofs.PrinterLemmas.{due_first}
 use Rattle.vio.proofs.TouchLemmas.{touches_none, touches_wrote, touches_then, touches_read}
+
+-- no group, no text
+pub laid_nil : (l : Layout) → laid_out l [] ≡ []
+laid_nil Lines = refl
+laid_nil Units = refl
+
+-- nothing was added
+pub added_none : (h : ℕ) (s : Seen) → Added h [] s s
+added_none h s = record { written = λ a told. told ∙ ap Some (sym (append-nil a)); file = λ name beyond named a told. told ∙ ap Some (sym (append-nil a)) }
+
+-- what was added stays where other handles are read
+added_still : (h : ℕ) (a reads : List ℕ) (s t u : Seen) → Added h a s t → t.given h ≡ true → Touches reads [] [] [] t u → Added h a s u
+added_still h a reads s t u p given q = record {
+  written = λ x told. q.written h given (λ o. o) ∙ p.written x told;
+  file = λ name beyond named x told. q.held name (x ++ a) (p.file name beyond named x told) (λ o. o) (λ i o. absurd o);
+}
+
+-- what was added, and then more
+added_more : (h : ℕ) (a b : List ℕ) (s t u : Seen) → Added h a s t → ((name : List ℕ) → t.names Writing h name ≡ s.names Writing h name) → Wrote h b t u → Added h (a ++ b) s u
+added_more h a b s t u p names w = record {
+  written = λ x told. w.gains (x ++ a) (p.written x told) ∙ ap Some (append_assoc x a b);
+  file = λ name beyond named x told. w.file name beyond (names name ∙ named) (x ++ a) (p.file name beyond named x told) ∙ ap Some (append_assoc x a b);
+}
+
+pub added_so : {IsSo IsToo : List ℕ → Type 0} {h : ℕ} {s t : Seen} → ((text : List ℕ) → IsSo text → IsToo text) → AddedSome IsSo h s t → AddedSome IsToo h s t
+added_so also p = record { text = p.text; is = also p.text p.is; added = p.added }
 
 -- before the first unit
 pub running_none : (IsGiven : Log → Type 0) (reads : List ℕ) (p : PrinterState) (s : Seen) → IsGiven [] → Represents p [] → Running IsGiven reads p p 0 s s
@@ -26,62 +53,64 @@ running_none IsGiven reads p s given new = record {
   units = [];
   given = given;
   count = refl;
-  same = record { options = refl; sink = refl; name = refl };
+  same = record { options = refl; layout = refl; sink = refl; name = refl };
   represents = new;
-  gains = λ a told. told ∙ ap Some (sym (append-nil a));
-  touches = touches_none reads (p.sink ∷ []) [] s;
+  gains = subst (λ (text : List ℕ). Added p.sink text s s) (sym (laid_nil p.layout)) (added_none p.sink s);
+  touches = touches_none reads (p.sink ∷ []) [] [] s;
 }
 
+-- printers of one layout and grouping have the same text due
+same_due : (p q : PrinterState) (us : Log) (b : Bool) → IsSamePrinter p q → due q us b ≡ due p us b
+same_due p q us b same = rw (same.layout, same.options) refl
+
 -- what a printer wrote on to its text, since before that text
-gains_on : (p q : PrinterState) (us vs : Log) (b : Bool) (IsSo : List ℕ → List ℕ → Type 0) (s t u v : Seen) → IsSamePrinter p q
-    → Gains (s.written p.sink) (t.written p.sink) (due p us false) → u.written p.sink ≡ t.written p.sink → WroteOn q.sink (due q us false) (IsSo (due q vs b)) u v
-    → Gained (λ text. IsPrefix (due p us false) text × IsSo (due p vs b) text) (s.written p.sink) (v.written p.sink)
-gains_on p q us vs b IsSo s t u v same gains unread more =
-    let back : WroteOn p.sink (due p us false) (IsSo (due p vs b)) u v = subst (λ (g : Grouping). WroteOn p.sink (due_text g us false) (IsSo (due_text g vs b)) u v)
-    (ap (λ (o : GroupOptions). o.grouping) same.options)
-    (subst (λ (h : ℕ). WroteOn h (due q us false) (IsSo (due q vs b)) u v) same.sink more) in
+added_on : (reads : List ℕ) (p q : PrinterState) (us vs : Log) (b : Bool) (IsSo : List ℕ → List ℕ → Type 0) (s t u v : Seen) → IsSamePrinter p q → s.given p.sink ≡ true → Touches reads (p.sink ∷ []) [] [] s t
+    → Added p.sink (due p us false) s t → Touches reads [] [] [] t u → WroteOn q.sink (due q us false) (IsSo (due q vs b)) u v
+    → AddedSome (λ text. IsPrefix (due p us false) text × IsSo (due p vs b) text) p.sink s v
+added_on reads p q us vs b IsSo s t u v same given first added read more =
+    let kept = first.given p.sink given in
+    let written : Wrote p.sink more.added u v = subst (λ (h : ℕ). Wrote h more.added u v) same.sink more.wrote in
+    let is : IsSo (due p vs b) (due p us false ++ more.added) = subst (λ (x : List ℕ). IsSo (due p vs b) (x ++ more.added)) (same_due p q us false same)
+    (subst (λ (x : List ℕ). IsSo x (due q us false ++ more.added)) (same_due p q vs b same) more.is) in
     record {
-      text = due p us false ++ back.added;
-      is = (prefix_append (due p us false) back.added, back.is);
-      gains = λ a told. back.wrote.gains (a ++ due p us false) (unread ∙ gains a told) ∙ ap Some (append_assoc a (due p us false) back.added);
+      text = due p us false ++ more.added;
+      is = (prefix_append (due p us false) more.added, is);
+      added = added_more p.sink (due p us false) more.added s u v (added_still p.sink (due p us false) reads s t u added kept read)
+          (λ name. read.names Writing p.sink name kept ∙ first.names Writing p.sink name given) written;
     }
 
--- a call of the source touches no sink
-unread : (reads : List ℕ) (h : ℕ) (t u : Seen) → Touches reads [] [] t u → u.written h ≡ t.written h
-unread reads h t u p = p.written h (λ o. o)
-
 -- where the printer wrote, after the source was read
-touches_printed : (reads : List ℕ) (p q : PrinterState) (a : List ℕ) (IsSo : List ℕ → Type 0) (s t u v : Seen) → IsSamePrinter p q → Touches reads (p.sink ∷ []) [] s t → Touches reads [] [] t u
-    → WroteOn q.sink a IsSo u v → Touches reads (p.sink ∷ []) [] s v
+touches_printed : (reads : List ℕ) (p q : PrinterState) (a : List ℕ) (IsSo : List ℕ → Type 0) (s t u v : Seen) → IsSamePrinter p q → Touches reads (p.sink ∷ []) [] [] s t → Touches reads [] [] [] t u
+    → WroteOn q.sink a IsSo u v → Touches reads (p.sink ∷ []) [] [] s v
 touches_printed reads p q a IsSo s t u v same first read wrote =
-    touches_then (touches_then first (touches_read reads p.sink t u read)) (subst (λ (h : ℕ). Touches reads (h ∷ []) [] u v) same.sink (touches_wrote reads q.sink wrote.added u v wrote.wrote))
+    touches_then (touches_then first (touches_read reads p.sink t u read)) (subst (λ (h : ℕ). Touches reads (h ∷ []) [] [] u v) same.sink (touches_wrote reads q.sink wrote.added u v wrote.wrote))
 
 -- one unit more was given and printed
 pub running_more : (IsGiven IsNow : Log → Type 0) (reads : List ℕ) (p q r : PrinterState) (n : ℕ) (u : LogUnit) (s t v w : Seen)
-    → (run : Running IsGiven reads p q n s t) → Touches reads [] [] t v → ((bytes : List ℕ) → Wrote q.sink bytes v w → IsNow (run.units ++ u ∷ [])) → IsSamePrinter q r
+    → (run : Running IsGiven reads p q n s t) → s.given p.sink ≡ true → Touches reads [] [] [] t v → ((bytes : List ℕ) → Wrote q.sink bytes v w → IsNow (run.units ++ u ∷ [])) → IsSamePrinter q r
     → ((us : Log) → Represents q us → Represents r (us ++ u ∷ []))
     → ((us : Log) → Represents q us → WroteOn q.sink (due q us false) (λ text. text ≡ due q (us ++ u ∷ []) false) v w)
     → Running IsNow reads p r (n + 1) s w
-running_more IsGiven IsNow reads p q r n u s t v w run read stays same takes writes =
+running_more IsGiven IsNow reads p q r n u s t v w run given read stays same takes writes =
     let wrote = writes run.units run.represents in
-    let gained = gains_on p q run.units (run.units ++ u ∷ []) false (λ whole text. text ≡ whole) s t v w run.same run.gains (unread reads p.sink t v read) wrote in record {
+    let gained = added_on reads p q run.units (run.units ++ u ∷ []) false (λ whole text. text ≡ whole) s t v w run.same given run.touches run.gains read wrote in record {
       units = run.units ++ u ∷ [];
       given = stays wrote.added wrote.wrote;
       count = omega (arith, run.count, length-append run.units (u ∷ []));
-      same = record { options = same.options ∙ run.same.options; sink = same.sink ∙ run.same.sink; name = same.name ∙ run.same.name };
+      same = record { options = same.options ∙ run.same.options; layout = same.layout ∙ run.same.layout; sink = same.sink ∙ run.same.sink; name = same.name ∙ run.same.name };
       represents = takes run.units run.represents;
-      gains = λ a told. gained.gains a told ∙ ap (λ (text : List ℕ). Some (a ++ text)) gained.is.1;
+      gains = subst (λ (text : List ℕ). Added p.sink text s w) gained.is.1 gained.added;
       touches = touches_printed reads p q _ _ s t v w run.same run.touches read wrote;
     }
 
 -- the source stopped
 pub source_stopped : (IsGiven : Log → Type 0) (reads : List ℕ) (gave : Log → Bool → Type 0) (stopped : SourceFault → Log → Type 0) (fault : SourceFault) (p q : PrinterState) (n : ℕ) (s t u : Seen)
-    → (run : Running IsGiven reads p q n s t) → Touches reads [] [] t u → stopped fault run.units → RanUntil (BySource fault n) gave stopped p s u
-source_stopped IsGiven reads gave stopped fault p q n s t u run read stop = record {
+    → (run : Running IsGiven reads p q n s t) → s.given p.sink ≡ true → Touches reads [] [] [] t u → stopped fault run.units → RanUntil (BySource fault n) gave stopped p s u
+source_stopped IsGiven reads gave stopped fault p q n s t u run given read stop = record {
   units = run.units;
   given = stop;
   count = run.count;
-  gains = record { text = due p run.units false; is = refl; gains = λ a told. unread reads p.sink t u read ∙ run.gains a told };
+  gains = record { text = due p run.units false; is = refl; added = added_still p.sink (due p run.units false) reads s t u run.gains (run.touches.given p.sink given) read };
 }
 
 -- the text of units without their last one
@@ -97,13 +126,13 @@ left_at NoMemory p us u text least left = left
 
 -- something of a text is missing only where there is one
 some_units : (p : PrinterState) (us : Log) (text : List ℕ) → IsProperPrefix text (due p us true) → 0 < length us
-some_units p [] text left = absurd (omega (arith, left.shorter))
+some_units p [] text left = absurd (omega (arith, left.shorter, ap length (laid_nil p.layout)))
 some_units p (u ∷ us) text left = omega arith
 
 left_at_end : (fault : PrintFault) (p : PrinterState) (us : Log) (text : List ℕ) → IsPrefix (due p us false) text → IsLeft fault (due p us true) text → IsLeftOf fault p us true text
 left_at_end (WriteFault name) p us text least left = record {
   some = some_units p us text left;
-  least = prefix_then (due_first p.table.options.grouping us (length us - 1) false) least;
+  least = prefix_then (due_first p.layout p.table.options.grouping us (length us - 1) false) least;
   left = left;
 }
 left_at_end NoMemory p us text least left = left
@@ -116,11 +145,11 @@ cause_since NoMemory name now s t u same counts cause = tt
 
 -- the printer stopped at one unit more
 pub printer_stopped : (IsGiven : Log → Type 0) (reads : List ℕ) (gave : Log → Bool → Type 0) (stopped : SourceFault → Log → Type 0) (fault : PrintFault) (p q : PrinterState) (n : ℕ) (u : LogUnit) (s t v w : Seen)
-    → (run : Running IsGiven reads p q n s t) → Touches reads [] [] t v → ((bytes : List ℕ) → Wrote q.sink bytes v w → gave (run.units ++ u ∷ []) false)
+    → (run : Running IsGiven reads p q n s t) → s.given p.sink ≡ true → Touches reads [] [] [] t v → ((bytes : List ℕ) → Wrote q.sink bytes v w → gave (run.units ++ u ∷ []) false)
     → HasPrintCause fault q.name v w
     → ((us : Log) → Represents q us → WroteOn q.sink (due q us false) (IsLeft fault (due q (us ++ u ∷ []) false)) v w)
     → RanUntil (ByPrinter fault (n + 1)) gave stopped p s w
-printer_stopped IsGiven reads gave stopped fault p q n u s t v w run read stays cause refused =
+printer_stopped IsGiven reads gave stopped fault p q n u s t v w run given read stays cause refused =
     let left = refused run.units run.represents in (
       cause_since fault p.name q.name s v w run.same.name (NoCountFalls-then run.touches.counts read.counts) cause,
       (
@@ -129,19 +158,19 @@ printer_stopped IsGiven reads gave stopped fault p q n u s t v w run read stays 
           units = run.units ++ u ∷ [];
           given = stays left.added left.wrote;
           count = omega (arith, run.count, length-append run.units (u ∷ []));
-          gains = gained_so (λ text so. left_at fault p run.units u text so.0 so.1)
-              (gains_on p q run.units (run.units ++ u ∷ []) false (IsLeft fault) s t v w run.same run.gains (unread reads p.sink t v read) left);
+          gains = added_so (λ text so. left_at fault p run.units u text so.0 so.1)
+              (added_on reads p q run.units (run.units ++ u ∷ []) false (IsLeft fault) s t v w run.same given run.touches run.gains read left);
         },
       ),
     )
 
 -- the printer stopped at its end
 pub end_stopped : (IsGiven : Log → Type 0) (reads : List ℕ) (gave : Log → Bool → Type 0) (stopped : SourceFault → Log → Type 0) (fault : PrintFault) (p q : PrinterState) (n : ℕ) (s t v w : Seen)
-    → (run : Running IsGiven reads p q n s t) → Touches reads [] [] t v → ((bytes : List ℕ) → Wrote q.sink bytes v w → gave run.units true)
+    → (run : Running IsGiven reads p q n s t) → s.given p.sink ≡ true → Touches reads [] [] [] t v → ((bytes : List ℕ) → Wrote q.sink bytes v w → gave run.units true)
     → HasPrintCause fault q.name v w
     → ((us : Log) → Represents q us → WroteOn q.sink (due q us false) (IsLeft fault (due q us true)) v w)
     → RanUntil (ByPrinter fault n) gave stopped p s w
-end_stopped IsGiven reads gave stopped fault p q n s t v w run read stays cause refused =
+end_stopped IsGiven reads gave stopped fault p q n s t v w run given read stays cause refused =
     let left = refused run.units run.represents in (
       cause_since fault p.name q.name s v w run.same.name (NoCountFalls-then run.touches.counts read.counts) cause,
       (
@@ -150,33 +179,33 @@ end_stopped IsGiven reads gave stopped fault p q n s t v w run read stays cause 
           units = run.units;
           given = stays left.added left.wrote;
           count = run.count;
-          gains = gained_so (λ text so. left_at_end fault p run.units text so.0 so.1)
-              (gains_on p q run.units run.units true (IsLeft fault) s t v w run.same run.gains (unread reads p.sink t v read) left);
+          gains = added_so (λ text so. left_at_end fault p run.units text so.0 so.1)
+              (added_on reads p q run.units run.units true (IsLeft fault) s t v w run.same given run.touches run.gains read left);
         },
       ),
     )
 
 -- all was given and printed
 pub ran_to_end : (IsGiven : Log → Type 0) (reads : List ℕ) (gave : Log → Bool → Type 0) (p q : PrinterState) (n : ℕ) (s t v w : Seen)
-    → (run : Running IsGiven reads p q n s t) → Touches reads [] [] t v → ((bytes : List ℕ) → Wrote q.sink bytes v w → gave run.units true)
+    → (run : Running IsGiven reads p q n s t) → s.given p.sink ≡ true → Touches reads [] [] [] t v → ((bytes : List ℕ) → Wrote q.sink bytes v w → gave run.units true)
     → ((us : Log) → Represents q us → WroteOn q.sink (due q us false) (λ text. text ≡ due q us true) v w)
     → RanToEnd gave p n s w
-ran_to_end IsGiven reads gave p q n s t v w run read stays writes =
+ran_to_end IsGiven reads gave p q n s t v w run given read stays writes =
     let wrote = writes run.units run.represents in record {
       units = run.units;
       given = stays wrote.added wrote.wrote;
       count = run.count;
-      gains = gained_so (λ text so. so.1) (gains_on p q run.units run.units true (λ whole text. text ≡ whole) s t v w run.same run.gains (unread reads p.sink t v read) wrote);
+      gains = added_so (λ text so. so.1) (added_on reads p q run.units run.units true (λ whole text. text ≡ whole) s t v w run.same given run.touches run.gains read wrote);
     }
 
 -- what the run touched, where the printer wrote last
-pub touches_last : (IsGiven : Log → Type 0) (reads : List ℕ) (p q : PrinterState) (n : ℕ) (h : ℕ) (bytes : List ℕ) (s t v w : Seen) → Running IsGiven reads p q n s t → Touches reads [] [] t v
-    → h ≡ q.sink → Wrote h bytes v w → Touches reads (p.sink ∷ []) [] s w
+pub touches_last : (IsGiven : Log → Type 0) (reads : List ℕ) (p q : PrinterState) (n : ℕ) (h : ℕ) (bytes : List ℕ) (s t v w : Seen) → Running IsGiven reads p q n s t → Touches reads [] [] [] t v
+    → h ≡ q.sink → Wrote h bytes v w → Touches reads (p.sink ∷ []) [] [] s w
 touches_last IsGiven reads p q n h bytes s t v w run read is wrote =
-    touches_then (touches_then run.touches (touches_read reads p.sink t v read)) (subst (λ (k : ℕ). Touches reads (k ∷ []) [] v w) (is ∙ run.same.sink) (touches_wrote reads h bytes v w wrote))
+    touches_then (touches_then run.touches (touches_read reads p.sink t v read)) (subst (λ (k : ℕ). Touches reads (k ∷ []) [] [] v w) (is ∙ run.same.sink) (touches_wrote reads h bytes v w wrote))
 
 -- the sink keeps its name
-pub named_still : (IsGiven : Log → Type 0) (reads : List ℕ) (p q : PrinterState) (n : ℕ) (s t u : Seen) → Running IsGiven reads p q n s t → Touches reads [] [] t u → s.given p.sink ≡ true
+pub named_still : (IsGiven : Log → Type 0) (reads : List ℕ) (p q : PrinterState) (n : ℕ) (s t u : Seen) → Running IsGiven reads p q n s t → Touches reads [] [] [] t u → s.given p.sink ≡ true
     → IsTrue (s.names Writing p.sink p.name) → IsTrue (u.names Writing q.sink q.name)
 named_still IsGiven reads p q n s t u run read given named =
     let kept : u.names Writing p.sink p.name ≡ s.names Writing p.sink p.name = read.names Writing p.sink p.name (run.touches.given p.sink given) ∙ run.touches.names Writing p.sink p.name given in

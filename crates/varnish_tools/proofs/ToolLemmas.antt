@@ -1,82 +1,220 @@
 -- The main theorem from its steps: the run, and then the message of its fault.
-use Rattle.std.proofs.Common.{◌≡◌, ℕ, List, [], ◌∷◌, Option, Some, None, refl, sym, ap, subst, ◌∙◌, inl, inr, ⊎_elim, arith}
+use Rattle.std.proofs.Common.{◌≡◌, ◌⊎◌, ℕ, ◌≤◌, Bool, true, false, cond, eqb, ◌&&◌, List, [], ◌∷◌, ◌++◌, length, take, Option, Some, None, refl, sym, ap, subst, ◌∙◌, inl, inr, ⊎_elim, arith}
 use Rattle.std.specs.Prelude.{codes}
+use Rattle.std.proofs.lemmas.List.{append-nil, take_all, length-take}
+use Rattle.std.proofs.lemmas.Bool.{eqb-true}
 use Rattle.log_model.specs.Faults.{HasNewFault}
 use Rattle.log_model.specs.Prefix.{IsPrefix}
-use Rattle.vio.specs.declared.world.TheConstants.{OUTPUT, ERRORS}
-use Rattle.vio.specs.World.{Seen, Opening, Reading, Writing, NoCountFalls, Gains}
+use Rattle.log_model.proofs.PrefixLemmas.{prefix_same, prefix_then, prefix_after}
+use Rattle.vio.specs.declared.world.TheConstants.{ERRORS}
+use Rattle.vio.specs.World.{Seen, CallKind, Opening, Creating, Reading, Writing, NoCountFalls, Gains, HasStreams}
 use Rattle.vio.specs.Writes.{GainsSome}
 use Rattle.vio.specs.Touches.{IsOneOf, Touches}
-use Rattle.vio.proofs.WholeLemmas.{some_since, some_until}
+use Rattle.vio.proofs.WholeLemmas.{some_since}
+use Rattle.vio.proofs.TouchLemmas.{only_one, touches_in, touches_then}
+use Rattle.vsl_record.specs.Unit.{Log}
+use Rattle.tool_words.specs.declared.job.Job.{Job}
+use Rattle.txn_rows.specs.Grouping.{groups_of}
 use Rattle.varnish_tools.specs.declared.fault.ToolFault.{ToolFault}
 use Rattle.varnish_tools.specs.declared.outcome.RunRecord.{RunRecord}
-use Rattle.varnish_tools.specs.declared.outcome.RunRecord.TheVariants.{Nothing}
+use Rattle.varnish_tools.specs.declared.outcome.RunRecord.TheVariants.{Nothing, Counted}
 use Rattle.varnish_tools.specs.declared.outcome.Outcome.{Outcome}
-use Rattle.tool_words.specs.declared.job.Job.{Job}
-use Rattle.varnish_tools.specs.Asked.{Asked, Refuse, Work, asked_of}
-use Rattle.varnish_tools.specs.Faults.{FaultClass, Refused, Outside, BadInput, class_of, message, fault_message, status_of}
-use Rattle.varnish_tools.specs.Objects.{SinksGain, TouchesJob, streams_of, sources_of, sinks_of, calls_of}
+use Rattle.varnish_tools.specs.Asked.{Asked, Refuse, Work, asked_of, file_of, write_of}
+use Rattle.varnish_tools.specs.Faults.{FaultClass, Refused, NotOpened, NotRead, NotWritten, BadInput, class_of, message, fault_message, status_of}
+use Rattle.varnish_tools.specs.Objects.{Object, source_of, sink_of, sources_of, sinks_of, streams_of, calls_of, SinkGained, SinkUntouched, SinksGained, SinksUntouched, NothingTouched, GivesAtMost, TouchesJob}
 use Rattle.varnish_tools.specs.Run.{Run, Ending, Whole, Kept, Faulted, no_run, run_of, fault_of}
-use Rattle.varnish_tools.specs.Output.{sink_text}
-use Rattle.varnish_tools.specs.Promise.{Input, IsInput, IsGood, HasClassCause, HasCause, TakesUntil, Takes, IsDue, LeavesUntil, LeavesSinks, WritesError, WorksOff, WritesPrefix, IsFaithful, IsComplete, IsCutShort, NoFaultOf}
+use Rattle.varnish_tools.specs.Output.{head_text, laid_out, layout_of, is_flushed, sink_text}
+use Rattle.varnish_tools.specs.Promise.{Input, SourceHolds, IsInput, IsGood, HasFailed, HasClassCause, HasCause, IsRunOf, TakesUntil, Takes, TookSome, ReadsOnceUntil, ReadsOnce, IsDueUntil, IsDue, LeavesUntil, LeavesSinks, SinksLeft, WritesError, WorksOff, WritesPrefix, IsFaithful, IsComplete, IsCutShort, NoFaultOf, whole_run, whole_text, is_whole}
 use Rattle.varnish_tools.specs.inside.Report.{ReportsPart}
-use Rattle.vio.proofs.TouchLemmas.{only_one, touches_in, touches_then}
+use Rattle.varnish_tools.proofs.ObjectLemmas.{IsSink, is_sink, IsSource, is_source, untouched_until, gained_until, gained_so, took_until, error_no_sink, source_until, gives_still, gives_none}
+use Rattle.varnish_tools.proofs.PrinterLemmas.{due_first}
 
 -- the words are refused
 pub works_refused : (f : ToolFault) (s : Seen) → class_of f ≡ Refused → WorksOff (Refuse f) (Some f) Nothing s s
 works_refused f s e = record {
   refused = λ x is. let same : f ≡ x = cc in ap Some same;
   causes = λ x is. let same : f ≡ x = cc in subst (λ (y : ToolFault). HasCause (Refuse f) y s s) same (subst (λ (c : FaultClass). HasClassCause (Refuse f) f c s s) (sym e) refl);
-  leaves = subst (λ (c : FaultClass). LeavesUntil c (Refuse f) Nothing s s) (sym e) (refl, λ h o. absurd o);
-  writes = λ input is_input. record { run = no_run; ending = Faulted f; is_run = refl; is_ending = refl; takes = subst (λ (c : FaultClass). TakesUntil c input no_run) (sym e) refl; sinks = λ h o. absurd o };
+  leaves = subst (λ (c : FaultClass). LeavesUntil c (Refuse f) Nothing s s) (sym e) (refl, (λ o one. absurd one, λ o one. absurd one));
+  writes = λ input is_input. record {
+    run = no_run;
+    ending = Faulted f;
+    is_run = refl;
+    is_ending = refl;
+    takes = subst (λ (c : FaultClass). TakesUntil c input no_run) (sym e) refl;
+    reads_once = λ o one. absurd one;
+    sinks = λ o one. absurd one;
+  };
 }
-
--- standard error is no sink of a job
-two_no_sink : (job : Asked) → ¬ (IsOneOf {A = ℕ} ERRORS (streams_of (sinks_of job)))
-two_no_sink (Refuse f) o = o
-two_no_sink (Work job) o = let e = only_one ERRORS OUTPUT o in omega (arith, e)
-
-cause_until : (job : Asked) (f : ToolFault) (c : FaultClass) (s t u : Seen) → NoCountFalls t u → HasClassCause job f c s t → HasClassCause job f c s u
-cause_until job f Refused s t u n p = p
-cause_until job f (Outside kind name) s t u n p = (p.0, let rose : HasNewFault (s.faults kind name) (t.faults kind name) = p.1 in omega (arith, n.each kind name, rose))
-cause_until job f (BadInput name) s t u n p = p
-
--- the message changes nothing of what the sinks gained
-sinks_until : (IsSo : List ℕ → Type 0) (job : Asked) (s t u : Seen) → Touches [] (ERRORS ∷ []) [] t u → SinksGain IsSo job s t → SinksGain IsSo job s u
-sinks_until IsSo job s t u q p = λ h o.
-    some_until IsSo _ _ _ (q.written h (λ two. two_no_sink job (subst (λ (k : ℕ). IsOneOf k (streams_of (sinks_of job))) (only_one h ERRORS two) o))) (p h o)
-
-leaves_until : (c : FaultClass) (job : Asked) (taken : RunRecord) (s t u : Seen) → Touches [] (ERRORS ∷ []) [] t u → LeavesUntil c job taken s t → LeavesUntil c job taken s u
-leaves_until Refused job taken s t u q p = (p.0, sinks_until _ job s t u q p.1)
-leaves_until (Outside Opening name) job taken s t u q p = (p.0, sinks_until _ job s t u q p.1)
-leaves_until (Outside Reading name) job taken s t u q p = (p.0, sinks_until _ job s t u q p.1)
-leaves_until (Outside Writing name) job taken s t u q p = tt
-leaves_until (BadInput name) job taken s t u q p = tt
-
-leaves_so : (fault : Option ToolFault) (job : Asked) (taken : RunRecord) (s t u : Seen) → Touches [] (ERRORS ∷ []) [] t u → LeavesSinks fault job taken s t → LeavesSinks fault job taken s u
-leaves_so None job taken s t u q p = tt
-leaves_so (Some f) job taken s t u q p = leaves_until (class_of f) job taken s t u q p
 
 -- the message changes nothing of what was worked off
-works_until : (job : Asked) (fault : Option ToolFault) (taken : RunRecord) (s t u : Seen) → Touches [] (ERRORS ∷ []) [] t u → WorksOff job fault taken s t → WorksOff job fault taken s u
-works_until job fault taken s t u q p = record {
+
+failed_until : (asked : Asked) (kind : CallKind) (name : List ℕ) (s t u : Seen) → NoCountFalls t u → HasFailed asked kind name s t → HasFailed asked kind name s u
+failed_until asked kind name s t u n p = (p.0, let rose : HasNewFault (s.faults kind name) (t.faults kind name) = p.1 in omega (arith, n.each kind name, rose))
+
+cause_until : (asked : Asked) (f : ToolFault) (c : FaultClass) (s t u : Seen) → NoCountFalls t u → HasClassCause asked f c s t → HasClassCause asked f c s u
+cause_until asked f Refused s t u n p = p
+cause_until asked f (NotOpened name) s t u n (inl p) = inl (failed_until asked Opening name s t u n p)
+cause_until asked f (NotOpened name) s t u n (inr p) = inr (failed_until asked Creating name s t u n p)
+cause_until asked f (NotRead name) s t u n p = failed_until asked Reading name s t u n p
+cause_until asked f (NotWritten name) s t u n p = failed_until asked Writing name s t u n p
+cause_until asked f (BadInput name) s t u n p = p
+
+-- what a job's run touched
+abbrev TouchedBy : Asked → Seen → Seen → Type 0
+TouchedBy asked s t = Touches (streams_of (sources_of asked)) (streams_of (sinks_of asked)) (calls_of asked Opening) (calls_of asked Creating) s t
+
+-- what a message touched
+abbrev Told : Seen → Seen → Type 0
+Told t u = Touches [] (ERRORS ∷ []) [] [] t u
+
+sink_of_job : (asked : Asked) (o : Object) → IsOneOf o (sinks_of asked) → IsSink o
+sink_of_job (Refuse f) o one = absurd one
+sink_of_job (Work job) o one = subst (λ (x : Object). IsSink x) (sym (only_one o (sink_of job) one)) (is_sink job.append (write_of job))
+
+source_of_job : (asked : Asked) (o : Object) → IsOneOf o (sources_of asked) → IsSource o
+source_of_job (Refuse f) o one = absurd one
+source_of_job (Work job) o one = subst (λ (x : Object). IsSource x) (sym (only_one o (source_of job) one)) (is_source (file_of job))
+
+sinks_untouched : (asked : Asked) (s t u : Seen) → HasStreams s → TouchedBy asked s t → Told t u → SinksUntouched asked s t → SinksUntouched asked s u
+sinks_untouched asked s t u streams touched told p = λ o one. untouched_until o s t u (sink_of_job asked o one) streams touched told (p o one)
+
+nothing_touched : (asked : Asked) (s t u : Seen) → HasStreams s → TouchedBy asked s t → Told t u → NothingTouched asked s t → NothingTouched asked s u
+nothing_touched asked s t u streams touched told p =
+    (λ o one. source_until o s t u (source_of_job asked o one) streams touched told (p.0 o one), sinks_untouched asked s t u streams touched told p.1)
+
+sinks_left : (recorded : RunRecord) (IsSo : List ℕ → Type 0) (asked : Asked) (s t u : Seen) → HasStreams s → TouchedBy asked s t → Told t u → SinksLeft recorded IsSo asked s t → SinksLeft recorded IsSo asked s u
+sinks_left Nothing IsSo asked s t u streams touched told p = sinks_untouched asked s t u streams touched told p
+sinks_left (Counted units items) IsSo asked s t u streams touched told p = λ o one. gained_until o s t u (sink_of_job asked o one) streams touched told (p o one)
+
+leaves_until : (c : FaultClass) (asked : Asked) (recorded : RunRecord) (s t u : Seen) → HasStreams s → TouchedBy asked s t → Told t u → LeavesUntil c asked recorded s t → LeavesUntil c asked recorded s u
+leaves_until Refused asked recorded s t u streams touched told p = (p.0, nothing_touched asked s t u streams touched told p.1)
+leaves_until (NotOpened name) asked recorded s t u streams touched told p = (p.0, nothing_touched asked s t u streams touched told p.1)
+leaves_until (NotRead name) asked recorded s t u streams touched told p = p
+leaves_until (NotWritten name) asked recorded s t u streams touched told p = p
+leaves_until (BadInput name) asked recorded s t u streams touched told p = p
+
+leaves_so : (fault : Option ToolFault) (asked : Asked) (recorded : RunRecord) (s t u : Seen) → HasStreams s → TouchedBy asked s t → Told t u → LeavesSinks fault asked recorded s t → LeavesSinks fault asked recorded s u
+leaves_so None asked recorded s t u streams touched told p = p
+leaves_so (Some f) asked recorded s t u streams touched told p = leaves_until (class_of f) asked recorded s t u streams touched told p
+
+some_until : (IsSo : List ℕ → Type 0) (asked : Asked) (o : Object) (input : Input) (s t u : Seen) → IsOneOf o (sources_of asked) → HasStreams s → TouchedBy asked s t → Told t u → TookSome IsSo o input s t → TookSome IsSo o input s u
+some_until IsSo asked o input s t u one streams touched told p = (p.0, p.1, took_until o input.bytes p.0 s t u (source_of_job asked o one) streams touched told p.2)
+
+once_class : (c : FaultClass) (asked : Asked) (o : Object) (input : Input) (run : Run) (s t u : Seen) → IsOneOf o (sources_of asked) → HasStreams s → TouchedBy asked s t → Told t u → ReadsOnceUntil c o input run s t
+    → ReadsOnceUntil c o input run s u
+once_class Refused asked o input run s t u one streams touched told p = tt
+once_class (NotOpened name) asked o input run s t u one streams touched told p = tt
+once_class (NotRead name) asked o input run s t u one streams touched told p = some_until _ asked o input s t u one streams touched told p
+once_class (NotWritten name) asked o input run s t u one streams touched told p = some_until _ asked o input s t u one streams touched told p
+once_class (BadInput name) asked o input run s t u one streams touched told p = tt
+
+once_until : (ending : Ending) (asked : Asked) (o : Object) (input : Input) (run : Run) (s t u : Seen) → IsOneOf o (sources_of asked) → HasStreams s → TouchedBy asked s t → Told t u → ReadsOnce ending o input run s t → ReadsOnce ending o input run s u
+once_until Whole asked o input run s t u one streams touched told p = tt
+once_until Kept asked o input run s t u one streams touched told p = absurd p
+once_until (Faulted f) asked o input run s t u one streams touched told p = once_class (class_of f) asked o input run s t u one streams touched told p
+
+works_until : (asked : Asked) (fault : Option ToolFault) (recorded : RunRecord) (s t u : Seen) → HasStreams s → TouchedBy asked s t → Told t u → WorksOff asked fault recorded s t → WorksOff asked fault recorded s u
+works_until asked fault recorded s t u streams touched told p = record {
   refused = p.refused;
-  causes = λ f e. cause_until job f (class_of f) s t u q.counts (p.causes f e);
-  leaves = leaves_so fault job taken s t u q p.leaves;
-  writes = λ input is_input. let w = p.writes input is_input in
-      record { run = w.run; ending = w.ending; is_run = w.is_run; is_ending = w.is_ending; takes = w.takes; sinks = sinks_until (IsDue job input w.run w.ending) job s t u q w.sinks };
+  causes = λ f e. cause_until asked f (class_of f) s t u told.counts (p.causes f e);
+  leaves = leaves_so fault asked recorded s t u streams touched told p.leaves;
+  writes = λ input is_input.
+      let w = p.writes input is_input in record {
+        run = w.run;
+        ending = w.ending;
+        is_run = w.is_run;
+        is_ending = w.is_ending;
+        takes = w.takes;
+        reads_once = λ o one. once_until w.ending asked o input w.run s t u one streams touched told (w.reads_once o one);
+        sinks = sinks_left recorded (IsDue asked input w.run w.ending) asked s t u streams touched told w.sinks;
+      };
 }
 
-pub prefix_until : (job : Asked) (s t u : Seen) → Touches [] (ERRORS ∷ []) [] t u → WritesPrefix job s t → WritesPrefix job s u
-prefix_until job s t u q p = λ input is_input. sinks_until _ job s t u q (p input is_input)
+pub prefix_until : (asked : Asked) (s t u : Seen) → HasStreams s → TouchedBy asked s t → Told t u → WritesPrefix asked s t → WritesPrefix asked s u
+prefix_until asked s t u streams touched told p = λ input is_input o one. elim (p input is_input o one) [
+  | inl same ↦ inl (untouched_until o s t u (sink_of_job asked o one) streams touched told same)
+  | inr gained ↦ inr (gained_until o s t u (sink_of_job asked o one) streams touched told gained)
+]
+
+-- what was worked off wrote a prefix of the input's text
+
+-- the text of a run of units without what follows it
+run_text : (job : Job) (empty : Bool) (units : Log) (ending : Ending) → sink_text (Work job) (run_of empty units) ending ≡ head_text job empty ++ laid_out (layout_of job) (groups_of job.grouping units (is_flushed ending))
+run_text job empty units ending = ap (λ (us : Log). head_text job empty ++ laid_out (layout_of job) (groups_of job.grouping us (is_flushed ending))) (append-nil units)
+
+-- the text of the first units is a prefix
+first_prefix : (job : Job) (input : Input) (run : Run) (n : ℕ) (f : ToolFault) → run ≡ run_of input.sink_empty (take n input.units) → IsPrefix (sink_text (Work job) run (Faulted f)) (whole_text (Work job) input)
+first_prefix job input run n f e = rw (e, run_text job input.sink_empty (take n input.units) (Faulted f))
+    (prefix_after (head_text job input.sink_empty) (due_first (layout_of job) job.grouping input.units n (is_whole input.file_ending)))
+
+whole_prefix : (job : Job) (input : Input) (run : Run) → is_whole input.file_ending ≡ true → run ≡ whole_run input → IsPrefix (sink_text (Work job) run Whole) (whole_text (Work job) input)
+whole_prefix job input run whole e = rw (e, run_text job input.sink_empty input.units Whole, whole) (prefix_same (head_text job input.sink_empty ++ laid_out (layout_of job) (groups_of job.grouping input.units true)))
+
+both : (a b : Bool) → (a && b) ≡ true → (a ≡ true) × (b ≡ true)
+both true b e = (refl, e)
+both false b e = absurd cc
+
+-- as many first units as there are, are all
+all_first : (input : Input) (run : Run) (n : ℕ) → run ≡ run_of input.sink_empty (take n input.units) → length run.log ≡ length input.units → run ≡ whole_run input
+all_first input run n e same =
+    let long : length (take n input.units) ≡ length input.units = ap (λ (r : Run). length r.log) (sym e) ∙ same in
+    let enough : length input.units ≤ n = omega (arith, long, length-take n input.units) in
+    e ∙ ap (λ (us : Log). run_of input.sink_empty us) (take_all n input.units enough)
+
+begun_prefix : (job : Job) (input : Input) (run : Run) (n : ℕ) (f : ToolFault) (ends : Bool) → (ends ≡ true → (is_whole input.file_ending && eqb (length run.log) (length input.units)) ≡ true) → run ≡ run_of input.sink_empty (take n input.units)
+    → IsPrefix (sink_text (Work job) run (cond ends Whole (Faulted f))) (whole_text (Work job) input)
+begun_prefix job input run n f true is e = let tests = both _ _ (is refl) in whole_prefix job input run tests.0 (all_first input run n e (eqb-true _ _ tests.1))
+begun_prefix job input run n f false is e = first_prefix job input run n f e
+
+class_prefix : (c : FaultClass) (job : Job) (input : Input) (run : Run) (f : ToolFault) (n items : ℕ) (s t : Seen) (text : List ℕ) → LeavesUntil c (Work job) (Counted n items) s t → IsRunOf (Counted n items) input run
+    → IsDueUntil c (Work job) input run (Faulted f) text → IsPrefix text (whole_text (Work job) input)
+class_prefix Refused job input run f n items s t text left is due = let none = left.0 in absurd cc
+class_prefix (NotOpened name) job input run f n items s t text left is due = let none = left.0 in absurd cc
+class_prefix (NotRead name) job input run f n items s t text left is due = rw due (first_prefix job input run n f is.2)
+class_prefix (NotWritten name) job input run f n items s t text left is due = prefix_then due.1.prefix (begun_prefix job input run n f (is_whole input.file_ending && eqb (length run.log) (length input.units)) (λ e. e) is.2)
+class_prefix (BadInput name) job input run f n items s t text left is due = rw due (first_prefix job input run n f is.2)
+
+due_is_prefix : (fault : Option ToolFault) (job : Job) (input : Input) (run : Run) (ending : Ending) (n items : ℕ) (s t : Seen) (text : List ℕ) → fault_of ending ≡ fault → LeavesSinks fault (Work job) (Counted n items) s t
+    → IsRunOf (Counted n items) input run → Takes input run ending → IsDue (Work job) input run ending text → IsPrefix text (whole_text (Work job) input)
+due_is_prefix fault job input run Whole n items s t text e left is takes due = rw due (whole_prefix job input run (ap is_whole takes.0) takes.1)
+due_is_prefix fault job input run Kept n items s t text e left is takes due = absurd takes
+due_is_prefix fault job input run (Faulted f) n items s t text e left is takes due =
+    class_prefix (class_of f) job input run f n items s t text (subst (λ (x : Option ToolFault). LeavesSinks x (Work job) (Counted n items) s t) (sym e) left) is due
+
+left_prefix : (recorded : RunRecord) (fault : Option ToolFault) (job : Job) (input : Input) (run : Run) (ending : Ending) (s t : Seen) (o : Object) → fault_of ending ≡ fault → LeavesSinks fault (Work job) recorded s t → IsRunOf recorded input run
+    → Takes input run ending → SinksLeft recorded (IsDue (Work job) input run ending) (Work job) s t → IsOneOf o (sinks_of (Work job)) → SinkUntouched o s t ⊎ SinkGained (λ text. IsPrefix text (whole_text (Work job) input)) o s t
+left_prefix Nothing fault job input run ending s t o e left is takes sinks one = inl (sinks o one)
+left_prefix (Counted n items) fault job input run ending s t o e left is takes sinks one = inr (gained_so (λ text so. due_is_prefix fault job input run ending n items s t text e left is takes so) (sinks o one))
+
+pub prefix_of_works : (asked : Asked) (fault : Option ToolFault) (recorded : RunRecord) (s t : Seen) → WorksOff asked fault recorded s t → WritesPrefix asked s t
+prefix_of_works (Refuse f) fault recorded s t p = λ input is_input o one. absurd one
+prefix_of_works (Work job) fault recorded s t p = λ input is_input o one.
+    let w = p.writes input is_input in left_prefix recorded fault job input w.run w.ending s t o w.is_ending p.leaves w.is_run w.takes w.sinks one
 
 -- the job, and then standard error
-pub touches_job : (job : Asked) (s t u : Seen) → Touches (streams_of (sources_of job)) (streams_of (sinks_of job)) (calls_of job Opening) s t → Touches [] (ERRORS ∷ []) [] t u → TouchesJob job s u
-touches_job job s t u p q =
-    let reads = streams_of (sources_of job) in
-    let writes = streams_of (sinks_of job) in
-    touches_then (touches_in reads reads writes (ERRORS ∷ writes) _ _ s t (λ h o. o) (λ h o. inr o) (λ name o. o) p)
-    (touches_in [] reads (ERRORS ∷ []) (ERRORS ∷ writes) [] (calls_of job Opening) t u (λ h o. absurd o) (λ h o. inl (only_one h ERRORS o)) (λ name o. absurd o) q)
+
+touches_both : (asked : Asked) (s t u : Seen) → TouchedBy asked s t → Told t u → Touches (streams_of (sources_of asked)) (ERRORS ∷ streams_of (sinks_of asked)) (calls_of asked Opening) (calls_of asked Creating) s u
+touches_both asked s t u p q =
+    let reads = streams_of (sources_of asked) in
+    let writes = streams_of (sinks_of asked) in
+    touches_then (touches_in reads reads writes (ERRORS ∷ writes) _ _ _ _ s t (λ h one. one) (λ h one. inr one) (λ name one. one) (λ name one. one) p)
+    (touches_in [] reads (ERRORS ∷ []) (ERRORS ∷ writes) [] (calls_of asked Opening) [] (calls_of asked Creating) t u (λ h one. absurd one) (λ h one. inl (only_one h ERRORS one)) (λ name one. absurd one) (λ name one. absurd one) q)
+
+touches_quietly : (asked : Asked) (s t : Seen) → TouchedBy asked s t → Touches (streams_of (sources_of asked)) (ERRORS ∷ streams_of (sinks_of asked)) (calls_of asked Opening) (calls_of asked Creating) s t
+touches_quietly asked s t p = touches_in _ _ _ _ _ _ _ _ s t (λ h one. one) (λ h one. inr one) (λ name one. one) (λ name one. one) p
+
+pub touches_job : (asked : Asked) (s t u : Seen) → TouchedBy asked s t → GivesAtMost (length (calls_of asked Opening ++ calls_of asked Creating)) s t → Told t u → TouchesJob asked s u
+touches_job asked s t u p few q = (touches_both asked s t u p q, gives_still _ s t u few (gives_none t u q))
+
+pub touches_silent : (asked : Asked) (s t : Seen) → TouchedBy asked s t → GivesAtMost (length (calls_of asked Opening ++ calls_of asked Creating)) s t → TouchesJob asked s t
+touches_silent asked s t p few = (touches_quietly asked s t p, few)
+
+error_untouched : (asked : Asked) → ¬ (IsOneOf {A = ℕ} ERRORS (streams_of (sinks_of asked)))
+error_untouched (Refuse f) one = one
+error_untouched (Work job) one = error_no_sink (sink_of job) (is_sink job.append (write_of job)) one
+
+error_written : (asked : Asked) (s t : Seen) → HasStreams s → TouchedBy asked s t → t.written ERRORS ≡ s.written ERRORS
+error_written asked s t streams touched = touched.written ERRORS streams.error_given (error_untouched asked)
 
 -- standard error gained the same since before the run
 error_since : (text : List ℕ) (s t u : Seen) → t.written ERRORS ≡ s.written ERRORS → NoCountFalls s t → WritesError text t u → WritesError text s u
@@ -86,20 +224,24 @@ error_since text s t u w n p = ⊎_elim
     inr (omega (arith, n.each Writing (codes "stderr"), part.0), λ a told. part.1 a (w ∙ told)))
     p
 
-pub is_faithful : (words : List (List ℕ)) (status : ℕ) (fault : Option ToolFault) (taken : RunRecord) (s t u : Seen) → status ≡ status_of fault
-    → Touches (streams_of (sources_of (asked_of words))) (streams_of (sinks_of (asked_of words))) (calls_of (asked_of words) Opening) s t → WorksOff (asked_of words) fault taken s t
-    → Touches [] (ERRORS ∷ []) [] t u → WritesError (fault_message words fault) t u → IsFaithful words (record { status = status; fault = fault; run = taken }) s u
-is_faithful words status fault taken s t u e touched works message_touched message = record {
+pub is_faithful : (words : List (List ℕ)) (status : ℕ) (fault : Option ToolFault) (recorded : RunRecord) (s t u : Seen) → status ≡ status_of fault → HasStreams s → TouchedBy (asked_of words) s t
+    → WorksOff (asked_of words) fault recorded s t → Told t u → WritesError (fault_message words fault) t u → IsFaithful words (record { status = status; fault = fault; run = recorded }) s u
+is_faithful words status fault recorded s t u e streams touched works told message = record {
   status = e;
-  reports = error_since (fault_message words fault) s t u (touched.written ERRORS (two_no_sink (asked_of words))) touched.counts message;
-  works = works_until (asked_of words) fault taken s t u message_touched works;
+  reports = error_since (fault_message words fault) s t u (error_written (asked_of words) s t streams touched) touched.counts message;
+  works = works_until (asked_of words) fault recorded s t u streams touched told works;
 }
 
 -- where no call of the job failed and its input is good, no fault has a cause
 no_cause : (job : Job) (input : Input) (f : ToolFault) (c : FaultClass) (s u : Seen) → IsInput (Work job) s input → IsGood input → NoFaultOf (Work job) s u → ¬ (HasClassCause (Work job) f c s u)
 no_cause job input f Refused s u is_input good none p = absurd cc
-no_cause job input f (Outside kind name) s u is_input good none p = none kind name p.0 p.1
-no_cause job input f (BadInput name) s u is_input good none p = p.1 input is_input good
+no_cause job input f (NotOpened name) s u is_input good none (inl p) = none Opening name p.0 p.1
+no_cause job input f (NotOpened name) s u is_input good none (inr p) = none Creating name p.0 p.1
+no_cause job input f (NotRead name) s u is_input good none p = none Reading name p.0 p.1
+no_cause job input f (NotWritten name) s u is_input good none p = none Writing name p.0 p.1
+no_cause job input f (BadInput name) s u is_input good none p =
+    let holds : SourceHolds p.0 s input.bytes = subst (λ (o : Object). SourceHolds o s input.bytes) (sym (only_one p.0 (source_of job) p.1)) is_input.0 in
+    let blamed = p.3 input.bytes input.units input.file_ending holds is_input.1 in absurd cc
 
 no_fault : (job : Job) (input : Input) (fault : Option ToolFault) (s u : Seen) → IsInput (Work job) s input → IsGood input → NoFaultOf (Work job) s u
     → ((f : ToolFault) → fault ≡ Some f → HasCause (Work job) f s u) → fault ≡ None
@@ -107,23 +249,28 @@ no_fault job input None s u is_input good none causes = refl
 no_fault job input (Some f) s u is_input good none causes = absurd (no_cause job input f (class_of f) s u is_input good none (causes f refl))
 
 -- without a fault the text of the whole input was written
-whole_written : (job : Job) (input : Input) (run : Run) (ending : Ending) (s u : Seen) → fault_of ending ≡ None → Takes input run ending → SinksGain (IsDue (Work job) input run ending) (Work job) s u
-    → SinksGain (λ text. text ≡ sink_text (Work job) (run_of input.units) Whole) (Work job) s u
-whole_written job input run Whole s u e t p = λ h o a told. let g = p h o a told in (g.0, g.1 ∙ ap (λ (r : Run). sink_text (Work job) r Whole) t.1, g.2)
-whole_written job input run Kept s u e t p = absurd t
-whole_written job input run (Faulted f) s u e t p = absurd cc
+whole_written : (recorded : RunRecord) (job : Job) (input : Input) (run : Run) (ending : Ending) (s u : Seen) → fault_of ending ≡ None → LeavesSinks None (Work job) recorded s u → Takes input run ending
+    → SinksLeft recorded (IsDue (Work job) input run ending) (Work job) s u → SinksGained (λ text. text ≡ sink_text (Work job) (whole_run input) Whole) (Work job) s u
+whole_written Nothing job input run ending s u e left takes p = absurd left
+whole_written (Counted n items) job input run Whole s u e left takes p = λ o one. gained_so (λ text so. so ∙ ap (λ (r : Run). sink_text (Work job) r Whole) takes.1) (p o one)
+whole_written (Counted n items) job input run Kept s u e left takes p = absurd takes
+whole_written (Counted n items) job input run (Faulted f) s u e left takes p = absurd cc
 
 pub is_complete : (words : List (List ℕ)) (outcome : Outcome) (s u : Seen) → IsFaithful words outcome s u → IsComplete words outcome s u
 is_complete words outcome s u p job input e is_input good none =
     let works : WorksOff (Work job) outcome.fault outcome.run s u = subst (λ (x : Asked). WorksOff x outcome.fault outcome.run s u) e p.works in
     let clean = no_fault job input outcome.fault s u is_input good none works.causes in
     let written = works.writes input is_input in
-    (clean, p.status ∙ ap status_of clean, whole_written job input written.run written.ending s u (written.is_ending ∙ clean) written.takes written.sinks)
+    let left : LeavesSinks None (Work job) outcome.run s u = subst (λ (x : Option ToolFault). LeavesSinks x (Work job) outcome.run s u) clean works.leaves in
+    (clean, p.status ∙ ap status_of clean, whole_written outcome.run job input written.run written.ending s u (written.is_ending ∙ clean) left written.takes written.sinks)
 
 -- stopped for want of memory in the message, which is that of a fault with a cause
-pub cut_in_message : (words : List (List ℕ)) (fault : Option ToolFault) (taken : RunRecord) (s t u : Seen)
-    → Touches (streams_of (sources_of (asked_of words))) (streams_of (sinks_of (asked_of words))) (calls_of (asked_of words) Opening) s t
-    → WorksOff (asked_of words) fault taken s t → Touches [] (ERRORS ∷ []) [] t u → ReportsPart words fault t u → IsCutShort words s u
-cut_in_message words None taken s t u touched works message_touched q = absurd (q.some refl)
-cut_in_message words (Some f) taken s t u touched works message_touched q =
-    inr (f, cause_until (asked_of words) f (class_of f) s t u message_touched.counts (works.causes f refl), some_since _ _ _ _ (touched.written ERRORS (two_no_sink (asked_of words))) q.gains)
+pub cut_in_message : (words : List (List ℕ)) (fault : Option ToolFault) (recorded : RunRecord) (s t u : Seen) → HasStreams s → TouchedBy (asked_of words) s t
+    → WorksOff (asked_of words) fault recorded s t → Told t u → ReportsPart words fault t u → IsCutShort words s u
+cut_in_message words None recorded s t u streams touched works told q = absurd (q.some refl)
+cut_in_message words (Some f) recorded s t u streams touched works told q =
+    inr (f, cause_until (asked_of words) f (class_of f) s t u told.counts (works.causes f refl), some_since _ _ _ _ (error_written (asked_of words) s t streams touched) q.gains)
+
+-- stopped for want of memory before any message
+pub cut_before : (words : List (List ℕ)) (s t : Seen) → HasStreams s → TouchedBy (asked_of words) s t → IsCutShort words s t
+cut_before words s t streams touched = inl (λ a told. error_written (asked_of words) s t streams touched ∙ told ∙ ap Some (sym (append-nil a)))

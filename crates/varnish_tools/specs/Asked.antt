@@ -1,5 +1,5 @@
 -- What the words of a command line ask for (this project's choice).
-use Rattle.std.specs.Prelude.{ℕ, if◌then◌else◌, List, [], unwrap_or, Result, Ok, Err}
+use Rattle.std.specs.Prelude.{ℕ, if◌then◌else◌, List, [], unwrap_or, codes, Result, Ok, Err}
 use Rattle.tool_words.specs.declared.fault.UsageFault.{UsageFault}
 use Rattle.tool_words.specs.declared.job.Job.{Job}
 use Rattle.tool_words.specs.Job.{job_of}
@@ -24,3 +24,7 @@ asked_of words = asked_by (job_of words)
 -- the name of a job's log file, where it has one
 abbrev pub file_of : Job → List ℕ
 file_of job = unwrap_or job.file []
+
+-- the name of what a job writes: that of a file, or `-`
+abbrev pub write_of : Job → List ℕ
+write_of job = unwrap_or job.write (codes "-")

@@ -1,6 +1,5 @@
 -- Which jobs are built (this project's choice).
-use Rattle.std.specs.Prelude.{ℕ, ◌==◌, ◌&&◌, not, Bool, true, false, is_none, List, [], ◌∷◌, Option, Some, None, codes}
-use Rattle.std.specs.Str.{bytes_eq}
+use Rattle.std.specs.Prelude.{◌==◌, ◌&&◌, not, Bool, true, false, is_none, is_some, List, [], ◌∷◌}
 use Rattle.txn_rows.specs.declared.group.Grouping.{Grouping}
 use Rattle.txn_rows.specs.declared.group.Grouping.TheVariants.{Raw, Vxid, Request, Session}
 use Rattle.vsl_select.specs.declared.selection.Sides.{Sides}
@@ -22,11 +21,6 @@ is_built_grouping Vxid = true
 is_built_grouping Request = false
 is_built_grouping Session = false
 
--- whether a log file is named, and not standard input
-abbrev pub names_file : Option (List ℕ) → Bool
-names_file None = false
-names_file (Some name) = not (bytes_eq name (codes "-"))
-
 -- whether all transactions are shown
 abbrev pub shows_all : Sides → Bool
 shows_all sides = not sides.backend && not sides.client && not sides.esi
@@ -36,11 +30,11 @@ abbrev pub is_empty_list : {A : Type 0} → List A → Bool
 is_empty_list [] = true
 is_empty_list (x ∷ xs) = false
 
--- whether a job asks for nothing that isn't built: no limit, timeout or number of groups, nothing hidden, no verbose lines, no query, no file to write
+-- whether a job asks for nothing that isn't built: a log, the default limit and timeout, no number of groups, nothing hidden, no verbose lines, no query
 abbrev pub is_built : Job → Bool
 is_built job =
     is_built_tool job.tool
-    && names_file job.file
+    && is_some job.file
     && (job.limit == 1000)
     && (job.timeout == 120)
     && is_none job.keep
@@ -48,5 +42,4 @@ is_built job =
     && not job.verbose
     && is_empty_list job.queries
     && is_empty_list job.rules
-    && is_none job.write
     && is_built_grouping job.grouping

@@ -1,17 +1,20 @@
 -- The faults of the tools: a class, a message and a status for each (messages and statuses are this project's choice).
-use Rattle.std.specs.Prelude.{ℕ, List, [], ◌++◌, Option, Some, None, unwrap_or, slice_get, codes}
-use Rattle.vio.specs.World.{CallKind, Opening, Reading, Writing}
+use Rattle.std.specs.Prelude.{ℕ, List, [], ◌++◌, Option, Some, None, unwrap_or, slice_get, codes, decimal}
 use Rattle.tool_words.specs.declared.fault.UsageFault.{UsageFault}
 use Rattle.tool_words.specs.declared.fault.UsageFault.TheVariants.{UnknownTool, UnknownOption, NoValue, BadValue, NotHere, NoTool, NoOnce, NoLog, TwoLogs}
 use Rattle.varnish_tools.specs.declared.fault.ToolFault.{ToolFault}
-use Rattle.varnish_tools.specs.declared.fault.ToolFault.TheVariants.{Usage, NotBuilt, NoOpen, ReadFault, WriteFault, BadFile}
+use Rattle.varnish_tools.specs.declared.fault.ToolFault.TheVariants.{Usage, NotBuilt, NoOpen, ReadFault, WriteFault, NotALog, Damaged, TooLarge}
 
 -- the classes of faults; causes, what is taken and statuses are stated by class
 pub data FaultClass : Type 0 where
   -- the words, or the texts that they name, were refused
   Refused : FaultClass
-  -- a call of this kind for this name failed
-  Outside : CallKind → List ℕ → FaultClass
+  -- a file of this name could not be opened, or not created
+  NotOpened : List ℕ → FaultClass
+  -- a read of the object of this name failed
+  NotRead : List ℕ → FaultClass
+  -- a write to the object of this name failed
+  NotWritten : List ℕ → FaultClass
   -- the input under this name is not good
   BadInput : List ℕ → FaultClass
 
@@ -19,10 +22,12 @@ pub data FaultClass : Type 0 where
 abbrev pub class_of : ToolFault → FaultClass
 class_of (Usage fault) = Refused
 class_of NotBuilt = Refused
-class_of (NoOpen name) = Outside Opening name
-class_of (ReadFault name) = Outside Reading name
-class_of (WriteFault name) = Outside Writing name
-class_of (BadFile name) = BadInput name
+class_of (NoOpen name) = NotOpened name
+class_of (ReadFault name) = NotRead name
+class_of (WriteFault name) = NotWritten name
+class_of (NotALog name at) = BadInput name
+class_of (Damaged name at) = BadInput name
+class_of (TooLarge name limit) = BadInput name
 
 -- the word at a place, counted from 0
 abbrev pub word_at : List (List ℕ) → ℕ → List ℕ
@@ -31,6 +36,10 @@ word_at words place = unwrap_or (slice_get words place) []
 -- a line for standard error, after the program's name
 abbrev pub told : List ℕ → List ℕ
 told text = codes "vtools: " ++ text ++ codes "\n"
+
+-- a text with a number in it, in decimal
+abbrev pub numbered : List ℕ → ℕ → List ℕ → List ℕ
+numbered before number after = before ++ decimal number ++ after
 
 -- the message of what is wrong with the words, with the whole word
 abbrev pub usage_message : List (List ℕ) → UsageFault → List ℕ
@@ -51,7 +60,9 @@ message words NotBuilt = told (codes "not built yet")
 message words (NoOpen name) = told (name ++ codes ": cannot open")
 message words (ReadFault name) = told (name ++ codes ": read failed")
 message words (WriteFault name) = told (name ++ codes ": write failed")
-message words (BadFile name) = told (name ++ codes ": bad log")
+message words (NotALog name at) = told (name ++ numbered (codes ": not a log at ") at [])
+message words (Damaged name at) = told (name ++ numbered (codes ": damaged at ") at [])
+message words (TooLarge name limit) = told (name ++ numbered (codes ": larger than ") limit (codes " bytes"))
 
 -- the message where there is a fault
 abbrev pub fault_message : List (List ℕ) → Option ToolFault → List ℕ
@@ -61,7 +72,9 @@ fault_message words (Some fault) = message words fault
 -- the status of a class of faults: 2 where the words were refused, 1 where the input or the outside failed
 abbrev pub class_status : FaultClass → ℕ
 class_status Refused = 2
-class_status (Outside kind name) = 1
+class_status (NotOpened name) = 1
+class_status (NotRead name) = 1
+class_status (NotWritten name) = 1
 class_status (BadInput name) = 1
 
 -- the status of a run: 0 without a fault, else that of the fault's class

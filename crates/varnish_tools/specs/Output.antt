@@ -1,15 +1,33 @@
 -- What a job writes to its sink for a run and an ending (varnishlog(1)).
-use Rattle.std.specs.Prelude.{Bool, ℕ, true, false, List, []}
+use Rattle.std.specs.Prelude.{Bool, ℕ, true, false, ◌&&◌, not, is_some, if◌then◌else◌, List, [], ◌++◌}
 use Rattle.std.specs.List.{flat_map}
+use Rattle.vsl_file.specs.File.{file_header, log_bytes}
 use Rattle.txn_rows.specs.declared.group.Group.{Group}
 use Rattle.txn_rows.specs.Grouping.{groups_of}
 use Rattle.vsl_select.specs.Lines.{group_text}
+use Rattle.vsl_select.specs.FileUnits.{file_units}
+use Rattle.tool_words.specs.declared.job.Job.{Job}
+use Rattle.varnish_tools.specs.declared.layout.Layout.{Layout}
+use Rattle.varnish_tools.specs.declared.layout.Layout.TheVariants.{Lines, Units}
 use Rattle.varnish_tools.specs.Asked.{Asked, Refuse, Work}
 use Rattle.varnish_tools.specs.Run.{Run, Ending, Whole, Kept, Faulted, taken_units}
 
--- the text of groups, one after another
-abbrev pub groups_text : List Group → List ℕ
-groups_text groups = flat_map (group_text false) groups
+-- what groups are written as, one after another: their lines, or the units of a log file
+abbrev pub laid_out : Layout → List Group → List ℕ
+laid_out Lines groups = flat_map (group_text false) groups
+laid_out Units groups = log_bytes (flat_map file_units groups)
+
+-- whether a job writes a log file: varnishlog does so with -w, unless -A asks for lines
+abbrev pub writes_log : Job → Bool
+writes_log job = is_some job.write && not job.text
+
+-- how a job writes groups
+abbrev pub layout_of : Job → Layout
+layout_of job = if writes_log job then Units else Lines
+
+-- what a sink gains before any group: a log file that was empty begins with its header
+abbrev pub head_text : Job → Bool → List ℕ
+head_text job sink_empty = if writes_log job && sink_empty then file_header else []
 
 -- what is pending is flushed only where the whole input was taken
 abbrev pub is_flushed : Ending → Bool
@@ -17,7 +35,8 @@ is_flushed Whole = true
 is_flushed Kept = false
 is_flushed (Faulted fault) = false
 
--- the text for the sink: that of the groups of the units that were taken, in the order in which they are complete; refused words have none
+-- the text for the sink: the header where one is due, and the groups of the units that were taken, in the order in which they are complete; refused words
+-- have none
 abbrev pub sink_text : Asked → Run → Ending → List ℕ
 sink_text (Refuse fault) run ending = []
-sink_text (Work job) run ending = groups_text (groups_of job.grouping (taken_units run.history) (is_flushed ending))
+sink_text (Work job) run ending = head_text job run.sink_empty ++ laid_out (layout_of job) (groups_of job.grouping (taken_units run.history) (is_flushed ending))

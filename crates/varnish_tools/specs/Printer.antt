@@ -9,11 +9,13 @@ use Rattle.txn_rows.specs.Grouping.{no_state, unit_steps, groups_of}
 use Rattle.txn_rows.specs.TableState.{TableState}
 use Rattle.varnish_tools.specs.declared.printer.PrintFault.{PrintFault}
 use Rattle.varnish_tools.specs.declared.printer.PrintFault.TheVariants.{WriteFault, NoMemory}
-use Rattle.varnish_tools.specs.Output.{groups_text}
+use Rattle.varnish_tools.specs.declared.layout.Layout.{Layout}
+use Rattle.varnish_tools.specs.Output.{laid_out}
 
--- what a printer tells: the table of what is pending, and the handle of its sink and the name that faults give it
+-- what a printer tells: the table of what is pending, how groups are written, and the handle of its sink and the name that faults give it
 pub record PrinterState : Type 0 where
   pub table : TableState
+  pub layout : Layout
   pub sink : ℕ
   pub name : List ℕ
 
@@ -23,16 +25,17 @@ pub record Represents (p : PrinterState) (units : Log) : Type 0 where
   pub sound : p.table.failed ≡ false
 
 -- the text that is due for these units, where they have ended or not
-abbrev pub due_text : Grouping → Log → Bool → List ℕ
-due_text grouping units ended = groups_text (groups_of grouping units ended)
+abbrev pub due_text : Layout → Grouping → Log → Bool → List ℕ
+due_text layout grouping units ended = laid_out layout (groups_of grouping units ended)
 
 -- the text that is due at a printer's sink for these units, where they have ended or not
 abbrev pub due : PrinterState → Log → Bool → List ℕ
-due p units ended = due_text p.table.options.grouping units ended
+due p units ended = due_text p.layout p.table.options.grouping units ended
 
--- a call keeps options and sink
+-- a call keeps options, layout and sink
 pub record IsSamePrinter (old new : PrinterState) : Type 0 where
   pub options : new.table.options ≡ old.table.options
+  pub layout : new.layout ≡ old.layout
   pub sink : new.sink ≡ old.sink
   pub name : new.name ≡ old.name
 

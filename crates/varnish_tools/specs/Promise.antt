@@ -1,124 +1,206 @@
 -- The main theorem: what the top call writes, answers and leaves, for every command line, input and world (this project's choice).
-use Rattle.std.specs.Prelude.{◌≡◌, ◌⊎◌, ℕ, ◌-◌, ◌<◌, ◌≤◌, List, [], length, take, Option, Some, None, nat_le, ◌==◌, ◌&&◌, if◌then◌else◌, codes}
+use Rattle.std.specs.Prelude.{◌≡◌, ◌⊎◌, ℕ, ◌+◌, ◌-◌, ◌<◌, ◌≤◌, Bool, true, false, List, [], ◌++◌, length, take, Option, Some, None, ◌==◌, ◌&&◌, if◌then◌else◌, codes}
 use Rattle.log_model.specs.Faults.{HasNewFault}
 use Rattle.log_model.specs.Prefix.{IsPrefix, IsProperPrefix}
 use Rattle.vio.specs.declared.world.TheConstants.{ERRORS}
-use Rattle.vio.specs.World.{Seen, CallKind, Opening, Reading, Writing, Gains}
+use Rattle.vio.specs.World.{Seen, CallKind, Opening, Creating, Reading, Writing, Gains, begins_with}
 use Rattle.vio.specs.Writes.{GainsSome}
 use Rattle.vio.specs.Touches.{IsOneOf}
 use Rattle.vsl_record.specs.Unit.{Log}
-use Rattle.vsl_file.specs.File.{FileEnding, IsFile, is_whole}
+use Rattle.vsl_file.specs.File.{FileEnding, IsFile, HoldsWhole, file_header, log_bytes, most_bytes}
 use Rattle.vsl_file.specs.File as file
 use Rattle.txn_rows.specs.Grouping.{groups_of}
 use Rattle.varnish_tools.specs.declared.fault.ToolFault.{ToolFault}
+use Rattle.varnish_tools.specs.declared.fault.ToolFault.TheVariants as faults
 use Rattle.varnish_tools.specs.declared.outcome.RunRecord.{RunRecord}
-use Rattle.varnish_tools.specs.declared.outcome.RunRecord.TheVariants.{Nothing}
+use Rattle.varnish_tools.specs.declared.outcome.RunRecord.TheVariants.{Nothing, Counted}
 use Rattle.varnish_tools.specs.declared.outcome.Outcome.{Outcome}
 use Rattle.tool_words.specs.declared.job.Job.{Job}
-use Rattle.varnish_tools.specs.Asked.{Asked, Refuse, Work, asked_of, file_of}
-use Rattle.varnish_tools.specs.Faults.{FaultClass, Refused, Outside, BadInput, class_of, message, fault_message, status_of}
-use Rattle.varnish_tools.specs.Objects.{calls_of, names_of, sources_of, SinksGain}
-use Rattle.varnish_tools.specs.Run.{Run, Ending, Whole, Kept, Faulted, fault_of, no_run, run_of, IsRunOf}
-use Rattle.varnish_tools.specs.Output.{groups_text, sink_text}
+use Rattle.varnish_tools.specs.Asked.{Asked, Refuse, Work, asked_of}
+use Rattle.varnish_tools.specs.Faults.{FaultClass, Refused, NotOpened, NotRead, NotWritten, BadInput, class_of, message, fault_message, status_of}
+use Rattle.varnish_tools.specs.Objects.{Object, OpenedFile, CreatedFile, Stream, source_of, sink_of, sources_of, calls_of, IsSourceHandle, SinkGained, SinkUntouched, SinksGained, SinksUntouched, NothingTouched, name_of, sinks_of}
+use Rattle.varnish_tools.specs.Run.{Run, Ending, Whole, Kept, Faulted, fault_of, no_run, run_of}
+use Rattle.varnish_tools.specs.Output.{head_text, laid_out, layout_of, sink_text}
 
--- the most bytes of a log file that a tool reads
-abbrev pub log_limit : ℕ
-log_limit = 16777216
-
--- what the sources of a job hold
+-- what the sources of a job hold, and whether its sink has no bytes when it is created
 pub record Input : Type 0 where
-  -- the bytes of the log file, its units and how it ends
+  -- the bytes of the log, its units and how it ends
   pub bytes : List ℕ
   pub units : Log
   pub file_ending : FileEnding
+  pub sink_empty : Bool
 
--- the world tells that the sources hold this; refused words have none
+-- the world tells that a source holds these bytes
+abbrev pub SourceHolds : Object → Seen → List ℕ → Type 0
+SourceHolds (OpenedFile name) before bytes = before.held name ≡ Some bytes
+SourceHolds (CreatedFile append name) before bytes = ⊥
+SourceHolds (Stream handle name) before bytes = before.left handle ≡ Some bytes
+
+-- the world tells whether a sink has no bytes when it is created; standard output counts as having none
+abbrev pub SinkBegins : Object → Seen → Bool → Type 0
+SinkBegins (OpenedFile name) before empty = ⊥
+SinkBegins (CreatedFile true name) before empty = (first : List ℕ) × (begins_with true name before ≡ Some first) × (empty ≡ (length first == 0))
+SinkBegins (CreatedFile false name) before empty = empty ≡ true
+SinkBegins (Stream handle name) before empty = empty ≡ true
+
+-- the world tells that the sources and sinks hold this; refused words have none
 abbrev pub IsInput : Asked → Seen → Input → Type 0
 IsInput (Refuse fault) before input = Unit {0}
-IsInput (Work job) before input = (before.held (file_of job) ≡ Some input.bytes) × IsFile input.bytes input.units input.file_ending
+IsInput (Work job) before input =
+    SourceHolds (source_of job) before input.bytes × IsFile input.bytes input.units input.file_ending × SinkBegins (sink_of job) before input.sink_empty
 
--- the input is a whole log within the limit
-pub record IsGood (input : Input) : Type 0 where
-  pub within : length input.bytes ≤ log_limit
-  pub whole : input.file_ending ≡ file.Whole
+-- the input is a whole log
+abbrev pub IsGood : Input → Type 0
+IsGood input = input.file_ending ≡ file.Whole
 
--- why a fault of a class may be answered: the words are refused with it; a failed call was counted for the very name; the input is not a good one, as far as the world tells it
+-- whether a log ends whole
+abbrev pub is_whole : FileEnding → Bool
+is_whole file.Whole = true
+is_whole (file.NotALog at) = false
+is_whole (file.Damaged at) = false
+is_whole file.TooLarge = false
+
+-- the fault of a log under this name, by how it ends
+abbrev pub input_fault : List ℕ → FileEnding → Option ToolFault
+input_fault name file.Whole = None
+input_fault name (file.NotALog at) = Some (faults.NotALog name at)
+input_fault name (file.Damaged at) = Some (faults.Damaged name at)
+input_fault name file.TooLarge = Some (faults.TooLarge name most_bytes)
+
+-- the count of failed calls of this kind rose for this name, which is that of an object of the job
+abbrev pub HasFailed : Asked → CallKind → List ℕ → Seen → Seen → Type 0
+HasFailed asked kind name before now = IsOneOf name (calls_of asked kind) × HasNewFault (before.faults kind name) (now.faults kind name)
+
+-- why a fault of a class may be answered: the words are refused with it; the count of failed calls rose for the very name; the source of this name ends so,
+-- as far as the world tells it
 abbrev pub HasClassCause : Asked → ToolFault → FaultClass → Seen → Seen → Type 0
 HasClassCause asked fault Refused before now = asked ≡ Refuse fault
-HasClassCause asked fault (Outside kind name) before now = IsOneOf name (calls_of asked kind) × HasNewFault (before.faults kind name) (now.faults kind name)
-HasClassCause asked fault (BadInput name) before now = IsOneOf name (names_of (sources_of asked)) × ((input : Input) → IsInput asked before input → ¬ (IsGood input))
+HasClassCause asked fault (NotOpened name) before now = HasFailed asked Opening name before now ⊎ HasFailed asked Creating name before now
+HasClassCause asked fault (NotRead name) before now = HasFailed asked Reading name before now
+HasClassCause asked fault (NotWritten name) before now = HasFailed asked Writing name before now
+HasClassCause asked fault (BadInput name) before now =
+    (source : Object) × IsOneOf source (sources_of asked) × (name ≡ name_of source)
+    × ((bytes : List ℕ) (units : Log) (ending : FileEnding) → SourceHolds source before bytes → IsFile bytes units ending → input_fault name ending ≡ Some fault)
 
 -- why a fault may be answered: by its class
 abbrev pub HasCause : Asked → ToolFault → Seen → Seen → Type 0
 HasCause asked fault before now = HasClassCause asked fault (class_of fault) before now
 
--- the run that an input defines where no fault of the world comes: all units, or nothing of a file over the limit
+-- the run that an input defines where no fault of the world comes: all units
 abbrev pub whole_run : Input → Run
-whole_run input = if nat_le (length input.bytes) log_limit then run_of input.units else no_run
+whole_run input = run_of input.sink_empty input.units
 
 -- the text that an input defines where no fault of the world comes
 abbrev pub whole_text : Asked → Input → List ℕ
 whole_text (Refuse fault) input = []
-whole_text (Work job) input = if nat_le (length input.bytes) log_limit then groups_text (groups_of job.grouping input.units (is_whole input.file_ending)) else []
+whole_text (Work job) input = head_text job input.sink_empty ++ laid_out (layout_of job) (groups_of job.grouping input.units (is_whole input.file_ending))
+
+-- the record of a run over an input: it takes so many units, from the first on, without a gap; or nothing
+abbrev pub IsRunOf : RunRecord → Input → Run → Type 0
+IsRunOf Nothing input run = run ≡ no_run
+IsRunOf (Counted units items) input run = (units ≤ length input.units) × (items ≡ 1) × (run ≡ run_of input.sink_empty (take units input.units))
+
+-- the run takes the first units of its input
+abbrev pub TakesFirst : Input → Run → Type 0
+TakesFirst input run = (n : ℕ) × (n ≤ length input.units) × (run ≡ run_of input.sink_empty (take n input.units))
 
 -- what a run takes of its input until a fault of a class
 abbrev pub TakesUntil : FaultClass → Input → Run → Type 0
 TakesUntil Refused input run = run ≡ no_run
-TakesUntil (Outside Opening name) input run = run ≡ no_run
-TakesUntil (Outside Reading name) input run = run ≡ no_run
-TakesUntil (Outside Writing name) input run = (length input.bytes ≤ log_limit) × ((n : ℕ) × (0 < n) × (n ≤ length input.units) × (run ≡ run_of (take n input.units)))
+TakesUntil (NotOpened name) input run = run ≡ no_run
+TakesUntil (NotRead name) input run = TakesFirst input run
+TakesUntil (NotWritten name) input run = TakesFirst input run
 TakesUntil (BadInput name) input run = run ≡ whole_run input
 
 -- what a run takes of its input, by how it ends
 abbrev pub Takes : Input → Run → Ending → Type 0
-Takes input run Whole = IsGood input × (run ≡ run_of input.units)
+Takes input run Whole = IsGood input × (run ≡ whole_run input)
 Takes input run Kept = ⊥
 Takes input run (Faulted fault) = TakesUntil (class_of fault) input run
 
+-- the first bytes of a source were taken, and the rest is left
+pub record Took (source : Object) (bytes taken : List ℕ) (before now : Seen) : Type 0 where
+  pub handle : ℕ
+  pub is_handle : IsSourceHandle source handle before now
+  pub rest : List ℕ
+  pub left : now.left handle ≡ Some rest
+  pub parts : bytes ≡ taken ++ rest
+
+-- of the source's bytes, first ones that are so were taken
+abbrev pub TookSome : (List ℕ → Type 0) → Object → Input → Seen → Seen → Type 0
+TookSome IsSo source input before now = (taken : List ℕ) × IsSo taken × Took source input.bytes taken before now
+
+-- one pass, until a fault of a class: after a failed read, the units that were taken are all that lie whole in the bytes that were taken; after a failed
+-- write, these are fewer than 65,536 past the end of the last unit that was taken, or past the header
+abbrev pub ReadsOnceUntil : FaultClass → Object → Input → Run → Seen → Seen → Type 0
+ReadsOnceUntil Refused source input run before now = Unit {0}
+ReadsOnceUntil (NotOpened name) source input run before now = Unit {0}
+ReadsOnceUntil (NotRead name) source input run before now = TookSome (λ taken. HoldsWhole taken run.log) source input before now
+ReadsOnceUntil (NotWritten name) source input run before now =
+    TookSome (λ taken. length taken < length (file_header ++ log_bytes run.log) + 65536) source input before now
+ReadsOnceUntil (BadInput name) source input run before now = Unit {0}
+
+-- one pass, by how the run ends
+abbrev pub ReadsOnce : Ending → Object → Input → Run → Seen → Seen → Type 0
+ReadsOnce Whole source input run before now = Unit {0}
+ReadsOnce Kept source input run before now = ⊥
+ReadsOnce (Faulted fault) source input run before now = ReadsOnceUntil (class_of fault) source input run before now
+
 -- the run without the last unit that it took
 abbrev pub without_last : Run → Run
-without_last run = run_of (take (length run.log - 1) run.log)
+without_last run = run_of run.sink_empty (take (length run.log - 1) run.log)
 
 -- the ending of the text whose write failed: whole where the run took all units of a whole input
 abbrev pub ending_begun : Input → Run → Ending → Ending
 ending_begun input run ending = if is_whole input.file_ending && (length run.log == length input.units) then Whole else ending
 
--- what a sink may gain until a fault of a class: its text; after a failed write at least the text without the last unit that was begun, and not all with it
+-- what a sink may gain until a fault of a class: its text; after a failed write not all of it, and where a unit was taken at least the text without the last
 abbrev pub IsDueUntil : FaultClass → Asked → Input → Run → Ending → List ℕ → Type 0
 IsDueUntil Refused asked input run ending text = text ≡ sink_text asked run ending
-IsDueUntil (Outside Opening name) asked input run ending text = text ≡ sink_text asked run ending
-IsDueUntil (Outside Reading name) asked input run ending text = text ≡ sink_text asked run ending
-IsDueUntil (Outside Writing name) asked input run ending text =
-    IsPrefix (sink_text asked (without_last run) ending) text × IsProperPrefix text (sink_text asked run (ending_begun input run ending))
+IsDueUntil (NotOpened name) asked input run ending text = text ≡ sink_text asked run ending
+IsDueUntil (NotRead name) asked input run ending text = text ≡ sink_text asked run ending
+IsDueUntil (NotWritten name) asked input run ending text =
+    (0 < length run.log → IsPrefix (sink_text asked (without_last run) ending) text) × IsProperPrefix text (sink_text asked run (ending_begun input run ending))
 IsDueUntil (BadInput name) asked input run ending text = text ≡ sink_text asked run ending
 
--- what the sink may gain, by how the run ends
+-- what a sink may gain, by how the run ends
 abbrev pub IsDue : Asked → Input → Run → Ending → List ℕ → Type 0
 IsDue asked input run Whole text = text ≡ sink_text asked run Whole
 IsDue asked input run Kept text = text ≡ sink_text asked run Kept
 IsDue asked input run (Faulted fault) text = IsDueUntil (class_of fault) asked input run (Faulted fault) text
 
--- where the words are refused, or opening or reading fails, nothing was taken: none is recorded, and the sinks gain nothing, on every world
-abbrev pub LeavesUntil : FaultClass → Asked → RunRecord → Seen → Seen → Type 0
-LeavesUntil Refused asked recorded before now = (recorded ≡ Nothing) × SinksGain (λ text. text ≡ []) asked before now
-LeavesUntil (Outside Opening name) asked recorded before now = (recorded ≡ Nothing) × SinksGain (λ text. text ≡ []) asked before now
-LeavesUntil (Outside Reading name) asked recorded before now = (recorded ≡ Nothing) × SinksGain (λ text. text ≡ []) asked before now
-LeavesUntil (Outside Writing name) asked recorded before now = Unit {0}
-LeavesUntil (BadInput name) asked recorded before now = Unit {0}
+-- whether a run began is recorded
+abbrev pub IsCounted : RunRecord → Type 0
+IsCounted Nothing = ⊥
+IsCounted (Counted units items) = Unit {0}
 
--- what a run leaves on every world, by its fault
+-- where the words are refused, or an object can't be opened or created, nothing is recorded, taken of a stream, or written; else a run began
+abbrev pub LeavesUntil : FaultClass → Asked → RunRecord → Seen → Seen → Type 0
+LeavesUntil Refused asked recorded before now = (recorded ≡ Nothing) × NothingTouched asked before now
+LeavesUntil (NotOpened name) asked recorded before now = (recorded ≡ Nothing) × NothingTouched asked before now
+LeavesUntil (NotRead name) asked recorded before now = IsCounted recorded
+LeavesUntil (NotWritten name) asked recorded before now = IsCounted recorded
+LeavesUntil (BadInput name) asked recorded before now = IsCounted recorded
+
+-- what is left on every world, by the fault
 abbrev pub LeavesSinks : Option ToolFault → Asked → RunRecord → Seen → Seen → Type 0
-LeavesSinks None asked recorded before now = Unit {0}
+LeavesSinks None asked recorded before now = IsCounted recorded
 LeavesSinks (Some fault) asked recorded before now = LeavesUntil (class_of fault) asked recorded before now
+
+-- each sink gained a text that is so, where a run began; else it is as it was
+abbrev pub SinksLeft : RunRecord → (List ℕ → Type 0) → Asked → Seen → Seen → Type 0
+SinksLeft Nothing IsSo asked before now = SinksUntouched asked before now
+SinksLeft (Counted units items) IsSo asked before now = SinksGained IsSo asked before now
 
 -- for this input, a run was taken, it ended, and the sinks gained what is due
 pub record WritesSinks (asked : Asked) (input : Input) (fault : Option ToolFault) (recorded : RunRecord) (before now : Seen) : Type 0 where
   pub run : Run
   pub ending : Ending
-  pub is_run : IsRunOf recorded input.units run
+  pub is_run : IsRunOf recorded input run
   pub is_ending : fault_of ending ≡ fault
   pub takes : Takes input run ending
-  pub sinks : SinksGain (IsDue asked input run ending) asked before now
+  pub reads_once : (source : Object) → IsOneOf source (sources_of asked) → ReadsOnce ending source input run before now
+  pub sinks : SinksLeft recorded (IsDue asked input run ending) asked before now
 
 -- the words were worked off, but for the message
 pub record WorksOff (asked : Asked) (fault : Option ToolFault) (recorded : RunRecord) (before now : Seen) : Type 0 where
@@ -126,7 +208,7 @@ pub record WorksOff (asked : Asked) (fault : Option ToolFault) (recorded : RunRe
   pub refused : (f : ToolFault) → asked ≡ Refuse f → fault ≡ Some f
   pub causes : (f : ToolFault) → fault ≡ Some f → HasCause asked f before now
   pub leaves : LeavesSinks fault asked recorded before now
-  -- where the world tells what the sources hold
+  -- where the world tells what the sources and sinks hold
   pub writes : (input : Input) → IsInput asked before input → WritesSinks asked input fault recorded before now
 
 -- standard error gained this text; where the count of its failed writes rose, this text or a prefix of it
@@ -141,9 +223,10 @@ pub record IsFaithful (words : List (List ℕ)) (outcome : Outcome) (before now 
   pub reports : WritesError (fault_message words outcome.fault) before now
   pub works : WorksOff (asked_of words) outcome.fault outcome.run before now
 
--- for every answer, the sinks gained a prefix of the text that the input defines
+-- for every answer, a sink is as it was or gained a prefix of the text that the input defines
 abbrev pub WritesPrefix : Asked → Seen → Seen → Type 0
-WritesPrefix asked before now = (input : Input) → IsInput asked before input → SinksGain (λ text. IsPrefix text (whole_text asked input)) asked before now
+WritesPrefix asked before now = (input : Input) → IsInput asked before input → (sink : Object) → IsOneOf sink (sinks_of asked) →
+    SinkUntouched sink before now ⊎ SinkGained (λ text. IsPrefix text (whole_text asked input)) sink before now
 
 -- no call of the objects of a command line failed
 abbrev pub NoFaultOf : Asked → Seen → Seen → Type 0
@@ -153,7 +236,7 @@ NoFaultOf asked before now = (kind : CallKind) (name : List ℕ) → IsOneOf nam
 abbrev pub IsComplete : List (List ℕ) → Outcome → Seen → Seen → Type 0
 IsComplete words outcome before now =
     (job : Job) (input : Input) → asked_of words ≡ Work job → IsInput (Work job) before input → IsGood input → NoFaultOf (Work job) before now →
-    (outcome.fault ≡ None) × (outcome.status ≡ 0) × SinksGain (λ text. text ≡ sink_text (Work job) (run_of input.units) Whole) (Work job) before now
+    (outcome.fault ≡ None) × (outcome.status ≡ 0) × SinksGained (λ text. text ≡ sink_text (Work job) (whole_run input) Whole) (Work job) before now
 
 -- where the call answers want of memory: of a fault's message nothing or a prefix was written
 abbrev pub IsCutShort : List (List ℕ) → Seen → Seen → Type 0

@@ -1,18 +1,17 @@
 -- What a tool takes of its input, and how it ends (this project's choice).
-use Rattle.std.specs.Prelude.{◌≡◌, ◌≤◌, List, [], ◌∷◌, ◌++◌, length, take, Option, Some, None}
+use Rattle.std.specs.Prelude.{Bool, false, List, [], ◌∷◌, ◌++◌, Option, Some, None}
 use Rattle.vsl_record.specs.Unit.{Log}
 use Rattle.varnish_tools.specs.declared.fault.ToolFault.{ToolFault}
-use Rattle.varnish_tools.specs.declared.outcome.RunRecord.{RunRecord}
-use Rattle.varnish_tools.specs.declared.outcome.RunRecord.TheVariants.{Nothing, Counted}
 
 -- what a tool took without a gap: units that follow one another in the log
 pub data HistoryItem : Type 0 where
   UnitRun : Log → HistoryItem
 
--- a run: the log, as far as it was looked at, and what the tool took of it, in order
+-- a run: the log, as far as it was looked at, what the tool took of it, in order, and whether the sink had no bytes when it was created
 pub record Run : Type 0 where
   pub log : Log
   pub history : List HistoryItem
+  pub sink_empty : Bool
 
 -- how a run ends: with the whole input, with the number of groups to keep, or with a fault
 pub data Ending : Type 0 where
@@ -31,15 +30,10 @@ abbrev pub taken_units : List HistoryItem → Log
 taken_units [] = []
 taken_units (UnitRun units ∷ items) = units ++ taken_units items
 
--- the run that takes nothing
+-- the run that takes nothing, before which no sink was created
 abbrev pub no_run : Run
-no_run = record { log = []; history = [] }
+no_run = record { log = []; history = []; sink_empty = false }
 
 -- the run that takes these units, which are the log, as one item
-abbrev pub run_of : Log → Run
-run_of units = record { log = units; history = UnitRun units ∷ [] }
-
--- the record of a run over an input of these units: it takes so many of them, from the first on, without a gap; or nothing
-abbrev pub IsRunOf : RunRecord → Log → Run → Type 0
-IsRunOf Nothing input run = run ≡ no_run
-IsRunOf (Counted units items) input run = (units ≤ length input) × (items ≡ 1) × (run ≡ run_of (take units input))
+abbrev pub run_of : Bool → Log → Run
+run_of sink_empty units = record { log = units; history = UnitRun units ∷ []; sink_empty = sink_empty }

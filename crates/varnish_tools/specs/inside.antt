@@ -3,6 +3,6 @@ pub mod Jobs
 pub mod Printing
 pub mod Source
 pub mod Loop
-pub mod ReadLog
+pub mod LogSource
 pub mod LogFile
 pub mod Report

@@ -2,9 +2,9 @@
 
 ghost use Rattle.std.specs.Prelude.{◌≡◌, map, true, IfOk, MatchResult, IfErr};
 ghost use Rattle.std.specs.String.{string_bytes};
-ghost use Rattle.varnish_tools.specs.Asked.{Refuse, Work, asked_of, file_of};
+ghost use Rattle.varnish_tools.specs.Asked.{Refuse, Work, asked_of, file_of, write_of};
 ghost use Rattle.varnish_tools.specs.Faults.{Refused, class_of};
-ghost use Rattle.varnish_tools.specs.Built.{is_built, is_built_grouping, is_built_tool, names_file, shows_all};
+ghost use Rattle.varnish_tools.specs.Built.{is_built, is_built_grouping, is_built_tool, shows_all};
 
 use crate::fault::ToolFault;
 use std::alloc::Global;
@@ -37,16 +37,6 @@ fn has_grouping(grouping: Grouping) -> bool
     }
 }
 
-/// Whether a log file is named, and not standard input.
-fn has_file(file: &Option<Text>) -> bool
-    ensures { result ≡ names_file file.now }
-{
-    match file {
-        None => false,
-        Some(name) => name.as_str() != "-",
-    }
-}
-
 /// Whether all transactions are shown.
 fn is_all(sides: Sides) -> bool
     ensures { result ≡ shows_all sides }
@@ -59,7 +49,7 @@ fn is_built_job(job: &Job) -> bool
     ensures { result ≡ is_built job.now }
 {
     has_tool(job.tool)
-        && has_file(&job.file)
+        && job.file.is_some()
         && job.limit == 1000
         && job.timeout == 120
         && job.keep.is_none()
@@ -67,17 +57,26 @@ fn is_built_job(job: &Job) -> bool
         && !job.verbose
         && job.queries.as_slice().is_empty()
         && job.rules.as_slice().is_empty()
-        && job.write.is_none()
         && has_grouping(job.grouping)
 }
 
-/// The name of the job's log file.
+/// The name of the job's log: that of a file, or `-` for standard input.
 pub fn file_name(job: &Job) -> &str
     ensures { result.now ≡ file_of job.now }
 {
     match &job.file {
         Some(name) => name.as_str(),
         None => "",
+    }
+}
+
+/// The name of what a job writes: that of a file, or `-` for standard output.
+pub fn written_name(job: &Job) -> &str
+    ensures { result.now ≡ write_of job.now }
+{
+    match &job.write {
+        Some(name) => name.as_str(),
+        None => "-",
     }
 }
 

@@ -3,31 +3,48 @@
 use tool_words::UsageFault;
 use vsl_select::Text;
 
-/// Why a tool stops early; each has a message and a status.
+/// Why a tool stops early; each has a message and a status. A name is that of a file, or `-` for standard input
+/// or output.
 #[derive(Debug, Drop)]
 pub enum ToolFault {
     /// Something is wrong with the words.
     Usage(UsageFault),
     /// The words state a job that isn't built.
     NotBuilt,
-    /// The file could not be opened.
+    /// The file could not be opened, or not created.
     NoOpen {
         /// The file's name.
         name: Text,
     },
-    /// A read of the file failed.
+    /// A read failed.
     ReadFault {
-        /// The file's name.
+        /// The name of what was read.
         name: Text,
     },
     /// A write failed.
     WriteFault {
-        /// The stream's name: `-` for standard output.
+        /// The name of what was written.
         name: Text,
     },
-    /// The file is larger than 16,777,216 bytes, or it is no log, or it is damaged.
-    BadFile {
-        /// The file's name.
+    /// The input is no log file.
+    NotALog {
+        /// The input's name.
         name: Text,
+        /// The first byte that isn't the header's, from 0, or the length of an input that ends inside the header.
+        at: u64,
+    },
+    /// A unit of the log isn't whole and correct.
+    Damaged {
+        /// The log's name.
+        name: Text,
+        /// The byte where the unit begins, from 0.
+        at: u64,
+    },
+    /// The log has more bytes than are read.
+    TooLarge {
+        /// The log's name.
+        name: Text,
+        /// How many bytes are read of it.
+        limit: u64,
     },
 }

@@ -1,7 +1,7 @@
 //! The tools, as one call: words in, a world of files and streams, and out comes what the tool wrote.
 //!
-//! `run_tools` reads the words, opens and reads the log that they name, writes the defined text to
-//! standard output and the defined message to standard error, and answers the status. Its contract is
+//! `run_tools` reads the words, opens the log that they name, creates what they write, reads the log in one pass,
+//! writes the defined text and the defined message, and answers the status. Its contract is
 //! the main theorem of this project, `IsFaithful` in `specs/Promise.antt`.
 //!
 //! Start with `specs/Asked.antt`, `specs/Faults.antt` and `specs/Promise.antt`.
@@ -10,8 +10,11 @@
 
 mod asked;
 mod fault;
+mod layout;
 mod log_file;
+mod log_source;
 mod message;
+mod objects;
 mod outcome;
 mod printer;
 mod run;
@@ -19,6 +22,7 @@ mod source;
 mod tools;
 
 pub use fault::ToolFault;
+pub use layout::Layout;
 pub use outcome::{Outcome, RunRecord};
 pub use printer::{PrintFault, Printer};
 pub use tools::run_tools;

@@ -1,119 +1,120 @@
-//! A run over a log file: it is opened and read whole, and its units are printed.
+//! A run over a log: it is opened, what is written is created, and the groups of its units are written.
 
-ghost use Rattle.std.specs.Prelude.{◌≡◌, [], ◌∷◌, ◌-◌, ℕ, Some, IfOk, OnErr, length, true};
-ghost use Rattle.vio.specs.World.{Seen};
-ghost use Rattle.varnish_tools.specs.inside.Jobs.{IsBuilt};
-ghost use Rattle.varnish_tools.specs.Asked.{Work, file_of};
-ghost use Rattle.varnish_tools.specs.Built.{is_built};
+ghost use Rattle.std.specs.Prelude.{◌≡◌, ◌≢◌, [], ◌∷◌, ◌++◌, length, Bool, true, IsTrue, IfOk, OnOk, OnErr};
+ghost use Rattle.vio.specs.World.{Seen, Writing, HasStreams};
 ghost use Rattle.vio.specs.Touches.{Touches};
+ghost use Rattle.varnish_tools.specs.Asked.{Work, file_of, write_of};
+ghost use Rattle.varnish_tools.specs.Built.{is_built};
+ghost use Rattle.varnish_tools.specs.Objects.{GivesAtMost, created_of, opened_of, source_of, streams_of, sink_of};
+ghost use Rattle.varnish_tools.specs.Output.{head_text, layout_of, writes_log};
 ghost use Rattle.varnish_tools.specs.Promise.{WorksOff, WritesPrefix};
-ghost use Rattle.varnish_tools.specs.inside.LogFile.{IsReadWhole, IsOutputPrinter};
+ghost use Rattle.varnish_tools.specs.inside.LogFile.{HasBegun, IsJobPrinter, SourceOpened, fault_as};
 
+use crate::asked::{file_name, written_name};
 use crate::fault::ToolFault;
+use crate::layout::Layout;
+use crate::log_source::LogFile;
+use crate::objects::{create_sink, open_source};
 use crate::outcome::{Ran, counted, refused};
 use crate::printer::{PrintFault, Printer};
 use crate::run::{Stopped, print_source};
-use crate::source::{Source, SourceFault};
+use crate::source::SourceFault;
 use std::alloc::Global;
 use tool_words::Job;
-use txn_rows::{GroupOptions, Grouping};
-use vio::{NoMemory, OUTPUT, WholeFault, World, WorldFault, read_whole};
-use vsl_file::read_file;
-use vsl_record::{Unit, Units};
+use txn_rows::GroupOptions;
+use vio::{Created, NoMemory, World, WorldFault, write_all};
+use vsl_file::put_header;
 use vsl_select::Text;
 
-/// The most bytes of a log file that are read.
-const LOG_LIMIT: u64 = 16_777_216;
+/// The most bytes of a log that are read: 2^40.
+const LOG_LIMIT: u64 = 1_099_511_627_776;
 
-/// The most transactions that are pending, and after how many seconds one is force-completed
-/// (varnishlog(1), `-L` and `-T`); neither is built.
-const LIMIT: u32 = 1000;
-
-const TIMEOUT: u32 = 120;
-
-/// The units of a file that was read whole, and how many of them were given.
-#[derive(Drop)]
-pub struct ReadLog {
-    /// The units, as far as they are whole and correct.
-    pub units: Units,
-    /// Whether nothing follows them.
-    pub whole: bool,
-    /// How many were given.
-    pub given: usize,
+/// Whether a job writes a log file.
+fn writes_log(job: &Job) -> bool
+    ensures { result ≡ writes_log job.now }
+{
+    job.write.is_some() && !job.text
 }
 
-impl Source for ReadLog {
-    ghost use Rattle.varnish_tools.specs.inside.ReadLog.{GaveFirst, StoppedAt, current_of, GaveFirst-stays};
-    ghost use Rattle.std.specs.Prelude.{◌-◌, length, []};
-
-    ghost gave = { λ start now first world units all. GaveFirst start now units all };
-
-    ghost stopped = { λ start now fault first world units. StoppedAt start now units };
-
-    ghost current = { current_of };
-
-    ghost most = { λ s. length s.units - s.given };
-
-    ghost reads = { λ s. [] };
-
-    ghost stays = { GaveFirst-stays };
-
-    fn advance<W: World>(&mut self, _world: &mut W) -> Result<bool, SourceFault> {
-        if self.given < self.units.as_slice().len() {
-            self.given += 1;
-            return Ok(true);
-        }
-        if self.whole {
-            return Ok(false);
-        }
-        Err(SourceFault::BadLog)
-    }
-
-    fn unit(&self) -> &Unit {
-        &self.units.as_slice()[self.given - 1]
+/// How a job writes groups.
+fn layout_of(job: &Job) -> Layout
+    ensures { result ≡ layout_of job.now }
+{
+    if writes_log(job) {
+        Layout::Units
+    } else {
+        Layout::Lines
     }
 }
 
-/// A printer to standard output.
-fn output_printer(alloc: Global, grouping: Grouping) -> Result<Printer, NoMemory>
-    requires { IsBuilt grouping }
-    ensures { IfOk result (λ p. IsOutputPrinter grouping p) }
+/// What a job writes before any group: the header of a log file that was empty.
+fn head_of(alloc: Global, job: &Job, empty: bool) -> Result<Vec<u8>, NoMemory>
+    ensures { IfOk result (λ head. head.items ≡ head_text job.now empty) }
+{
+    let mut head = Vec::new(alloc);
+    if writes_log(job) && empty {
+        put_header(&mut head)?;
+    }
+    Ok(head)
+}
+
+/// The printer of a job to this handle.
+fn job_printer(alloc: Global, job: &Job, sink: u32) -> Result<Printer, NoMemory>
+    requires { is_built job.now ≡ true }
+    ensures { IfOk result (λ p. IsJobPrinter job.now sink p) }
 {
     let options = GroupOptions {
-        grouping,
-        limit: LIMIT,
-        timeout: TIMEOUT,
+        grouping: job.grouping,
+        limit: job.limit,
+        timeout: job.timeout,
     };
-    let name = Text::new(alloc, "-")?;
-    Printer::new(alloc, options, OUTPUT, name)
+    let name = Text::new(alloc, written_name(job))?;
+    Printer::new(alloc, options, layout_of(job), sink, name)
 }
 
-/// Prints the units of the job's log file, whose bytes these are.
-fn print_file<W: World>(
+/// The fault of a log of this name that stopped so; want of memory is none.
+#[tactic(auto, unfolding(vsl_file::specs::File::most_bytes))]
+fn tool_fault(name: Text, fault: SourceFault) -> Result<ToolFault, NoMemory>
+    ensures fault { IfOk result (λ f. f ≡ fault_as name fault) }
+    ensures some { OnOk result (fault ≢ SourceFault.NoMemory) }
+    ensures memory { OnErr result (fault ≡ SourceFault.NoMemory) }
+{
+    match fault {
+        SourceFault::NotALog { at } => Ok(ToolFault::NotALog { name, at }),
+        SourceFault::Damaged { at } => Ok(ToolFault::Damaged { name, at }),
+        SourceFault::TooLarge => Ok(ToolFault::TooLarge {
+            name,
+            limit: LOG_LIMIT,
+        }),
+        SourceFault::ReadFault => Ok(ToolFault::ReadFault { name }),
+        SourceFault::NoMemory => Err(NoMemory),
+    }
+}
+
+/// Writes the groups of the log of the handle `source` to the handle `sink`.
+fn print_log<W: World>(
     alloc: Global,
     job: &Job,
-    name: Text,
+    source: u32,
+    sink: u32,
     world: &mut W,
-    bytes: &[u8],
 ) -> Result<Ran, NoMemory>
-    requires built { IsBuilt job.now.grouping }
-    requires named { name ≡ file_of job.now }
-    ensures touches { Touches [] (OUTPUT ∷ []) [] (W.seen world.old) (W.seen world.new) }
-    ensures prefix { (before : Seen) → IsReadWhole job.now bytes.now before (W.seen world.old) → WritesPrefix (Work job.now) before (W.seen world.new) }
-    ensures works { IfOk result (λ r. (before : Seen) → IsReadWhole job.now bytes.now before (W.seen world.old) → WorksOff (Work job.now) r.fault r.run before (W.seen world.new)) }
+    requires built { is_built job.now ≡ true }
+    requires named { IsTrue ((W.seen world.old).names Writing sink (write_of job.now)) }
+    requires given { (W.seen world.old).given sink ≡ true }
+    ensures touches { Touches (source ∷ []) (sink ∷ []) [] [] (W.seen world.old) (W.seen world.new) }
+    ensures prefix { OnErr result ((before : Seen) (empty : Bool) → HasBegun job.now source sink empty (head_text job.now empty) before (W.seen world.old) → WritesPrefix (Work job.now) before (W.seen world.new)) }
+    ensures works { IfOk result (λ r. (before : Seen) (empty : Bool) → HasBegun job.now source sink empty (head_text job.now empty) before (W.seen world.old) → WorksOff (Work job.now) r.fault r.run before (W.seen world.new)) }
 {
-    let file = read_file(alloc, bytes)?;
-    let mut printer = output_printer(alloc, job.grouping)?;
-    let mut source = ReadLog {
-        units: file.units,
-        whole: file.whole,
-        given: 0,
-    };
-    match print_source(world, &mut source, &mut printer) {
+    let name = Text::new(alloc, file_name(job))?;
+    let mut printer = job_printer(alloc, job, sink)?;
+    let mut log = LogFile::new(alloc, source)?;
+    match print_source(world, &mut log, &mut printer) {
         Ok(units) => Ok(counted(None, units)),
-        Err(Stopped::BySource(fault, units)) => match fault {
-            SourceFault::BadLog => Ok(counted(Some(ToolFault::BadFile { name }), units)),
-        },
+        Err(Stopped::BySource(fault, units)) => {
+            let fault = tool_fault(name, fault)?;
+            Ok(counted(Some(fault), units))
+        }
         Err(Stopped::ByPrinter(fault, units)) => match fault {
             PrintFault::WriteFault { name } => {
                 Ok(counted(Some(ToolFault::WriteFault { name }), units))
@@ -123,29 +124,63 @@ fn print_file<W: World>(
     }
 }
 
-/// Prints the groups of the job's log file.
-pub fn run_job<W: World>(
+/// Writes the header where it is due, and then the groups of the log.
+fn print_created<W: World>(
     alloc: Global,
     job: &Job,
-    file: &str,
+    source: u32,
+    sink: Created,
     world: &mut W,
 ) -> Result<Ran, NoMemory>
     requires built { is_built job.now ≡ true }
-    requires named { file.now ≡ file_of job.now }
-    ensures touches { Touches [] (OUTPUT ∷ []) (file_of job.now ∷ []) (W.seen world.old) (W.seen world.new) }
-    ensures prefix { WritesPrefix (Work job.now) (W.seen world.old) (W.seen world.new) }
+    requires named { IsTrue ((W.seen world.old).names Writing sink.handle (write_of job.now)) }
+    requires given { (W.seen world.old).given sink.handle ≡ true }
+    ensures touches { Touches (source ∷ []) (sink.handle ∷ []) [] [] (W.seen world.old) (W.seen world.new) }
+    ensures prefix { OnErr result ((before : Seen) → HasBegun job.now source sink.handle sink.empty [] before (W.seen world.old) → WritesPrefix (Work job.now) before (W.seen world.new)) }
+    ensures works { IfOk result (λ r. (before : Seen) → HasBegun job.now source sink.handle sink.empty [] before (W.seen world.old) → WorksOff (Work job.now) r.fault r.run before (W.seen world.new)) }
+{
+    let head = head_of(alloc, job, sink.empty)?;
+    let name = Text::new(alloc, written_name(job))?;
+    match write_all(world, sink.handle, &head) {
+        Ok(()) => print_log(alloc, job, source, sink.handle, world),
+        Err(WorldFault::Failed) => Ok(counted(Some(ToolFault::WriteFault { name }), 0)),
+        Err(WorldFault::NoMemory) => Err(NoMemory),
+    }
+}
+
+/// Creates what the job writes, and writes it.
+fn print_opened<W: World>(
+    alloc: Global,
+    job: &Job,
+    source: u32,
+    world: &mut W,
+) -> Result<Ran, NoMemory>
+    requires built { is_built job.now ≡ true }
+    ensures touches { Touches (source ∷ []) (streams_of (sink_of job.now ∷ [])) [] (created_of (sink_of job.now ∷ [])) (W.seen world.old) (W.seen world.new) }
+    ensures handles { GivesAtMost (length (created_of (sink_of job.now ∷ []))) (W.seen world.old) (W.seen world.new) }
+    ensures prefix { OnErr result ((before : Seen) → HasStreams before → SourceOpened (source_of job.now) source before (W.seen world.old) → WritesPrefix (Work job.now) before (W.seen world.new)) }
+    ensures works { IfOk result (λ r. (before : Seen) → HasStreams before → SourceOpened (source_of job.now) source before (W.seen world.old) → WorksOff (Work job.now) r.fault r.run before (W.seen world.new)) }
+{
+    let name = Text::new(alloc, written_name(job))?;
+    match create_sink(written_name(job), job.append, world) {
+        Ok(sink) => print_created(alloc, job, source, sink, world),
+        Err(WorldFault::Failed) => Ok(refused(ToolFault::NoOpen { name })),
+        Err(WorldFault::NoMemory) => Err(NoMemory),
+    }
+}
+
+/// Works off a job: reads its log, and writes its groups.
+pub fn run_job<W: World>(alloc: Global, job: &Job, world: &mut W) -> Result<Ran, NoMemory>
+    requires built { is_built job.now ≡ true }
+    ensures touches { Touches (streams_of (source_of job.now ∷ [])) (streams_of (sink_of job.now ∷ [])) (opened_of (source_of job.now ∷ [])) (created_of (sink_of job.now ∷ [])) (W.seen world.old) (W.seen world.new) }
+    ensures handles { GivesAtMost (length (opened_of (source_of job.now ∷ []) ++ created_of (sink_of job.now ∷ []))) (W.seen world.old) (W.seen world.new) }
+    ensures prefix { OnErr result (WritesPrefix (Work job.now) (W.seen world.old) (W.seen world.new)) }
     ensures works { IfOk result (λ r. WorksOff (Work job.now) r.fault r.run (W.seen world.old) (W.seen world.new)) }
 {
-    let name = Text::new(alloc, file)?;
-    let handle = match world.open(file) {
-        Ok(handle) => handle,
-        Err(WorldFault::Failed) => return Ok(refused(ToolFault::NoOpen { name })),
-        Err(WorldFault::NoMemory) => return Err(NoMemory),
-    };
-    match read_whole(alloc, world, handle, LOG_LIMIT) {
-        Ok(bytes) => print_file(alloc, job, name, world, &bytes),
-        Err(WholeFault::Failed) => Ok(refused(ToolFault::ReadFault { name })),
-        Err(WholeFault::TooLarge) => Ok(refused(ToolFault::BadFile { name })),
-        Err(WholeFault::NoMemory) => Err(NoMemory),
+    let name = Text::new(alloc, file_name(job))?;
+    match open_source(file_name(job), world) {
+        Ok(source) => print_opened(alloc, job, source, world),
+        Err(WorldFault::Failed) => Ok(refused(ToolFault::NoOpen { name })),
+        Err(WorldFault::NoMemory) => Err(NoMemory),
     }
 }

@@ -1,22 +1,56 @@
 //! The messages of faults, and their statuses.
 
-ghost use Rattle.std.specs.Prelude.{◌≡◌, ◌++◌, map, codes, IfOk};
+ghost use Rattle.std.specs.Prelude.{◌≡◌, ◌++◌, map, IfOk};
 ghost use Rattle.std.specs.String.{string_bytes};
-ghost use Rattle.varnish_tools.specs.Faults.{message, status_of, told, usage_message, word_at};
+ghost use Rattle.varnish_tools.specs.Faults.{message, numbered, status_of, told, usage_message, word_at};
 
 use crate::fault::ToolFault;
+use itoa::Buffer;
 use std::alloc::{AllocError, Global};
 use tool_words::UsageFault;
+use vsl_select::Text;
+
+/// A line of two texts, after the program's name.
+fn tell_bytes(alloc: Global, first: &str, second: &[u8]) -> Result<Vec<u8>, AllocError>
+    ensures { IfOk result (λ v. v.items ≡ told (first.now ++ second.now)) }
+{
+    let mut text = Vec::from_slice(alloc, b"vtools: ")?;
+    text.extend_from_slice(first.as_bytes())?;
+    text.extend_from_slice(second)?;
+    text.push(b'\n')?;
+    Ok(text)
+}
 
 /// A line of two texts, after the program's name.
 fn tell(alloc: Global, first: &str, second: &str) -> Result<Vec<u8>, AllocError>
     ensures { IfOk result (λ v. v.items ≡ told (first.now ++ second.now)) }
 {
-    let mut text = Vec::from_slice(alloc, b"vtools: ")?;
-    text.extend_from_slice(first.as_bytes())?;
-    text.extend_from_slice(second.as_bytes())?;
-    text.push(b'\n')?;
+    tell_bytes(alloc, first, second.as_bytes())
+}
+
+/// A text with a number in it.
+fn numbered(alloc: Global, before: &str, number: u64, after: &str) -> Result<Vec<u8>, AllocError>
+    ensures { IfOk result (λ v. v.items ≡ numbered before.now number after.now) }
+{
+    let mut digits = Buffer::new();
+    let mut text = Vec::from_slice(alloc, before.as_bytes())?;
+    text.extend_from_slice(digits.format(number).as_bytes())?;
+    text.extend_from_slice(after.as_bytes())?;
     Ok(text)
+}
+
+/// A line of a log's name and a text with a number in it, after the program's name.
+fn tell_number(
+    alloc: Global,
+    name: &Text,
+    before: &str,
+    number: u64,
+    after: &str,
+) -> Result<Vec<u8>, AllocError>
+    ensures { IfOk result (λ v. v.items ≡ told (name.now ++ numbered before.now number after.now)) }
+{
+    let text = numbered(alloc, before, number, after)?;
+    tell_bytes(alloc, name.as_str(), &text)
 }
 
 /// The word at a place.
@@ -62,7 +96,11 @@ pub fn message_of(alloc: Global, words: &[String], fault: &ToolFault) -> Result<
         ToolFault::NoOpen { name } => tell(alloc, name.as_str(), ": cannot open"),
         ToolFault::ReadFault { name } => tell(alloc, name.as_str(), ": read failed"),
         ToolFault::WriteFault { name } => tell(alloc, name.as_str(), ": write failed"),
-        ToolFault::BadFile { name } => tell(alloc, name.as_str(), ": bad log"),
+        ToolFault::NotALog { name, at } => tell_number(alloc, name, ": not a log at ", *at, ""),
+        ToolFault::Damaged { name, at } => tell_number(alloc, name, ": damaged at ", *at, ""),
+        ToolFault::TooLarge { name, limit } => {
+            tell_number(alloc, name, ": larger than ", *limit, " bytes")
+        }
     }
 }
 

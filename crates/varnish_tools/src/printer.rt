@@ -5,17 +5,17 @@ ghost use Rattle.log_model.specs.Prefix.{IsPrefix};
 ghost use Rattle.vio.specs.World.{Writing, Wrote};
 ghost use Rattle.vio.specs.Writes.{WroteOn};
 ghost use Rattle.vsl_record.specs.Unit.{Log};
-ghost use Rattle.varnish_tools.specs.Output.{groups_text};
+ghost use Rattle.varnish_tools.specs.Output.{laid_out};
 ghost use Rattle.varnish_tools.specs.Printer.{Represents, IsSamePrinter, HasPrintCause, IsLeft, due, IsSink};
 ghost use Rattle.varnish_tools.specs.inside.Printing.{PutUnit};
-ghost use Rattle.vsl_select.specs.RawLine.{raw_lines};
 
+use crate::layout::{Layout, put_groups};
 use std::alloc::Global;
 use std::marker::Model;
 use txn_rows::{Group, GroupOptions, Grouping, Table};
 use vio::{NoMemory, World, WorldFault, write_all};
 use vsl_record::Unit;
-use vsl_select::{Selection, Sides, Text, group_text, raw_line};
+use vsl_select::{Selection, Sides, Text, raw_lines};
 
 /// Why printing stopped.
 #[derive(Debug, Drop)]
@@ -48,44 +48,37 @@ struct Sink {
     text: Vec<u8>,
 }
 
-/// Adds the text of groups.
-fn put_groups(out: &mut Vec<u8>, groups: &[Group], selection: &Selection) -> Result<(), NoMemory>
-    ensures { OnOk result (out.new.items ≡ out.old.items ++ groups_text groups.now) }
+/// Takes a unit, and adds the groups that it completed.
+fn put_grouped(
+    out: &mut Vec<u8>,
+    table: &mut Table,
+    groups: &mut Vec<Group>,
+    style: &Style,
+    unit: &Unit,
+) -> Result<(), NoMemory>
+    ensures ok { OnOk result (PutUnit style.now.layout unit.now table.old table.new out.old.items out.new.items) }
+    ensures options { table.new.options ≡ table.old.options }
 {
-    for group in groups {
-        group_text(group, selection, false, out)?;
-    }
-    Ok(())
+    groups.clear();
+    table.step(unit, groups)?;
+    put_groups(out, style.layout, groups, &style.selection)
 }
 
-/// Adds the raw lines of a unit's records: under raw grouping these are its groups, and none is made.
-fn put_raw(out: &mut Vec<u8>, unit: &Unit) -> Result<(), NoMemory>
-    ensures { OnOk result (out.new.items ≡ out.old.items ++ raw_lines unit.now) }
-{
-    let vxid = unit.vxid();
-    for line in unit.records() {
-        raw_line(vxid, line, out)?;
-    }
-    Ok(())
-}
-
-/// Takes a unit, and adds the text of the groups that it completed.
+/// Takes a unit, and adds the groups that it completed. For raw lines no group is made.
 fn put_unit(
     out: &mut Vec<u8>,
     table: &mut Table,
     groups: &mut Vec<Group>,
-    selection: &Selection,
+    style: &Style,
     unit: &Unit,
 ) -> Result<(), NoMemory>
-    ensures ok { OnOk result (PutUnit unit.now table.old table.new out.old.items out.new.items) }
+    ensures ok { OnOk result (PutUnit style.now.layout unit.now table.old table.new out.old.items out.new.items) }
     ensures options { table.new.options ≡ table.old.options }
 {
-    if let Grouping::Raw = table.grouping() {
-        return put_raw(out, unit);
+    match (table.grouping(), style.layout) {
+        (Grouping::Raw, Layout::Lines) => raw_lines(unit, out),
+        _ => put_grouped(out, table, groups, style, unit),
     }
-    groups.clear();
-    table.step(unit, groups)?;
-    put_groups(out, groups, selection)
 }
 
 /// Writes the buffer.
@@ -106,30 +99,37 @@ fn print_text<W: World>(world: &mut W, sink: &mut Sink) -> Result<(), PrintFault
     }
 }
 
-/// Writes the text of groups.
+/// Writes groups.
 fn print_groups<W: World>(
     world: &mut W,
     sink: &mut Sink,
     groups: &[Group],
-    selection: &Selection,
+    style: &Style,
 ) -> Result<(), PrintFault>
     requires named { IsTrue ((W.seen world.old).names Writing sink.old.handle sink.old.name) }
     ensures same { IsSink sink.old.handle sink.old.name sink.new.handle sink.new.name }
-    ensures ok { OnOk result (Wrote sink.old.handle (groups_text groups.now) (W.seen world.old) (W.seen world.new)) }
-    ensures refused { IfErr result (λ f. WroteOn sink.old.handle [] (IsLeft f (groups_text groups.now)) (W.seen world.old) (W.seen world.new)) }
+    ensures ok { OnOk result (Wrote sink.old.handle (laid_out style.now.layout groups.now) (W.seen world.old) (W.seen world.new)) }
+    ensures refused { IfErr result (λ f. WroteOn sink.old.handle [] (IsLeft f (laid_out style.now.layout groups.now)) (W.seen world.old) (W.seen world.new)) }
     ensures cause { IfErr result (λ f. HasPrintCause f sink.old.name (W.seen world.old) (W.seen world.new)) }
 {
     sink.text.clear();
-    put_groups(&mut sink.text, groups, selection)?;
+    put_groups(&mut sink.text, style.layout, groups, &style.selection)?;
     print_text(world, sink)
 }
 
+/// What is shown of groups, and how they are written.
+#[derive(Drop)]
+struct Style {
+    layout: Layout,
+    selection: Selection,
+}
+
 /// Groups units, and writes the text of each group when it is complete. Contracts see the table of what
-/// is pending, and the sink; every list of units that it represents has a text that is due.
+/// is pending, the layout and the sink; every list of units that it represents has a text that is due.
 #[derive(Drop)]
 pub struct Printer {
     table: Table,
-    selection: Selection,
+    style: Style,
     groups: Vec<Group>,
     sink: Sink,
 }
@@ -139,7 +139,7 @@ impl Model for Printer {
 
     ghost Value = { PrinterState };
 
-    ghost view = { λ p. record { table = p.table; sink = p.sink.handle; name = p.sink.name } };
+    ghost view = { λ p. record { table = p.table; layout = p.style.layout; sink = p.sink.handle; name = p.sink.name } };
 }
 
 impl Printer {
@@ -147,12 +147,14 @@ impl Printer {
     pub fn new(
         alloc: Global,
         options: GroupOptions,
+        layout: Layout,
         sink: u32,
         name: Text,
     ) -> Result<Printer, NoMemory>
         requires grouping { (options.grouping ≡ Grouping.Raw) ⊎ (options.grouping ≡ Grouping.Vxid) }
         requires limit { 0 < options.limit }
         ensures options { IfOk result (λ p. p.table.options ≡ options) }
+        ensures layout { IfOk result (λ p. p.layout ≡ layout) }
         ensures sink { IfOk result (λ p. IsSink sink name p.sink p.name) }
         ensures none { IfOk result (λ p. Represents p []) }
     {
@@ -167,7 +169,7 @@ impl Printer {
         };
         Ok(Printer {
             table,
-            selection,
+            style: Style { layout, selection },
             groups: Vec::new(alloc),
             sink: Sink {
                 alloc,
@@ -194,7 +196,7 @@ impl Printer {
             &mut self.sink.text,
             &mut self.table,
             &mut self.groups,
-            &self.selection,
+            &self.style,
             unit,
         ) {
             return Err(PrintFault::NoMemory);
@@ -214,6 +216,6 @@ impl Printer {
     {
         self.groups.clear();
         self.table.flush(&mut self.groups)?;
-        print_groups(world, &mut self.sink, &self.groups, &self.selection)
+        print_groups(world, &mut self.sink, &self.groups, &self.style)
     }
 }

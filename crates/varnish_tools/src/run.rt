@@ -30,7 +30,7 @@ pub fn print_source<W: World, S: Source>(
     requires new { Represents printer.old [] }
     requires fresh { S.gave source.old source.old (W.seen world.old) (W.seen world.old) [] false }
     requires few { S.most source.old < 2 ^ 64 }
-    ensures touches { Touches (S.reads source.old) (printer.old.sink ∷ []) [] (W.seen world.old) (W.seen world.new) }
+    ensures touches { Touches (S.reads source.old) (printer.old.sink ∷ []) [] [] (W.seen world.old) (W.seen world.new) }
     ensures ran { IfOk result (λ n. RanToEnd (S.gave source.old source.new (W.seen world.old) (W.seen world.new)) printer.old n (W.seen world.old) (W.seen world.new)) }
     ensures stopped { IfErr result (λ s. RanUntil s (S.gave source.old source.new (W.seen world.old) (W.seen world.new))
         (λ fault units. S.stopped source.old source.new fault (W.seen world.old) (W.seen world.new) units) printer.old (W.seen world.old) (W.seen world.new)) }

@@ -13,8 +13,16 @@ use vsl_record::Unit;
 /// Why a source has no more units.
 #[derive(Clone, Copy, Debug, PartialEq, Eq)]
 pub enum SourceFault {
-    /// What follows the units that were given is no log.
-    BadLog,
+    /// It is no log: this is the first byte that isn't the header's, or the length where it ends inside the header.
+    NotALog { at: u64 },
+    /// The unit that begins at this byte isn't whole and correct.
+    Damaged { at: u64 },
+    /// It has more bytes than are read.
+    TooLarge,
+    /// A read failed.
+    ReadFault,
+    /// There was no memory.
+    NoMemory,
 }
 
 /// A cursor over the units of a log. A run knows no more of its input than this.
@@ -39,7 +47,7 @@ pub trait Source: Drop {
         ensures advanced { (start : Self) (first : Seen) (units : Log) → gave start self.old first (W.seen world.old) units false →
             Advanced (gave start self.new first (W.seen world.new)) (λ fault given. stopped start self.new fault first (W.seen world.new) given) (current self.new) result units }
         ensures fewer { IfOk result (λ more. more ≡ true → most self.new < most self.old) }
-        ensures touches { Touches (reads self.old) [] [] (W.seen world.old) (W.seen world.new) }
+        ensures touches { Touches (reads self.old) [] [] [] (W.seen world.old) (W.seen world.new) }
         ensures same { reads self.new ≡ reads self.old };
 
     /// The unit at which the cursor stands.

@@ -1,16 +1,16 @@
 //! The top call.
 
-ghost use Rattle.std.specs.Prelude.{map, [], ◌∷◌, IfOk, OnOk, OnErr};
+ghost use Rattle.std.specs.Prelude.{map, [], ◌∷◌, ◌++◌, length, IfOk, OnOk, OnErr};
 ghost use Rattle.std.specs.String.{string_bytes};
 ghost use Rattle.varnish_tools.specs.Asked.{asked_of};
 ghost use Rattle.varnish_tools.specs.Faults.{fault_message};
-ghost use Rattle.varnish_tools.specs.Objects.{TouchesJob, streams_of, sources_of, sinks_of, calls_of};
-ghost use Rattle.vio.specs.World.{Opening};
+ghost use Rattle.varnish_tools.specs.Objects.{TouchesJob, GivesAtMost, streams_of, sources_of, sinks_of, calls_of};
+ghost use Rattle.vio.specs.World.{Opening, Creating};
 ghost use Rattle.vio.specs.Touches.{Touches};
 ghost use Rattle.varnish_tools.specs.Promise.{WorksOff, WritesPrefix, WritesError, IsFaithful, IsComplete, IsCutShort};
 ghost use Rattle.varnish_tools.specs.inside.Report.{ReportsPart};
 
-use crate::asked::{file_name, read_job};
+use crate::asked::read_job;
 use crate::fault::ToolFault;
 use crate::log_file::run_job;
 use crate::message::{message_of, status_of};
@@ -25,7 +25,7 @@ fn report<W: World>(
     world: &mut W,
     fault: &Option<ToolFault>,
 ) -> Result<(), NoMemory>
-    ensures touches { Touches [] (ERRORS ∷ []) [] (W.seen world.old) (W.seen world.new) }
+    ensures touches { Touches [] (ERRORS ∷ []) [] [] (W.seen world.old) (W.seen world.new) }
     ensures ok { OnOk result (WritesError (fault_message (map string_bytes words.now) fault.now) (W.seen world.old) (W.seen world.new)) }
     ensures memory { OnErr result (ReportsPart (map string_bytes words.now) fault.now (W.seen world.old) (W.seen world.new)) }
 {
@@ -43,23 +43,26 @@ fn report<W: World>(
 /// Works off the words, but for the message of a fault.
 fn run_words<W: World>(alloc: Global, words: &[String], world: &mut W) -> Result<Ran, NoMemory>
     ensures touches { let asked = asked_of (map string_bytes words.now) in
-        Touches (streams_of (sources_of asked)) (streams_of (sinks_of asked)) (calls_of asked Opening) (W.seen world.old) (W.seen world.new) }
-    ensures prefix { WritesPrefix (asked_of (map string_bytes words.now)) (W.seen world.old) (W.seen world.new) }
+        Touches (streams_of (sources_of asked)) (streams_of (sinks_of asked)) (calls_of asked Opening) (calls_of asked Creating) (W.seen world.old) (W.seen world.new) }
+    ensures handles { let asked = asked_of (map string_bytes words.now) in
+        GivesAtMost (length (calls_of asked Opening ++ calls_of asked Creating)) (W.seen world.old) (W.seen world.new) }
+    ensures prefix { OnErr result (WritesPrefix (asked_of (map string_bytes words.now)) (W.seen world.old) (W.seen world.new)) }
     ensures works { IfOk result (λ r. WorksOff (asked_of (map string_bytes words.now)) r.fault r.run (W.seen world.old) (W.seen world.new)) }
 {
     match read_job(alloc, words)? {
-        Ok(job) => run_job(alloc, &job, file_name(&job), world),
+        Ok(job) => run_job(alloc, &job, world),
         Err(fault) => Ok(refused(fault)),
     }
 }
 
 /// Does what the words of a command line ask for, without the program's name.
 ///
-/// Words that state no job are refused, and so is a job that isn't built: built is varnishlog over a log file, by
-/// transaction or one record by one. The file is read whole. After each unit the text of the groups that it completed
-/// goes to standard output, and after the last unit of a whole log that of the pending ones; then a fault's message goes
-/// to standard error. The status is 0 without a fault, 2 where the words are refused, and else 1. After `NoMemory` a
-/// prefix of the output was written.
+/// Words that state no job are refused, and so is a job that isn't built: built is varnishlog over a log, by transaction
+/// or one record by one. The log is opened, or it is standard input; then what is written is created, or it is standard
+/// output, and a log file that was empty gains its header. The log is read in pieces, in one pass, and what is written
+/// gains the groups that its units complete, and after the last unit of a whole log the pending ones: lines, or with
+/// `-w` and without `-A` the units of a log file. A fault's message goes to standard error. The status is 0 without a
+/// fault, 2 where the words are refused, and else 1. After `NoMemory` a prefix of the output was written.
 ///
 /// Source: varnishlog(1); messages and statuses are this project's choice.
 pub fn run_tools<W: World>(

@@ -1,3 +1,4 @@
 pub mod WholeLemmas
+mod FileLemmas
 mod MemoryLemmas
 pub mod TouchLemmas

@@ -4,7 +4,7 @@ use Rattle.std.proofs.lemmas.List.{append-nil, take-append-drop}
 use Rattle.log_model.specs.Prefix.{IsPrefix, IsProperPrefix}
 use Rattle.log_model.proofs.PrefixLemmas.{prefix_append}
 use Rattle.vio.specs.Writes.{WroteOn, Gained, GainsSome}
-use Rattle.vio.specs.World.{Seen, CallKind, NoCountFalls, FaultsRose, Loses, Read, Wrote, OnlyCounts, ReadSome}
+use Rattle.vio.specs.World.{Seen, CallKind, NoCountFalls, FaultsRose, Writing, Gains, Loses, Read, Wrote, OnlyCounts, ReadSome}
 
 -- what a call leaves where it has no value
 pub OnErr-always : {T E P : Type 0} (r : Result T E) → P → OnErr r P
@@ -14,6 +14,15 @@ OnErr-always (Err e) p = p
 pub OnOk-always : {T E P : Type 0} (r : Result T E) → P → OnOk r P
 OnOk-always (Ok x) p = p
 OnOk-always (Err e) p = Prim.search rules
+
+-- what two clauses come to
+pub OnOk-both : {T E P Q R : Type 0} (r : Result T E) → (P → Q → R) → OnOk r P → OnOk r Q → OnOk r R
+OnOk-both (Ok x) f p q = f p q
+OnOk-both (Err e) f p q = Prim.search rules
+
+pub OnErr-both : {T E P Q R : Type 0} (r : Result T E) → (P → Q → R) → OnErr r P → OnErr r Q → OnErr r R
+OnErr-both (Ok x) f p q = Prim.search rules
+OnErr-both (Err e) f p q = f p q
 
 -- counts of faults
 
@@ -39,17 +48,27 @@ pub Wrote-none : (h : ℕ) (s : Seen) → Wrote h [] s s
 Wrote-none h s = record {
   counts = NoCountFalls-none s;
   gains = λ a told. rw append-nil told;
+  file = λ n no_stream named a told. rw append-nil told;
+  other_held = λ n bytes other told. told;
+  lacks = λ n. refl;
   left = λ i. refl;
   other_written = λ i other. refl;
   names = λ k i n. refl;
   given = λ i. refl;
 }
 
+-- what was gained in two steps, one after the other
+pub Gains-then : (x y z : _) (a b : List ℕ) → Gains x y a → Gains y z b → Gains x z (a ++ b)
+Gains-then x y z a b p q whole told = q (whole ++ a) (p whole told) ∙ ap Some (append_assoc whole a b)
+
 -- two writes of a handle are one of both pieces
 pub Wrote-then : {h : ℕ} {s t u : Seen} (a b : List ℕ) → Wrote h a s t → Wrote h b t u → Wrote h (a ++ b) s u
 Wrote-then a b p q = record {
   counts = NoCountFalls-then p.counts q.counts;
-  gains = λ prefix told. q.gains (prefix ++ a) (p.gains prefix told) ∙ ap Some (append_assoc prefix a b);
+  gains = Gains-then _ _ _ a b p.gains q.gains;
+  file = λ n no_stream named. Gains-then _ _ _ a b (p.file n no_stream named) (q.file n no_stream (p.names Writing _ n ∙ named));
+  other_held = λ n bytes other told. q.other_held n bytes (p.names Writing _ n ∙ other) (p.other_held n bytes other told);
+  lacks = λ n. q.lacks n ∙ p.lacks n;
   left = λ i. q.left i ∙ p.left i;
   other_written = λ i other. q.other_written i other ∙ p.other_written i other;
   names = λ k i n. q.names k i n ∙ p.names k i n;
@@ -61,6 +80,9 @@ pub Wrote-fault : {h : ℕ} {bytes : List ℕ} {s t u : Seen} → Wrote h bytes 
 Wrote-fault p q = record {
   counts = NoCountFalls-then p.counts q.counts;
   gains = λ prefix told. q.written _ ∙ p.gains prefix told;
+  file = λ n no_stream named prefix told. q.held n ∙ p.file n no_stream named prefix told;
+  other_held = λ n bytes other told. q.held n ∙ p.other_held n bytes other told;
+  lacks = λ n. q.lacks n ∙ p.lacks n;
   left = λ i. q.left i ∙ p.left i;
   other_written = λ i other. q.written i ∙ p.other_written i other;
   names = λ k i n. q.names k i n ∙ p.names k i n;
@@ -110,6 +132,7 @@ Read-none h s = record {
   counts = NoCountFalls-none s;
   loses = λ a told. (a, refl, told);
   held = λ n. refl;
+  lacks = λ n. refl;
   written = λ i. refl;
   other_left = λ i other. refl;
   names = λ k i n. refl;
@@ -129,6 +152,7 @@ Read-then a b p q = record {
   counts = NoCountFalls-then p.counts q.counts;
   loses = Loses-then _ _ _ a b p.loses q.loses;
   held = λ n. q.held n ∙ p.held n;
+  lacks = λ n. q.lacks n ∙ p.lacks n;
   written = λ i. q.written i ∙ p.written i;
   other_left = λ i other. q.other_left i other ∙ p.other_left i other;
   names = λ k i n. q.names k i n ∙ p.names k i n;
@@ -151,6 +175,7 @@ Read-fault bytes p q = record {
     counts = NoCountFalls-then p.counts q.counts;
     loses = λ a told. let lost = p.loses a told in (lost.0, lost.1, q.left _ ∙ lost.2);
     held = λ n. q.held n ∙ p.held n;
+    lacks = λ n. q.lacks n ∙ p.lacks n;
     written = λ i. q.written i ∙ p.written i;
     other_left = λ i other. q.left i ∙ p.other_left i other;
     names = λ k i n. q.names k i n ∙ p.names k i n;

@@ -5,3 +5,4 @@ pub mod Sources
 pub mod Plan
 pub mod Memory
 pub mod Streams
+pub mod inside

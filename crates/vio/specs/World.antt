@@ -1,10 +1,12 @@
 -- What a world tells, and how each call may change it (this project's choice).
-use Rattle.std.specs.Prelude.{◌≡◌, ◌≢◌, ℕ, ◌<◌, ◌≤◌, Bool, true, false, IsTrue, List, [], ◌++◌, length, codes, Option, Some}
+use Rattle.std.specs.Prelude.{◌≡◌, ◌≢◌, ℕ, ◌<◌, ◌≤◌, ◌==◌, Bool, true, false, IsTrue, if◌then◌else◌, List, [], ◌++◌, length, codes, Option, Some}
+use Rattle.std.specs.Option.{option_map}
 use Rattle.log_model.specs.Faults.{HasNewFault}
 
 -- the kinds of call that may fail
 pub data CallKind : Type 0 where
   Opening : CallKind
+  Creating : CallKind
   Reading : CallKind
   Writing : CallKind
 
@@ -12,9 +14,11 @@ pub data CallKind : Type 0 where
 pub record Seen : Type 0 where
   -- the bytes that a file of this name holds, where told
   pub held : List ℕ → Option (List ℕ)
+  -- whether it is told that there is no file of this name
+  pub lacks : List ℕ → Bool
   -- the bytes that a handle has left to read, where told
   pub left : ℕ → Option (List ℕ)
-  -- the bytes that were written to a handle, where told
+  -- the bytes that were written to a handle, where told; a handle that was never given may tell that it has none
   pub written : ℕ → Option (List ℕ)
   -- how many calls of a kind failed, by the name of their object
   pub faults : CallKind → List ℕ → ℕ
@@ -56,8 +60,35 @@ pub record Opened (name : List ℕ) (h : ℕ) (before now : Seen) : Type 0 where
   pub is_named : now.names Reading h name ≡ true
   pub left : now.left h ≡ before.held name
   pub held : (n : List ℕ) → now.held n ≡ before.held n
+  pub lacks : (n : List ℕ) → now.lacks n ≡ before.lacks n
   pub written : (i : ℕ) → now.written i ≡ before.written i
   pub other_left : (i : ℕ) → i ≢ h → now.left i ≡ before.left i
+  pub other_names : (k : CallKind) (i : ℕ) (n : List ℕ) → i ≢ h → now.names k i n ≡ before.names k i n
+  pub other_given : (i : ℕ) → i ≢ h → now.given i ≡ before.given i
+
+-- what a file has when writing to it begins, where told: no bytes, or those that it held where it is to keep them
+abbrev pub begins_with : Bool → List ℕ → Seen → Option (List ℕ)
+begins_with append name before =
+    if before.lacks name then Some [] else (if append then before.held name else option_map (λ bytes. []) (before.held name))
+
+-- a file was created for writing: the handle is new, has the file's name in writes, and nothing was written to it; the file has no bytes, or those
+-- that it is to keep, and it is known whether it has any; nothing else changed but counts, of which none fell
+pub record FileCreated (append : Bool) (name : List ℕ) (h : ℕ) (empty : Bool) (before now : Seen) : Type 0 where
+  pub counts : NoCountFalls before now
+  pub fresh : before.given h ≡ false
+  pub given : now.given h ≡ true
+  pub no_stream : 2 < h
+  pub is_named : now.names Writing h name ≡ true
+  pub is_there : now.lacks name ≡ false
+  -- of the names whose bytes are told, the handle has no other
+  pub alone : (n bytes : List ℕ) → now.held n ≡ Some bytes → n ≢ name → now.names Writing h n ≡ false
+  pub held : (bytes : List ℕ) → begins_with append name before ≡ Some bytes → now.held name ≡ Some bytes
+  pub is_empty : (bytes : List ℕ) → begins_with append name before ≡ Some bytes → empty ≡ (length bytes == 0)
+  pub emptied : append ≡ false → empty ≡ true
+  pub other_held : (n : List ℕ) → n ≢ name → now.held n ≡ before.held n
+  pub other_lacks : (n : List ℕ) → n ≢ name → now.lacks n ≡ before.lacks n
+  pub left : (i : ℕ) → now.left i ≡ before.left i
+  pub written : (i : ℕ) → now.written i ≡ before.written i
   pub other_names : (k : CallKind) (i : ℕ) (n : List ℕ) → i ≢ h → now.names k i n ≡ before.names k i n
   pub other_given : (i : ℕ) → i ≢ h → now.given i ≡ before.given i
 
@@ -66,15 +97,20 @@ pub record Read (h : ℕ) (bytes : List ℕ) (before now : Seen) : Type 0 where
   pub counts : NoCountFalls before now
   pub loses : Loses (before.left h) (now.left h) bytes
   pub held : (n : List ℕ) → now.held n ≡ before.held n
+  pub lacks : (n : List ℕ) → now.lacks n ≡ before.lacks n
   pub written : (i : ℕ) → now.written i ≡ before.written i
   pub other_left : (i : ℕ) → i ≢ h → now.left i ≡ before.left i
   pub names : (k : CallKind) (i : ℕ) (n : List ℕ) → now.names k i n ≡ before.names k i n
   pub given : (i : ℕ) → now.given i ≡ before.given i
 
--- these bytes were written to a handle; what names hold may change, and nothing else changed but counts, of which none fell
+-- these bytes were written to a handle; a file that it names gained them, where the handle is no standard stream; what a standard stream names
+-- may change; nothing else changed but counts, of which none fell
 pub record Wrote (h : ℕ) (bytes : List ℕ) (before now : Seen) : Type 0 where
   pub counts : NoCountFalls before now
   pub gains : Gains (before.written h) (now.written h) bytes
+  pub file : (n : List ℕ) → 2 < h → before.names Writing h n ≡ true → Gains (before.held n) (now.held n) bytes
+  pub other_held : (n held : List ℕ) → before.names Writing h n ≡ false → before.held n ≡ Some held → now.held n ≡ Some held
+  pub lacks : (n : List ℕ) → now.lacks n ≡ before.lacks n
   pub left : (i : ℕ) → now.left i ≡ before.left i
   pub other_written : (i : ℕ) → i ≢ h → now.written i ≡ before.written i
   pub names : (k : CallKind) (i : ℕ) (n : List ℕ) → now.names k i n ≡ before.names k i n
@@ -84,6 +120,7 @@ pub record Wrote (h : ℕ) (bytes : List ℕ) (before now : Seen) : Type 0 where
 pub record OnlyCounts (before now : Seen) : Type 0 where
   pub counts : NoCountFalls before now
   pub held : (n : List ℕ) → now.held n ≡ before.held n
+  pub lacks : (n : List ℕ) → now.lacks n ≡ before.lacks n
   pub left : (i : ℕ) → now.left i ≡ before.left i
   pub written : (i : ℕ) → now.written i ≡ before.written i
   pub names : (k : CallKind) (i : ℕ) (n : List ℕ) → now.names k i n ≡ before.names k i n

@@ -18,4 +18,4 @@ pub use fault::{Failed, WholeFault, WorldFault};
 pub use log_model::NoMemory;
 pub use memory::MemWorld;
 pub use whole::{read_whole, write_all};
-pub use world::{ERRORS, INPUT, OUTPUT, World};
+pub use world::{Created, ERRORS, INPUT, OUTPUT, World};

@@ -1,27 +1,30 @@
 //! A world in memory, for tests: it tells every byte.
 
-ghost use Rattle.std.specs.Prelude.{◌≡◌, ◌≢◌, ◌<◌, ◌≤◌, ℕ, List, length, take, codes, Some, IfOk, OnOk, OnErr};
+ghost use Rattle.std.specs.Prelude.{◌≡◌, ◌≢◌, ◌⊎◌, ◌<◌, ◌≤◌, ℕ, List, length, take, codes, true, false, Some, IfOk, OnOk, OnErr};
 
 use crate::fault::{Failed, WorldFault};
-use crate::file::{MemFile, OpenFile, Plan, Source, find_bytes, open_file};
-use crate::world::{ERRORS, INPUT, OUTPUT, World};
+use crate::file::{
+    MemFile, OpenFile, Plan, Source, begin_file, create_file, find_bytes, open_file,
+};
+use crate::world::{Created, ERRORS, INPUT, OUTPUT, World};
 use log_model::NoMemory;
 use std::alloc::Global;
 
 /// How many bytes of output a new world has room for.
 const FIRST_ROOM: usize = 4096;
 
-/// The handle of the first file that is opened.
+/// The handle of the first file that is opened or created.
 const FIRST_HANDLE: u32 = 3;
 
-/// Files and standard streams in memory. Handles are given from 3 upwards, one for each `open` that
-/// succeeds. It keeps one count, which is its count of faults for every kind of call and every name.
+/// Files and standard streams in memory. Handles are given from 3 upwards, one for each `open` or
+/// `create` that succeeds. What is written to a created one is appended to the file of its name. The
+/// world keeps one count, which is its count of faults for every kind of call and every name.
 #[derive(Drop)]
 pub struct MemWorld {
     alloc: Global,
     /// The newest first: it hides an older one of its name.
     files: Vec<MemFile>,
-    /// In the order in which they were opened.
+    /// In the order in which they were opened or created.
     opened: Vec<OpenFile>,
     /// What handle 0 reads.
     input: Source,
@@ -36,7 +39,9 @@ pub struct MemWorld {
 }
 
 impl MemWorld {
-    ghost use Rattle.vio.specs.Memory.{memory_seen, opened_at, content_of, held_now, IsNew, Holds, HasInput, IsSame, TellsAll};
+    ghost use Rattle.std.specs.Result.{IsErrOf};
+    ghost use Rattle.vio.specs.Memory.{memory_seen, opened_at, content_of, held_now, is_sink, IsNew, Holds, HasInput, IsSame, TellsAll};
+    ghost use Rattle.vio.specs.World.{Wrote};
     ghost use Rattle.vio.specs.Plan.{HasNoPlan, KeepsPlan, FailsToo, MovesAtMost};
 
     /// A world with no file, an empty standard input, and nothing written. Calls move all they can.
@@ -83,7 +88,7 @@ impl MemWorld {
         Ok(())
     }
 
-    /// Lets the call of this number fail, counted from 1 over `open`, `read` and `write`.
+    /// Lets the call of this number fail, counted from 1 over `open`, `create`, `read` and `write`.
     pub fn fail(&mut self, call: u64) -> Result<(), NoMemory>
         ensures same { IsSame (memory_seen self.old) (memory_seen self.new) }
         ensures ok { OnOk result (FailsToo call self.old.plan self.new.plan) }
@@ -101,11 +106,11 @@ impl MemWorld {
         self.plan.most = most;
     }
 
-    /// The content behind a handle: of an opened handle what its name holds now, of 0 all of standard
-    /// input, of 1 and 2 what was written, of a handle never given nothing.
+    /// The content behind a handle: of an opened or created handle what its name holds now, of 0 all of
+    /// standard input, of 1 and 2 what was written, of a handle never given nothing.
     pub fn content(&self, h: u32) -> &[u8]
         ensures value { result.now ≡ content_of self.now h }
-        ensures written { (a : List ℕ) → (memory_seen self.now).written h ≡ Some a → result.now ≡ a }
+        ensures written { (h ≡ OUTPUT) ⊎ (h ≡ ERRORS) → (memory_seen self.now).written h ≡ Some result.now }
         ensures tells { TellsAll (⟦<MemWorld as World>⟧.seen self.now) }
     {
         match h {
@@ -116,7 +121,7 @@ impl MemWorld {
         }
     }
 
-    /// What the name of an opened handle holds now.
+    /// What the name of an opened or created handle holds now.
     fn named_content(&self, h: u32) -> &[u8]
         ensures { result.now ≡ held_now self.now.files.items (opened_at self.now.opened.items h) }
     {
@@ -131,13 +136,40 @@ impl MemWorld {
         };
         bytes
     }
+
+    /// Appends a piece to what was written to a handle, where it can be written to.
+    fn append(&mut self, h: u32, piece: &[u8]) -> Result<(), WorldFault>
+        ensures ok { OnOk result (Wrote h piece.now (memory_seen self.old) (memory_seen self.new)) }
+
+        ensures err { OnErr result (IsSame (memory_seen self.old) (memory_seen self.new)) }
+        ensures failed { IsErrOf result WorldFault.Failed → is_sink self.old.opened.items h ≡ false }
+        ensures memory { IsErrOf result WorldFault.NoMemory → is_sink self.old.opened.items h ≡ true }
+        ensures done { OnOk result (is_sink self.old.opened.items h ≡ true) }
+        ensures plan { KeepsPlan self.old.plan self.new.plan }
+        ensures faults { self.new.faults ≡ self.old.faults }
+    {
+        if h == OUTPUT {
+            return Ok(self.output.extend_from_slice(piece)?);
+        }
+        if h == ERRORS {
+            return Ok(self.errors.extend_from_slice(piece)?);
+        }
+        if h < FIRST_HANDLE {
+            return Err(WorldFault::Failed);
+        }
+        let place = (h - FIRST_HANDLE) as usize;
+        if place >= self.opened.len() {
+            return Err(WorldFault::Failed);
+        }
+        self.opened[place].append(&mut self.files, piece)
+    }
 }
 
 impl World for MemWorld {
     ghost use Rattle.std.specs.Result.{IsErrOf};
     ghost use Rattle.log_model.specs.Faults.{HasNewFault};
-    ghost use Rattle.vio.specs.Memory.{memory_seen, MemOpens, MemReads, MemWrites};
-    ghost use Rattle.vio.specs.World.{Opening, Reading, Writing, Opened, Read, Wrote, OnlyCounts, FaultsRose, NoNewFaults, IsAtEnd};
+    ghost use Rattle.vio.specs.Memory.{memory_seen, MemOpens, MemCreates, MemReads, MemWrites};
+    ghost use Rattle.vio.specs.World.{Opening, Creating, Reading, Writing, Opened, FileCreated, Read, Wrote, OnlyCounts, FaultsRose, NoNewFaults, IsAtEnd};
     ghost use Rattle.vio.specs.Streams.{HasStreams-memory};
 
     ghost seen = { memory_seen };
@@ -169,6 +201,29 @@ impl World for MemWorld {
         Ok(handle)
     }
 
+    fn create(&mut self, name: &str, append: bool) -> Result<Created, WorldFault>
+        ensures ok { IfOk result (λ c. FileCreated append name.now c.handle c.empty (memory_seen self.old) (memory_seen self.new)) }
+
+        ensures err { OnErr result (OnlyCounts (memory_seen self.old) (memory_seen self.new)) }
+        ensures failed { IsErrOf result WorldFault.Failed →
+            HasNewFault ((memory_seen self.old).faults Creating name.now) ((memory_seen self.new).faults Creating name.now) }
+        ensures memory { IsErrOf result WorldFault.NoMemory → NoNewFaults (memory_seen self.old) (memory_seen self.new) }
+        ensures exact { MemCreates append name.now self.old self.new result }
+    {
+        if self.plan.is_failing_call() {
+            self.faults = self.faults.saturating_add(1);
+            return Err(WorldFault::Failed);
+        }
+        let Ok(handle) = u32::try_from(self.opened.len() + FIRST_HANDLE as usize) else {
+            return Err(WorldFault::NoMemory);
+        };
+        let file = create_file(self.alloc, name.as_bytes())?;
+        self.opened.reserve(1)?;
+        let empty = begin_file(self.alloc, &mut self.files, name.as_bytes(), append)?;
+        self.opened.push_reserved(file);
+        Ok(Created { handle, empty })
+    }
+
     fn read(&mut self, h: u32, buf: &mut [u8]) -> Result<usize, Failed>
         ensures fits { IfOk result (λ n. n ≤ length buf.old) }
         ensures ok { IfOk result (λ n. Read h (take n buf.new) (memory_seen self.old) (memory_seen self.new)) }
@@ -195,7 +250,11 @@ impl World for MemWorld {
             self.faults = self.faults.saturating_add(1);
             return Err(Failed);
         }
-        Ok(self.opened[place].source.take_piece(buf, self.plan.most))
+        let Some(n) = self.opened[place].take_piece(buf, self.plan.most) else {
+            self.faults = self.faults.saturating_add(1);
+            return Err(Failed);
+        };
+        Ok(n)
     }
 
     fn write(&mut self, h: u32, piece: &[u8]) -> Result<usize, WorldFault>
@@ -214,15 +273,13 @@ impl World for MemWorld {
         }
         let n = piece.len().min(self.plan.most.max(1));
         let (prefix, _) = piece.split_at(n);
-        if h == OUTPUT {
-            self.output.extend_from_slice(prefix)?;
-            return Ok(n);
+        match self.append(h, prefix) {
+            Ok(()) => Ok(n),
+            Err(WorldFault::Failed) => {
+                self.faults = self.faults.saturating_add(1);
+                Err(WorldFault::Failed)
+            }
+            Err(WorldFault::NoMemory) => Err(WorldFault::NoMemory),
         }
-        if h == ERRORS {
-            self.errors.extend_from_slice(prefix)?;
-            return Ok(n);
-        }
-        self.faults = self.faults.saturating_add(1);
-        Err(WorldFault::Failed)
     }
 }

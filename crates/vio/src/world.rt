@@ -3,7 +3,7 @@
 ghost use Rattle.std.specs.Prelude.{◌≡◌, ◌<◌, ◌≤◌, ℕ, [], take, length, IfOk, OnErr};
 ghost use Rattle.std.specs.Result.{IsErrOf};
 ghost use Rattle.log_model.specs.Faults.{HasNewFault};
-ghost use Rattle.vio.specs.World.{Seen, Opening, Reading, Writing, Opened, Read, Wrote, OnlyCounts, FaultsRose, NoNewFaults, IsAtEnd, HasStreams};
+ghost use Rattle.vio.specs.World.{Seen, Opening, Creating, Reading, Writing, Opened, FileCreated, Read, Wrote, OnlyCounts, FaultsRose, NoNewFaults, IsAtEnd, HasStreams};
 
 use crate::fault::{Failed, WorldFault};
 
@@ -16,11 +16,20 @@ pub const OUTPUT: u32 = 1;
 /// The handle of standard error.
 pub const ERRORS: u32 = 2;
 
+/// A file that was opened for writing.
+#[derive(Clone, Copy, Debug, PartialEq, Eq)]
+pub struct Created {
+    /// Its handle.
+    pub handle: u32,
+    /// Whether the file has no bytes yet.
+    pub empty: bool,
+}
+
 /// Files and standard streams.
 ///
 /// Handles 0, 1 and 2 are standard input, output and error. No call lowers a count of faults, and a
 /// call on one handle leaves the others as they are. A refused call changes counts alone.
-pub trait World: Send {
+pub trait World {
     /// What the world tells: its files, what each handle has left and took, and its counts of faults.
     ghost seen: { Self → Seen };
 
@@ -31,6 +40,16 @@ pub trait World: Send {
         ensures err { OnErr result (OnlyCounts (seen self.old) (seen self.new)) }
         ensures failed { IsErrOf result WorldFault.Failed →
             HasNewFault ((seen self.old).faults Opening name.now) ((seen self.new).faults Opening name.now) }
+        ensures memory { IsErrOf result WorldFault.NoMemory → NoNewFaults (seen self.old) (seen self.new) };
+
+    /// Opens a file for writing, which needn't be there, and gives a handle that was never given before.
+    /// The file is emptied unless `append`.
+    fn create(&mut self, name: &str, append: bool) -> Result<Created, WorldFault>
+        ensures ok { IfOk result (λ c. FileCreated append name.now c.handle c.empty (seen self.old) (seen self.new)) }
+
+        ensures err { OnErr result (OnlyCounts (seen self.old) (seen self.new)) }
+        ensures failed { IsErrOf result WorldFault.Failed →
+            HasNewFault ((seen self.old).faults Creating name.now) ((seen self.new).faults Creating name.now) }
         ensures memory { IsErrOf result WorldFault.NoMemory → NoNewFaults (seen self.old) (seen self.new) };
 
     /// Reads bytes into the first part of `buf`: at least one, or none at the end or for an empty `buf`.

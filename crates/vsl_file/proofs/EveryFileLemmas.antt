@@ -1,16 +1,16 @@
 -- Every list of bytes has units and an ending.
-use Rattle.std.proofs.Common.{◌≡◌, ℕ, zero, suc, ◌+◌, ◌*◌, ◌<◌, ◌⊎◌, inl, inr, List, [], ◌∷◌, ◌++◌, length, drop, Result, Ok, Err, refl, sym, ap, subst, ◌∙◌, arith}
+use Rattle.std.proofs.Common.{◌≡◌, ℕ, zero, suc, ◌+◌, ◌*◌, ◌<◌, ◌⊎◌, inl, inr, List, [], ◌∷◌, ◌++◌, length, drop, refl, sym, ap, subst, ◌∙◌, arith}
 use Rattle.std.specs.Prelude.{slice_get}
 use Rattle.std.proofs.lemmas.List.{drop_at}
-use Rattle.vsl_record.specs.inside.UnitReading.{ReadingFault, unit_at}
 use Rattle.vsl_record.specs.Unit.{LogUnit, Log}
+use Rattle.vsl_record.specs.WordFaults.{FirstFault}
 use Rattle.vsl_record.specs.Words.{unit_words, words_in}
-use Rattle.vsl_record.proofs.UnitReadingLemmas.{unit_takes, unit_again, unit_words_small}
+use Rattle.vsl_record.proofs.UnitReadingLemmas.{every_words_of, no_fault_of, unit_words_small}
 use Rattle.vsl_record.proofs.Steps.{IsBytes, below_take, below_drop}
 use Rattle.vsl_record.proofs.WordLemmas.{words_in-small, words_in-word_bytes}
 use Rattle.vsl_file.specs.File.{FileEnding, IsFile, BeginsNoUnit, unit_bytes, bytes_read, file_header, most_bytes}
 use Rattle.vsl_file.specs.inside.FileReading.{BeginsWithUnit, IsReadUp}
-use Rattle.vsl_file.proofs.UnitLemmas.{unit_begins, regroup, unit_takes_bytes, begins_with_none}
+use Rattle.vsl_file.proofs.UnitLemmas.{unit_begins, regroup, unit_takes_bytes}
 use Rattle.vsl_file.proofs.HeaderLemmas.{slice_get-append, begins_or_not}
 use Rattle.vsl_file.proofs.FileLemmas.{no_log, read_ending}
 
@@ -18,17 +18,14 @@ use Rattle.vsl_file.proofs.FileLemmas.{no_log, read_ending}
 abbrev NextUnit : List ℕ → Type 0
 NextUnit bytes = ((u : LogUnit) × (rest : List ℕ) × BeginsWithUnit bytes u rest) ⊎ BeginsNoUnit bytes
 
--- a result is not both
-apart : (r : Result (LogUnit × List ℕ) ReadingFault) (x : LogUnit × List ℕ) (fault : ReadingFault) → r ≡ Err fault → r ≡ Ok x → ⊥
-apart r x fault p q = absurd cc
-
--- each list of bytes begins with a unit or doesn't, by what its words are read as
-next_by : (bytes : List ℕ) (r : Result (LogUnit × List ℕ) ReadingFault) → unit_at (words_in bytes) ≡ r → IsBytes bytes → NextUnit bytes
-next_by bytes (Ok x) e all =
-    let taken = unit_takes (words_in bytes) x.0 x.1 (words_in-small bytes all) e in
-    inl (x.0, drop (4 * length (unit_words x.0)) bytes, record { is_unit = taken.0; parts = unit_begins bytes x.0 x.1 all taken.1 })
-next_by bytes (Err fault) e all = inr (λ u more fits is. apart (unit_at (words_in bytes)) (u, words_in more) fault e
-    (ap unit_at (ap words_in is ∙ words_in-word_bytes (unit_words u) more (unit_words_small u fits)) ∙ unit_again u (words_in more) fits))
+-- each list of bytes begins with a unit or doesn't, as its words do
+next_unit : (bytes : List ℕ) → IsBytes bytes → NextUnit bytes
+next_unit bytes all =
+    elim (every_words_of (words_in bytes) (words_in-small bytes all)) [
+      | inl (u, rest, fits, is) ↦ inl (u, drop (4 * length (unit_words u)) bytes, record { is_unit = fits; parts = unit_begins bytes u rest all is })
+      | inr (fault, faulty) ↦ inr (λ u more fits is. no_fault_of u (words_in more) fault fits
+          (subst (λ (words : List ℕ). FirstFault words fault) (ap words_in is ∙ words_in-word_bytes (unit_words u) more (unit_words_small u fits)) faulty))
+    ]
 
 -- what is left after a unit is bytes
 rest_fits : (bytes : List ℕ) (u : LogUnit) (rest : List ℕ) → BeginsWithUnit bytes u rest → IsBytes bytes → IsBytes rest
@@ -39,10 +36,8 @@ rest_fits bytes u rest begins all =
 -- a unit before others
 read_more : (bytes : List ℕ) (u : LogUnit) (after : List ℕ) (units : Log) (rest : List ℕ) → BeginsWithUnit bytes u after → IsReadUp after units rest → IsReadUp bytes (u ∷ units) rest
 read_more bytes u after units rest first others = record {
-  begins = record {
-    are_units = (first.is_unit, others.begins.are_units);
-    parts = first.parts ∙ ap (λ (x : List ℕ). unit_bytes u ++ x) others.begins.parts ∙ sym (regroup u units rest);
-  };
+  are_units = (first.is_unit, others.are_units);
+  parts = first.parts ∙ ap (λ (x : List ℕ). unit_bytes u ++ x) others.parts ∙ sym (regroup u units rest);
   no_more = others.no_more;
 }
 
@@ -50,11 +45,11 @@ read_more bytes u after units rest first others = record {
 read_up : (most : ℕ) (bytes : List ℕ) → length bytes < most → IsBytes bytes → (units : Log) × (rest : List ℕ) × IsReadUp bytes units rest
 read_up zero bytes few all = absurd (omega arith)
 read_up (suc most) bytes few all =
-    elim (next_by bytes (unit_at (words_in bytes)) refl all) [
+    elim (next_unit bytes all) [
       | inl (u, after, first) ↦
           let others = read_up most after (omega (arith, unit_takes_bytes bytes u after first)) (rest_fits bytes u after first all) in
           (u ∷ others.0, others.1, read_more bytes u after others.0 others.1 first others.2)
-      | inr none ↦ ([], bytes, record { begins = begins_with_none bytes; no_more = none })
+      | inr none ↦ ([], bytes, record { are_units = tt; parts = refl; no_more = none })
     ]
 
 -- every list of bytes has units and an ending

@@ -1,14 +1,17 @@
 -- A file's units and ending: one content for each list of bytes, and the ending that follows from what was read.
-use Rattle.std.proofs.Common.{◌≡◌, ◌≢◌, ℕ, ◌+◌, ◌-◌, ◌<◌, ◌≤◌, Bool, true, false, leb, eqb, ◌&&◌, ◌⊎◌, inl, inr, List, [], ◌∷◌, ◌++◌, length, take, drop, refl, sym, ap, subst, ◌∙◌, append_assoc, arith}
+use Rattle.std.proofs.Common.{◌≡◌, ◌≢◌, ℕ, ◌+◌, ◌-◌, ◌<◌, ◌≤◌, Bool, true, false, ◌⊎◌, inl, inr, List, [], ◌∷◌, ◌++◌, length, take, drop, refl, sym, ap, subst, ◌∙◌, append_assoc, arith}
 use Rattle.std.specs.Prelude.{slice_get}
-use Rattle.std.proofs.lemmas.Bool.{cases_lt, ne_eqb, lt-leb, le-leb, both_ways, and_right}
-use Rattle.std.proofs.Math.Bool.{and-true}
-use Rattle.std.proofs.lemmas.List.{take_all, append_cancel_left, take-append-drop, length-append}
-use Rattle.vsl_record.specs.Unit.{Log}
-use Rattle.vsl_file.specs.File.{FileEnding, Whole, NotALog, Damaged, TooLarge, IsFile, IsSplit, DiffersFirst, BeginsNoUnit, stops_early, is_whole, most_bytes, bytes_read, file_header, log_bytes}
+use Rattle.std.specs.List.{AllByRecursion}
+use Rattle.std.proofs.lemmas.Bool.{cases_lt, both_ways}
+use Rattle.std.proofs.lemmas.List.{append-nil, take_all, take_at, append_cancel_left, take-append-drop, length-append}
+use Rattle.bytes.proofs.Ranges.{take-append_past}
+use Rattle.vsl_record.specs.Unit.{LogUnit, Log}
+use Rattle.vsl_record.specs.Words.{IsUnit}
+use Rattle.vsl_file.specs.File.{FileEnding, Whole, NotALog, Damaged, TooLarge, IsFile, HoldsWhole, IsSplit, DiffersFirst, BeginsNoUnit, stops_early, most_bytes, bytes_read, file_header, log_bytes}
 use Rattle.vsl_file.specs.inside.FileReading.{IsReadUp}
+use Rattle.vsl_file.specs.inside.ReaderSteps.{IsDamagedRest}
 use Rattle.vsl_file.proofs.HeaderLemmas.{slice_get-append, one_place, begins_or_not}
-use Rattle.vsl_file.proofs.UnitLemmas.{short_begins_none, stopped_begins_none, one_log}
+use Rattle.vsl_file.proofs.UnitLemmas.{short_begins_none, stopped_begins_none, one_log, regroup, unit_bytes_prefix_free}
 
 -- how a log ends, by what is left after its units
 abbrev LogEndsSo : List ℕ → List ℕ → FileEnding → Type 0
@@ -66,12 +69,17 @@ not_both : (bytes : List ℕ) (units : Log) (rest : List ℕ) (at : ℕ) → IsS
 not_both bytes units rest at split differs =
     differs.differs (ap (λ (x : List ℕ). slice_get x at) (log_begins bytes units rest split) ∙ slice_get-append file_header (log_bytes units ++ rest ++ drop most_bytes bytes) at differs.inside)
 
+-- bytes have one split whose rest begins no unit
+same_parts : (bytes : List ℕ) (us vs : Log) (rest left : List ℕ) → IsSplit bytes us rest → IsSplit bytes vs left → BeginsNoUnit rest → BeginsNoUnit left → (us ≡ vs) × (rest ≡ left)
+same_parts bytes us vs rest left p q none_p none_q =
+    let parts : file_header ++ (log_bytes us ++ rest) ≡ file_header ++ (log_bytes vs ++ left) =
+    sym (append_assoc file_header (log_bytes us) rest) ∙ sym p.parts ∙ q.parts ∙ append_assoc file_header (log_bytes vs) left in
+    one_log us vs rest left p.are_units q.are_units none_p none_q (append_cancel_left file_header (log_bytes us ++ rest) (log_bytes vs ++ left) parts)
+
 -- the same for logs
 same_logs : (bytes : List ℕ) (us vs : Log) (d e : FileEnding) (rest left : List ℕ) → IsLogFile bytes us d rest → IsLogFile bytes vs e left → (us ≡ vs) × (d ≡ e)
 same_logs bytes us vs d e rest left p q =
-    let parts : file_header ++ (log_bytes us ++ rest) ≡ file_header ++ (log_bytes vs ++ left) =
-    sym (append_assoc file_header (log_bytes us) rest) ∙ sym p.split.parts ∙ q.split.parts ∙ append_assoc file_header (log_bytes vs) left in
-    let same = one_log us vs rest left p.split.are_units q.split.are_units p.no_more q.no_more (append_cancel_left file_header (log_bytes us ++ rest) (log_bytes vs ++ left) parts) in
+    let same = same_parts (bytes_read bytes) us vs rest left p.split q.split p.no_more q.no_more in
     (same.0, one_ending bytes left d e (subst (λ (x : List ℕ). LogEndsSo bytes x d) same.1 p.ends) q.ends)
 
 -- a file's bytes determine its units and its ending
@@ -88,13 +96,52 @@ one_content_of bytes us vs d e file other =
       ]
     ]
 
+-- the bytes of the header are no fewer than it has
+header_within : (bytes : List ℕ) (units : Log) (rest : List ℕ) → IsSplit bytes units rest → length bytes < 8 → ⊥
+header_within bytes units rest split short = omega (arith, ap length split.parts, length-append (file_header ++ log_bytes units) rest, length-append file_header (log_bytes units))
+
+-- the first bytes of a file determine the units that lie whole in them
+pub whole_units_of : (bytes : List ℕ) (us vs : Log) → HoldsWhole bytes us → HoldsWhole bytes vs → us ≡ vs
+whole_units_of bytes us vs (inl p) (inl q) = p.1 ∙ sym q.1
+whole_units_of bytes us vs (inl p) (inr q) = absurd (header_within bytes vs q.0 q.1 p.0)
+whole_units_of bytes us vs (inr p) (inl q) = absurd (header_within bytes us p.0 p.1 q.0)
+whole_units_of bytes us vs (inr p) (inr q) = (same_parts bytes us vs p.0 q.0 p.1 q.1 (stopped_begins_none p.0 p.2) (stopped_begins_none q.0 q.2)).0
+
+-- units that begin the bytes of others, after which no unit begins, are the first of these
+first_log : (us vs : Log) (a b : List ℕ) → AllByRecursion IsUnit us → AllByRecursion IsUnit vs → BeginsNoUnit b → log_bytes us ++ a ≡ log_bytes vs ++ b → (others : Log) × (vs ≡ us ++ others)
+first_log [] vs a b fits_us fits_vs none e = (vs, refl)
+first_log (u ∷ us) [] a b fits_us fits_vs none e = absurd (none u (log_bytes us ++ a) fits_us.0 (sym e ∙ regroup u us a))
+first_log (u ∷ us) (v ∷ vs) a b fits_us fits_vs none e =
+    let first = unit_bytes_prefix_free u v (log_bytes us ++ a) (log_bytes vs ++ b) fits_us.0 fits_vs.0 (sym (regroup u us a) ∙ e ∙ regroup v vs b) in
+    let others = first_log us vs a b fits_us.1 fits_vs.1 none first.1 in
+    (others.0, ap (λ (w : LogUnit). w ∷ vs) (sym first.0) ∙ ap (λ (ws : Log). u ∷ ws) others.1)
+
+-- the bytes that are read of a file begin with all that begins it and is short enough
+read_begins : (bytes front rest : List ℕ) → length front ≤ most_bytes → bytes ≡ front ++ rest → bytes_read bytes ≡ front ++ take (most_bytes - length front) rest
+read_begins bytes front rest short e = ap (λ (x : List ℕ). bytes_read x) e ∙ take-append_past front rest (most_bytes - length front) most_bytes (omega (arith, short))
+
+-- units that begin a file are its first ones
+pub first_units : (bytes : List ℕ) (units us : Log) (ending : FileEnding) (rest : List ℕ) → AllByRecursion IsUnit units → length (file_header ++ log_bytes units) ≤ most_bytes
+    → bytes ≡ file_header ++ log_bytes units ++ rest → IsFile bytes us ending → (others : Log) × (us ≡ units ++ others)
+first_units bytes units us ending rest fits short e file =
+    elim (opened bytes us ending file) [
+      | inl (at, p) ↦
+          let begins : bytes ≡ file_header ++ (log_bytes units ++ rest) = e ∙ append_assoc file_header (log_bytes units) rest in
+          absurd (p.differs.differs (ap (λ (x : List ℕ). slice_get x at) begins ∙ slice_get-append file_header (log_bytes units ++ rest) at p.differs.inside))
+      | inr (left, p) ↦
+          let more = take (most_bytes - length (file_header ++ log_bytes units)) rest in
+          let parts : file_header ++ (log_bytes units ++ more) ≡ file_header ++ (log_bytes us ++ left) =
+          sym (append_assoc file_header (log_bytes units) more) ∙ sym (read_begins bytes (file_header ++ log_bytes units) rest short e) ∙ p.split.parts ∙ append_assoc file_header (log_bytes us) left in
+          first_log units us more left fits p.split.are_units p.no_more (append_cancel_left file_header (log_bytes units ++ more) (log_bytes us ++ left) parts)
+    ]
+
 -- a file that doesn't begin with the header is no log
-pub no_log : (bytes : List ℕ) → ((more : List ℕ) → bytes_read bytes ≢ file_header ++ more) → (ending : FileEnding) × IsFile bytes [] ending × (false ≡ is_whole ending)
+pub no_log : (bytes : List ℕ) → ((more : List ℕ) → bytes_read bytes ≢ file_header ++ more) → (ending : FileEnding) × IsFile bytes [] ending
 unfolding most_bytes
 no_log bytes other =
     elim (begins_or_not file_header bytes) [
       | inl (more, is) ↦ absurd (other (take (most_bytes - 8) more) (ap (take most_bytes) is))
-      | inr (at, first) ↦ (NotALog at, (refl, record { inside = first.0; prefix = first.1; differs = first.2 }), refl)
+      | inr (at, first) ↦ (NotALog at, (refl, record { inside = first.0; prefix = first.1; differs = first.2 }))
     ]
 
 -- the bytes that follow a log's units are no more than all
@@ -102,35 +149,56 @@ rest_within : (bytes : List ℕ) (units : Log) (rest : List ℕ) → IsSplit byt
 rest_within bytes units rest split = omega (arith, ap length split.parts, length-append (file_header ++ log_bytes units) rest)
 
 -- where something is left and the file goes no further, or doesn't stop early, it is damaged
-damaged : (bytes : List ℕ) (units : Log) (rest : List ℕ) → IsSplit (bytes_read bytes) units rest → BeginsNoUnit rest → rest ≢ [] → (most_bytes < length bytes → stops_early rest ≡ false) → IsFile bytes units (Damaged (length (bytes_read bytes) - length rest))
+damaged : (bytes : List ℕ) (units : Log) (rest : List ℕ) → IsSplit (bytes_read bytes) units rest → BeginsNoUnit rest → rest ≢ [] → (most_bytes < length bytes → stops_early rest ≡ false) → (ending : FileEnding) × IsFile bytes units ending
 damaged bytes units rest split none some stops =
-    (rest, some, none, split, omega (arith, rest_within (bytes_read bytes) units rest split), stops)
+    (Damaged (length (bytes_read bytes) - length rest), (rest, some, none, split, omega (arith, rest_within (bytes_read bytes) units rest split), stops))
 
--- a log of more bytes than are read isn't whole
-stops_or_not : (bytes : List ℕ) (units : Log) (rest : List ℕ) (b : Bool) → stops_early rest ≡ b → IsSplit (bytes_read bytes) units rest → BeginsNoUnit rest → most_bytes < length bytes → (ending : FileEnding) × IsFile bytes units ending × (false ≡ is_whole ending)
-stops_or_not bytes units rest true e split none large = (TooLarge, (large, (rest, split, e)), refl)
-stops_or_not bytes units rest false e split none large =
-    (Damaged (length (bytes_read bytes) - length rest), damaged bytes units rest split none (λ empty. both_ways (stops_early rest) e (ap stops_early empty)) (λ _. e), refl)
+-- a log of more bytes than are read has an ending
+large_log : (bytes : List ℕ) (units : Log) (rest : List ℕ) (b : Bool) → stops_early rest ≡ b → IsSplit (bytes_read bytes) units rest → BeginsNoUnit rest → most_bytes < length bytes → (ending : FileEnding) × IsFile bytes units ending
+large_log bytes units rest true e split none large = (TooLarge, (large, (rest, split, e)))
+large_log bytes units rest false e split none large = damaged bytes units rest split none (λ empty. both_ways (stops_early rest) e (ap stops_early empty)) (λ _. e)
 
--- a log of no more bytes than are read is whole where nothing is left
-small_log : (bytes : List ℕ) (units : Log) (rest : List ℕ) → IsSplit (bytes_read bytes) units rest → BeginsNoUnit rest → length bytes ≤ most_bytes → (ending : FileEnding) × IsFile bytes units ending × (eqb (length rest) 0 ≡ is_whole ending)
-small_log bytes units [] split none small =
-    (Whole, (small, subst (λ (x : List ℕ). IsSplit x units []) (take_all most_bytes bytes small) split), refl)
-small_log bytes units (r ∷ rest) split none small =
-    (Damaged (length (bytes_read bytes) - length (r ∷ rest)), damaged bytes units (r ∷ rest) split none (λ e. cc) (λ large. absurd (omega arith)), ne_eqb (length (r ∷ rest)) 0 (λ e. omega arith))
-
--- a log that was read has an ending, and is whole where nothing is left and all was read
-log_ending : (bytes : List ℕ) (units : Log) (rest : List ℕ) → IsSplit (bytes_read bytes) units rest → BeginsNoUnit rest
-    → (ending : FileEnding) × IsFile bytes units ending × ((eqb (length rest) 0 && leb (length bytes) most_bytes) ≡ is_whole ending)
-log_ending bytes units rest split none =
-    elim (cases_lt most_bytes (length bytes)) [
-      | inl large ↦ rw (and_right (eqb (length rest) 0) (leb (length bytes) most_bytes) (lt-leb (length bytes) most_bytes large)) (stops_or_not bytes units rest (stops_early rest) refl split none large)
-      | inr small ↦ rw (le-leb (length bytes) most_bytes small) (rw (and-true (eqb (length rest) 0)) (small_log bytes units rest split none small))
-    ]
+-- so has one of no more bytes
+small_log : (bytes : List ℕ) (units : Log) (rest : List ℕ) → IsSplit (bytes_read bytes) units rest → BeginsNoUnit rest → length bytes ≤ most_bytes → (ending : FileEnding) × IsFile bytes units ending
+small_log bytes units [] split none small = (Whole, (small, subst (λ (x : List ℕ). IsSplit x units []) (take_all most_bytes bytes small) split))
+small_log bytes units (r ∷ rest) split none small = damaged bytes units (r ∷ rest) split none (λ e. cc) (λ large. absurd (omega arith))
 
 -- a file that begins with the header, and was read up, has an ending
-pub read_ending : (bytes body : List ℕ) (units : Log) (rest : List ℕ) → bytes_read bytes ≡ file_header ++ body → IsReadUp body units rest
-    → (ending : FileEnding) × IsFile bytes units ending × ((eqb (length rest) 0 && leb (length bytes) most_bytes) ≡ is_whole ending)
+pub read_ending : (bytes body : List ℕ) (units : Log) (rest : List ℕ) → bytes_read bytes ≡ file_header ++ body → IsReadUp body units rest → (ending : FileEnding) × IsFile bytes units ending
 read_ending bytes body units rest is up =
-    let parts : bytes_read bytes ≡ file_header ++ log_bytes units ++ rest = is ∙ ap (λ (x : List ℕ). file_header ++ x) up.begins.parts ∙ sym (append_assoc file_header (log_bytes units) rest) in
-    log_ending bytes units rest (record { are_units = up.begins.are_units; parts = parts }) up.no_more
+    let parts : bytes_read bytes ≡ file_header ++ log_bytes units ++ rest = is ∙ ap (λ (x : List ℕ). file_header ++ x) up.parts ∙ sym (append_assoc file_header (log_bytes units) rest) in
+    let split : IsSplit (bytes_read bytes) units rest = record { are_units = up.are_units; parts = parts } in
+    elim (cases_lt most_bytes (length bytes)) [
+      | inl large ↦ large_log bytes units rest (stops_early rest) refl split up.no_more large
+      | inr small ↦ small_log bytes units rest split up.no_more small
+    ]
+
+-- ---- files of which a part was read
+
+-- more bytes than are read, the first of them those that are
+read_of : (part more bytes : List ℕ) → bytes ≡ part ++ more → length part ≡ most_bytes → bytes_read bytes ≡ part
+read_of part more bytes is full = ap (take most_bytes) is ∙ take_at part more most_bytes full
+
+-- a file that ends where it was read, with nothing left, is whole
+pub ends_whole : (bytes : List ℕ) (units : Log) → AllByRecursion IsUnit units → bytes ≡ file_header ++ log_bytes units → length bytes ≤ most_bytes → IsFile bytes units Whole
+ends_whole bytes units all is small = (small, record { are_units = all; parts = is ∙ sym (append-nil (file_header ++ log_bytes units)) })
+
+-- a file with a damaged rest is damaged where it begins
+pub ends_damaged : (bytes rest : List ℕ) (units : Log) (at most : ℕ) → AllByRecursion IsUnit units → bytes ≡ file_header ++ log_bytes units ++ rest → at ≡ length (file_header ++ log_bytes units) → at + most ≡ most_bytes
+    → IsDamagedRest most rest → IsFile bytes units (Damaged at)
+ends_damaged bytes rest units at most all is at_is room damaged =
+    let part : List ℕ = file_header ++ log_bytes units in
+    let read : bytes_read bytes ≡ part ++ take most rest = ap (take most_bytes) is ∙ take-append_past part rest most most_bytes (omega (arith, at_is, room)) in (
+      take most rest,
+      damaged.some,
+      damaged.none,
+      record { are_units = all; parts = read },
+      omega (arith, at_is, ap length read, length-append part (take most rest)),
+      (λ large. damaged.stays (omega (arith, large, ap length is, length-append part rest, at_is, room))),
+    )
+
+-- a file that goes on where as many bytes as are read stop early is too large
+pub ends_too_large : (bytes part rest more : List ℕ) (units : Log) → AllByRecursion IsUnit units → part ≡ file_header ++ log_bytes units ++ rest → length part ≡ most_bytes → stops_early rest ≡ true
+    → bytes ≡ part ++ more → 0 < length more → IsFile bytes units TooLarge
+ends_too_large bytes part rest more units all is full stops bytes_is some =
+    (omega (arith, full, ap length bytes_is, length-append part more), (rest, record { are_units = all; parts = read_of part more bytes bytes_is full ∙ is }, stops))

@@ -3,5 +3,6 @@ mod UnitLemmas
 mod HeaderLemmas
 mod ReaderLemmas
 mod ReaderStateLemmas
-mod FileLemmas
+pub mod FileLemmas
 mod EveryFileLemmas
+mod WritingLemmas

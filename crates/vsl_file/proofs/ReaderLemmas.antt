@@ -1,15 +1,16 @@
 -- Reading a file in pieces: what reads add to a buffer, and what a step takes of it.
-use Rattle.std.proofs.Common.{◌≡◌, ℕ, ◌<◌, List, [], ◌++◌, length, drop, Err, sym, ap, subst, ◌∙◌, append_assoc}
-use Rattle.std.specs.Prelude.{IsErrOf}
-use Rattle.std.proofs.lemmas.List.{append-nil, nil_from_length}
-use Rattle.vio.specs.World.{Seen, Reading, Read, ReadSome, OnlyCounts, FaultsRose, IsAtEnd}
-use Rattle.vio.proofs.WholeLemmas.{NoCountFalls-then, Read-none, Read-then, FaultsRose-later}
+use Rattle.std.proofs.Common.{◌≡◌, ◌≢◌, ℕ, ◌+◌, ◌-◌, ◌<◌, ◌≤◌, inl, inr, true, false, eqb, List, [], ◌∷◌, ◌++◌, length, take, drop, sym, ap, ◌∙◌, append_assoc, arith}
+use Rattle.std.proofs.lemmas.Bool.{both_ways, cases_lt, eqb-false}
+use Rattle.std.proofs.lemmas.List.{append-nil, length-append, length-drop, nil_from_length, take_all, length-take, take-append-le, take-append-drop}
+use Rattle.std.proofs.Math.Seq.{take-add}
+use Rattle.bytes.proofs.Ranges.{take-append_past}
+use Rattle.vio.specs.World.{Seen, Reading, Read, ReadSome, OnlyCounts, FaultsRose}
+use Rattle.vio.proofs.WholeLemmas.{NoCountFalls-then, Read-none, Read-then, Read-nothing, FaultsRose-later}
 use Rattle.vsl_record.specs.Unit.{LogUnit}
-use Rattle.vsl_record.specs.Words.{IsUnit}
-use Rattle.vsl_file.specs.declared.reader.StepFault.{StepFault}
-use Rattle.vsl_file.specs.File.{unit_bytes, BeginsNoUnit}
-use Rattle.vsl_file.specs.inside.FileReading.{IsHeadSize, NeverBegins}
-use Rattle.vsl_file.specs.inside.ReaderSteps.{Filled, TookEnd, TookNone, CutShort}
+use Rattle.vsl_file.specs.File.{unit_bytes, stops_early}
+use Rattle.vsl_file.specs.inside.FileReading.{IsHeadSize, IsBroken, BeginsWithUnit}
+use Rattle.vsl_file.specs.inside.ReaderSteps.{Filled, HoldsSized, GoesOn, HasEnded, TookUnit, TookEnd, TookDamaged, TookTooLarge, CutShort}
+use Rattle.vsl_file.proofs.UnitLemmas.{short_stops, stopped_begins_none}
 
 -- ---- what reads add
 
@@ -19,14 +20,15 @@ Read-kept {h = h} p q = record {
   counts = NoCountFalls-then p.counts q.counts;
   loses = λ a told. let first = p.loses a told in (first.0, first.1, q.left h ∙ first.2);
   held = λ n. q.held n ∙ p.held n;
+  lacks = λ n. q.lacks n ∙ p.lacks n;
   written = λ i. q.written i ∙ p.written i;
   other_left = λ i other. q.left i ∙ p.other_left i other;
   names = λ k i n. q.names k i n ∙ p.names k i n;
   given = λ i. q.given i ∙ p.given i;
 }
 
-pub Filled-none : (h : ℕ) (bytes : List ℕ) (s : Seen) → Filled h bytes bytes s s
-Filled-none h bytes s = record { added = []; is = sym (append-nil bytes); read = Read-none h s }
+pub Filled-none : (h : ℕ) (a b : List ℕ) (s : Seen) → b ≡ a → Filled h a b s s
+Filled-none h a b s same = record { added = []; is = same ∙ sym (append-nil a); read = Read-none h s }
 
 pub Filled-then : {h : ℕ} {a b c : List ℕ} {s t u : Seen} → Filled h a b s t → Filled h b c t u → Filled h a c s u
 Filled-then {a = a} p q = record {
@@ -35,46 +37,129 @@ Filled-then {a = a} p q = record {
   read = Read-then p.added q.added p.read q.read;
 }
 
-pub Filled-kept : {h : ℕ} {a b c : List ℕ} {s t u : Seen} → Filled h a b s t → c ≡ b → OnlyCounts t u → Filled h a c s u
-Filled-kept p same q = record { added = p.added; is = same ∙ p.is; read = Read-kept p.read q }
+pub Filled-kept : {h : ℕ} {a b : List ℕ} {s t u : Seen} → Filled h a b s t → OnlyCounts t u → Filled h a b s u
+Filled-kept p q = record { added = p.added; is = p.is; read = Read-kept p.read q }
 
--- ---- what a step took
+pub Filled-nothing : {h : ℕ} {a b : List ℕ} {s t u : Seen} → Filled h a b s t → Read h [] t u → Filled h a b s u
+Filled-nothing p q = record { added = p.added; is = p.is; read = Read-nothing p.added p.read q }
 
-pub Filled-some : {h : ℕ} {a b : List ℕ} {s t u : Seen} → Filled h a b s t → ReadSome h t u → ReadSome h s u
-Filled-some p q = record { bytes = p.added ++ q.bytes; read = Read-then p.added q.bytes p.read q.read }
+pub some_filled : {h : ℕ} {a b : List ℕ} {s t : Seen} → Filled h a b s t → ReadSome h s t
+some_filled p = record { bytes = p.added; read = p.read }
 
--- a header counts as much however the bytes go on
-pub sized_more : (size : ℕ) (a b added : List ℕ) → b ≡ a ++ added → IsHeadSize size a → IsHeadSize size b
-sized_more size a b added is sized = record {
-  least = sized.least;
-  most = sized.most;
-  only = λ u more rest fits e. sized.only u (added ++ more) rest fits (sym (append_assoc a added more) ∙ ap (λ (x : List ℕ). x ++ more) (sym is) ∙ e);
-}
+pub some_after : {h : ℕ} {a b : List ℕ} {s t u : Seen} → Filled h a b s t → ReadSome h t u → ReadSome h s u
+some_after p q = record { bytes = p.added ++ q.bytes; read = Read-then p.added q.bytes p.read q.read }
 
--- nothing was there
-pub took_end : {h : ℕ} {old new : List ℕ} {s t : Seen} → Filled h old new s t → length new ≡ 0 → IsAtEnd h t → TookEnd h old new s t
-took_end {new = new} p none end = record { filled = p; none = nil_from_length new none; end = end }
+pub some_none : (h : ℕ) (s : Seen) → ReadSome h s s
+some_none h s = record { bytes = []; read = Read-none h s }
 
--- what is there begins no unit, and nothing more comes
-pub broken_at_end : {h : ℕ} {old new : List ℕ} {s t : Seen} → Filled h old new s t → 0 < length new → BeginsNoUnit new → IsAtEnd h t → TookNone h old s t
-broken_at_end {new = new} p some none end =
-    record { held = new; filled = p; some = some; none = λ more told. subst BeginsNoUnit (sym (append-nil new) ∙ ap (λ (x : List ℕ). new ++ x) (sym (end more told))) none }
-
--- what is there begins no unit, whatever comes
-pub broken_ever : {h : ℕ} {old new : List ℕ} {s t : Seen} → Filled h old new s t → 0 < length new → NeverBegins new → TookNone h old s t
-broken_ever {new = new} p some never = record { held = new; filled = p; some = some; none = λ more told. never more }
-
--- a read failed in the first word, or later
-pub cut_short : {h : ℕ} {old new : List ℕ} {s t : Seen} → Filled h old new s t → BeginsNoUnit new → FaultsRose Reading h s t → CutShort h old new s t
-cut_short p none rose = record { filled = p; none = none; rose = rose }
+pub ruleset reading = (some_filled, some_after, some_none)
 
 pub rose_after : {h : ℕ} {a b : List ℕ} {s t u : Seen} → Filled h a b s t → FaultsRose Reading h t u → FaultsRose Reading h s u
 rose_after {h = h} {s = s} {t = t} {u = u} p rose = FaultsRose-later Reading h s t u p.read.counts p.read.names rose
 
--- one fault, in answers of two kinds
-pub same_fault : {A B : Type 0} (e f : StepFault) → IsErrOf {T = A} {E = StepFault} (Err e) f → IsErrOf {T = B} {E = StepFault} (Err e) f
-same_fault e f is = cc
+-- the first elements of the first part of a list are those of its beginning
+take_written : (k m : ℕ) (xs ys : List ℕ) → k ≤ m → k ≤ length xs → take k (take m (xs ++ ys)) ≡ take k xs
+take_written k m xs ys less within =
+    let enough : k ≤ length (take m (xs ++ ys)) = omega (arith, length-take m (xs ++ ys), length-append xs ys) in
+    sym (take-append-le k (take m (xs ++ ys)) (drop m (xs ++ ys)) enough) ∙ ap (take k) (take-append-drop m (xs ++ ys)) ∙ take-append-le k xs ys within
 
--- the unit that begins the bytes has as many bytes as the header counts
-pub prefix_size : (a b : List ℕ) (u : LogUnit) (size : ℕ) (added : List ℕ) → b ≡ a ++ added → IsHeadSize size a → IsUnit u → b ≡ unit_bytes u ++ drop size b → length (unit_bytes u) ≡ size
-prefix_size a b u size added is sized fits parts = sized.only u added (drop size b) fits (sym is ∙ parts)
+-- a read behind what was there adds what it gave
+pub Filled-behind : (h n m : ℕ) (a b x new : List ℕ) (s t : Seen) → take (length a) b ≡ a → length a + n ≤ m → length a + n ≤ length b → new ≡ take (length a + n) (take m (b ++ x))
+    → Read h (take n (drop (length a) b)) s t → Filled h a new s t
+Filled-behind h n m a b x new s t kept less within is read = record {
+  added = take n (drop (length a) b);
+  is = is ∙ take_written (length a + n) m b x less within ∙ take-add (length a) n b ∙ ap (λ (y : List ℕ). y ++ take n (drop (length a) b)) kept;
+  read = read;
+}
+
+-- a header counts as much however the bytes go on
+pub sized_more : (size : ℕ) (a b added : List ℕ) → b ≡ a ++ added → IsHeadSize size a → IsHeadSize size b
+sized_more size a b added is sized =
+    let on : (more : List ℕ) → b ++ more ≡ a ++ (added ++ more) = λ more. ap (λ (x : List ℕ). x ++ more) is ∙ append_assoc a added more in
+    record {
+      least = sized.least;
+      most = sized.most;
+      only = λ u more rest fits e. sized.only u (added ++ more) rest fits (sym (on more) ∙ e);
+      stops = λ more. rw (on more) (sized.stops (added ++ more));
+    }
+
+-- ---- what a step took
+
+pub took_unit : (h most : ℕ) (u : LogUnit) (size : ℕ) (old held new : List ℕ) (s t : Seen)
+    → Filled h old held s t → HoldsSized size old held → length held ≤ most → BeginsWithUnit held u (drop size held) → new ≡ drop size held → TookUnit h most u size old new s t
+took_unit h most u size old held new s t filled holds within begins is =
+    let left : length new ≡ length held - size = ap length is ∙ length-drop size held in
+    record {
+      held = held;
+      filled = filled;
+      is_unit = begins.is_unit;
+      size_is = holds.sized.only u [] (drop size held) begins.is_unit (append-nil held ∙ begins.parts);
+      least = holds.sized.least;
+      parts = begins.parts ∙ ap (λ (x : List ℕ). unit_bytes u ++ x) (sym is);
+      short = λ small. omega (arith, left, holds.short small, holds.enough);
+      within = omega (arith, left, holds.enough, within);
+    }
+
+-- what is broken has a word
+broken_some : (bytes : List ℕ) → IsBroken bytes → 4 ≤ length bytes
+broken_some bytes broken =
+    elim (cases_lt (length bytes) 4) [
+      | inl short ↦ absurd (both_ways (stops_early bytes) (ap stops_early (sym (append-nil bytes)) ∙ broken.stays []) (short_stops bytes short))
+      | inr enough ↦ enough
+    ]
+
+some_taken : (most : ℕ) (a more : List ℕ) → 0 < length a → length a ≤ most → take most (a ++ more) ≡ a ++ take (most - length a) more
+some_taken most a more some within = take-append_past a more (most - length a) most (omega arith)
+
+not_empty : (a b : List ℕ) → 0 < length a → a ++ b ≢ []
+not_empty a b some e = omega (arith, some, ap length e, length-append a b)
+
+-- the first word, or all bytes that it counts, are no unit's
+pub took_broken : (h most : ℕ) (old new : List ℕ) (s t : Seen) → Filled h old new s t → length new ≤ most → IsBroken new → TookDamaged h most old new s t
+took_broken h most old new s t filled within broken =
+    let some : 0 < length new = omega (arith, broken_some new broken) in
+    record {
+      filled = filled;
+      rest = λ more told. let is = some_taken most new more some within in record {
+        some = rw is (not_empty new (take (most - length new) more) some);
+        none = rw is (broken.never (take (most - length new) more));
+        stays = λ large. ap stops_early is ∙ broken.stays (take (most - length new) more);
+      };
+    }
+
+-- some bytes are not none
+pub not_none : (bytes : List ℕ) → eqb (length bytes) 0 ≡ false → 0 < length bytes
+not_none bytes e = omega (arith, eqb-false (length bytes) 0 e)
+
+-- the bytes end before the end of a unit
+pub took_cut : (h most : ℕ) (old new : List ℕ) (s m t : Seen) → Filled h old new s m → length new ≤ most → stops_early new ≡ true → 0 < length new → HasEnded h m t → TookDamaged h most old new s t
+took_cut h most old new s m t filled within stops some ended = record {
+  filled = Filled-nothing filled ended.read;
+  rest = λ more told.
+      let is : new ++ more ≡ new = ap (λ (x : List ℕ). new ++ x) (ended.end more told) ∙ append-nil new in
+      let all : take most (new ++ more) ≡ new = ap (take most) is ∙ take_all most new within in
+      record {
+        some = λ e. omega (arith, some, ap length (sym all ∙ e));
+        none = rw all (stopped_begins_none new stops);
+        stays = λ large. absurd (omega (arith, large, within, ap length is));
+      };
+}
+
+-- nothing was there
+pub took_end : (h : ℕ) (old new : List ℕ) (s m t : Seen) → Filled h old new s m → length new ≡ 0 → HasEnded h m t → TookEnd h old new s t
+took_end h old new s m t filled none ended = record { filled = Filled-nothing filled ended.read; none = nil_from_length new none; end = ended.end }
+
+-- the file goes on where no more may be held
+pub took_too_large : (h most : ℕ) (old new : List ℕ) (s m t : Seen) → Filled h old new s m → stops_early new ≡ true → length new ≡ most → GoesOn h m t → TookTooLarge h most old new s t
+took_too_large h most old new s m t filled stops full on = record {
+  added = filled.added;
+  aside = on.aside;
+  is = filled.is;
+  read = Read-then filled.added (on.aside ∷ []) filled.read on.read;
+  full = full;
+  stops = stops;
+}
+
+-- a read failed while a unit was read, or where it was to be seen whether the file goes on
+pub cut_short : {h : ℕ} {old new : List ℕ} {s t : Seen} → Filled h old new s t → stops_early new ≡ true → FaultsRose Reading h s t → CutShort h old new s t
+cut_short p stops rose = record { filled = p; stops = stops; rose = rose }

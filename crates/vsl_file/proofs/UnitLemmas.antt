@@ -1,21 +1,21 @@
 -- The bytes of units: what the first four tell, and that no unit's bytes begin another's.
-use Rattle.std.proofs.Common.{◌≡◌, ◌≢◌, ℕ, ◌+◌, ◌*◌, ◌/◌, ◌%◌, ◌<◌, ◌≤◌, true, eqb, ltb, leb, ◌&&◌, List, [], ◌∷◌, ◌++◌, length, take, drop, refl, sym, ap, ◌∙◌, append_assoc, arith}
+use Rattle.std.proofs.Common.{◌≡◌, ℕ, ◌+◌, ◌*◌, ◌/◌, ◌%◌, ◌<◌, ◌≤◌, true, false, eqb, ltb, leb, ◌&&◌, inl, inr, List, [], ◌∷◌, ◌++◌, length, take, drop, refl, sym, ap, ◌∙◌, append_assoc, arith}
 use Rattle.std.specs.Int.{w32, from_le_bytes}
 use Rattle.std.specs.List.{AllByRecursion}
-use Rattle.std.proofs.lemmas.Bool.{ltb-true, and_parts}
+use Rattle.std.proofs.lemmas.Bool.{ltb-true, leb-true, eq-eqb, le-leb, le-ltb, lt-ltb, and_parts, both_ways, cases_lt}
 use Rattle.std.proofs.lemmas.List.{append-nil, length-append, append_cancel_left, length-take-le, take-append-drop, take-append-le, take_at, drop_at}
 use Rattle.std.proofs.lemmas.List.Concat.{flat_map-cons}
 use Rattle.std.proofs.lemmas.Nat.{from_le_bytes-to_le_bytes_4}
 use Rattle.vsl_record.specs.Unit.{LogUnit, Log}
-use Rattle.vsl_record.specs.Words.{IsUnit, unit_words, word_of, word_bytes, header_mark, body_words, most_words, words_in}
+use Rattle.vsl_record.specs.Words.{IsUnit, unit_words, word_bytes, header_mark, body_words, most_words, words_in}
 use Rattle.vsl_record.proofs.UnitReadingLemmas.{unit_prefix_free, unit_words_small, length_unit_words-at_least}
 use Rattle.vsl_record.proofs.Steps.{IsBytes, below_take}
 use Rattle.vsl_record.proofs.WordLemmas.{length-words_in, length-word_bytes, words_in-take, words_in-word_bytes, words_in_again, word_bytes-words_in}
-use Rattle.vsl_file.specs.File.{unit_bytes, log_bytes, BeginsNoUnit, stops_early}
-use Rattle.vsl_file.specs.inside.FileReading.{IsHeadSize, NeverBegins, BeginsWithUnit, BeginsWithUnits}
+use Rattle.vsl_file.specs.File.{unit_bytes, log_bytes, BeginsNoUnit, is_unit_header, stops_early}
+use Rattle.vsl_file.specs.inside.FileReading.{IsHeadSize, IsBroken, BeginsWithUnit}
 
 -- no unit's bytes begin another's
-unit_bytes_prefix_free : (u v : LogUnit) (a b : List ℕ) → IsUnit u → IsUnit v → unit_bytes u ++ a ≡ unit_bytes v ++ b → (u ≡ v) × (a ≡ b)
+pub unit_bytes_prefix_free : (u v : LogUnit) (a b : List ℕ) → IsUnit u → IsUnit v → unit_bytes u ++ a ≡ unit_bytes v ++ b → (u ≡ v) × (a ≡ b)
 unit_bytes_prefix_free u v a b fits_u fits_v e =
     let words_u = words_in-word_bytes (unit_words u) a (unit_words_small u fits_u) in
     let words_v = words_in-word_bytes (unit_words v) b (unit_words_small v fits_v) in
@@ -40,53 +40,66 @@ le_prefix : (bytes more : List ℕ) → 4 ≤ length bytes → from_le_bytes w32
 le_prefix (a ∷ b ∷ c ∷ d ∷ bytes) more enough = refl
 le_prefix short more enough = absurd (omega (arith, enough))
 
--- the first word of a unit
+-- the first word of a unit can be a header, and counts the words
 record IsHead (u : LogUnit) (head : ℕ) : Type 0 where
-  pub top : head / 16777216 ≡ 254
+  pub is : is_unit_header head ≡ true
   pub count : head % 16777216 ≡ length (unit_words u)
-  pub least : 3 ≤ head % 16777216
-  pub most : head % 16777216 ≤ 1048576
 
 head_fits : (bytes more rest : List ℕ) (u : LogUnit) → 4 ≤ length bytes → IsUnit u → bytes ++ more ≡ unit_bytes u ++ rest → IsHead u (from_le_bytes w32 bytes)
 head_fits bytes more rest u enough fits e =
     let size : 1 + length (body_words u) ≤ 1048576 = omega (arith, fits.size) in
     let some : 3 ≤ 1 + length (body_words u) = omega (arith, length_unit_words-at_least u fits) in
     let head : from_le_bytes w32 bytes ≡ header_mark + (1 + length (body_words u)) = sym (le_prefix bytes more enough) ∙ head_is (bytes ++ more) u rest fits e in
-    record { top = omega arith; count = omega arith; least = omega arith; most = omega arith }
+    let top : from_le_bytes w32 bytes / 16777216 ≡ 254 = omega arith in
+    let least : 3 ≤ from_le_bytes w32 bytes % 16777216 = omega arith in
+    let most : from_le_bytes w32 bytes % 16777216 ≤ 1048576 = omega arith in
+    record { is = rw (eq-eqb _ _ top, le-leb _ _ least, le-leb _ _ most) refl; count = omega arith }
 
-pub never_top : (bytes : List ℕ) → 4 ≤ length bytes → from_le_bytes w32 bytes / 16777216 ≢ 254 → NeverBegins bytes
-never_top bytes enough other = λ more u rest fits e. other (head_fits bytes more rest u enough fits e).top
+-- whether four bytes or more stop early is for their first word and their number to say
+stops_is : (bytes more : List ℕ) → 4 ≤ length bytes → stops_early (bytes ++ more) ≡ (is_unit_header (from_le_bytes w32 bytes) && ltb (length (bytes ++ more)) (4 * (from_le_bytes w32 bytes % 16777216)))
+stops_is bytes more enough =
+    let long : ltb (length (bytes ++ more)) 4 ≡ false = le-ltb _ _ (omega (arith, length-append bytes more)) in
+    rw (long, le_prefix bytes more enough) refl
 
-pub never_few : (bytes : List ℕ) → 4 ≤ length bytes → from_le_bytes w32 bytes % 16777216 < 3 → NeverBegins bytes
-never_few bytes enough few = λ more u rest fits e. let head = head_fits bytes more rest u enough fits e in omega (arith, head.least)
+-- fewer bytes than a word has stop early
+pub short_stops : (bytes : List ℕ) → length bytes < 4 → stops_early bytes ≡ true
+short_stops bytes short = rw (lt-ltb (length bytes) 4 short) refl
 
-pub never_many : (bytes : List ℕ) → 4 ≤ length bytes → 1048576 < from_le_bytes w32 bytes % 16777216 → NeverBegins bytes
-never_many bytes enough many = λ more u rest fits e. let head = head_fits bytes more rest u enough fits e in omega (arith, head.most)
-
-pub head_sized : (bytes : List ℕ) → 4 ≤ length bytes → 3 ≤ from_le_bytes w32 bytes % 16777216 → from_le_bytes w32 bytes % 16777216 ≤ 1048576 → IsHeadSize (4 * (from_le_bytes w32 bytes % 16777216)) bytes
-head_sized bytes enough some few = record {
-  least = omega arith;
-  most = omega arith;
-  only = λ u more rest fits e. let head = head_fits bytes more rest u enough fits e in omega (arith, head.count, length-word_bytes (unit_words u));
+pub no_header : (bytes : List ℕ) → 4 ≤ length bytes → is_unit_header (from_le_bytes w32 bytes) ≡ false → IsBroken bytes
+no_header bytes enough other = record {
+  never = λ more u rest fits e. both_ways (is_unit_header (from_le_bytes w32 bytes)) other (head_fits bytes more rest u enough fits e).is;
+  stays = λ more. stops_is bytes more enough ∙ rw other refl;
 }
 
--- fewer bytes than the header counts begin no unit
-pub cut_unit : (size : ℕ) (bytes : List ℕ) → IsHeadSize size bytes → length bytes < size → BeginsNoUnit bytes
-cut_unit size bytes sized cut = λ u rest fits e.
-    omega (arith, sized.only u [] rest fits (append-nil bytes ∙ e), ap length e, length-append (unit_bytes u) rest)
+pub head_sized : (bytes : List ℕ) → 4 ≤ length bytes → is_unit_header (from_le_bytes w32 bytes) ≡ true → IsHeadSize (4 * (from_le_bytes w32 bytes % 16777216)) bytes
+head_sized bytes enough is =
+    let head : ℕ = from_le_bytes w32 bytes in
+    let tests = and_parts (eqb (head / 16777216) 254 && leb 3 (head % 16777216)) (leb (head % 16777216) most_words) is in
+    let least : 3 ≤ head % 16777216 = leb-true _ _ (and_parts (eqb (head / 16777216) 254) (leb 3 (head % 16777216)) tests.0).1 in
+    let most : head % 16777216 ≤ 1048576 = leb-true _ _ tests.1 in
+    record {
+      least = omega arith;
+      most = omega arith;
+      only = λ u more rest fits e. omega (arith, (head_fits bytes more rest u enough fits e).count, length-word_bytes (unit_words u));
+      stops = λ more. stops_is bytes more enough ∙ rw is refl;
+    }
 
-pub never_now : (bytes : List ℕ) → NeverBegins bytes → BeginsNoUnit bytes
-never_now bytes never = λ u more fits e. never [] u more fits (append-nil bytes ∙ e)
+-- fewer bytes than the header counts stop early
+pub cut_stops : (size : ℕ) (bytes : List ℕ) → IsHeadSize size bytes → length bytes < size → stops_early bytes ≡ true
+cut_stops size bytes sized cut = ap stops_early (sym (append-nil bytes)) ∙ sized.stops [] ∙ rw append-nil (lt-ltb (length bytes) size cut)
 
 -- bytes that stop early begin no unit
 pub stopped_begins_none : (bytes : List ℕ) → stops_early bytes ≡ true → BeginsNoUnit bytes
-stopped_begins_none (a ∷ b ∷ c ∷ d ∷ bytes) e = λ u more fits is.
-    let head = head_fits (a ∷ b ∷ c ∷ d ∷ bytes) [] more u (omega arith) fits (append-nil (a ∷ b ∷ c ∷ d ∷ bytes) ∙ is) in
-    let test = and_parts (eqb (word_of a b c d / 16777216) 254 && leb 3 (word_of a b c d % 16777216) && leb (word_of a b c d % 16777216) most_words) (ltb (4 + length bytes) (4 * (word_of a b c d % 16777216))) e in
-    let cut : 4 + length bytes < 4 * (word_of a b c d % 16777216) = ltb-true _ _ test.1 in
-    let same : from_le_bytes w32 (a ∷ b ∷ c ∷ d ∷ bytes) ≡ word_of a b c d = omega arith in
-    omega (arith, cut, ap (λ (w : ℕ). w % 16777216) same, head.count, length_with_unit (a ∷ b ∷ c ∷ d ∷ bytes) u more is)
-stopped_begins_none short e = short_begins_none short (omega arith)
+stopped_begins_none bytes e = λ u more fits is.
+    elim (cases_lt (length bytes) 4) [
+      | inl short ↦ short_begins_none bytes short u more fits is
+      | inr enough ↦
+          let head = head_fits bytes [] more u enough fits (append-nil bytes ∙ is) in
+          let tests : (is_unit_header (from_le_bytes w32 bytes) && ltb (length bytes) (4 * (from_le_bytes w32 bytes % 16777216))) ≡ true =
+          sym (stops_is bytes [] enough ∙ rw append-nil refl) ∙ rw append-nil e in
+          let cut : length bytes < 4 * (from_le_bytes w32 bytes % 16777216) = ltb-true _ _ (and_parts (is_unit_header (from_le_bytes w32 bytes)) (ltb (length bytes) (4 * (from_le_bytes w32 bytes % 16777216))) tests).1 in
+          omega (arith, cut, head.count, length_with_unit bytes u more is)
+    ]
 
 -- ---- the unit that begins bytes
 
@@ -112,19 +125,19 @@ sized_found bytes part size count u all sized is fits found =
     record { is_unit = fits; parts = parts ∙ ap (λ (x : List ℕ). unit_bytes u ++ x) (sym rest) }
 
 -- where none is read of them, no unit begins the bytes, however they go on
-pub sized_refused : (bytes part : List ℕ) (size : ℕ) → IsHeadSize size bytes → size ≤ length bytes → part ≡ take size bytes → ((u : LogUnit) (rest : List ℕ) → IsUnit u → words_in part ≡ unit_words u ++ rest → ⊥) → NeverBegins bytes
-sized_refused bytes part size sized enough is refused = λ more u x fits e.
-    let prefix : take size bytes ≡ unit_bytes u = sym (take-append-le size bytes more enough) ∙ ap (take size) e ∙ take_at (unit_bytes u) x size (sized.only u more x fits e) in
-    refused u [] fits (ap words_in (is ∙ prefix) ∙ words_in_again (unit_words u) (unit_words_small u fits) ∙ sym (append-nil (unit_words u)))
+pub sized_refused : (bytes part : List ℕ) (size : ℕ) → IsHeadSize size bytes → size ≤ length bytes → part ≡ take size bytes → ((u : LogUnit) (rest : List ℕ) → IsUnit u → words_in part ≡ unit_words u ++ rest → ⊥) → IsBroken bytes
+sized_refused bytes part size sized enough is refused = record {
+  never = λ more u x fits e.
+      let prefix : take size bytes ≡ unit_bytes u = sym (take-append-le size bytes more enough) ∙ ap (take size) e ∙ take_at (unit_bytes u) x size (sized.only u more x fits e) in
+      refused u [] fits (ap words_in (is ∙ prefix) ∙ words_in_again (unit_words u) (unit_words_small u fits) ∙ sym (append-nil (unit_words u)));
+  stays = λ more. sized.stops more ∙ le-ltb _ _ (omega (arith, length-append bytes more));
+}
 
 -- a unit takes bytes
 pub unit_takes_bytes : (bytes : List ℕ) (u : LogUnit) (rest : List ℕ) → BeginsWithUnit bytes u rest → length rest < length bytes
 unit_takes_bytes bytes u rest begins = omega (arith, length_with_unit bytes u rest begins.parts, length_unit_words-at_least u begins.is_unit)
 
 -- ---- the units that begin bytes
-
-pub begins_with_none : (bytes : List ℕ) → BeginsWithUnits bytes [] bytes
-begins_with_none bytes = record { are_units = tt; parts = refl }
 
 -- the bytes of a unit, those of others, and what follows
 pub regroup : (u : LogUnit) (us : Log) (a : List ℕ) → log_bytes (u ∷ us) ++ a ≡ unit_bytes u ++ (log_bytes us ++ a)

@@ -1,14 +1,14 @@
--- What a reader of a file in pieces keeps, and what it represents (this project's choice).
-use Rattle.std.specs.Prelude.{◌≡◌, ℕ, ◌+◌, ◌<◌, ◌≤◌, Bool, true, false, List, [], ◌∷◌, ◌++◌, length, Option, Some, None, Result, Ok, Err}
+-- What a reader of a file keeps, and what it represents (this project's choice).
+use Rattle.std.specs.Prelude.{◌≡◌, ℕ, ◌+◌, ◌<◌, ◌≤◌, Bool, true, false, List, [], ◌∷◌, ◌++◌, length, Some, Result, Ok, Err}
 use Rattle.std.specs.List.{AllByRecursion}
 use Rattle.vio.specs.World.{Seen, Reading, Read, ReadSome, FaultsRose, IsAtEnd}
 use Rattle.vsl_record.specs.Unit.{LogUnit, Log}
 use Rattle.vsl_record.specs.Words.{IsUnit}
-use Rattle.vsl_file.specs.declared.reader.FileFault.{FileFault}
-use Rattle.vsl_file.specs.declared.reader.FileFault.TheVariants as faults
+use Rattle.vsl_file.specs.declared.fault.FileFault.{FileFault}
+use Rattle.vsl_file.specs.declared.fault.FileFault.TheVariants as faults
 use Rattle.vsl_file.specs.declared.reader.FileStep.{FileStep}
 use Rattle.vsl_file.specs.declared.reader.FileStep.TheVariants as steps
-use Rattle.vsl_file.specs.File.{file_header, log_bytes, most_bytes, BeginsNoUnit, FileEnding, Whole, NotALog, Damaged, IsFile}
+use Rattle.vsl_file.specs.File.{file_header, log_bytes, most_bytes, FileEnding, Whole, NotALog, Damaged, TooLarge, IsFile, HoldsWhole}
 
 -- what a reader keeps: its handle, whether the header was read, how many bytes it used, those that it took and hasn't used, and whether
 -- it answered a fault
@@ -32,6 +32,7 @@ pub record Represents (r : ReaderState) (taken : List ℕ) (units : Log) : Type 
   pub parts : taken ≡ used r.begun units ++ r.rest
   pub place : r.place ≡ length (used r.begun units)
   pub short : length r.rest < 65536
+  pub most : length taken ≤ most_bytes
 
 -- the next unit was given; fewer than 65,536 bytes past its end were taken
 pub record GaveUnit (u : LogUnit) (old new : ReaderState) (taken : List ℕ) (units : Log) (before now : Seen) : Type 0 where
@@ -46,30 +47,26 @@ pub record GaveEnd (old new : ReaderState) (taken : List ℕ) (units : Log) (bef
   pub read : Read old.handle added before now
   pub represents : Represents new (taken ++ added) units
   pub at_end : IsAtEnd old.handle now
-  pub whole : length (taken ++ added) ≤ most_bytes → IsFile (taken ++ added) units Whole
+  pub whole : IsFile (taken ++ added) units Whole
 
 -- the file that is told ends so, after the units that were given
 pub record EndsSo (old : ReaderState) (taken : List ℕ) (units : Log) (ending : FileEnding) (before now : Seen) : Type 0 where
   pub added : List ℕ
   pub read : Read old.handle added before now
-  pub ends : (more : List ℕ) → now.left old.handle ≡ Some more → length (taken ++ added ++ more) ≤ most_bytes → IsFile (taken ++ added ++ more) units ending
+  pub ends : (more : List ℕ) → now.left old.handle ≡ Some more → IsFile (taken ++ added ++ more) units ending
 
 -- a read failed; every unit that lies whole in what was taken was given before
 pub record StoppedSo (old : ReaderState) (taken : List ℕ) (units : Log) (before now : Seen) : Type 0 where
   pub added : List ℕ
-  pub begun : Bool
-  pub rest : List ℕ
   pub read : Read old.handle added before now
   pub rose : FaultsRose Reading old.handle before now
-  pub parts : taken ++ added ≡ used begun units ++ rest
-  pub none : begun ≡ true → BeginsNoUnit rest
-  pub short : begun ≡ false → length rest < 8
+  pub holds : HoldsWhole (taken ++ added) units
 
 -- why a call was refused
 abbrev pub Refused : FileFault → ReaderState → List ℕ → Log → Seen → Seen → Type 0
 Refused (faults.NotALog at) old taken units before now = EndsSo old taken units (NotALog at) before now
 Refused (faults.Damaged at) old taken units before now = EndsSo old taken units (Damaged at) before now
-Refused faults.TooLarge old taken units before now = Unit {0}
+Refused faults.TooLarge old taken units before now = EndsSo old taken units TooLarge before now
 Refused faults.ReadFault old taken units before now = StoppedSo old taken units before now
 Refused faults.NoMemory old taken units before now = ReadSome old.handle before now
 Refused faults.FailedBefore old taken units before now = ⊥
@@ -79,13 +76,3 @@ abbrev pub Stepped : Result FileStep FileFault → ReaderState → ReaderState �
 Stepped (Ok (steps.Unit u)) old new taken units before now = GaveUnit u old new taken units before now
 Stepped (Ok steps.End) old new taken units before now = GaveEnd old new taken units before now
 Stepped (Err e) old new taken units before now = Refused e old taken units before now
-
--- what a whole file came to: its units, and its ending where no read failed and there was memory
-abbrev pub EndedSo : Option FileFault → List ℕ → Log → Type 0
-EndedSo None bytes units = IsFile bytes units Whole
-EndedSo (Some (faults.NotALog at)) bytes units = IsFile bytes units (NotALog at)
-EndedSo (Some (faults.Damaged at)) bytes units = IsFile bytes units (Damaged at)
-EndedSo (Some faults.TooLarge) bytes units = Unit {0}
-EndedSo (Some faults.ReadFault) bytes units = Unit {0}
-EndedSo (Some faults.NoMemory) bytes units = Unit {0}
-EndedSo (Some faults.FailedBefore) bytes units = ⊥

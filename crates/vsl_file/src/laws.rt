@@ -1,8 +1,10 @@
 //! The laws of a file's content. A law is a function that does nothing.
 
-ghost use Rattle.std.specs.Prelude.{◌≡◌, ◌<◌, ℕ, List, slice_index};
+ghost use Rattle.std.specs.Prelude.{◌≡◌, ◌<◌, ◌≤◌, ◌++◌, ℕ, List, length, slice_index};
+ghost use Rattle.std.specs.List.{AllByRecursion};
 ghost use Rattle.vsl_record.specs.Unit.{Log};
-ghost use Rattle.vsl_file.specs.File.{FileEnding, IsFile};
+ghost use Rattle.vsl_record.specs.Words.{IsUnit};
+ghost use Rattle.vsl_file.specs.File.{FileEnding, Whole, IsFile, HoldsWhole, file_header, log_bytes, most_bytes};
 
 /// A file's bytes determine its units and its ending.
 pub fn one_content()
@@ -12,4 +14,14 @@ pub fn one_content()
 /// Every list of bytes has units and an ending as a file.
 pub fn every_file()
     ensures { (bytes : List ℕ) → ((i : ℕ) → slice_index bytes i < 256) → (units : Log) × (ending : FileEnding) × IsFile bytes units ending }
+{}
+
+/// The first bytes of a file determine the units that lie whole in them.
+pub fn whole_units()
+    ensures { (bytes : List ℕ) (us vs : Log) → HoldsWhole bytes us → HoldsWhole bytes vs → us ≡ vs }
+{}
+
+/// The header and the bytes of units are a file of these units that ends whole.
+pub fn written_reads_back()
+    ensures { (units : Log) → AllByRecursion IsUnit units → length (file_header ++ log_bytes units) ≤ most_bytes → IsFile (file_header ++ log_bytes units) units Whole }
 {}

@@ -1,15 +1,23 @@
 //! Log files: a header and units, each word as four bytes.
 //!
-//! The bytes of a file go in; its units come out, as far as they are whole and correct, and whether
-//! that was all of the file. Nothing here opens a file or guesses what a damaged unit was.
+//! `FileReader` gives the units of a file one after the other, as far as they are whole and correct, and
+//! says how the file ends. It reads in pieces of 64 KiB, one pass, and holds at most one unit and a piece.
+//! `put_header` and `put_records` write what it reads. Nothing here opens a file or guesses what a damaged
+//! unit was.
 //!
-//! Start with `specs/File.antt`. The format is this project's choice; it is not Varnish's own.
+//! Start with `specs/File.antt`, then `specs/ReaderState.antt`. The format is this project's choice; it is
+//! not Varnish's own.
 #![tactic(auto)]
 
+mod fault;
+mod filling;
+mod header;
 mod laws;
 mod reader;
-mod reading;
+mod steps;
+mod writing;
 
-pub use laws::{every_file, one_content};
-pub use reader::{FileFault, FileReader, FileStep, Gathered, gather};
-pub use reading::{FileUnits, read_file};
+pub use fault::FileFault;
+pub use laws::{every_file, one_content, whole_units, written_reads_back};
+pub use reader::{FileReader, FileStep};
+pub use writing::{put_header, put_records, put_unit};

@@ -1,9 +1,9 @@
 pub mod Examples
-mod LoopLemmas
 pub mod Steps
 pub mod WordLemmas
 mod PayloadLemmas
 mod MarkLemmas
 mod RecordLemmas
 pub mod UnitReadingLemmas
-mod UnitPrefixLemmas
+mod AnswerLemmas
+mod WritingLemmas

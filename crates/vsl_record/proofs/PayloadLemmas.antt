@@ -1,13 +1,14 @@
 -- A payload that is read is the payload whose words they are, and a payload's words are read again.
-use Rattle.std.proofs.Common.{◌≡◌, ℕ, zero, suc, ◌+◌, ◌-◌, ◌*◌, ◌/◌, ◌^◌, ◌<◌, ◌≤◌, Bool, true, false, eqb, leb, List, [], ◌∷◌, ◌++◌, length, take, drop, Ok, refl, sym, ap, subst, ◌∙◌, arith}
-use Rattle.std.specs.Prelude.{replicate, IsErr}
+use Rattle.std.proofs.Common.{◌≡◌, ℕ, zero, suc, ◌+◌, ◌-◌, ◌*◌, ◌^◌, ◌≤◌, true, eqb, List, [], ◌∷◌, ◌++◌, length, take, drop, refl, sym, ap, subst, ◌∙◌, arith}
+use Rattle.std.specs.Prelude.{replicate}
 use Rattle.std.specs.List.{list_all}
 use Rattle.std.specs.Int.{w32, from_le_bytes}
-use Rattle.std.proofs.lemmas.Bool.{leb-true, le-leb, lt-leb, eqb-true, and_parts}
+use Rattle.std.proofs.lemmas.Bool.{eqb-true, and_parts}
 use Rattle.std.proofs.lemmas.List.{length-append, length-drop, length-replicate, length-take-le, take-append-drop, take_at, drop_at}
 use Rattle.vsl_record.specs.Words.{word_of, packed, words_in, word_bytes}
-use Rattle.vsl_record.specs.inside.UnitReading.{BadPadding, wanted, unpacked, payload_words}
-use Rattle.vsl_record.proofs.Steps.{IsBytes, IsWords, below_append, below_take, below_drop, wanted_ok, ok_is}
+use Rattle.vsl_record.specs.WordFaults.{payload_words, is_filled}
+use Rattle.vsl_record.specs.inside.UnitReading.{IsPayloadRead}
+use Rattle.vsl_record.proofs.Steps.{IsBytes, IsWords, below_append, below_take, below_drop}
 use Rattle.vsl_record.proofs.WordLemmas.{length-words_in, length-word_bytes, words_in-small, word_bytes-small, words_in-take, words_in-drop, words_in_again, word_bytes-words_in}
 
 -- ---- the words of a payload are those of its bytes and the zero bytes that fill its last word
@@ -60,62 +61,63 @@ zeros_only (b ∷ bytes) e =
 
 -- ---- reading them
 
--- what reading so many bytes took from the words
-pub record Unpacked (n : ℕ) (words : List ℕ) (x : List ℕ × List ℕ) : Type 0 where
-  pub parts : words ≡ packed x.0 ++ x.1
-  pub count : length x.0 ≡ n
-  pub bytes : IsBytes x.0
-  pub rest : IsWords x.1
+-- the bytes of the words of a payload of so many bytes, and of the bytes that fill its last word
+abbrev pub held : ℕ → List ℕ → List ℕ
+held n words = word_bytes (take (payload_words n) words)
 
--- what is read is so many bytes, and their words stood there
-pub unpacked_takes : (n at : ℕ) (words : List ℕ) (x : List ℕ × List ℕ) → IsWords words → unpacked n at words ≡ Ok x → Unpacked n words x
-unfolding unpacked
-unpacked_takes n at words x all e =
+-- where the filling is zero, the payload's words stand there
+pub payload_read : (n : ℕ) (words : List ℕ) → IsWords words → n ≤ 4000 → payload_words n ≤ length words → is_filled n words ≡ true → IsPayloadRead n words (take n (held n words)) (drop (payload_words n) words)
+unfolding is_filled
+payload_read n words all short enough zero_filled =
     let k : ℕ = payload_words n in
-    let held : List ℕ = word_bytes (take k words) in
-    let a = wanted_ok _ _ _ x e in
-    let b = wanted_ok _ _ _ x a.1 in
-    let enough : k ≤ length words = leb-true _ _ a.0 in
-    let size : length held ≡ 4 * k = length-word_bytes (take k words) ∙ ap (λ (m : ℕ). 4 * m) (length-take-le k words enough) in
-    let count : length (take n held) ≡ n = length-take-le n held (omega arith) in
-    let left : length (drop n held) ≡ 4 * payload_words (length (take n held)) - length (take n held) = rw count (omega (arith, length-drop n held, size)) in
-    let filled : take n held ++ filling (take n held) ≡ held = ap (λ (m : ℕ). take n held ++ zeros m) (sym left) ∙ ap (λ (z : List ℕ). take n held ++ z) (sym (zeros_only (drop n held) b.0)) ∙ take-append-drop n held in
-    let again : words_in held ≡ take k words = words_in_again (take k words) (below_take (2 ^ 32) k words (omega arith) all) in
-    let is : packed (take n held) ≡ take k words = packed_is (take n held) ∙ ap words_in filled ∙ again in
-    let made : Unpacked n words (take n held, drop k words) = record {
+    let bytes : List ℕ = held n words in
+    let size : length bytes ≡ 4 * k = length-word_bytes (take k words) ∙ ap (λ (m : ℕ). 4 * m) (length-take-le k words enough) in
+    let count : length (take n bytes) ≡ n = length-take-le n bytes (omega arith) in
+    let left : length (drop n bytes) ≡ 4 * payload_words (length (take n bytes)) - length (take n bytes) = rw count (omega (arith, length-drop n bytes, size)) in
+    let filled : take n bytes ++ filling (take n bytes) ≡ bytes = ap (λ (m : ℕ). take n bytes ++ zeros m) (sym left) ∙ ap (λ (z : List ℕ). take n bytes ++ z) (sym (zeros_only (drop n bytes) zero_filled)) ∙ take-append-drop n bytes in
+    let again : words_in bytes ≡ take k words = words_in_again (take k words) (below_take (2 ^ 32) k words (omega arith) all) in
+    let is : packed (take n bytes) ≡ take k words = packed_is (take n bytes) ∙ ap words_in filled ∙ again in
+    record {
       parts = sym (take-append-drop k words) ∙ ap (λ (ws : List ℕ). ws ++ drop k words) (sym is);
       count = count;
-      bytes = below_take 256 n held (omega arith) (word_bytes-small (take k words));
-      rest = below_drop (2 ^ 32) k words all;
-    } in
-    subst (λ (y : List ℕ × List ℕ). Unpacked n words y) (ok_is _ x b.1) made
+      fits = record { bytes = below_take 256 n bytes (omega arith) (word_bytes-small (take k words)); short = omega (arith, count, short) };
+    }
 
--- the words of bytes are read as those bytes
-pub unpacked_again : (p : List ℕ) (at : ℕ) (rest : List ℕ) → IsBytes p → unpacked (length p) at (packed p ++ rest) ≡ Ok (p, rest)
-unfolding unpacked
-unpacked_again p at rest fits =
+-- so the first bytes of the words of a record behind its two first are its payload
+pub payload_taken : (n : ℕ) (words bytes : List ℕ) → IsWords words → n ≤ 4000 → 2 + payload_words n ≤ length words → bytes ≡ held n (drop 2 words) → list_all (λ b. eqb b 0) (drop n bytes) ≡ true
+    → IsPayloadRead n (drop 2 words) (take n bytes) (drop (payload_words n) (drop 2 words))
+unfolding is_filled
+payload_taken n words bytes all short enough is zero_filled =
+    rw is (payload_read n (drop 2 words) (below_drop (2 ^ 32) 2 words all) short (omega (arith, length-drop 2 words, enough)) (rw is at zero_filled))
+
+-- what the words of a payload give
+pub record PayloadAgain (p words rest : List ℕ) : Type 0 where
+  pub payload : take (length p) (held (length p) words) ≡ p
+  pub filled : is_filled (length p) words ≡ true
+  pub after : drop (payload_words (length p)) words ≡ rest
+
+pub payload_again : (p rest : List ℕ) → IsBytes p → PayloadAgain p (packed p ++ rest) rest
+unfolding is_filled
+payload_again p rest fits =
     let k : ℕ = payload_words (length p) in
-    let enough : leb k (length (packed p ++ rest)) ≡ true = le-leb _ _ (omega (arith, length-append (packed p) rest, length-packed p)) in
-    let held : word_bytes (take k (packed p ++ rest)) ≡ p ++ filling p =
+    let held_is : held (length p) (packed p ++ rest) ≡ p ++ filling p =
     ap word_bytes (take_at (packed p) rest k (length-packed p) ∙ packed_is p) ∙ word_bytes-words_in k (p ++ filling p) (length-filled p) (filled_small p fits) in
-    rw (enough, held, drop_at p (filling p) (length p) refl, zeros_all, take_at p (filling p) (length p) refl, drop_at (packed p) rest k (length-packed p)) refl
+    record {
+      payload = ap (take (length p)) held_is ∙ take_at p (filling p) (length p) refl;
+      filled = ap (λ (bytes : List ℕ). list_all (λ b. eqb b 0) (drop (length p) bytes)) held_is ∙ ap (list_all (λ b. eqb b 0)) (drop_at p (filling p) (length p) refl) ∙ zeros_all (4 * payload_words (length p) - length p);
+      after = drop_at (packed p) rest k (length-packed p);
+    }
 
 -- ---- reading the words of bytes
 
--- where there are too few bytes, none is read
-pub unpacked_cut : (n at : ℕ) (bytes : List ℕ) → length bytes < 4 * payload_words n → IsErr (unpacked n at (words_in bytes))
-unfolding unpacked
-unpacked_cut n at bytes cut =
-    let few : leb (payload_words n) (length (words_in bytes)) ≡ false = lt-leb _ _ (omega (arith, length-words_in bytes)) in
-    rw few refl
-
--- where there are enough, reading is by the bytes after the payload
-pub unpacked_held : (n at : ℕ) (bytes held rest : List ℕ) (test : Bool) → 4 * payload_words n ≤ length bytes → IsBytes bytes → held ≡ take (4 * payload_words n) bytes → rest ≡ drop (4 * payload_words n) bytes
-    → test ≡ list_all (λ b. eqb b 0) (drop n held) → unpacked n at (words_in bytes) ≡ wanted test (BadPadding (at + n / 4)) (Ok (take n held, words_in rest))
-unfolding unpacked
-unpacked_held n at bytes held rest test long all held_is rest_is test_is =
+-- the bytes behind a record's two first words are those of its payload and of the filling
+pub held_in : (n : ℕ) (bytes : List ℕ) → 8 + 4 * payload_words n ≤ length bytes → IsBytes bytes → held n (drop 2 (words_in bytes)) ≡ take (4 * payload_words n) (drop 8 bytes)
+held_in n bytes long all =
     let k : ℕ = payload_words n in
-    let enough : leb k (length (words_in bytes)) ≡ true = le-leb _ _ (omega (arith, length-words_in bytes)) in
-    let first : word_bytes (take k (words_in bytes)) ≡ held =
-    ap word_bytes (sym (words_in-take k bytes)) ∙ word_bytes-words_in k (take (4 * k) bytes) (length-take-le (4 * k) bytes long) (below_take 256 (4 * k) bytes (omega arith) all) ∙ sym held_is in
-    rw (enough, first, rest_is, words_in-drop k bytes, test_is) refl
+    let inner : List ℕ = drop 8 bytes in
+    let size : length inner ≡ length bytes - 8 = length-drop 8 bytes in
+    ap word_bytes (ap (take k) (sym (words_in-drop 2 bytes)) ∙ sym (words_in-take k inner)) ∙ word_bytes-words_in k (take (4 * k) inner) (length-take-le (4 * k) inner (omega (arith, size))) (below_take 256 (4 * k) inner (omega arith) (below_drop 256 8 bytes all))
+
+-- and those behind them are of the words after the record
+pub rest_in : (n : ℕ) (bytes : List ℕ) → words_in (drop (4 * payload_words n) (drop 8 bytes)) ≡ drop (payload_words n) (drop 2 (words_in bytes))
+rest_in n bytes = words_in-drop (payload_words n) (drop 8 bytes) ∙ ap (drop (payload_words n)) (words_in-drop 2 bytes)

@@ -1,8 +1,10 @@
--- Lists of bytes and of words, and steps of a reading that did not fail.
-use Rattle.std.proofs.Common.{◌≡◌, ℕ, zero, suc, ◌+◌, ◌^◌, ◌<◌, Bool, true, false, List, [], ◌∷◌, ◌++◌, take, drop, get_or, Result, Ok, Err, refl, subst, arith, inl, inr}
+-- Lists of bytes and of words, and tests before faults.
+use Rattle.std.proofs.Common.{◌≡◌, ℕ, zero, suc, ◌+◌, ◌^◌, ◌<◌, Bool, true, false, List, [], ◌∷◌, ◌++◌, take, drop, get_or, Option, Some, None, refl, arith, inl, inr}
+use Rattle.std.specs.List.{AllByRecursion}
 use Rattle.std.proofs.lemmas.Bool.{cases_lt}
 use Rattle.std.proofs.lemmas.List.{length-take, get_or-take, get_or_past, get_or-drop}
-use Rattle.vsl_record.specs.inside.UnitReading.{ReadingFault, ◌>>=◌, wanted}
+use Rattle.vsl_record.specs.declared.fault.WordFault.{WordFault}
+use Rattle.vsl_record.specs.WordFaults.{unless}
 
 -- each number is below a limit
 abbrev pub AllBelow : ℕ → List ℕ → Type 0
@@ -34,23 +36,16 @@ below_take limit n xs some all i =
 pub below_drop : (limit n : ℕ) (xs : List ℕ) → AllBelow limit xs → AllBelow limit (drop n xs)
 below_drop limit n xs all i = rw get_or-drop (all (n + i))
 
--- the value of a step that did not fail
-pub bind_ok : {A B : Type 0} (r : Result A ReadingFault) (f : A → Result B ReadingFault) (y : B) → (r >>= f) ≡ Ok y → (x : A) × (r ≡ Ok x) × (f x ≡ Ok y)
-bind_ok (Ok x) f y e = (x, refl, e)
-bind_ok (Err d) f y e = absurd cc
+-- what holds of each element of two lists
+pub all_append : {X : Type 0} (P : X → Type 0) (xs ys : List X) → AllByRecursion P xs → AllByRecursion P ys → AllByRecursion P (xs ++ ys)
+all_append P [] ys all_x all_y = all_y
+all_append P (x ∷ xs) ys all_x all_y = (all_x.0, all_append P xs ys all_x.1 all_y)
 
--- a test that did not fail
-pub wanted_ok : {A : Type 0} (test : Bool) (fault : ReadingFault) (next : Result A ReadingFault) (y : A) → wanted test fault next ≡ Ok y → (test ≡ true) × (next ≡ Ok y)
-wanted_ok true fault next y e = (refl, e)
-wanted_ok false fault next y e = absurd cc
+-- a test before a fault that is not met
+pub unless_none : (test : Bool) (fault : WordFault) (next : Option WordFault) → unless test fault next ≡ None → (test ≡ true) × (next ≡ None)
+unless_none true fault next e = (refl, e)
+unless_none false fault next e = absurd cc
 
-abbrev done : {A : Type 0} → A → Result A ReadingFault
-done x = Ok x
-
--- two readings that are one gave one value
-pub ok_is : {A : Type 0} (x y : A) → done x ≡ done y → x ≡ y
-ok_is x y e = cc
-
--- and what holds of the one holds of the other
-pub ok_along : {A : Type 0} (P : A → Type 0) (x y : A) → done x ≡ done y → P x → P y
-ok_along P x y e p = subst P (ok_is x y e) p
+-- a fault is none
+pub some_none : (o : Option WordFault) (fault : WordFault) → o ≡ Some fault → o ≡ None → ⊥
+some_none o fault some none = absurd cc

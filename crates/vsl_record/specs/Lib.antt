@@ -1,4 +1,5 @@
 pub mod Payload
 pub mod Unit
+pub mod WordFaults
 pub mod Words
 pub mod inside

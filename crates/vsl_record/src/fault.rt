@@ -35,12 +35,44 @@ pub enum UnitFault {
     },
 }
 
-/// Why words are no unit.
+/// Why words begin with no unit: the first fault that reading them meets. `at` is the place of the word
+/// where it shows: how many words stand before it, counted from the unit's header word.
 #[derive(Clone, Copy, Debug, PartialEq, Eq, Error)]
 pub enum WordFault {
-    /// The words of no unit begin these words.
-    #[error("no unit")]
-    Bad,
+    /// There is no word, or there are fewer words than the unit's header counts.
+    #[error("too few words")]
+    Short,
+    /// The unit's header has another top byte than 0xFE, or a record's tag is not 1 to 92.
+    #[error("word {at}: bad tag")]
+    BadTag {
+        /// The unit's header, 0, or the record's first word.
+        at: u64,
+    },
+    /// The unit's header counts fewer than 3 or more than 1,048,576 words, a record's length is
+    /// past 4,000 bytes, or the record passes the unit's end.
+    #[error("word {at}: bad length")]
+    BadLength {
+        /// The unit's header, 0, or the record's first word.
+        at: u64,
+    },
+    /// The first record has both marks.
+    #[error("word {at}: bad mark")]
+    BadMark {
+        /// The record's second word.
+        at: u64,
+    },
+    /// A later record has another VXID or another mark than the first.
+    #[error("word {at}: another transaction or mark than the first record's")]
+    Mixed {
+        /// The record's second word.
+        at: u64,
+    },
+    /// A byte that fills the last word of a payload is not zero.
+    #[error("word {at}: bad padding")]
+    BadPadding {
+        /// The last word of the payload.
+        at: u64,
+    },
     /// There was no memory for the unit.
     #[error("out of memory")]
     NoMemory,

@@ -3,9 +3,10 @@
 //! A worker writes the log in units: records of one VXID and one mark. A unit has
 //! one spelling as 32-bit words, and no spelling begins another. `read_unit` reads the unit that
 //! begins a list of words, and never looks past the words that the unit's header counts;
-//! `read_unit_bytes` reads it from bytes, which the records then share.
+//! `read_unit_bytes` reads it from bytes, which the records then share. Where no unit begins the words,
+//! both answer the first fault and its place.
 //!
-//! Start with `specs/Unit.antt` and `specs/Words.antt`.
+//! Start with `specs/Unit.antt`, `specs/Words.antt` and `specs/WordFaults.antt`.
 //! Source: vsl(7); the words are this project's choice.
 #![tactic(auto)]
 
@@ -19,9 +20,10 @@ mod records;
 mod unit;
 mod units;
 mod words;
+mod writing;
 
 pub use fault::{RecordFault, UnitFault, WordFault};
-pub use laws::one_spelling;
+pub use laws::{every_words, one_fault, one_spelling};
 pub use mark::Mark;
 pub use payload::{MAX_PAYLOAD, Payload};
 pub use reading::read_unit_bytes;
@@ -30,3 +32,4 @@ pub use records::Records;
 pub use unit::{MAX_UNIT_WORDS, Unit, VXID_END, Vxid};
 pub use units::Units;
 pub use words::read_unit;
+pub use writing::unit_words;

@@ -1,20 +1,21 @@
 //! Reading a unit from bytes.
 
-ghost use Rattle.std.specs.Prelude.{◌≡◌, ◌==◌, ◌⊎◌, ◌+◌, ◌<◌, ◌≤◌, [], ◌∷◌, ◌++◌, ℕ, List, length, slice_index, take, drop, IfOk, IfSome, IfNone, IsErrOf};
+ghost use Rattle.std.specs.Prelude.{◌≡◌, ◌≢◌, ◌==◌, ◌⊎◌, ◌+◌, ◌-◌, ◌/◌, ◌%◌, ◌^◌, ◌<◌, ◌≤◌, [], ◌∷◌, ◌++◌, ℕ, List, true, false, length, slice_index, take, drop, IfOk, IfErr, IfSome, IfNone, OnOk};
 ghost use Rattle.std.specs.List.{list_all};
 ghost use Rattle.vsl_record.specs.Payload.{most_payload};
 ghost use Rattle.vsl_record.specs.Unit.{LogUnit};
-ghost use Rattle.vsl_record.specs.Words.{IsUnit, most_words, unit_words, words_in};
-ghost use Rattle.vsl_record.specs.inside.UnitReading.{Gives, unpacked, payload_at, record_at, records_at, unit_at, prefix_of};
+ghost use Rattle.vsl_record.specs.WordFaults.{header_fault, payload_words, is_filled, record_fault, HasBadRecord, FirstFault};
+ghost use Rattle.vsl_record.specs.Words.{IsUnit, most_words, unit_words, word_bytes, words_in};
+ghost use Rattle.vsl_record.specs.inside.UnitReading.{IsHeaded, IsPayloadRead, IsRecordRead, AreRecordsRead, StopsAt};
 
 use crate::fault::WordFault;
 use crate::laws::are_bytes;
 use crate::mark::Mark;
 use crate::payload::{MAX_PAYLOAD, Payload};
 use crate::record_type::Record;
-use crate::unit::{MAX_UNIT_WORDS, Unit, VXID_END, Vxid};
+use crate::unit::{MAX_UNIT_WORDS, Unit, VXID_END};
 use bytes::Bytes;
-use std::alloc::Global;
+use std::alloc::{AllocError, Global};
 use vsl_tags::Tag;
 
 /// A head word is its top byte so many times, and a length or a count below that.
@@ -23,10 +24,13 @@ pub(crate) const TOP_BYTE: u32 = 16_777_216;
 /// The top byte of a unit's header; a record's is its tag.
 const UNIT_MARK: u32 = 0xfe;
 
+/// An id word from here on has both marks.
+const BOTH_MARKS: u32 = 0xc000_0000;
+
 /// The first word of the bytes.
 fn first_word(bytes: &[u8]) -> Option<u32>
-    ensures some { IfSome result (λ w. words_in bytes.now ≡ w ∷ words_in (drop 4 bytes.now)) }
-    ensures long { IfSome result (λ _. 4 ≤ length bytes.now) }
+    ensures some { IfSome result (λ w. slice_index (words_in bytes.now) 0 ≡ w) }
+    ensures long { IfSome result (λ _. 0 < length (words_in bytes.now)) }
     ensures none { IfNone result (words_in bytes.now ≡ []) }
 {
     let [a, b, c, d, ..] = bytes else {
@@ -35,25 +39,19 @@ fn first_word(bytes: &[u8]) -> Option<u32>
     Some(u32::from_le_bytes([*a, *b, *c, *d]))
 }
 
-/// The second word of the bytes.
-fn second_word(bytes: &[u8]) -> Option<u32>
-    ensures some { IfSome result (λ w. slice_index (words_in bytes.now) 1 ≡ w) }
-    ensures none { IfNone result (length (words_in bytes.now) < 2) }
+/// The first word of the bytes, or 0 where they have none.
+fn header_word(bytes: &[u8]) -> u32
+    ensures { slice_index (words_in bytes.now) 0 ≡ result }
 {
-    let [_, _, _, _, a, b, c, d, ..] = bytes else {
-        return None;
-    };
-    Some(u32::from_le_bytes([*a, *b, *c, *d]))
+    first_word(bytes).unwrap_or(0)
 }
 
-/// Takes the first word of the bytes.
-fn take_word(bytes: &mut Bytes) -> Option<u32>
-    ensures some { IfSome result (λ w. words_in bytes.old ≡ w ∷ words_in bytes.new) }
-    ensures none { IfNone result (words_in bytes.old ≡ []) }
+/// The second word of the bytes.
+fn second_word(bytes: &[u8]) -> u32
+    requires { 2 ≤ length (words_in bytes.now) }
+    ensures { slice_index (words_in bytes.now) 1 ≡ result }
 {
-    let word = first_word(bytes.as_slice())?;
-    bytes.advance(4);
-    Some(word)
+    u32::from_le_bytes([bytes[4], bytes[5], bytes[6], bytes[7]])
 }
 
 /// How many whole words the bytes are.
@@ -87,137 +85,158 @@ fn is_padded(bytes: &[u8], from: usize) -> bool
     are_zero(padding)
 }
 
-/// Reads a payload of so many bytes, and passes over the zero bytes that fill its last word.
-fn read_payload(count: usize, bytes: &mut Bytes) -> Result<Payload, WordFault>
-    requires { count ≤ most_payload }
-    ensures read { (at : ℕ) → Gives (λ payload. (payload, words_in bytes.new)) result (unpacked count at (words_in bytes.old)) }
-    ensures shorter { IfOk result (λ _. length (words_in bytes.new) ≤ length (words_in bytes.old)) }
+/// Takes the words of a record from the bytes, and gives the bytes of those that hold a payload of so many.
+fn take_record(count: usize, bytes: &mut Bytes) -> Result<Bytes, AllocError>
+    requires short { count ≤ most_payload }
+    requires enough { 2 + payload_words count ≤ length (words_in bytes.old) }
+    ensures held { IfOk result (λ held. held ≡ word_bytes (take (payload_words count) (drop 2 (words_in bytes.old)))) }
+    ensures long { IfOk result (λ held. count ≤ length held) }
+    ensures rest { OnOk result (words_in bytes.new ≡ drop (payload_words count) (drop 2 (words_in bytes.old))) }
+    ensures words { IfOk result (λ _. (i : ℕ) → slice_index (words_in bytes.old) i < 2 ^ 32) }
 {
-    let size = 4 * ((count + 3) / 4);
-    if bytes.len() < size {
-        return Err(WordFault::Bad);
-    }
     are_bytes(bytes.as_slice());
-    let mut held = bytes.split_to(size)?;
+    bytes.advance(8);
+    let held = bytes.split_to(4 * ((count + 3) / 4))?;
+    Ok(held)
+}
+
+/// Takes the words of a record from the bytes, and gives its payload of so many bytes. The record begins
+/// at this place of the unit.
+#[tactic(auto, unfolding(crate::specs::WordFaults::is_filled))]
+fn read_payload(at: u64, count: usize, bytes: &mut Bytes) -> Result<Payload, WordFault>
+    requires place { at ≤ most_words }
+    requires short { count ≤ most_payload }
+    requires enough { 2 + payload_words count ≤ length (words_in bytes.old) }
+    ensures read { IfOk result (λ payload. IsPayloadRead count (drop 2 (words_in bytes.old)) payload (words_in bytes.new)) }
+    ensures refused { IfErr result (λ fault. fault ≢ WordFault.NoMemory →
+        (is_filled count (drop 2 (words_in bytes.old)) ≡ false) × (fault ≡ WordFault.BadPadding (at + 2 + count / 4))) }
+{
+    let mut held = take_record(count, bytes)?;
     if !is_padded(held.as_slice(), count) {
-        return Err(WordFault::Bad);
+        return Err(WordFault::BadPadding {
+            at: at + 2 + (count / 4) as u64,
+        });
     }
     held.truncate(count);
     Ok(Payload::from_bytes(held))
 }
 
-/// Reads one record of a unit whose records have this word for their VXID and mark.
-#[tactic(auto, unfolding(crate::specs::inside::UnitReading::record_at))]
-fn read_record(id: u32, bytes: &mut Bytes) -> Result<Record, WordFault>
-    ensures read { (at : ℕ) → Gives (λ rec. (rec, words_in bytes.new)) result (record_at id at (words_in bytes.old)) }
-    ensures shorter { IfOk result (λ _. length (words_in bytes.new) < length (words_in bytes.old)) }
+/// Takes the record that begins the bytes with this first word, where they reach to the end of a unit of
+/// so many words, the first record of which has this id word.
+#[tactic(auto, unfolding(crate::specs::WordFaults::record_fault))]
+fn read_record(head: u32, id: u32, size: usize, bytes: &mut Bytes) -> Result<Record, WordFault>
+    requires head { slice_index (words_in bytes.old) 0 ≡ head }
+    requires some { 0 < length (words_in bytes.old) }
+    requires inside { length (words_in bytes.old) ≤ size }
+    requires few { size ≤ most_words }
+    ensures read { IfOk result (λ rec. IsRecordRead id (words_in bytes.old) rec (words_in bytes.new)) }
+    ensures refused { IfErr result (λ fault. fault ≢ WordFault.NoMemory →
+        record_fault id (size - length (words_in bytes.old)) (words_in bytes.old) ≡ Some fault) }
 {
-    let Some(head) = take_word(bytes) else {
-        return Err(WordFault::Bad);
-    };
+    let count = word_count(bytes);
+    let at = (size - count) as u64;
     let Some(tag) = Tag::from_number((head / TOP_BYTE) as u8) else {
-        return Err(WordFault::Bad);
+        return Err(WordFault::BadTag { at });
     };
-    let count = (head % TOP_BYTE) as usize;
-    if count > MAX_PAYLOAD {
-        return Err(WordFault::Bad);
+    let length = (head % TOP_BYTE) as usize;
+    if length > MAX_PAYLOAD {
+        return Err(WordFault::BadLength { at });
     }
-    if word_count(bytes) < 1 + (count + 3) / 4 {
-        return Err(WordFault::Bad);
+    if count < 2 + (length + 3) / 4 {
+        return Err(WordFault::BadLength { at });
     }
-    read_marked(id, tag, count, bytes)
-}
-
-/// Reads the rest of a record, behind its head word.
-#[tactic(auto, unfolding(crate::specs::inside::UnitReading::payload_at))]
-fn read_marked(id: u32, tag: Tag, count: usize, bytes: &mut Bytes) -> Result<Record, WordFault>
-    requires { count ≤ most_payload }
-    ensures read { (at : ℕ) → Gives (λ rec. (rec, words_in bytes.new)) result (payload_at id at tag count (words_in bytes.old)) }
-    ensures shorter { IfOk result (λ _. length (words_in bytes.new) ≤ length (words_in bytes.old)) }
-{
-    let Some(word) = take_word(bytes) else {
-        return Err(WordFault::Bad);
-    };
-    if word != id {
-        return Err(WordFault::Bad);
+    if second_word(bytes.as_slice()) != id {
+        return Err(WordFault::Mixed { at: at + 1 });
     }
-    if id / VXID_END >= 3 {
-        return Err(WordFault::Bad);
+    if id >= BOTH_MARKS {
+        return Err(WordFault::BadMark { at: at + 1 });
     }
-    let payload = read_payload(count, bytes)?;
+    let payload = read_payload(at, length, bytes)?;
     let mark = Mark::of_id(id);
     Ok(Record { tag, mark, payload })
 }
 
-/// Reads records until the words end.
-fn read_records(alloc: Global, id: u32, bytes: &mut Bytes) -> Result<Vec<Record>, WordFault>
-    ensures { Gives (λ v. v.items) result (records_at (length (words_in bytes.old)) id 1 (words_in bytes.old)) }
+/// Takes records until the bytes end, which are those of a unit of so many words, without its header.
+fn read_records(
+    alloc: Global,
+    id: u32,
+    size: usize,
+    bytes: &mut Bytes,
+) -> Result<Vec<Record>, WordFault>
+    requires size { size ≡ 1 + length (words_in bytes.old) }
+    requires few { size ≤ most_words }
+    ensures read { IfOk result (λ v. AreRecordsRead id (words_in bytes.old) v.items []) }
+    ensures refused { IfErr result (λ fault. fault ≢ WordFault.NoMemory → StopsAt id (words_in bytes.old) fault) }
 {
     let mut records = Vec::new(alloc);
-    while word_count(bytes) > 0 {
-        let rec = read_record(id, bytes)?;
+    while let Some(head) = first_word(bytes.as_slice()) {
+        let rec = read_record(head, id, size, bytes)?;
         records.push(rec)?;
     }
     Ok(records)
 }
 
-/// The parts of a unit that was read, and how many words it took.
-struct UnitPrefix {
-    vxid: Vxid,
-    mark: Mark,
-    records: Vec<Record>,
-    words: usize,
+/// How many words the unit has whose header word this is, where there are so many words; where there is
+/// none, the header word is 0.
+#[tactic(auto, unfolding(crate::specs::WordFaults::header_fault))]
+pub(crate) fn unit_size(head: u32, count: usize) -> Result<usize, WordFault>
+    ensures size { IfOk result (λ n. (n ≡ head % 16777216) × (3 ≤ n) × (n ≤ most_words) × (n ≤ count)) }
+    ensures good { IfOk result (λ _. header_fault head count ≡ None) }
+    ensures headed { IfOk result (λ n. (words : List ℕ) → slice_index words 0 ≡ head → length words ≡ count → IsHeaded (take n words)) }
+    ensures refused { IfErr result (λ fault. header_fault head count ≡ Some fault) }
+{
+    if count == 0 {
+        return Err(WordFault::Short);
+    }
+    if head / TOP_BYTE != UNIT_MARK {
+        return Err(WordFault::BadTag { at: 0 });
+    }
+    let size = (head % TOP_BYTE) as usize;
+    if size < 3 {
+        return Err(WordFault::BadLength { at: 0 });
+    }
+    if size > MAX_UNIT_WORDS {
+        return Err(WordFault::BadLength { at: 0 });
+    }
+    if count < size {
+        return Err(WordFault::Short);
+    }
+    Ok(size)
 }
 
-/// Reads the unit that begins the words.
-#[tactic(auto, unfolding(crate::specs::inside::UnitReading::unit_at, crate::specs::inside::UnitReading::unit_of))]
-fn read_prefix(alloc: Global, bytes: &mut Bytes) -> Result<UnitPrefix, WordFault>
-    ensures read { Gives (prefix_of (words_in bytes.old)) result (unit_at (words_in bytes.old)) }
-    ensures within { IfOk result (λ prefix. prefix.words ≤ length (words_in bytes.old)) }
+/// Reads the unit of these bytes, which are as many words as its header counts.
+pub(crate) fn read_checked(alloc: Global, mut bytes: Bytes) -> Result<Unit, WordFault>
+    requires { IsHeaded (words_in bytes) }
+    ensures read { IfOk result (λ u. IsUnit u × (words_in bytes ≡ unit_words u)) }
+    ensures refused { IfErr result (λ fault. fault ≢ WordFault.NoMemory → HasBadRecord (words_in bytes) fault) }
 {
-    let Some(head) = take_word(bytes) else {
-        return Err(WordFault::Bad);
-    };
-    if head / TOP_BYTE != UNIT_MARK {
-        return Err(WordFault::Bad);
-    }
-    let count = (head % TOP_BYTE) as usize;
-    if count < 3 {
-        return Err(WordFault::Bad);
-    }
-    if count > MAX_UNIT_WORDS {
-        return Err(WordFault::Bad);
-    }
-    if word_count(bytes) < count - 1 {
-        return Err(WordFault::Bad);
-    }
-    let Some(id) = second_word(bytes.as_slice()) else {
-        return Err(WordFault::Bad);
-    };
-    keep_words(bytes, count - 1);
-    let records = read_records(alloc, id, bytes)?;
-    Ok(UnitPrefix {
-        vxid: id % VXID_END,
-        mark: Mark::of_id(id),
-        records,
-        words: count,
-    })
+    let size = word_count(&bytes);
+    bytes.advance(4);
+    let id = second_word(bytes.as_slice());
+    let records = read_records(alloc, id, size, &mut bytes)?;
+    Ok(Unit::from_parts(id % VXID_END, Mark::of_id(id), records))
+}
+
+/// Reads the unit that begins the bytes' words, and says how many words it has.
+fn read_prefix(alloc: Global, mut bytes: Bytes) -> Result<(Unit, usize), WordFault>
+    ensures found { IfOk result (λ x. IsUnit x.0 × (x.1 ≤ length (words_in bytes)) × (take x.1 (words_in bytes) ≡ unit_words x.0)) }
+    ensures refused { IfErr result (λ fault. fault ≢ WordFault.NoMemory → FirstFault (words_in bytes) fault) }
+{
+    let head = header_word(bytes.as_slice());
+    let size = unit_size(head, word_count(&bytes))?;
+    keep_words(&mut bytes, size);
+    let unit = read_checked(alloc, bytes)?;
+    Ok((unit, size))
 }
 
 /// Reads the unit that begins the bytes' words, whatever stands behind it, and says how many words it
-/// has. The records share the bytes.
-pub fn read_unit_bytes(alloc: Global, mut bytes: Bytes) -> Result<(Unit, usize), WordFault>
+/// has. The records share the bytes. Bytes that are no whole word at the end don't count.
+pub fn read_unit_bytes(alloc: Global, bytes: Bytes) -> Result<(Unit, usize), WordFault>
     ensures found { IfOk result (λ x. IsUnit x.0 × (x.1 ≤ length (words_in bytes)) × (take x.1 (words_in bytes) ≡ unit_words x.0)) }
     ensures only { (u : LogUnit) (rest : List ℕ) → IsUnit u → words_in bytes ≡ unit_words u ++ rest →
         (result ≡ Ok (u, length (unit_words u))) ⊎ (result ≡ Err WordFault.NoMemory) }
-    ensures refused { IsErrOf result WordFault.Bad → (u : LogUnit) (rest : List ℕ) → IsUnit u → words_in bytes ≡ unit_words u ++ rest → ⊥ }
+    ensures refused { IfErr result (λ fault. fault ≢ WordFault.NoMemory → FirstFault (words_in bytes) fault) }
+    ensures faulty { (fault : WordFault) → FirstFault (words_in bytes) fault → (result ≡ Err fault) ⊎ (result ≡ Err WordFault.NoMemory) }
 {
-    are_bytes(bytes.as_slice());
-    let UnitPrefix {
-        vxid,
-        mark,
-        records,
-        words: taken,
-    } = read_prefix(alloc, &mut bytes)?;
-    Ok((Unit::from_parts(vxid, mark, records), taken))
+    read_prefix(alloc, bytes)
 }

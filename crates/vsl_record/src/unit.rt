@@ -99,7 +99,7 @@ impl Unit {
 }
 
 /// How many words the records and a unit's header take, or 2^64 - 1 where that is greater.
-fn count_words(records: &[Record]) -> u64
+pub(crate) fn count_words(records: &[Record]) -> u64
     ensures words { (vxid : ℕ) → result ≡ min (1 + length (flat_map (record_words vxid) records.now)) (2 ^ 64 - 1) }
     ensures tags { All (λ r. IsTag r.tag) records.now }
     ensures payloads { All (λ r. IsPayload r.payload) records.now }

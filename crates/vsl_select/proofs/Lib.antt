@@ -1,4 +1,6 @@
 mod AddedLemmas
+mod FileUnitExamples
+mod FileUnitLemmas
 mod PartLemmas
 mod RawLineExamples
 pub mod Examples

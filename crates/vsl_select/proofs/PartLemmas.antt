@@ -1,10 +1,10 @@
 -- The parts of a line.
-use Rattle.std.proofs.Common.{ℕ, suc, ◌-◌, ◌<◌, ◌≤◌, ◌≡◌, Bool, true, false, List, [], ◌∷◌, ◌++◌, length, take, drop, get_or, refl, sym, ap, ◌∙◌, append_assoc, arith}
-use Rattle.std.proofs.lemmas.List.{append-nil, take-append-drop, take_all}
+use Rattle.std.proofs.Common.{ℕ, suc, ◌-◌, ◌<◌, ◌≤◌, ◌≡◌, Bool, true, false, List, [], ◌∷◌, ◌++◌, length, take, drop, get_or, replicate, ◌+◌, refl, sym, ap, ◌∙◌, append_assoc, arith}
+use Rattle.std.proofs.lemmas.List.{append-nil, take-append-drop, take_all, take-replicate, drop-replicate}
 use Rattle.std.proofs.lemmas.List.Concat.{flat_map-append}
 use Rattle.std.specs.Prelude.{not, ◌==◌, ◌||◌, nat_lt}
 use Rattle.std.specs.List.{list_any}
-use Rattle.vsl_select.specs.RawLine.{escaped, escaped_byte}
+use Rattle.vsl_select.specs.RawLine.{at_right, escaped, escaped_byte}
 use Rattle.vsl_select.specs.Lines.{is_some_of}
 
 -- whether a list has an element, by its length
@@ -52,3 +52,12 @@ run_step n out mid new rest plain (b ∷ after) text plain_is after_is test some
     let whole : take (suc (length after) - 1) after ≡ after = take_all (suc (length after) - 1) after (omega arith) in
     ap (λ (x : List ℕ). new ++ escaped x) whole ∙ ap (λ (x : List ℕ). x ++ escaped after) (new_is ∙ ap (λ (x : List ℕ). x ++ escaped_byte b) mid_is)
     ∙ append_assoc (out ++ plain) (escaped_byte b) (escaped after) ∙ append_assoc out plain (escaped (b ∷ after)) ∙ ap (λ (x : List ℕ). out ++ x) (sym (escaped_run n rest plain (b ∷ after) plain_is after_is test)) ∙ so_far
+
+-- digits written over spaces, up to the place `end`, stand at the right of so many columns
+pub at_right_written : (end start more : ℕ) (digits written : List ℕ) → start + length digits ≡ end → drop start written ≡ digits ++ drop end (replicate (end + more) 32)
+    → take start written ≡ take start (replicate (end + more) 32) → written ≡ at_right end digits ++ replicate more 32
+at_right_written end start more digits written place behind before =
+    let start_is : end - length digits ≡ start = omega (arith, place) in
+    let more_is : end + more - end ≡ more = omega arith in
+    let first = take-replicate {X = ℕ} start (end + more) 32 (omega (arith, place)) in
+    rw (← take-append-drop start written, before, behind, first, drop-replicate {X = ℕ} end (end + more) 32, start_is, more_is) (sym (append_assoc (replicate start 32) digits (replicate more 32)))

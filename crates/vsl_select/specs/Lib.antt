@@ -1,3 +1,4 @@
 pub mod RawLine
 pub mod Lines
 pub mod Shown
+pub mod FileUnits

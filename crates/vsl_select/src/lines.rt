@@ -1,72 +1,19 @@
-//! The text of groups and of single records.
+//! The text of groups.
 
 ghost use Rattle.std.specs.Prelude.{◌≡◌, ◌==◌, ◌++◌, [], if◌then◌else◌, codes, decimal, OnOk, OnErr};
 ghost use Rattle.std.specs.List.{flat_map, list_all, list_any};
-ghost use Rattle.vsl_tags.specs.Tags.{tag_name};
-ghost use Rattle.vsl_select.specs.RawLine.{at_left, at_right, escaped, raw_line};
+ghost use Rattle.vsl_select.specs.RawLine.{at_left, raw_line};
 ghost use Rattle.log_model.specs.Prefix.{IsPrefix};
 ghost use Rattle.vsl_select.specs.Lines.{header, record_text, record_line, is_some_of, member_text, member_raw_lines, is_shown, group_text};
 
-use crate::parts::{
-    letter_of, put_byte, put_escaped, put_left, put_level, put_text, put_vxid_left, put_vxid_right,
-    title_of,
-};
+use crate::level_field::LevelField;
+use crate::parts::{put_byte, put_text, put_vxid_left, title_of};
+use crate::raw::{put_payload, put_raw_line, put_raw_lines, put_tag};
 use crate::selection::Selection;
+use crate::vxid_columns::VxidColumns;
 use log_model::NoMemory;
 use txn_rows::{Group, Member};
-use vsl_record::{Payload, Record, Vxid};
-use vsl_tags::{Tag, name_of};
-
-/// The columns of a tag's name, at the left.
-const TAG_COLUMNS: usize = 14;
-
-/// Adds the end of a line: the payload and a line feed.
-#[tactic(auto, using(crate::proofs::AddedLemmas::adding))]
-fn put_payload(out: &mut Vec<u8>, payload: &Payload) -> Result<(), NoMemory>
-    ensures ok { OnOk result (out.new.items ≡ out.old.items ++ (escaped payload.now ++ codes "\n")) }
-    ensures keeps { IsPrefix out.old.items out.new.items }
-{
-    put_escaped(out, payload.as_slice())?;
-    put_byte(out, b'\n')?;
-    Ok(())
-}
-
-/// Adds the prefix of a raw line, up to the tag.
-#[tactic(auto, using(crate::proofs::AddedLemmas::adding))]
-fn put_raw_prefix(out: &mut Vec<u8>, vxid: Vxid, tag: Tag) -> Result<(), NoMemory>
-    ensures ok { OnOk result (out.new.items ≡ out.old.items ++ (at_right 10 (decimal vxid) ++ codes " " ++ at_left 14 (tag_name tag))) }
-    ensures keeps { IsPrefix out.old.items out.new.items }
-{
-    put_vxid_right(out, vxid)?;
-    put_byte(out, b' ')?;
-    put_left(out, TAG_COLUMNS, name_of(tag).as_bytes())?;
-    Ok(())
-}
-
-/// Adds the raw line of a record, or a part of it.
-#[tactic(auto, using(crate::proofs::AddedLemmas::adding))]
-fn put_raw_line(out: &mut Vec<u8>, vxid: Vxid, rec: &Record) -> Result<(), NoMemory>
-    ensures ok { OnOk result (out.new.items ≡ out.old.items ++ raw_line vxid rec.now) }
-    ensures keeps { IsPrefix out.old.items out.new.items }
-{
-    put_raw_prefix(out, vxid, rec.tag)?;
-    put_text(out, &[b' ', letter_of(rec.mark), b' '])?;
-    put_payload(out, &rec.payload)?;
-    Ok(())
-}
-
-/// Adds the raw lines of records by themselves.
-#[tactic(auto, using(crate::proofs::AddedLemmas::adding))]
-fn put_raw_lines(out: &mut Vec<u8>, member: &Member) -> Result<(), NoMemory>
-    ensures ok { OnOk result (out.new.items ≡ out.old.items ++ member_raw_lines member.now) }
-    ensures keeps { IsPrefix out.old.items out.new.items }
-{
-    let vxid = member.vxid;
-    for rec in member.records.as_slice() {
-        put_raw_line(out, vxid, rec)?;
-    }
-    Ok(())
-}
+use vsl_record::{Record, Vxid};
 
 /// Adds the raw lines of a group of records by themselves.
 #[tactic(auto, using(crate::proofs::AddedLemmas::adding))]
@@ -75,7 +22,7 @@ fn put_raw_members(out: &mut Vec<u8>, members: &[Member]) -> Result<(), NoMemory
     ensures keeps { IsPrefix out.old.items out.new.items }
 {
     for member in members {
-        put_raw_lines(out, member)?;
+        put_raw_lines(out, member.vxid, member.records.as_slice())?;
     }
     Ok(())
 }
@@ -98,7 +45,7 @@ fn put_header(out: &mut Vec<u8>, member: &Member) -> Result<(), NoMemory>
     ensures ok { OnOk result (out.new.items ≡ out.old.items ++ header member.now) }
     ensures keeps { IsPrefix out.old.items out.new.items }
 {
-    put_level(out, b'*', member.level)?;
+    LevelField::new(b'*', member.level).put(out)?;
     put_text(out, title_of(member.kind))?;
     put_header_end(out, member.vxid)?;
     Ok(())
@@ -110,30 +57,29 @@ fn put_record_text(out: &mut Vec<u8>, rec: &Record) -> Result<(), NoMemory>
     ensures ok { OnOk result (out.new.items ≡ out.old.items ++ record_text rec.now) }
     ensures keeps { IsPrefix out.old.items out.new.items }
 {
-    put_left(out, TAG_COLUMNS, name_of(rec.tag).as_bytes())?;
-    put_byte(out, b' ')?;
+    put_tag(out, rec.tag)?;
     put_payload(out, &rec.payload)?;
     Ok(())
 }
 
-/// Adds the line of a record in its transaction.
+/// Adds the line of a record in a transaction of this level, in dashes, and VXID.
 #[tactic(auto, using(crate::proofs::AddedLemmas::adding))]
 fn put_record(
     out: &mut Vec<u8>,
     verbose: bool,
-    member: &Member,
+    level: &LevelField,
+    vxid: &VxidColumns,
     rec: &Record,
 ) -> Result<(), NoMemory>
-    ensures ok { OnOk result (out.new.items ≡ out.old.items ++ record_line verbose member.now rec.now) }
+    ensures ok { OnOk result (out.new.items ≡ out.old.items ++ (level.now ++ (if verbose then raw_line vxid.now rec.now else record_text rec.now))) }
     ensures keeps { IsPrefix out.old.items out.new.items }
 {
-    put_level(out, b'-', member.level)?;
+    level.put(out)?;
     if verbose {
-        put_raw_line(out, member.vxid, rec)?;
+        put_raw_line(out, vxid, rec)
     } else {
-        put_record_text(out, rec)?;
+        put_record_text(out, rec)
     }
-    Ok(())
 }
 
 /// Adds the lines of a transaction's records.
@@ -142,8 +88,10 @@ fn put_records(out: &mut Vec<u8>, verbose: bool, member: &Member) -> Result<(), 
     ensures ok { OnOk result (out.new.items ≡ out.old.items ++ flat_map (record_line verbose member.now) member.now.records) }
     ensures keeps { IsPrefix out.old.items out.new.items }
 {
+    let level = LevelField::new(b'-', member.level);
+    let vxid = VxidColumns::new(member.vxid);
     for rec in member.records.as_slice() {
-        put_record(out, verbose, member, rec)?;
+        put_record(out, verbose, &level, &vxid, rec)?;
     }
     Ok(())
 }
@@ -220,20 +168,6 @@ fn put_group(out: &mut Vec<u8>, verbose: bool, group: &Group) -> Result<(), NoMe
         put_group_end(out, group)?;
     }
     Ok(())
-}
-
-/// Adds the raw line of a record (varnishlog(1), `-g raw`). After want of memory the list is as it was.
-#[tactic(auto, using(crate::proofs::AddedLemmas::cut_back))]
-pub fn raw_line(vxid: Vxid, rec: &Record, out: &mut Vec<u8>) -> Result<(), NoMemory>
-    ensures ok { OnOk result (out.new.items ≡ out.old.items ++ raw_line vxid rec.now) }
-    ensures err { OnErr result (out.new.items ≡ out.old.items) }
-{
-    let length = out.len();
-    let added = put_raw_line(out, vxid, rec);
-    if added.is_err() {
-        out.truncate(length);
-    }
-    added
 }
 
 /// Adds the text of a group. Nothing is hidden, whatever the selection. After want of memory the list is as it

@@ -4,16 +4,16 @@
 
 ghost use Rattle.std.specs.Prelude.{◌≡◌, ◌≤◌, ◌<◌, ◌==◌, ◌||◌, ◌∷◌, [], ◌++◌, false, length, take, nat_lt, replicate, decimal, OnOk};
 ghost use Rattle.std.specs.List.{list_any};
-ghost use Rattle.vsl_select.specs.RawLine.{at_right, at_left, escaped_byte, escaped, hex_digit, mark_letter};
+ghost use Rattle.vsl_select.specs.RawLine.{at_left, escaped_byte, escaped, hex_digit, mark_letter};
 ghost use Rattle.log_model.specs.Prefix.{IsPrefix};
-ghost use Rattle.vsl_select.specs.Lines.{level_field, title};
+ghost use Rattle.vsl_select.specs.Lines.{title};
 
 use itoa::Buffer;
 use log_model::NoMemory;
 use txn_rows::Kind;
 use vsl_record::{Mark, Vxid};
 
-/// The columns of a VXID: on the right in a raw line, on the left in a header.
+/// The columns of a VXID in a header.
 const VXID_COLUMNS: usize = 10;
 
 /// More spaces than any column has.
@@ -52,26 +52,13 @@ fn put_spaces(out: &mut Vec<u8>, count: usize) -> Result<(), NoMemory>
 
 /// Adds a text at the left of its columns.
 #[tactic(auto, using(crate::proofs::AddedLemmas::adding))]
-pub(crate) fn put_left(out: &mut Vec<u8>, columns: usize, text: &[u8]) -> Result<(), NoMemory>
+fn put_left(out: &mut Vec<u8>, columns: usize, text: &[u8]) -> Result<(), NoMemory>
     requires { columns ≤ 16 }
     ensures ok { OnOk result (out.new.items ≡ out.old.items ++ at_left columns text.now) }
     ensures keeps { IsPrefix out.old.items out.new.items }
 {
     put_text(out, text)?;
     put_spaces(out, columns.saturating_sub(text.len()))?;
-    Ok(())
-}
-
-/// Adds a VXID at the right of its columns.
-#[tactic(auto, using(crate::proofs::AddedLemmas::adding))]
-pub(crate) fn put_vxid_right(out: &mut Vec<u8>, vxid: Vxid) -> Result<(), NoMemory>
-    ensures ok { OnOk result (out.new.items ≡ out.old.items ++ at_right 10 (decimal vxid)) }
-    ensures keeps { IsPrefix out.old.items out.new.items }
-{
-    let mut buffer = Buffer::new();
-    let digits = buffer.format(vxid).as_bytes();
-    put_spaces(out, VXID_COLUMNS.saturating_sub(digits.len()))?;
-    put_text(out, digits)?;
     Ok(())
 }
 
@@ -83,34 +70,6 @@ pub(crate) fn put_vxid_left(out: &mut Vec<u8>, vxid: Vxid) -> Result<(), NoMemor
 {
     let mut buffer = Buffer::new();
     put_left(out, VXID_COLUMNS, buffer.format(vxid).as_bytes())
-}
-
-/// Adds a level above 3 between two of the character.
-#[tactic(auto, using(crate::proofs::AddedLemmas::adding))]
-fn put_high_level(out: &mut Vec<u8>, character: u8, level: u32) -> Result<(), NoMemory>
-    ensures ok { OnOk result (out.new.items ≡ out.old.items ++ character ∷ decimal level ++ character ∷ 32 ∷ []) }
-    ensures keeps { IsPrefix out.old.items out.new.items }
-{
-    let mut buffer = Buffer::new();
-    put_byte(out, character)?;
-    put_text(out, buffer.format(level).as_bytes())?;
-    put_text(out, &[character, b' '])?;
-    Ok(())
-}
-
-/// Adds the level, in this character, and a space.
-#[tactic(auto, using(crate::proofs::AddedLemmas::adding))]
-pub(crate) fn put_level(out: &mut Vec<u8>, character: u8, level: u32) -> Result<(), NoMemory>
-    ensures ok { OnOk result (out.new.items ≡ out.old.items ++ level_field character level) }
-    ensures keeps { IsPrefix out.old.items out.new.items }
-{
-    match level {
-        0 => put_text(out, b"    "),
-        1 => put_text(out, &[character, b' ', b' ', b' ']),
-        2 => put_text(out, &[character, character, b' ', b' ']),
-        3 => put_text(out, &[character, character, character, b' ']),
-        _ => put_high_level(out, character, level),
-    }
 }
 
 /// The title in a transaction's header.
@@ -182,7 +141,9 @@ fn plain_length(bytes: &[u8]) -> usize
     bytes.len()
 }
 
-/// Adds a payload, run by run.
+/// Adds a payload, run by run. It is kept out of line, since few payloads have an escape.
+#[cold]
+#[inline(never)]
 #[tactic(auto, using(crate::proofs::AddedLemmas::adding))]
 fn put_with_escapes(out: &mut Vec<u8>, payload: &[u8]) -> Result<(), NoMemory>
     ensures ok { OnOk result (out.new.items ≡ out.old.items ++ escaped payload.now) }

@@ -1,6 +1,6 @@
 -- The tags of log records: their numbers and names (vsl(7), in this project's subset; which tags there are, and their order, are
 -- this project's choice).
-use Rattle.std.specs.Prelude.{ℕ, ◌+◌, ◌-◌, ◌≤◌, List, [], ◌∷◌, ◌++◌, map, slice_index_or, codes}
+use Rattle.std.specs.Prelude.{ℕ, ◌+◌, ◌-◌, ◌≤◌, List, [], ◌∷◌, ◌++◌, map, length, replicate, slice_index_or, codes}
 use Rattle.std.specs.List.{position_or_len}
 use Rattle.std.specs.Str.{bytes_eq, str_to_ascii_lowercase}
 
@@ -107,6 +107,14 @@ vsl_tag = 45
 -- the most bytes that a name has, as `Backend_health`
 abbrev pub longest_name : ℕ
 longest_name = 14
+
+-- a name at the left of 14 columns, and a space
+abbrev pub in_columns : List ℕ → List ℕ
+in_columns name = name ++ replicate (longest_name - length name) 32 ++ codes " "
+
+-- the name of the tag with this number at the left of 14 columns, and a space
+abbrev pub name_columns : ℕ → List ℕ
+name_columns n = in_columns (tag_name n)
 
 -- the names of all tags in lower case, in the order of their numbers
 abbrev pub lower_names : List (List ℕ)

@@ -13,5 +13,5 @@ mod names;
 mod number;
 
 pub use laws::names_differ;
-pub use names::name_of;
+pub use names::{name_columns, name_of};
 pub use number::Tag;

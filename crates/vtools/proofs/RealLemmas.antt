@@ -10,6 +10,7 @@ OnlyCounts-real (Ok x) opened now before after same grew = Prim.search rules
 OnlyCounts-real {F = F} (Err e) opened now before after same grew = record {
   counts = record { each = λ k name. grew };
   held = λ n. refl;
+  lacks = λ n. refl;
   left = λ i. refl;
   written = λ i. refl;
   names = λ k i n. refl;

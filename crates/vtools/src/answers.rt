@@ -17,17 +17,23 @@ const VERSION: &str = "vtools 0.1 (unreleased)\n";
 const HELP: &str = "\
 vtools: Varnish's logging tools as one program
 
-usage: vtools [OPTIONS] varnishlog [-g GROUPING] -r FILE
+usage: vtools [OPTIONS] varnishlog [-g GROUPING] [-w FILE [-a] [-A]] -r FILE
 
-Prints the records of the log file FILE, a group of them when it is complete.
+Prints the records of a log file, a group of them when it is complete, or
+writes them as a log file.
 
-  -r FILE           reads the log file FILE, which is any name but -
+  -r FILE           reads the log file FILE; - is standard input
   -g vxid           groups records by transaction; this is the default
-  -g raw            prints each record by itself, in the order of the file
+  -g raw            takes each record by itself, in the order of the file
+  -w FILE           writes a log file, in place of lines on standard output;
+                    - is standard output
+  -A                writes lines to the file of -w, and no log file
+  -a                appends to the file of -w, which is emptied otherwise
 
-Taken too, and of no effect: -a, -A, -C and -d; -L 1000 and -T 120, which are
-the defaults; before the tool --ring N, --reclen N, --turns N and --feed-first.
-Options stand in any order, letters may share a word, and the last -g counts.
+Taken too, and of no effect: -C and -d; -L 1000 and -T 120, which are the
+defaults; before the tool --ring N, --reclen N, --turns N and --feed-first.
+Options stand in any order, letters may share a word, and of -g, -r and -w
+the last counts.
 
 The words of varnishncsa, varnishtop and varnishstat are read, but these tools
 are not built yet.

@@ -1,15 +1,17 @@
 //! The files and streams of the system, as a world. It tells no bytes, and has one count for all
 //! faults.
 
-ghost use Rattle.std.specs.Prelude.{◌≡◌, ◌≢◌, [], ◌+◌, ◌-◌, ◌<◌, ◌≤◌, ◌↔◌, length, slice_get, IfOk, IfSome, IsErr, IsSome};
+ghost use Rattle.std.specs.Prelude.{◌≡◌, [], true, false, ◌+◌, ◌-◌, ◌<◌, ◌≤◌, ◌↔◌, length, slice_get, IfOk, IfSome, IsErr, IsSome};
 ghost use Rattle.vtools.specs.RealWorld.{real_seen, HasStreams-real};
 
-use crate::edge::{FIRST_FILE, open_answer, read_answer, write_answer};
+use crate::edge::{
+    FIRST_FILE, create_answer, how_to_create, open_answer, read_answer, write_answer,
+};
 use std::alloc::Global;
 use std::fs::File;
 use std::io::{Read, Write};
 use std::{fs, io};
-use vio::{ERRORS, Failed, INPUT, OUTPUT, World, WorldFault};
+use vio::{Created, ERRORS, Failed, INPUT, OUTPUT, World, WorldFault};
 
 /// The system's files and streams. The file of handle `h` stands at `h - 3`.
 ///
@@ -35,7 +37,7 @@ impl RealWorld {
         }
     }
 
-    /// The opened file of a handle.
+    /// The file of a handle.
     fn file(&self, h: u32) -> Option<&File>
         ensures found { IfSome result (λ file. slice_get self.now.files.items (h - FIRST_FILE) ≡ Some file.now) }
         ensures there { IsSome result ↔ (FIRST_FILE ≤ h × h - FIRST_FILE < length self.now.files.items) }
@@ -44,7 +46,17 @@ impl RealWorld {
         self.files.get(place)
     }
 
-    /// Reads from standard input or from an opened file; other handles are refused.
+    /// Opens a file for writing, and says whether it has no bytes.
+    fn make_file(&self, name: &str, append: bool) -> io::Result<(File, bool)>
+        ensures emptied { append ≡ false → IfOk result (λ made. made.1 ≡ true) }
+    {
+        let file = how_to_create(append).open(&self.rt, name)?;
+        let empty = !append || file.metadata()?.len() == 0;
+        Ok((file, empty))
+    }
+
+    /// Reads from standard input or from a file; other handles are refused, and by the system those of
+    /// files that were created.
     fn read_from(&self, h: u32, buf: &mut [u8]) -> io::Result<usize>
         ensures fits { IfOk result (λ n. n ≤ length buf.new) }
         ensures kept { length buf.new ≡ length buf.old }
@@ -60,16 +72,23 @@ impl RealWorld {
         file.read(buf)
     }
 
-    /// Writes to standard output or standard error; other handles are refused.
+    /// Writes to standard output, standard error or a file; other handles are refused, and by the system
+    /// those of files that were opened for reading.
     fn write_to(&self, h: u32, piece: &[u8]) -> io::Result<usize>
         ensures fits { IfOk result (λ n. n ≤ length piece.now) }
-        ensures no_stream { h ≢ 1 → h ≢ 2 → IsErr result }
+        ensures no_stream { h ≡ INPUT → IsErr result }
+        ensures no_file { 3 + length self.now.files.items ≤ h → IsErr result }
     {
-        match h {
-            OUTPUT => self.rt.stdout().write(piece),
-            ERRORS => self.rt.stderr().write(piece),
-            _ => Err(io::Error::from(io::ErrorKind::InvalidInput)),
+        if h == OUTPUT {
+            return self.rt.stdout().write(piece);
         }
+        if h == ERRORS {
+            return self.rt.stderr().write(piece);
+        }
+        let Some(mut file) = self.file(h) else {
+            return Err(io::Error::from(io::ErrorKind::InvalidInput));
+        };
+        file.write(piece)
     }
 }
 
@@ -81,6 +100,13 @@ impl World for RealWorld {
     fn open(&mut self, name: &str) -> Result<u32, WorldFault> {
         let given = fs::open(&self.rt, name);
         open_answer(given, &mut self.files, &mut self.faults)
+    }
+
+    /// There is room for the file before it is emptied.
+    fn create(&mut self, name: &str, append: bool) -> Result<Created, WorldFault> {
+        self.files.reserve(1)?;
+        let given = self.make_file(name, append);
+        create_answer(given, &mut self.files, &mut self.faults)
     }
 
     fn read(&mut self, h: u32, buf: &mut [u8]) -> Result<usize, Failed> {

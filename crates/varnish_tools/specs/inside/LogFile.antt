@@ -1,27 +1,56 @@
--- What opening and reading a log file comes to, and the printer of a job.
-use Rattle.std.specs.Prelude.{◌≡◌, ℕ, ◌≤◌, List, [], length, Some, codes}
-use Rattle.vio.specs.declared.world.TheConstants.{OUTPUT}
-use Rattle.vio.specs.World.{Seen, NoCountFalls}
-use Rattle.txn_rows.specs.declared.group.Grouping.{Grouping}
+-- What opening what a job reads and creating what it writes come to.
+use Rattle.std.specs.Prelude.{◌≡◌, ℕ, Bool, true, List, [], Some}
+use Rattle.vsl_file.specs.File.{most_bytes}
+use Rattle.varnish_tools.specs.declared.fault.ToolFault.{ToolFault}
+use Rattle.varnish_tools.specs.declared.fault.ToolFault.TheVariants.{ReadFault, NotALog, Damaged, TooLarge}
+use Rattle.varnish_tools.specs.declared.source.SourceFault.{SourceFault}
+use Rattle.varnish_tools.specs.declared.source.SourceFault.TheVariants as source_faults
+use Rattle.vio.specs.World.{Seen, Reading, Writing, Gains, NoCountFalls, Opened, FileCreated}
 use Rattle.tool_words.specs.declared.job.Job.{Job}
-use Rattle.varnish_tools.specs.Asked.{file_of}
-use Rattle.varnish_tools.specs.Promise.{log_limit}
+use Rattle.varnish_tools.specs.Asked.{file_of, write_of}
+use Rattle.varnish_tools.specs.Objects.{Object, OpenedFile, CreatedFile, Stream, source_of, sink_of, IsSourceHandle, IsSinkHandle, HoldsText}
+use Rattle.varnish_tools.specs.Output.{layout_of}
+use Rattle.varnish_tools.specs.Promise.{SourceHolds, SinkBegins}
 use Rattle.varnish_tools.specs.Printer.{PrinterState, Represents}
 
--- nothing was written
-pub record IsSilent (before now : Seen) : Type 0 where
+-- a source has this handle: a stream's own, with no call, or that of a file that was opened
+abbrev pub SourceOpened : Object → ℕ → Seen → Seen → Type 0
+SourceOpened (OpenedFile name) handle before now = Opened name handle before now
+SourceOpened (CreatedFile append name) handle before now = ⊥
+SourceOpened (Stream stream name) handle before now = (handle ≡ stream) × (now ≡ before)
+
+-- a sink has this handle: a stream's own, with no call, or that of a file that was created; and it is known whether it has no bytes
+abbrev pub SinkCreated : Object → ℕ → Bool → Seen → Seen → Type 0
+SinkCreated (OpenedFile name) handle empty before now = ⊥
+SinkCreated (CreatedFile append name) handle empty before now = FileCreated append name handle empty before now
+SinkCreated (Stream stream name) handle empty before now = (handle ≡ stream) × (empty ≡ true) × (now ≡ before)
+
+-- the source was opened, the sink was created, and this text was written to it
+pub record HasBegun (job : Job) (source sink : ℕ) (empty : Bool) (head : List ℕ) (before now : Seen) : Type 0 where
   pub counts : NoCountFalls before now
-  pub written : (i : ℕ) → now.written i ≡ before.written i
+  pub is_source : IsSourceHandle (source_of job) source before now
+  pub source_given : now.given source ≡ true
+  pub reads : now.names Reading source (file_of job) ≡ true
+  pub told : (bytes : List ℕ) → SourceHolds (source_of job) before bytes → now.left source ≡ Some bytes
+  pub is_sink : IsSinkHandle (sink_of job) sink before now
+  pub sink_given : now.given sink ≡ true
+  pub writes : now.names Writing sink (write_of job) ≡ true
+  pub begins : (b : Bool) → SinkBegins (sink_of job) before b → b ≡ empty
+  pub gains : Gains (before.written sink) (now.written sink) head
+  pub holds : HoldsText (sink_of job) head before now
 
--- these are all bytes of the job's file, within the limit, and nothing was written
-pub record IsReadWhole (job : Job) (bytes : List ℕ) (before now : Seen) : Type 0 where
-  pub silent : IsSilent before now
-  pub within : length bytes ≤ log_limit
-  pub all : (file_bytes : List ℕ) → before.held (file_of job) ≡ Some file_bytes → file_bytes ≡ bytes
-
--- a new printer to standard output
-pub record IsOutputPrinter (grouping : Grouping) (p : PrinterState) : Type 0 where
-  pub is_grouped : p.table.options.grouping ≡ grouping
-  pub sink : p.sink ≡ OUTPUT
-  pub name : p.name ≡ codes "-"
+-- a new printer of a job to this handle
+pub record IsJobPrinter (job : Job) (handle : ℕ) (p : PrinterState) : Type 0 where
+  pub is_grouped : p.table.options.grouping ≡ job.grouping
+  pub is_laid_out : p.layout ≡ layout_of job
+  pub sink : p.sink ≡ handle
+  pub name : p.name ≡ write_of job
   pub none : Represents p []
+
+-- the fault of a log under this name whose source stopped so; want of memory is none
+abbrev pub fault_as : List ℕ → SourceFault → ToolFault
+fault_as name (source_faults.NotALog at) = NotALog name at
+fault_as name (source_faults.Damaged at) = Damaged name at
+fault_as name source_faults.TooLarge = TooLarge name most_bytes
+fault_as name source_faults.ReadFault = ReadFault name
+fault_as name source_faults.NoMemory = ReadFault name

@@ -1,8 +1,7 @@
 -- What a run's loop did: it took units from a source and gave them to a printer.
 use Rattle.std.specs.Prelude.{◌≡◌, ℕ, ◌-◌, ◌<◌, Bool, true, false, List, [], ◌∷◌, length, take}
 use Rattle.log_model.specs.Prefix.{IsPrefix, IsProperPrefix}
-use Rattle.vio.specs.World.{Seen, Gains}
-use Rattle.vio.specs.Writes.{Gained}
+use Rattle.vio.specs.World.{Seen, Writing, Gains}
 use Rattle.vio.specs.Touches.{Touches}
 use Rattle.vsl_record.specs.Unit.{Log}
 use Rattle.varnish_tools.specs.declared.source.SourceFault.{SourceFault}
@@ -12,12 +11,23 @@ use Rattle.varnish_tools.specs.declared.run.Stopped.{Stopped}
 use Rattle.varnish_tools.specs.declared.run.Stopped.TheVariants.{BySource, ByPrinter}
 use Rattle.varnish_tools.specs.Printer.{PrinterState, Represents, IsSamePrinter, HasPrintCause, due}
 
+-- a text was added to what a handle tells, and to a file that it names
+pub record Added (h : ℕ) (text : List ℕ) (before now : Seen) : Type 0 where
+  pub written : Gains (before.written h) (now.written h) text
+  pub file : (name : List ℕ) → 2 < h → before.names Writing h name ≡ true → Gains (before.held name) (now.held name) text
+
+-- a text that is so was added
+pub record AddedSome (IsSo : List ℕ → Type 0) (h : ℕ) (before now : Seen) : Type 0 where
+  pub text : List ℕ
+  pub is : IsSo text
+  pub added : Added h text before now
+
 -- so many units were given, and a text of them that is so was written
 pub record Printed (IsGiven : Log → Type 0) (IsText : Log → List ℕ → Type 0) (sink n : ℕ) (before now : Seen) : Type 0 where
   pub units : Log
   pub given : IsGiven units
   pub count : n ≡ length units
-  pub gains : Gained (IsText units) (before.written sink) (now.written sink)
+  pub gains : AddedSome (IsText units) sink before now
 
 -- each unit that was given was printed; the printer goes on
 pub record Running (IsGiven : Log → Type 0) (reads : List ℕ) (p q : PrinterState) (n : ℕ) (before now : Seen) : Type 0 where
@@ -26,8 +36,8 @@ pub record Running (IsGiven : Log → Type 0) (reads : List ℕ) (p q : PrinterS
   pub count : n ≡ length units
   pub same : IsSamePrinter p q
   pub represents : Represents q units
-  pub gains : Gains (before.written p.sink) (now.written p.sink) (due p units false)
-  pub touches : Touches reads (p.sink ∷ []) [] before now
+  pub gains : Added p.sink (due p units false) before now
+  pub touches : Touches reads (p.sink ∷ []) [] [] before now
 
 -- a failed write left at least the text without the last unit, and not all with it
 pub record LeftOf (p : PrinterState) (units : Log) (all : Bool) (text : List ℕ) : Type 0 where

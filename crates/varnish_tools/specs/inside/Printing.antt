@@ -2,11 +2,12 @@
 use Rattle.std.specs.Prelude.{◌≡◌, ℕ, false, List, ◌++◌}
 use Rattle.vsl_record.specs.Unit.{LogUnit}
 use Rattle.txn_rows.specs.Grouping.{unit_step}
+use Rattle.varnish_tools.specs.declared.layout.Layout.{Layout}
 use Rattle.txn_rows.specs.TableState.{TableState}
-use Rattle.varnish_tools.specs.Output.{groups_text}
+use Rattle.varnish_tools.specs.Output.{laid_out}
 
 -- the table took a unit, and the text of the groups that it completed was added
-pub record PutUnit (u : LogUnit) (old new : TableState) (text_old text_new : List ℕ) : Type 0 where
+pub record PutUnit (layout : Layout) (u : LogUnit) (old new : TableState) (text_old text_new : List ℕ) : Type 0 where
   pub state : new.state ≡ (unit_step old.options.grouping u old.state).state
   pub sound : old.failed ≡ false → new.failed ≡ false
-  pub text : text_new ≡ text_old ++ groups_text (unit_step old.options.grouping u old.state).groups
+  pub text : text_new ≡ text_old ++ laid_out layout (unit_step old.options.grouping u old.state).groups

@@ -1,13 +1,17 @@
--- What the steps of reading a file in pieces find (this project's choice). `old` is what was taken and not used before, `new` what is now.
-use Rattle.std.specs.Prelude.{◌≡◌, ℕ, ◌<◌, ◌≤◌, List, [], ◌++◌, length, Some, Result, Ok, Err}
+-- What the steps of reading a file find (this project's choice). `old` is what was taken and not used before, `new` what is now, and
+-- `most` how many bytes may be held.
+use Rattle.std.specs.Prelude.{◌≡◌, ◌≢◌, ℕ, ◌+◌, ◌<◌, ◌≤◌, true, false, List, [], ◌∷◌, ◌++◌, length, take, Some, Result, Ok, Err}
 use Rattle.vio.specs.World.{Seen, Reading, Read, FaultsRose, IsAtEnd}
 use Rattle.vsl_record.specs.Unit.{LogUnit, Log}
 use Rattle.vsl_record.specs.Words.{IsUnit}
-use Rattle.vsl_file.specs.declared.reader.Taken.{Taken}
-use Rattle.vsl_file.specs.declared.reader.Taken.TheVariants.{Whole, End, Broken}
-use Rattle.vsl_file.specs.declared.reader.FileFault.{FileFault}
+use Rattle.vsl_file.specs.declared.steps.Held.{Held}
+use Rattle.vsl_file.specs.declared.steps.Held.TheVariants.{Sized, Stopped, Broken}
+use Rattle.vsl_file.specs.declared.steps.Taken.{Taken}
+use Rattle.vsl_file.specs.declared.steps.Taken.TheVariants.{Whole, End, Damaged, TooLarge}
+use Rattle.vsl_file.specs.declared.fault.FileFault.{FileFault}
 use Rattle.vsl_file.specs.ReaderState.{ReaderState, Represents, Refused}
-use Rattle.vsl_file.specs.File.{unit_bytes, file_header, BeginsNoUnit, DiffersFirst}
+use Rattle.vsl_file.specs.File.{unit_bytes, file_header, BeginsNoUnit, DiffersFirst, stops_early}
+use Rattle.vsl_file.specs.inside.FileReading.{IsHeadSize, IsBroken}
 
 -- the bytes gained some, which were read from the handle
 pub record Filled (h : ℕ) (old new : List ℕ) (before now : Seen) : Type 0 where
@@ -15,15 +19,47 @@ pub record Filled (h : ℕ) (old new : List ℕ) (before now : Seen) : Type 0 wh
   pub is : new ≡ old ++ added
   pub read : Read h added before now
 
--- a unit was taken from the bytes, of which more may have been read
-pub record TookUnit (h : ℕ) (u : LogUnit) (size : ℕ) (old new : List ℕ) (before now : Seen) : Type 0 where
+-- ---- what is held
+
+-- as many bytes as the header counts are held, and no more were read than one read gives
+pub record HoldsSized (size : ℕ) (old new : List ℕ) : Type 0 where
+  pub sized : IsHeadSize size new
+  pub enough : size ≤ length new
+  pub short : length old < 65536 → length new < size + 65536
+
+-- the bytes stop before the end of a unit, or where one would begin; they are all that is left, or as many as may be held
+pub record HoldsStopped (h most : ℕ) (new : List ℕ) (now : Seen) : Type 0 where
+  pub stops : stops_early new ≡ true
+  pub end : length new < most → IsAtEnd h now
+
+-- what reading towards a unit came to
+abbrev pub Holds : ℕ → ℕ → Held → List ℕ → List ℕ → Seen → Type 0
+Holds h most (Sized size) old new now = HoldsSized size old new
+Holds h most Stopped old new now = HoldsStopped h most new now
+Holds h most Broken old new now = IsBroken new
+
+-- one more byte was read, to see that the file goes on
+pub record GoesOn (h : ℕ) (before now : Seen) : Type 0 where
+  pub aside : ℕ
+  pub read : Read h (aside ∷ []) before now
+
+-- nothing was read, since nothing is left
+pub record HasEnded (h : ℕ) (before now : Seen) : Type 0 where
+  pub read : Read h [] before now
+  pub end : IsAtEnd h now
+
+-- ---- what a step took
+
+-- a unit of this size was taken from the bytes, of which more may have been read
+pub record TookUnit (h most : ℕ) (u : LogUnit) (size : ℕ) (old new : List ℕ) (before now : Seen) : Type 0 where
   pub held : List ℕ
   pub filled : Filled h old held before now
   pub is_unit : IsUnit u
-  pub most : size ≤ 4194304
-  pub sized : length (unit_bytes u) ≡ size
+  pub size_is : length (unit_bytes u) ≡ size
+  pub least : 12 ≤ size
   pub parts : held ≡ unit_bytes u ++ new
   pub short : length old < 65536 → length new < 65536
+  pub within : size + length new ≤ most
 
 -- there was nothing more
 pub record TookEnd (h : ℕ) (old new : List ℕ) (before now : Seen) : Type 0 where
@@ -31,31 +67,46 @@ pub record TookEnd (h : ℕ) (old new : List ℕ) (before now : Seen) : Type 0 w
   pub none : new ≡ []
   pub end : IsAtEnd h now
 
--- no unit begins what is held then, also with all that the handle has left, where that is told
-pub record TookNone (h : ℕ) (old : List ℕ) (before now : Seen) : Type 0 where
-  pub held : List ℕ
-  pub filled : Filled h old held before now
-  pub some : 0 < length held
-  pub none : (more : List ℕ) → now.left h ≡ Some more → BeginsNoUnit (held ++ more)
+-- these bytes are what a damaged file has after its units, where at most so many of them are read
+pub record IsDamagedRest (most : ℕ) (rest : List ℕ) : Type 0 where
+  pub some : take most rest ≢ []
+  pub none : BeginsNoUnit (take most rest)
+  pub stays : most < length rest → stops_early (take most rest) ≡ false
+
+-- a damaged file's bytes begin where the next unit would, also with all that the handle has left, where that is told
+pub record TookDamaged (h most : ℕ) (old new : List ℕ) (before now : Seen) : Type 0 where
+  pub filled : Filled h old new before now
+  pub rest : (more : List ℕ) → now.left h ≡ Some more → IsDamagedRest most (new ++ more)
+
+-- as many bytes as may be held stop early, and the file goes on
+pub record TookTooLarge (h most : ℕ) (old new : List ℕ) (before now : Seen) : Type 0 where
+  pub added : List ℕ
+  pub aside : ℕ
+  pub is : new ≡ old ++ added
+  pub read : Read h (added ++ aside ∷ []) before now
+  pub full : length new ≡ most
+  pub stops : stops_early new ≡ true
 
 -- a read failed before a whole unit was there
 pub record CutShort (h : ℕ) (old new : List ℕ) (before now : Seen) : Type 0 where
   pub filled : Filled h old new before now
-  pub none : BeginsNoUnit new
+  pub stops : stops_early new ≡ true
   pub rose : FaultsRose Reading h before now
 
 -- what a step took
-abbrev pub Took : ℕ → Taken → List ℕ → List ℕ → Seen → Seen → Type 0
-Took h (Whole u size) old new before now = TookUnit h u size old new before now
-Took h End old new before now = TookEnd h old new before now
-Took h Broken old new before now = TookNone h old before now
+abbrev pub Took : ℕ → ℕ → Taken → List ℕ → List ℕ → Seen → Seen → Type 0
+Took h most (Whole u size) old new before now = TookUnit h most u size old new before now
+Took h most End old new before now = TookEnd h old new before now
+Took h most Damaged old new before now = TookDamaged h most old new before now
+Took h most TooLarge old new before now = TookTooLarge h most old new before now
 
 -- the header was taken from the bytes, of which more may have been read
-pub record TookHeader (h : ℕ) (old new : List ℕ) (before now : Seen) : Type 0 where
+pub record TookHeader (h most : ℕ) (old new : List ℕ) (before now : Seen) : Type 0 where
   pub held : List ℕ
   pub filled : Filled h old held before now
   pub parts : held ≡ file_header ++ new
   pub short : length old < 65536 → length new < 65536
+  pub within : 8 + length new ≤ most
 
 -- another header begins what is held then, also with all that the handle has left, where that is told
 pub record NoHeader (h at : ℕ) (old : List ℕ) (before now : Seen) : Type 0 where
@@ -80,10 +131,3 @@ pub record Began (old new : ReaderState) (taken : List ℕ) (units : Log) (befor
 abbrev pub BeganSo : {T : Type 0} → Result T FileFault → ReaderState → ReaderState → List ℕ → Log → Seen → Seen → Type 0
 BeganSo (Ok x) old new taken units before now = Began old new taken units before now
 BeganSo (Err e) old new taken units before now = Refused e old taken units before now
-
--- the reader represents the bytes that were read from the handle, and for these units
-pub record Gathering (h : ℕ) (r : ReaderState) (units : Log) (before now : Seen) : Type 0 where
-  pub handle : r.handle ≡ h
-  pub taken : List ℕ
-  pub read : Read h taken before now
-  pub represents : Represents r taken units

@@ -2,22 +2,22 @@ use Rattle.std.proofs.Common.{◌∙◌, false, arith}
 use Rattle.varnish_tools.proofs.LoopLemmas.{running_more, printer_stopped, end_stopped, ran_to_end, named_still, unit_given}
 use Rattle.varnish_tools.proofs.run.print_source.Goals as goal
 
-pub unit-requires-in-Ok-true-clause-named : goal.unit-requires-in-Ok-true-clause-named
-unit-requires-in-Ok-true-clause-named g c κs within =
+pub unit-requires-in-Ok-true : goal.unit-requires-in-Ok-true
+unit-requires-in-Ok-true g c =
     let read = rw c.loop-units.invariant.same at c.in-Ok-true.ensures.touches in
-    named_still _ _ _ _ _ _ _ _ c.loop-units.invariant.running read c.requires.given c.requires.named
+    record { named = named_still _ _ _ _ _ _ _ _ c.loop-units.invariant.running read c.requires.given c.requires.named }
 
-pub end-requires-clause-named : goal.end-requires-clause-named
-end-requires-clause-named g c κs within =
+pub end-requires : goal.end-requires
+end-requires g c =
     let read = rw c.loop-units.invariant.same at c.in-Ok-false.ensures.touches in
-    named_still _ _ _ _ _ _ _ _ c.loop-units.invariant.running read c.requires.given c.requires.named
+    record { named = named_still _ _ _ _ _ _ _ _ c.loop-units.invariant.running read c.requires.given c.requires.named }
 
 pub loop-units-preserved : goal.loop-units-preserved
 loop-units-preserved g c =
     let run = c.loop-units.invariant.running in
     let read = rw c.loop-units.invariant.same at c.in-Ok-true.ensures.touches in
     let next = rw c.in-Ok-true.field-0-test at (c.in-Ok-true.ensures.advanced _ _ run.units run.given) in record {
-      running = running_more _ _ _ _ _ _ _ c.unit.result.now _ _ _ _ run read
+      running = running_more _ _ _ _ _ _ _ c.unit.result.now _ _ _ _ run c.requires.given read
           (λ bytes wrote. g.met.S.Source.stays _ _ _ _ _ _ _ _ _ (unit_given (λ us. g.S.Source.gave c.args.source.now c.advance.new.self (g.W.World.seen c.args.world.now) (g.W.World.seen c.advance.new.world) us false) _ run.units c.unit.result.now next c.unit.ensures) wrote)
           c.in_default.ensures.same c.in_default.ensures.takes c.in_default.ensures.writes;
       same = c.in-Ok-true.ensures.same ∙ c.loop-units.invariant.same;
@@ -29,7 +29,7 @@ returns-in-Err-unit-clause-stopped g c =
     let run = c.loop-units.invariant.running in
     let read = rw c.loop-units.invariant.same at c.in-Ok-true.ensures.touches in
     let next = rw c.in-Ok-true.field-0-test at (c.in-Ok-true.ensures.advanced _ _ run.units run.given) in
-    printer_stopped _ _ (λ us all. g.S.Source.gave c.args.source.now c.advance.new.self (g.W.World.seen c.args.world.now) (g.W.World.seen c.unit-in-Ok-true.new.world) us all) (λ fault us. g.S.Source.stopped c.args.source.now c.advance.new.self fault (g.W.World.seen c.args.world.now) (g.W.World.seen c.advance.new.world) us) _ _ _ _ c.unit.result.now _ _ _ _ run read
+    printer_stopped _ _ (λ us all. g.S.Source.gave c.args.source.now c.advance.new.self (g.W.World.seen c.args.world.now) (g.W.World.seen c.unit-in-Ok-true.new.world) us all) (λ fault us. g.S.Source.stopped c.args.source.now c.advance.new.self fault (g.W.World.seen c.args.world.now) (g.W.World.seen c.advance.new.world) us) _ _ _ _ c.unit.result.now _ _ _ _ run c.requires.given read
     (λ bytes wrote. g.met.S.Source.stays _ _ _ _ _ _ _ _ _ (unit_given (λ us. g.S.Source.gave c.args.source.now c.advance.new.self (g.W.World.seen c.args.world.now) (g.W.World.seen c.advance.new.world) us false) _ run.units c.unit.result.now next c.unit.ensures) wrote)
     c.in-Err-unit.ensures.cause c.in-Err-unit.ensures.refused
 
@@ -38,11 +38,11 @@ returns-in-Err-end-clause-stopped g c =
     let run = c.loop-units.invariant.running in
     let read = rw c.loop-units.invariant.same at c.in-Ok-false.ensures.touches in
     let next = rw c.in-Ok-false.field-0-test at (c.in-Ok-false.ensures.advanced _ _ run.units run.given) in
-    end_stopped _ _ (λ us all. g.S.Source.gave c.args.source.now c.advance.new.self (g.W.World.seen c.args.world.now) (g.W.World.seen c.end.new.world) us all) (λ fault us. g.S.Source.stopped c.args.source.now c.advance.new.self fault (g.W.World.seen c.args.world.now) (g.W.World.seen c.advance.new.world) us) _ _ _ _ _ _ _ _ run read (λ bytes wrote. g.met.S.Source.stays _ _ _ _ _ _ _ _ _ next wrote) c.in-Err-end.ensures.cause c.in-Err-end.ensures.refused
+    end_stopped _ _ (λ us all. g.S.Source.gave c.args.source.now c.advance.new.self (g.W.World.seen c.args.world.now) (g.W.World.seen c.end.new.world) us all) (λ fault us. g.S.Source.stopped c.args.source.now c.advance.new.self fault (g.W.World.seen c.args.world.now) (g.W.World.seen c.advance.new.world) us) _ _ _ _ _ _ _ _ run c.requires.given read (λ bytes wrote. g.met.S.Source.stays _ _ _ _ _ _ _ _ _ next wrote) c.in-Err-end.ensures.cause c.in-Err-end.ensures.refused
 
 pub returns-in-Ok-false-clause-ran : goal.returns-in-Ok-false-clause-ran
 returns-in-Ok-false-clause-ran g c =
     let run = c.loop-units.invariant.running in
     let read = rw c.loop-units.invariant.same at c.in-Ok-false.ensures.touches in
     let next = rw c.in-Ok-false.field-0-test at (c.in-Ok-false.ensures.advanced _ _ run.units run.given) in
-    ran_to_end _ _ (λ us all. g.S.Source.gave c.args.source.now c.advance.new.self (g.W.World.seen c.args.world.now) (g.W.World.seen c.end.new.world) us all) _ _ _ _ _ _ _ run read (λ bytes wrote. g.met.S.Source.stays _ _ _ _ _ _ _ _ _ next wrote) c.in_default-end.ensures.writes
+    ran_to_end _ _ (λ us all. g.S.Source.gave c.args.source.now c.advance.new.self (g.W.World.seen c.args.world.now) (g.W.World.seen c.end.new.world) us all) _ _ _ _ _ _ _ run c.requires.given read (λ bytes wrote. g.met.S.Source.stays _ _ _ _ _ _ _ _ _ next wrote) c.in_default-end.ensures.writes

@@ -1,10 +1,15 @@
-use Rattle.std.proofs.Common.{◌-◌, ◌%◌, ◌≤◌, length, arith}
+use Rattle.std.proofs.Common.{◌≡◌, ℕ, ◌%◌, List, length, get_or, None, inr}
+use Rattle.std.proofs.lemmas.Result.{err_from_is_err_and}
 use Rattle.vsl_record.specs.Words.{words_in}
-use Rattle.vsl_record.proofs.UnitPrefixLemmas.{prefix_at}
+use Rattle.vsl_record.specs.WordFaults.{header_fault}
+use Rattle.vsl_record.proofs.UnitReadingLemmas.{bad_before}
 use Rattle.vsl_record.proofs.reading.read_prefix.Goals as goal
 
-pub returns-clause-read : goal.returns-clause-read
-returns-clause-read c =
-    let enough : c.in-Some.head % 16777216 - 1 ≤ length (words_in c.take_word.new.bytes) = omega (arith, c.word_count.ensures, c.if-word_count-count.false) in
-    rw c.of_id.ensures (prefix_at (words_in c.args.bytes.now) (words_in c.take_word.new.bytes) (words_in c.keep_words.new.bytes) c.in-Some.head c.in-Some-second_word.id c.in_ok-records.records.items
-    c.in-Some.ensures.some c.if-head-ne-UNIT_MARK.false (omega arith) (omega arith) enough (rw c.as_slice.ensures at c.in-Some-second_word.ensures.some) c.keep_words.ensures c.in_ok-records.ensures)
+pub returns-in_err-unit-clause-refused : goal.returns-in_err-unit-clause-refused
+returns-in_err-unit-clause-refused c =
+    let p = err_from_is_err_and c.from_residual-in_err-unit.result c.from_residual-in_err-unit.ensures.1 in
+    let words : List ℕ = words_in c.args.bytes in
+    let head : get_or words 0 0 ≡ c.header_word-head.result = rw c.as_slice.ensures at c.header_word-head.ensures in
+    let good : header_fault (get_or words 0 0) (length words) ≡ None = rw (← head, c.word_count.ensures) at c.in_ok-size.ensures.good in
+    let size : c.in_ok-size.size ≡ get_or words 0 0 % 16777216 = rw head c.in_ok-size.ensures.size.0 in
+    rw (p.1, p.2) (λ other. inr (good, bad_before words c.in_ok-size.size c.in_err-unit.field-0.0 size c.in_ok-size.ensures.size.1 (rw c.keep_words.ensures at (c.in_err-unit.ensures.refused other))))

@@ -1,15 +1,11 @@
--- the records so far and those that are still read are the whole, from some place on
-use Rattle.std.proofs.Common.{◌≡◌, ℕ, ◌+◌, ◌-◌, ◌≤◌, length}
+-- the records so far were read, and the others stand in the bytes that are left
+use Rattle.std.proofs.Common.{length}
 use Rattle.vsl_record.specs.Words.{words_in}
-use Rattle.vsl_record.specs.inside.UnitReading.{records_at}
-use Rattle.vsl_record.proofs.LoopLemmas.{with_records}
+use Rattle.vsl_record.specs.inside.UnitReading.{AreRecordsRead}
 use Rattle.vsl_record.proofs.reading.read_records.Given as goal
 
-abbrev pub invariant-loop-bytes : goal.invariant-loop-bytes
-invariant-loop-bytes l = record {
-  read : (place : ℕ) × (with_records l.records.items (records_at (length (words_in l.initial.bytes) - length l.records.items) l.id place (words_in l.bytes)) ≡ records_at (length (words_in l.initial.bytes)) l.id 1 (words_in l.initial.bytes));
-  room : length l.records.items + length (words_in l.bytes) ≤ length (words_in l.initial.bytes);
-}
+abbrev pub invariant-loop-head : goal.invariant-loop-head
+invariant-loop-head l = AreRecordsRead l.id (words_in l.initial.bytes) l.records.items (words_in l.bytes)
 
-abbrev pub decreases-loop-bytes : goal.decreases-loop-bytes
-decreases-loop-bytes l = length (words_in l.bytes)
+abbrev pub decreases-loop-head : goal.decreases-loop-head
+decreases-loop-head l = length (words_in l.bytes)

@@ -1,17 +1,8 @@
-use Rattle.std.proofs.Common.{ℕ, ◌∙◌, []}
-use Rattle.std.proofs.lemmas.Result.{IfOk-weaker}
-use Rattle.vsl_record.specs.Unit.{LogUnit}
-use Rattle.vsl_record.proofs.UnitPrefixLemmas.{found_before, stands_alone}
+use Rattle.vsl_record.proofs.AnswerLemmas.{answers_unit, answers_fault}
 use Rattle.vsl_record.proofs.words.read_unit.Goals as goal
 
-pub returns-clause-found : goal.returns-clause-found
-returns-clause-found c =
-    IfOk-weaker _ _ _ (λ (x : LogUnit × ℕ) found. found_before c.args.words.now _ c.unit_length.result x.1 x.0 (c.in_ok-bytes.ensures ∙ c.split_at.ensures.front) found) c.read_unit_bytes.ensures.found
-
 pub returns-clause-only : goal.returns-clause-only
-returns-clause-only c = λ u rest fits stands.
-    c.read_unit_bytes.ensures.only u [] fits (stands_alone c.args.words.now _ c.unit_length.result u rest (c.in_ok-bytes.ensures ∙ c.split_at.ensures.front) (c.unit_length.ensures.only u rest fits stands) stands)
+returns-clause-only c = λ u rest fits is. answers_unit c.args.words.now c.read_prefix.result u rest c.read_prefix.ensures.found c.read_prefix.ensures.refused fits is
 
-pub returns-clause-refused : goal.returns-clause-refused
-returns-clause-refused c = λ bad u rest fits stands.
-    c.read_unit_bytes.ensures.refused bad u [] fits (stands_alone c.args.words.now _ c.unit_length.result u rest (c.in_ok-bytes.ensures ∙ c.split_at.ensures.front) (c.unit_length.ensures.only u rest fits stands) stands)
+pub returns-clause-faulty : goal.returns-clause-faulty
+returns-clause-faulty c = λ fault faulty. answers_fault c.args.words.now c.read_prefix.result fault c.read_prefix.ensures.found c.read_prefix.ensures.refused faulty

@@ -9,11 +9,11 @@ returns-clause-takes g c = rw (← c.self.view_is) (OnOk-always c.print_text.res
 
 pub returns-clause-writes : goal.returns-clause-writes
 returns-clause-writes g c = rw (← c.self.view_is) (on_ok_weaker c.print_text.result
-    (λ wrote units old. unit_writes _ (record { table = c.put_unit.new.table; sink = c.self.inside.sink.handle; name = c.self.inside.sink.name }) c.args.unit.now units _ _ _ _ c.clear.ensures.items c.in_default.ensures.ok wrote old) c.print_text.ensures.ok)
+    (λ wrote units old. unit_writes _ (record { table = c.put_unit.new.table; layout = c.self.inside.style.layout; sink = c.self.inside.sink.handle; name = c.self.inside.sink.name }) c.args.unit.now units _ _ _ _ c.clear.ensures.items c.in_default.ensures.ok wrote old) c.print_text.ensures.ok)
 
 pub returns-clause-refused : goal.returns-clause-refused
 returns-clause-refused g c = rw (← c.self.view_is) (IfErr-weaker c.print_text.result _ _
-    (λ (f : PrintFault) left units old. unit_left f _ (record { table = c.put_unit.new.table; sink = c.self.inside.sink.handle; name = c.self.inside.sink.name }) c.args.unit.now units _ _ _ _ c.clear.ensures.items c.in_default.ensures.ok left old) c.print_text.ensures.refused)
+    (λ (f : PrintFault) left units old. unit_left f _ (record { table = c.put_unit.new.table; layout = c.self.inside.style.layout; sink = c.self.inside.sink.handle; name = c.self.inside.sink.name }) c.args.unit.now units _ _ _ _ c.clear.ensures.items c.in_default.ensures.ok left old) c.print_text.ensures.refused)
 
 pub returns-in-Err-clause-refused : goal.returns-in-Err-clause-refused
 returns-in-Err-clause-refused g c = rw (← c.self.view_is) (λ units old. none_left _ c.args.unit.now units _ old)

@@ -1,0 +1,306 @@
+-- What a run over a log comes to, by how it ended.
+use Rattle.std.proofs.Common.{◌≡◌, ◌≢◌, ℕ, ◌+◌, ◌-◌, ◌<◌, ◌≤◌, Bool, true, false, cond, eqb, eq-eqb, ◌&&◌, List, [], ◌∷◌, ◌++◌, length, length-append, take, Some, None, refl, sym, ap, subst, ◌∙◌, inl, append_assoc, arith}
+use Rattle.std.specs.List.{AllByRecursion}
+use Rattle.std.proofs.lemmas.List.{append-nil, take_all, take-append-le}
+use Rattle.log_model.specs.Faults.{HasNewFault}
+use Rattle.log_model.specs.Prefix.{IsPrefix, IsProperPrefix}
+use Rattle.log_model.proofs.PrefixLemmas.{prefix_same, prefix_after, proper_after, proper_then}
+use Rattle.vio.specs.World.{Seen, Reading, Writing}
+use Rattle.vio.specs.Touches.{IsOneOf, Touches}
+use Rattle.vio.proofs.TouchLemmas.{only_one}
+use Rattle.vsl_record.specs.Unit.{Log}
+use Rattle.vsl_record.specs.Words.{IsUnit}
+use Rattle.vsl_file.specs.File.{FileEnding, IsFile, file_header, log_bytes, most_bytes}
+use Rattle.vsl_file.specs.File as file
+use Rattle.vsl_file.specs.ReaderState.{ReaderState, Represents, used}
+use Rattle.vsl_file.proofs.FileLemmas.{one_content_of, first_units}
+use Rattle.txn_rows.specs.declared.group.Grouping.{Grouping}
+use Rattle.txn_rows.specs.Grouping.{groups_of}
+use Rattle.tool_words.specs.declared.job.Job.{Job}
+use Rattle.varnish_tools.specs.declared.fault.ToolFault.{ToolFault}
+use Rattle.varnish_tools.specs.declared.fault.ToolFault.TheVariants.{ReadFault, WriteFault, NotALog, Damaged, TooLarge}
+use Rattle.varnish_tools.specs.declared.layout.Layout.{Layout}
+use Rattle.varnish_tools.specs.declared.outcome.RunRecord.{RunRecord}
+use Rattle.varnish_tools.specs.declared.outcome.RunRecord.TheVariants.{Counted}
+use Rattle.varnish_tools.specs.declared.printer.PrintFault.TheVariants as print_faults
+use Rattle.varnish_tools.specs.declared.source.SourceFault.{SourceFault}
+use Rattle.varnish_tools.specs.declared.source.SourceFault.TheVariants as source_faults
+use Rattle.varnish_tools.specs.declared.run.Stopped.TheVariants.{BySource, ByPrinter}
+use Rattle.varnish_tools.specs.declared.log_source.LogFile.{LogFile}
+use Rattle.varnish_tools.specs.Asked.{Work, file_of, write_of}
+use Rattle.varnish_tools.specs.Faults.{FaultClass, BadInput, class_of}
+use Rattle.varnish_tools.specs.Objects.{Object, source_of, sink_of, SinkGained}
+use Rattle.varnish_tools.specs.Run.{Ending, Whole, Faulted, run_of}
+use Rattle.varnish_tools.specs.Output.{head_text, laid_out, layout_of, is_flushed, sink_text}
+use Rattle.varnish_tools.specs.Printer.{PrinterState, due, due_text}
+use Rattle.varnish_tools.specs.Promise.{Input, SourceHolds, IsInput, HasCause, HasClassCause, LeavesUntil, TakesUntil, ReadsOnceUntil, IsDueUntil, IsDue, ReadsOnce, Took, WritesSinks, WorksOff, whole_text, whole_run, input_fault, is_whole, ending_begun}
+use Rattle.varnish_tools.specs.inside.LogFile.{HasBegun, IsJobPrinter, fault_as}
+use Rattle.varnish_tools.specs.inside.LogSource.{TookFrom, BeginsLog, GaveUnits, GaveFirst, EndsFile, FailedAfter, StoppedSo}
+use Rattle.varnish_tools.specs.inside.Loop.{AddedSome, RanToEnd, RanUntil}
+use Rattle.varnish_tools.proofs.LogSourceLemmas.{gave_as_first}
+use Rattle.varnish_tools.proofs.ObjectLemmas.{source_name, sink_name, source_still, gained_after}
+use Rattle.varnish_tools.proofs.PrinterLemmas.{due_flag}
+
+-- the units that were given, and the input
+
+-- units that come first are as many as they are
+first_of : (units us : Log) → (others : Log) × (us ≡ units ++ others) → (length units ≤ length us) × (units ≡ take (length units) us)
+first_of units us p =
+    let enough : length units ≤ length units = omega arith in
+    (omega (arith, ap length p.1, length-append units p.0), rw p.1 (sym (rw take-append-le (take_all (length units) units enough))))
+
+first_by : (begun : Bool) (bytes taken rest more : List ℕ) (units us : Log) (ending : FileEnding) → AllByRecursion IsUnit units → (begun ≡ false → units ≡ []) → length (used begun units) ≤ most_bytes
+    → taken ≡ used begun units ++ rest → bytes ≡ taken ++ more → IsFile bytes us ending → (others : Log) × (us ≡ units ++ others)
+first_by false bytes taken rest more units us ending fits none most parts all is_file = (us, ap (λ (first : Log). first ++ us) (sym (none refl)))
+first_by true bytes taken rest more units us ending fits none most parts all is_file = first_units bytes units us ending (rest ++ more) fits most
+    (all ∙ ap (λ (x : List ℕ). x ++ more) parts ∙ append_assoc (file_header ++ log_bytes units) rest more) is_file
+
+begins_first : (bytes taken more : List ℕ) (units us : Log) (ending : FileEnding) → BeginsLog taken units → bytes ≡ taken ++ more → IsFile bytes us ending → (length units ≤ length us) × (units ≡ take (length units) us)
+begins_first bytes taken more units us ending p all is_file = first_of units us (first_by p.begun bytes taken p.rest more units us ending p.are_units p.fresh p.most p.parts all is_file)
+
+-- the bytes that were taken are the first of the input
+took : (job : Job) (source sink : ℕ) (empty : Bool) (r s t : Seen) (taken : List ℕ) (input : Input) → HasBegun job source sink empty (head_text job empty) r s → Touches (source ∷ []) (sink ∷ []) [] [] s t → TookFrom source taken s t
+    → IsInput (Work job) r input → Took (source_of job) input.bytes taken r t
+took job source sink empty r s t taken input begun touched p is_input =
+    let lost = p.loses input.bytes (begun.told input.bytes is_input.0) in record {
+      handle = source;
+      is_handle = source_still (source_of job) source (source ∷ []) (sink ∷ []) r s t begun.is_source begun.source_given touched;
+      rest = lost.0;
+      left = lost.2;
+      parts = lost.1;
+    }
+
+-- the units that were given are the first of the input
+pub given_first : (job : Job) (source sink : ℕ) (empty : Bool) (r s t : Seen) (units : Log) (input : Input) → HasBegun job source sink empty (head_text job empty) r s → GaveFirst source s t units → IsInput (Work job) r input
+    → (length units ≤ length input.units) × (units ≡ take (length units) input.units)
+given_first job source sink empty r s t units input begun p is_input =
+    let lost = p.took.loses input.bytes (begun.told input.bytes is_input.0) in
+    begins_first input.bytes p.taken lost.0 units input.units input.file_ending p.begins lost.1 is_input.1
+
+-- all units were given, of a whole log
+pub given_all : (job : Job) (source sink : ℕ) (empty : Bool) (start now : LogFile) (r s t : Seen) (units : Log) (input : Input) → start.reader.handle ≡ source → HasBegun job source sink empty (head_text job empty) r s → GaveUnits start now s t units true
+    → IsInput (Work job) r input → (units ≡ input.units) × (input.file_ending ≡ file.Whole)
+given_all job source sink empty start now r s t units input handle begun p is_input =
+    let whole = p.whole refl in
+    let lost = p.took.loses input.bytes (ap (λ (h : ℕ). s.left h) handle ∙ begun.told input.bytes is_input.0) in
+    let all : input.bytes ≡ p.taken = lost.1 ∙ ap (λ (x : List ℕ). p.taken ++ x) (whole.1 lost.0 lost.2) ∙ append-nil p.taken in
+    let same = one_content_of input.bytes units input.units file.Whole input.file_ending (subst (λ (x : List ℕ). IsFile x units file.Whole) (sym all) whole.0) is_input.1 in
+    (same.0, sym same.1)
+
+-- what the source holds ends so
+ends_so : (job : Job) (source sink : ℕ) (empty : Bool) (r s : Seen) (units us : Log) (ending end : FileEnding) (bytes : List ℕ) → HasBegun job source sink empty (head_text job empty) r s → EndsFile source s units ending
+    → SourceHolds (source_of job) r bytes → IsFile bytes us end → (units ≡ us) × (ending ≡ end)
+ends_so job source sink empty r s units us ending end bytes begun ends holds is_file = one_content_of bytes units us ending end (ends bytes (begun.told bytes holds)) is_file
+
+given_ending : (job : Job) (source sink : ℕ) (empty : Bool) (r s : Seen) (units : Log) (ending : FileEnding) (input : Input) → HasBegun job source sink empty (head_text job empty) r s → EndsFile source s units ending → IsInput (Work job) r input
+    → (units ≡ input.units) × (ending ≡ input.file_ending)
+given_ending job source sink empty r s units ending input begun ends is_input = ends_so job source sink empty r s units input.units ending input.file_ending input.bytes begun ends is_input.0 is_input.1
+
+-- the text that is due
+
+-- the text that was due at the printer is that of the job
+due_is : (job : Job) (k : ℕ) (p : PrinterState) (units : Log) (b : Bool) → IsJobPrinter job k p → due p units b ≡ laid_out (layout_of job) (groups_of job.grouping units b)
+due_is job k p units b is = ap (λ (l : Layout). due_text l p.table.options.grouping units b) is.is_laid_out ∙ ap (λ (g : Grouping). due_text (layout_of job) g units b) is.is_grouped
+
+-- the text of a run of units
+sink_is : (job : Job) (k : ℕ) (p : PrinterState) (empty : Bool) (units : Log) (ending : Ending) → IsJobPrinter job k p → head_text job empty ++ due p units (is_flushed ending) ≡ sink_text (Work job) (run_of empty units) ending
+sink_is job k p empty units ending is = ap (λ (x : List ℕ). head_text job empty ++ x)
+    (due_is job k p units (is_flushed ending) is ∙ ap (λ (us : Log). laid_out (layout_of job) (groups_of job.grouping us (is_flushed ending))) (sym (append-nil units)))
+
+pub whole_is : (job : Job) (k : ℕ) (p : PrinterState) (empty : Bool) (input : Input) → IsJobPrinter job k p → input.sink_empty ≡ empty → head_text job empty ++ due p input.units (is_whole input.file_ending) ≡ whole_text (Work job) input
+whole_is job k p empty input is e = ap (λ (x : List ℕ). head_text job empty ++ x) (due_is job k p input.units (is_whole input.file_ending) is)
+    ∙ ap (λ (b : Bool). head_text job b ++ laid_out (layout_of job) (groups_of job.grouping input.units (is_whole input.file_ending))) (sym e)
+
+-- what the sink gained since before the run
+pub sink_gained : {IsSo IsToo : List ℕ → Type 0} (job : Job) (source sink : ℕ) (empty : Bool) (p : PrinterState) (r s t : Seen) → HasBegun job source sink empty (head_text job empty) r s → IsJobPrinter job sink p → Touches (source ∷ []) (sink ∷ []) [] [] s t
+    → ((text : List ℕ) → IsSo text → IsToo (head_text job empty ++ text)) → AddedSome IsSo p.sink s t → SinkGained IsToo (sink_of job) r t
+sink_gained {IsSo = IsSo} job source sink empty p r s t begun is touched also added =
+    gained_after (sink_of job) sink (head_text job empty) (source ∷ []) (sink ∷ []) r s t begun.is_sink begun.sink_given begun.gains begun.holds touched also
+    (subst (λ (h : ℕ). AddedSome IsSo h s t) is.sink added)
+
+-- what is so of the only object is so of each
+pub each_one : (P : Object → Type 0) (o : Object) → P o → (x : Object) → IsOneOf x (o ∷ []) → P x
+each_one P o p x is = subst P (sym (only_one x o is)) p
+
+-- a fault of a job with its cause
+pub works_by : (job : Job) (fault : ToolFault) (taken : RunRecord) (s t : Seen) → HasCause (Work job) fault s t → LeavesUntil (class_of fault) (Work job) taken s t
+    → ((input : Input) → IsInput (Work job) s input → WritesSinks (Work job) input (Some fault) taken s t) → WorksOff (Work job) (Some fault) taken s t
+works_by job fault taken s t cause leaves writes = record {
+  refused = λ f e. absurd cc;
+  causes = λ f e. let same : fault ≡ f = cc in subst (λ (x : ToolFault). HasCause (Work job) x s t) same cause;
+  leaves = leaves;
+  writes = writes;
+}
+
+-- the whole log was written
+
+all_taken : (n : ℕ) (units all : Log) (empty b : Bool) → n ≡ length units → units ≡ all → b ≡ empty → (n ≤ length all) × (run_of b all ≡ run_of b (take n all))
+all_taken n units all empty b count e same =
+    let many : n ≡ length all = count ∙ ap length e in (omega arith, ap (λ (us : Log). run_of b us) (sym (take_all n all (omega arith))))
+
+-- the text of all units of the input
+text_of_all : (job : Job) (k : ℕ) (p : PrinterState) (empty : Bool) (units : Log) (input : Input) (ending : Ending) → IsJobPrinter job k p → units ≡ input.units → input.sink_empty ≡ empty
+    → head_text job empty ++ due p units (is_flushed ending) ≡ sink_text (Work job) (whole_run input) ending
+text_of_all job k p empty units input ending is same e = sink_is job k p empty units ending is ∙ ap (λ (b : Bool). sink_text (Work job) (run_of b units) ending) (sym e)
+    ∙ ap (λ (us : Log). sink_text (Work job) (run_of input.sink_empty us) ending) same
+
+pub works_whole : (job : Job) (source sink : ℕ) (empty : Bool) (start now : LogFile) (n : ℕ) (p : PrinterState) (r s t : Seen) → start.reader.handle ≡ source → IsJobPrinter job sink p
+    → Touches (source ∷ []) (sink ∷ []) [] [] s t → RanToEnd (GaveUnits start now s t) p n s t → HasBegun job source sink empty (head_text job empty) r s → WorksOff (Work job) None (Counted n 1) r t
+works_whole job source sink empty start now n p r s t handle is touched ran begun = record {
+  refused = λ f e. absurd cc;
+  causes = λ f e. absurd cc;
+  leaves = tt;
+  writes = λ input is_input.
+      let all = given_all job source sink empty start now r s t ran.units input handle begun ran.given is_input in
+      let same = begun.begins input.sink_empty is_input.2 in
+      let many = all_taken n ran.units input.units empty input.sink_empty ran.count all.0 same in record {
+        run = whole_run input;
+        ending = Whole;
+        is_run = (many.0, refl, many.1);
+        is_ending = refl;
+        takes = (all.1, refl);
+        reads_once = λ o one. tt;
+        sinks = each_one (λ o. SinkGained (IsDue (Work job) input (whole_run input) Whole) o r t) (sink_of job) (sink_gained job source sink empty p r s t begun is touched
+            (λ text so. ap (λ (x : List ℕ). head_text job empty ++ x) so ∙ text_of_all job sink p empty ran.units input Whole is all.0 same) ran.gains);
+      };
+}
+
+-- the log ended early
+
+pub works_ended : (job : Job) (source sink : ℕ) (empty : Bool) (n : ℕ) (p : PrinterState) (units : Log) (ending : FileEnding) (fault : ToolFault) (r s t : Seen) → IsJobPrinter job sink p → Touches (source ∷ []) (sink ∷ []) [] [] s t
+    → n ≡ length units → class_of fault ≡ BadInput (file_of job) → input_fault (file_of job) ending ≡ Some fault → HasBegun job source sink empty (head_text job empty) r s → EndsFile source s units ending
+    → AddedSome (λ text. text ≡ due p units false) p.sink s t → WorksOff (Work job) (Some fault) (Counted n 1) r t
+works_ended job source sink empty n p units ending fault r s t is touched count e blamed begun ends added =
+    works_by job fault (Counted n 1) r t
+    (subst (λ (c : FaultClass). HasClassCause (Work job) fault c r t) (sym e) (
+      source_of job,
+      inl refl,
+      sym (source_name (file_of job)),
+      λ bytes us end holds is_file. ap (λ (x : FileEnding). input_fault (file_of job) x) (sym (ends_so job source sink empty r s units us ending end bytes begun ends holds is_file).1) ∙ blamed,
+    ))
+    (subst (λ (c : FaultClass). LeavesUntil c (Work job) (Counted n 1) r t) (sym e) tt)
+    (λ input is_input.
+    let all = given_ending job source sink empty r s units ending input begun ends is_input in
+    let same = begun.begins input.sink_empty is_input.2 in
+    let many = all_taken n units input.units empty input.sink_empty count all.0 same in record {
+      run = whole_run input;
+      ending = Faulted fault;
+      is_run = (many.0, refl, many.1);
+      is_ending = refl;
+      takes = subst (λ (c : FaultClass). TakesUntil c input (whole_run input)) (sym e) refl;
+      reads_once = λ o one. subst (λ (c : FaultClass). ReadsOnceUntil c o input (whole_run input) r t) (sym e) tt;
+      sinks = each_one (λ o. SinkGained (IsDue (Work job) input (whole_run input) (Faulted fault)) o r t) (sink_of job) (sink_gained job source sink empty p r s t begun is touched
+          (λ text so. subst (λ (c : FaultClass). IsDueUntil c (Work job) input (whole_run input) (Faulted fault) (head_text job empty ++ text)) (sym e)
+          (ap (λ (x : List ℕ). head_text job empty ++ x) so ∙ text_of_all job sink p empty units input (Faulted fault) is all.0 same)) added);
+    })
+
+-- the first units of the input, as many as were counted
+first_taken : (n : ℕ) (units all : Log) (b : Bool) → n ≡ length units → (length units ≤ length all) × (units ≡ take (length units) all) → (n ≤ length all) × (run_of b units ≡ run_of b (take n all))
+first_taken n units all b count first = (omega (arith, count, first.0), ap (λ (us : Log). run_of b us) (first.1 ∙ ap (λ (k : ℕ). take k all) (sym count)))
+
+-- the text of the first units
+text_of_first : (job : Job) (k : ℕ) (p : PrinterState) (empty b : Bool) (units : Log) (ending : Ending) → IsJobPrinter job k p → b ≡ empty → head_text job empty ++ due p units (is_flushed ending) ≡ sink_text (Work job) (run_of b units) ending
+text_of_first job k p empty b units ending is e = sink_is job k p empty units ending is ∙ ap (λ (x : Bool). sink_text (Work job) (run_of x units) ending) (sym e)
+
+-- a read failed
+
+pub works_unread : (job : Job) (source sink : ℕ) (empty : Bool) (n : ℕ) (p : PrinterState) (units : Log) (r s t : Seen) → IsJobPrinter job sink p → Touches (source ∷ []) (sink ∷ []) [] [] s t → n ≡ length units
+    → HasBegun job source sink empty (head_text job empty) r s → FailedAfter source s t units → AddedSome (λ text. text ≡ due p units false) p.sink s t
+    → WorksOff (Work job) (Some (ReadFault (file_of job))) (Counted n 1) r t
+works_unread job source sink empty n p units r s t is touched count begun stop added =
+    works_by job (ReadFault (file_of job)) (Counted n 1) r t
+    (inl (sym (source_name (file_of job))), omega (arith, begun.counts.each Reading (file_of job), stop.rose.each (file_of job) begun.reads))
+    tt
+    (λ input is_input.
+    let same = begun.begins input.sink_empty is_input.2 in
+    let first = first_taken n units input.units input.sink_empty count (given_first job source sink empty r s t units input begun stop.given is_input) in record {
+      run = run_of input.sink_empty units;
+      ending = Faulted (ReadFault (file_of job));
+      is_run = (first.0, refl, first.1);
+      is_ending = refl;
+      takes = (n, first.0, first.1);
+      reads_once = each_one (λ o. ReadsOnce (Faulted (ReadFault (file_of job))) o input (run_of input.sink_empty units) r t) (source_of job)
+          (stop.given.taken, stop.holds, took job source sink empty r s t stop.given.taken input begun touched stop.given.took is_input);
+      sinks = each_one (λ o. SinkGained (IsDue (Work job) input (run_of input.sink_empty units) (Faulted (ReadFault (file_of job)))) o r t) (sink_of job) (sink_gained job source sink empty p r s t begun is touched
+          (λ text so. ap (λ (x : List ℕ). head_text job empty ++ x) so ∙ text_of_first job sink p empty input.sink_empty units (Faulted (ReadFault (file_of job))) is same) added);
+    })
+
+-- the source stopped, but for want of memory
+
+stopped_by : (job : Job) (source sink : ℕ) (empty : Bool) (fault : SourceFault) (n : ℕ) (p : PrinterState) (units : Log) (r s t : Seen) → IsJobPrinter job sink p → Touches (source ∷ []) (sink ∷ []) [] [] s t → fault ≢ source_faults.NoMemory
+    → n ≡ length units → StoppedSo source fault s t units → AddedSome (λ text. text ≡ due p units false) p.sink s t → HasBegun job source sink empty (head_text job empty) r s → WorksOff (Work job) (Some (fault_as (file_of job) fault)) (Counted n 1) r t
+stopped_by job source sink empty (source_faults.NotALog at) n p units r s t is touched some count stop added begun =
+    works_ended job source sink empty n p units (file.NotALog at) (NotALog (file_of job) at) r s t is touched count refl refl begun stop added
+stopped_by job source sink empty (source_faults.Damaged at) n p units r s t is touched some count stop added begun =
+    works_ended job source sink empty n p units (file.Damaged at) (Damaged (file_of job) at) r s t is touched count refl refl begun stop added
+stopped_by job source sink empty source_faults.TooLarge n p units r s t is touched some count stop added begun =
+    works_ended job source sink empty n p units file.TooLarge (TooLarge (file_of job) most_bytes) r s t is touched count refl refl begun stop added
+stopped_by job source sink empty source_faults.ReadFault n p units r s t is touched some count stop added begun = works_unread job source sink empty n p units r s t is touched count begun stop added
+stopped_by job source sink empty source_faults.NoMemory n p units r s t is touched some count stop added begun = absurd (some refl)
+
+pub works_stopped : (job : Job) (source sink : ℕ) (empty : Bool) (start now : LogFile) (fault : SourceFault) (name : List ℕ) (f : ToolFault) (n : ℕ) (p : PrinterState) (r s t : Seen) → start.reader.handle ≡ source → IsJobPrinter job sink p
+    → Touches (source ∷ []) (sink ∷ []) [] [] s t → name ≡ file_of job → f ≡ fault_as name fault → fault ≢ source_faults.NoMemory
+    → RanUntil (BySource fault n) (GaveUnits start now s t) (λ why units. StoppedSo start.reader.handle why s t units) p s t → HasBegun job source sink empty (head_text job empty) r s → WorksOff (Work job) (Some f) (Counted n 1) r t
+works_stopped job source sink empty start now fault name f n p r s t handle is touched named e some ran begun =
+    subst (λ (x : ToolFault). WorksOff (Work job) (Some x) (Counted n 1) r t) (sym (e ∙ ap (λ (x : List ℕ). fault_as x fault) named))
+    (stopped_by job source sink empty fault n p ran.units r s t is touched some ran.count (subst (λ (h : ℕ). StoppedSo h fault s t ran.units) handle ran.given) ran.gains begun)
+
+-- a write failed
+
+-- fewer than 65,536 bytes past the units were taken
+ahead_by : (begun : Bool) (taken rest : List ℕ) (units : Log) → (begun ≡ false → units ≡ []) → taken ≡ used begun units ++ rest → length rest < 65536 → length taken < length (file_header ++ log_bytes units) + 65536
+ahead_by false taken rest units none parts short = omega (arith, ap length parts, length-append [] rest, short)
+ahead_by true taken rest units none parts short = omega (arith, ap length parts, length-append (file_header ++ log_bytes units) rest, short)
+
+ahead : (r : ReaderState) (taken : List ℕ) (units : Log) → Represents r taken units → length taken < length (file_header ++ log_bytes units) + 65536
+ahead r taken units p = ahead_by r.begun taken r.rest units p.fresh p.parts p.short
+
+-- the text with the last unit, flushed where the whole log was given, is a prefix of that of the run's ending
+begun_flag : (p : PrinterState) (units : Log) (all whole : Bool) (count : ℕ) → (all ≡ true → (length units ≡ count) × (whole ≡ true)) → IsPrefix (due p units all) (due p units (whole && eqb (length units) count))
+begun_flag p units true whole count given = let g = given refl in rw (g.1, g.0, eq-eqb count count refl) (prefix_same (due p units true))
+begun_flag p units false whole count given = due_flag p.layout p.table.options.grouping units (whole && eqb (length units) count)
+
+flushed_at : (b : Bool) (fault : ToolFault) → is_flushed (cond b Whole (Faulted fault)) ≡ b
+flushed_at true fault = refl
+flushed_at false fault = refl
+
+-- the units that were given, whole or not
+given_some : (job : Job) (source sink : ℕ) (empty all : Bool) (start now : LogFile) (r s t : Seen) (units : Log) (input : Input) → start.reader.handle ≡ source → HasBegun job source sink empty (head_text job empty) r s
+    → GaveUnits start now s t units all → IsInput (Work job) r input → all ≡ true → (length units ≡ length input.units) × (is_whole input.file_ending ≡ true)
+given_some job source sink empty true start now r s t units input handle begun gave is_input e =
+    let whole = given_all job source sink empty start now r s t units input handle begun gave is_input in (ap length whole.0, ap is_whole whole.1)
+given_some job source sink empty false start now r s t units input handle begun gave is_input e = absurd cc
+
+pub works_unwritten : (job : Job) (source sink : ℕ) (empty : Bool) (start now : LogFile) (name : List ℕ) (n : ℕ) (p : PrinterState) (r s t : Seen) → start.reader.handle ≡ source → IsJobPrinter job sink p
+    → Touches (source ∷ []) (sink ∷ []) [] [] s t → RanUntil (ByPrinter (print_faults.WriteFault name) n) (GaveUnits start now s t) (λ fault units. StoppedSo start.reader.handle fault s t units) p s t
+    → HasBegun job source sink empty (head_text job empty) r s → WorksOff (Work job) (Some (WriteFault name)) (Counted n 1) r t
+works_unwritten job source sink empty start now name n p r s t handle is touched ran begun =
+    let run = ran.1.1 in
+    let fault = WriteFault name in
+    let rose : HasNewFault (s.faults Writing name) (t.faults Writing name) = subst (λ (x : List ℕ). HasNewFault (s.faults Writing x) (t.faults Writing x)) (sym ran.0.0) ran.0.1 in
+    works_by job fault (Counted n 1) r t
+    (inl (ran.0.0 ∙ is.name ∙ sym (sink_name job.append (write_of job))), omega (arith, begun.counts.each Writing name, rose))
+    tt
+    (λ input is_input.
+    let same = begun.begins input.sink_empty is_input.2 in
+    let units = run.units in
+    let gave = gave_as_first start now source s t units ran.1.0 handle run.given in
+    let first = first_taken n units input.units input.sink_empty run.count (given_first job source sink empty r s t units input begun gave is_input) in
+    let ends = is_whole input.file_ending && eqb (length units) (length input.units) in
+    record {
+      run = run_of input.sink_empty units;
+      ending = Faulted fault;
+      is_run = (first.0, refl, first.1);
+      is_ending = refl;
+      takes = (n, first.0, first.1);
+      reads_once = each_one (λ o. ReadsOnce (Faulted fault) o input (run_of input.sink_empty units) r t) (source_of job)
+          (run.given.taken, ahead now.reader run.given.taken units run.given.represents, took job source sink empty r s t run.given.taken input begun touched (subst (λ (h : ℕ). TookFrom h run.given.taken s t) handle run.given.took) is_input);
+      sinks = each_one (λ o. SinkGained (IsDue (Work job) input (run_of input.sink_empty units) (Faulted fault)) o r t) (sink_of job) (sink_gained job source sink empty p r s t begun is touched
+          (λ text so. (
+            λ some. subst (λ (x : List ℕ). IsPrefix x (head_text job empty ++ text)) (text_of_first job sink p empty input.sink_empty (take (length units - 1) units) (Faulted fault) is same) (prefix_after (head_text job empty) so.least),
+            subst (λ (x : List ℕ). IsProperPrefix (head_text job empty ++ text) x)
+                (ap (λ (b : Bool). head_text job empty ++ due p units b) (sym (flushed_at ends fault)) ∙ text_of_first job sink p empty input.sink_empty units (ending_begun input (run_of input.sink_empty units) (Faulted fault)) is same)
+                (proper_then (proper_after (head_text job empty) so.left) (prefix_after (head_text job empty) (begun_flag p units ran.1.0 (is_whole input.file_ending) (length input.units)
+                (given_some job source sink empty ran.1.0 start now r s t units input handle begun run.given is_input)))),
+          )) run.gains);
+    })

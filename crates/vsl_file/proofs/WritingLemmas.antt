@@ -1,0 +1,93 @@
+-- Writing a unit: what each step leaves of the list that it adds to, and the bytes of a record.
+use Rattle.std.proofs.Common.{◌≡◌, ℕ, suc, ◌+◌, ◌-◌, ◌*◌, ◌/◌, ◌%◌, ◌^◌, ◌<◌, List, [], ◌∷◌, ◌++◌, length, length-append, take, get_or, refl, sym, ap, ◌∙◌, append_assoc, arith}
+use Rattle.std.specs.Int.{w32, w64, to_le_bytes}
+use Rattle.std.specs.List.{flat_map}
+use Rattle.std.proofs.lemmas.List.{take_at, take_more}
+use Rattle.std.proofs.lemmas.List.Concat.{flat_map-append, flat_map-cons}
+use Rattle.std.proofs.lemmas.Nat.{le_bytes_4}
+use Rattle.log_model.specs.Prefix.{IsPrefix}
+use Rattle.log_model.proofs.PrefixLemmas.{prefix_then, prefix_by, prefix_equal, prefix_past}
+use Rattle.vsl_record.specs.declared.mark.Mark.{Mark}
+use Rattle.vsl_record.specs.declared.record_type.Record.{Record}
+use Rattle.vsl_record.specs.Unit.{LogUnit}
+use Rattle.vsl_record.specs.Words.{packed, header_mark, mark_bits, word_of, word_bytes, record_words}
+use Rattle.vsl_record.proofs.Steps.{IsBytes, below_cons}
+use Rattle.vsl_file.specs.File.{unit_bytes}
+use Rattle.vsl_file.specs.inside.Writing.{record_bytes, filled}
+
+pub ruleset adding = (prefix_then, prefix_by, prefix_equal, prefix_past)
+
+-- what was added is cut off
+pub cut_back : (a b : List ℕ) → IsPrefix a b → take (length a) b ≡ a
+cut_back a b p = ap (λ (x : List ℕ). take (length a) x) p.is ∙ take_at a p.rest (length a) refl
+
+-- the bytes of a word are those of the number modulo 2^32
+pub wrapped_bytes : (n : ℕ) → to_le_bytes w32 (n % 2 ^ 32) ≡ to_le_bytes w32 n
+wrapped_bytes n =
+    let a : n % 2 ^ 32 % 256 ≡ n % 256 = omega arith in
+    let b : n % 2 ^ 32 / 256 % 256 ≡ n / 256 % 256 = omega arith in
+    let c : n % 2 ^ 32 / 65536 % 256 ≡ n / 65536 % 256 = omega arith in
+    let d : n % 2 ^ 32 / 16777216 % 256 ≡ n / 16777216 % 256 = omega arith in
+    cc
+
+-- the bytes of two words are those of one number of 64 bits
+two_words : (a b : ℕ) → a < 2 ^ 32 → to_le_bytes w64 (a + 4294967296 * b) ≡ to_le_bytes w32 a ++ to_le_bytes w32 b
+two_words a b fits =
+    let n : ℕ = a + 4294967296 * b in
+    let c0 : n % 256 ≡ a % 256 = omega arith in
+    let c1 : n / 256 % 256 ≡ a / 256 % 256 = omega arith in
+    let c2 : n / 65536 % 256 ≡ a / 65536 % 256 = omega arith in
+    let c3 : n / 16777216 % 256 ≡ a / 16777216 % 256 = omega arith in
+    let c4 : n / 4294967296 % 256 ≡ b % 256 = omega arith in
+    let c5 : n / 1099511627776 % 256 ≡ b / 256 % 256 = omega arith in
+    let c6 : n / 281474976710656 % 256 ≡ b / 65536 % 256 = omega arith in
+    let c7 : n / 72057594037927936 % 256 ≡ b / 16777216 % 256 = omega arith in
+    cc
+
+-- four bytes are those of their word
+word_again : (a b c d : ℕ) → a < 256 → b < 256 → c < 256 → d < 256 → to_le_bytes w32 (word_of a b c d) ≡ a ∷ b ∷ c ∷ d ∷ []
+word_again a b c d p q r s =
+    le_bytes_4 (a ∷ b ∷ c ∷ d ∷ []) (word_of a b c d) refl (below_cons 256 a (b ∷ c ∷ d ∷ []) p (below_cons 256 b (c ∷ d ∷ []) q (below_cons 256 c (d ∷ []) r (below_cons 256 d [] s (λ i. omega arith))))) (omega arith)
+
+-- the words of a payload are its bytes, with zero bytes up to a whole word
+pub packed_bytes : (p : List ℕ) → IsBytes p → word_bytes (packed p) ≡ filled p
+packed_bytes [] all = refl
+packed_bytes (a ∷ []) all = word_again a 0 0 0 (all 0) (omega arith) (omega arith) (omega arith)
+packed_bytes (a ∷ b ∷ []) all = word_again a b 0 0 (all 0) (all 1) (omega arith) (omega arith)
+packed_bytes (a ∷ b ∷ c ∷ []) all = word_again a b c 0 (all 0) (all 1) (all 2) (omega arith)
+packed_bytes (a ∷ b ∷ c ∷ d ∷ p) all =
+    let same : (4 - length (a ∷ b ∷ c ∷ d ∷ p) % 4) % 4 ≡ (4 - length p % 4) % 4 = omega arith in
+    rw same (ap (λ (x : List ℕ). x ++ word_bytes (packed p)) (word_again a b c d (all 0) (all 1) (all 2) (all 3)) ∙ ap (λ (x : List ℕ). a ∷ b ∷ c ∷ d ∷ x) (packed_bytes p (λ i. all (suc (suc (suc (suc i)))))))
+
+-- a record's bytes are those of its two words and of its payload
+pub record_added : (vxid head id : ℕ) (rec : Record) (old a new : List ℕ) → IsBytes rec.payload → head < 2 ^ 32 → head ≡ 16777216 * rec.tag + length rec.payload → id ≡ (vxid + mark_bits rec.mark) % 2 ^ 32
+    → a ≡ old ++ to_le_bytes w64 (head + 4294967296 * id) → new ≡ a ++ filled rec.payload → new ≡ old ++ record_bytes vxid rec
+record_added vxid head id rec old a new all fits head_is id_is first second =
+    let words : to_le_bytes w64 (head + 4294967296 * id) ≡ to_le_bytes w32 (16777216 * rec.tag + length rec.payload) ++ to_le_bytes w32 (vxid + mark_bits rec.mark) =
+    two_words head id fits ∙ ap (λ (n : ℕ). to_le_bytes w32 n ++ to_le_bytes w32 id) head_is ∙ ap (λ (x : List ℕ). to_le_bytes w32 (16777216 * rec.tag + length rec.payload) ++ x) (ap (to_le_bytes w32) id_is ∙ wrapped_bytes (vxid + mark_bits rec.mark)) in
+    second ∙ ap (λ (x : List ℕ). x ++ filled rec.payload) first ∙ append_assoc old (to_le_bytes w64 (head + 4294967296 * id)) (filled rec.payload)
+    ∙ ap (λ (x : List ℕ). old ++ (x ++ filled rec.payload)) words ∙ ap (λ (x : List ℕ). old ++ (to_le_bytes w32 (16777216 * rec.tag + length rec.payload) ++ to_le_bytes w32 (vxid + mark_bits rec.mark) ++ x)) (sym (packed_bytes rec.payload all))
+
+-- one more record's words
+pub words_more : (vxid : ℕ) (records : List Record) (i : ℕ) (rec : Record) → i < length records → rec ≡ get_or records i rec
+    → length (flat_map (record_words vxid) (take (i + 1) records)) ≡ length (flat_map (record_words vxid) (take i records)) + length (record_words vxid rec)
+words_more vxid records i rec within is = rw (take_more records i rec within, ← is, flat_map-append, length-append) (simp length-append (omega arith))
+
+-- the bytes of records' words are the records' bytes
+pub body_bytes : (vxid : ℕ) (records : List Record) → word_bytes (flat_map (record_words vxid) records) ≡ flat_map (record_bytes vxid) records
+body_bytes vxid [] = refl
+body_bytes vxid (rec ∷ records) =
+    ap word_bytes (flat_map-cons (record_words vxid) rec records) ∙ flat_map-append (to_le_bytes w32) (record_words vxid rec) (flat_map (record_words vxid) records) ∙ ap (λ (x : List ℕ). record_bytes vxid rec ++ x) (body_bytes vxid records) ∙ sym (flat_map-cons (record_bytes vxid) rec records)
+
+-- a unit's bytes are those of its header and of its records
+pub unit_added : (vxid count : ℕ) (records : List Record) (mark : Mark) (old a new : List ℕ) → count ≡ 1 + length (flat_map (record_words vxid) records)
+    → a ≡ old ++ to_le_bytes w32 (header_mark + count) → new ≡ a ++ flat_map (record_bytes vxid) records → new ≡ old ++ unit_bytes (record { vxid = vxid; mark = mark; records = records })
+unit_added vxid count records mark old a new count_is first second =
+    second ∙ ap (λ (x : List ℕ). x ++ flat_map (record_bytes vxid) records) first ∙ append_assoc old (to_le_bytes w32 (header_mark + count)) (flat_map (record_bytes vxid) records)
+    ∙ ap (λ (n : ℕ). old ++ (to_le_bytes w32 (header_mark + n) ++ flat_map (record_bytes vxid) records)) count_is
+    ∙ ap (λ (x : List ℕ). old ++ (to_le_bytes w32 (header_mark + (1 + length (flat_map (record_words vxid) records))) ++ x)) (sym (body_bytes vxid records))
+
+-- a unit's bytes are those of its VXID and its records
+pub unit_of_parts : (u : LogUnit) (vxid : ℕ) (records : List Record) → vxid ≡ u.vxid → records ≡ u.records → unit_bytes (record { vxid = vxid; mark = u.mark; records = records }) ≡ unit_bytes u
+unit_of_parts u vxid records vxid_is records_is =
+    ap (λ (v : ℕ). unit_bytes (record { vxid = v; mark = u.mark; records = records })) vxid_is ∙ ap (λ (rs : List Record). unit_bytes (record { vxid = u.vxid; mark = u.mark; records = rs })) records_is

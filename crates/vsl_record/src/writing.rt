@@ -1,0 +1,151 @@
+//! The words of a unit, one of them or all.
+
+ghost use Rattle.std.specs.Prelude.{◌≡◌, ◌+◌, ◌*◌, ◌<◌, ◌≤◌, ◌++◌, length, slice_index, IfOk, OnOk};
+ghost use Rattle.std.specs.List.{flat_map};
+ghost use Rattle.vsl_record.specs.Payload.{most_payload};
+ghost use Rattle.vsl_record.specs.Unit.{vxid_end};
+ghost use Rattle.vsl_record.specs.Words.{header_mark, mark_bits, most_words, packed, record_words, unit_words};
+
+use crate::reading::TOP_BYTE;
+use crate::record_type::Record;
+use crate::unit::{Unit, Vxid, count_words};
+use log_model::NoMemory;
+use std::alloc::Global;
+
+/// What a unit's header word is above its number of words.
+const HEADER_MARK: u32 = 0xfe00_0000;
+
+impl Unit {
+    /// How many words the unit has, its header word included: 3 to 1,048,576.
+    pub fn words(&self) -> usize
+        ensures words { result ≡ length (unit_words self.now) }
+        ensures most { result ≤ most_words }
+    {
+        count_words(self.records()) as usize
+    }
+
+    /// The word at this place, counted from the unit's header word. It walks over the records before it.
+    pub fn word_at(&self, place: usize) -> u32
+        requires { place < length (unit_words self.now) }
+        ensures { result ≡ slice_index (unit_words self.now) place }
+    {
+        if place == 0 {
+            return self.header_word();
+        }
+        body_word(self.vxid(), self.records(), place - 1)
+    }
+
+    /// The first word, which counts all.
+    fn header_word(&self) -> u32
+        ensures { result ≡ header_mark + length (unit_words self.now) }
+    {
+        HEADER_MARK + self.words() as u32
+    }
+}
+
+impl Record {
+    /// The first word: the tag and the payload's length.
+    fn head_word(&self) -> u32
+        ensures { result ≡ 16777216 * self.now.tag + length self.now.payload }
+    {
+        TOP_BYTE * u32::from(self.tag.number()) + self.payload.as_slice().len() as u32
+    }
+
+    /// The second word: the VXID and the mark.
+    fn id_word(&self, vxid: Vxid) -> u32
+        requires { vxid < vxid_end }
+        ensures { result ≡ vxid + mark_bits self.now.mark }
+    {
+        vxid + self.mark.bits()
+    }
+
+    /// The word at this place of the record's, in a unit of this VXID.
+    fn word_at(&self, vxid: Vxid, place: usize) -> u32
+        requires in_range { vxid < vxid_end }
+        requires inside { place < length (record_words vxid self.now) }
+        ensures { result ≡ slice_index (record_words vxid self.now) place }
+    {
+        match place {
+            0 => self.head_word(),
+            1 => self.id_word(vxid),
+            _ => payload_word(self.payload.as_slice(), place - 2),
+        }
+    }
+
+    /// Adds the record's words, in a unit of this VXID.
+    fn push_words(&self, vxid: Vxid, words: &mut Vec<u32>) -> Result<(), NoMemory>
+        requires { vxid < vxid_end }
+        ensures { OnOk result (words.new.items ≡ words.old.items ++ record_words vxid self.now) }
+    {
+        words.push(self.head_word())?;
+        words.push(self.id_word(vxid))?;
+        push_payload(self.payload.as_slice(), words)
+    }
+}
+
+/// The word at this place of the records' words, in a unit of this VXID.
+fn body_word(vxid: Vxid, records: &[Record], place: usize) -> u32
+    requires in_range { vxid < vxid_end }
+    requires inside { place < length (flat_map (record_words vxid) records.now) }
+    ensures { result ≡ slice_index (flat_map (record_words vxid) records.now) place }
+{
+    let mut left = place;
+    for rec in records {
+        let size = rec.words();
+        if left < size {
+            return rec.word_at(vxid, left);
+        }
+        left -= size;
+    }
+    0
+}
+
+/// The word at this place of a payload's.
+fn payload_word(bytes: &[u8], place: usize) -> u32
+    requires short { length bytes.now ≤ most_payload }
+    requires inside { place < length (packed bytes.now) }
+    ensures { result ≡ slice_index (packed bytes.now) place }
+{
+    let (_, rest) = bytes.split_at(4 * place);
+    first_packed(rest)
+}
+
+/// The first word of a payload's, or 0 where it has none.
+fn first_packed(bytes: &[u8]) -> u32
+    ensures { result ≡ slice_index (packed bytes.now) 0 }
+{
+    match bytes {
+        [] => 0,
+        [a] => u32::from_le_bytes([*a, 0, 0, 0]),
+        [a, b] => u32::from_le_bytes([*a, *b, 0, 0]),
+        [a, b, c] => u32::from_le_bytes([*a, *b, *c, 0]),
+        [a, b, c, d, ..] => u32::from_le_bytes([*a, *b, *c, *d]),
+    }
+}
+
+/// Adds the words of a payload.
+fn push_payload(bytes: &[u8], words: &mut Vec<u32>) -> Result<(), NoMemory>
+    ensures { OnOk result (words.new.items ≡ words.old.items ++ packed bytes.now) }
+{
+    let mut rest = bytes;
+    while let [a, b, c, d, after @ ..] = rest {
+        words.push(u32::from_le_bytes([*a, *b, *c, *d]))?;
+        rest = after;
+    }
+    if !rest.is_empty() {
+        words.push(first_packed(rest))?;
+    }
+    Ok(())
+}
+
+/// The words of a unit.
+pub fn unit_words(alloc: Global, unit: &Unit) -> Result<Vec<u32>, NoMemory>
+    ensures { IfOk result (λ words. words.items ≡ unit_words unit.now) }
+{
+    let mut words = Vec::with_capacity(alloc, unit.words())?;
+    words.push(unit.header_word())?;
+    for rec in unit.records() {
+        rec.push_words(unit.vxid(), &mut words)?;
+    }
+    Ok(words)
+}
