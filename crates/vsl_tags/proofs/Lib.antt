@@ -1,2 +1,5 @@
 mod TableChecks
 mod NameLemmas
+mod GlobLemmas
+mod TagSetLemmas
+mod Examples

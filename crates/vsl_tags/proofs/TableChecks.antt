@@ -1,6 +1,9 @@
 -- The table of names, at the numbers that the manual's readers meet most.
-use Rattle.std.proofs.Common.{◌≡◌, length, refl}
+use Rattle.std.proofs.Common.{◌≡◌, ◌==◌, false, length, refl}
+use Rattle.std.specs.List.{list_any}
 use Rattle.std.specs.Prelude.{codes}
+use Rattle.vsl_tags.specs.Glob.{star}
+use Rattle.vsl_tags.specs.TagSet.{comma}
 use Rattle.vsl_tags.specs.Tags.{last_tag, tag_names, tag_name, begin_tag, end_tag, vsl_tag}
 
 -- there are as many names as tags
@@ -25,3 +28,10 @@ first_of_messages_is_53 = refl
 
 last_is_92 : tag_name last_tag ≡ codes "ObjLost"
 last_is_92 = refl
+
+-- no name has a star or a comma
+no_name_has_a_star : list_any (list_any (λ b. b == star)) tag_names ≡ false
+no_name_has_a_star = refl
+
+no_name_has_a_comma : list_any (list_any (λ b. b == comma)) tag_names ≡ false
+no_name_has_a_comma = refl

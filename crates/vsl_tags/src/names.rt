@@ -1,9 +1,10 @@
 //! The names of tags.
 
-ghost use Rattle.std.specs.Prelude.{◌≡◌, ◌≤◌, length};
+ghost use Rattle.std.specs.Prelude.{◌≡◌, ◌≢◌, ◌≤◌, ℕ, length, IfSome, IfNone};
+ghost use Rattle.std.specs.Str.{str_to_ascii_lowercase};
 ghost use Rattle.vsl_tags.specs.Tags.{IsTag, longest_name, name_columns, tag_name};
 
-use crate::number::Tag;
+use crate::number::{LAST, Tag};
 
 /// The names of tags 1 to 92, in this order, each before spaces in 15 columns.
 static COLUMNS: [&str; 92] = [
@@ -118,6 +119,23 @@ pub fn name_of(tag: Tag) -> &'static str
     ensures longest { length result.now ≤ longest_name }
 {
     columns_of(tag).trim_end()
+}
+
+/// The tag with this name, as 53 for `reqmethod`. Capitals don't count.
+///
+/// Source: vsl(7), in this project's subset.
+pub fn tag_of(name: &str) -> Option<Tag>
+    ensures named { IfSome result (λ tag. str_to_ascii_lowercase (tag_name tag) ≡ str_to_ascii_lowercase name.now) }
+    ensures tag { IfSome result (λ tag. IsTag tag) }
+    ensures refused { IfNone result ((n : ℕ) → IsTag n → str_to_ascii_lowercase (tag_name n) ≢ str_to_ascii_lowercase name.now) }
+{
+    for number in 1..=LAST {
+        let tag = Tag::of(number);
+        if name_of(tag).eq_ignore_ascii_case(name) {
+            return Some(tag);
+        }
+    }
+    None
 }
 
 /// The name of a tag at the left of 14 columns, and a space.

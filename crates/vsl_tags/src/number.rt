@@ -6,7 +6,7 @@ ghost use Rattle.vsl_tags.specs.Tags.{IsTag};
 use std::marker::Model;
 
 /// The number of the last tag; the first is 1.
-const LAST: u8 = 92;
+pub(crate) const LAST: u8 = 92;
 
 /// What a record is about, as `Begin` or `ReqMethod`. Contracts see it as its number, from 1 to 92.
 ///
@@ -50,6 +50,14 @@ impl Tag {
             return None;
         }
         Some(Tag { number: n })
+    }
+
+    /// The tag with this number, which is a tag's.
+    pub(crate) fn of(n: u8) -> Tag
+        requires { IsTag n }
+        ensures { result ≡ n }
+    {
+        Tag { number: n }
     }
 
     /// The number, as 42 for `Begin`.
