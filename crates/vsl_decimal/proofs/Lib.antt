@@ -1,1 +1,4 @@
+mod Examples
+mod DecimalLemmas
 mod FieldLemmas
+mod PrefixLemmas

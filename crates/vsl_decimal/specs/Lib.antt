@@ -1,1 +1,4 @@
+pub mod Decimal
 pub mod Field
+pub mod Prefix
+pub mod inside
