@@ -30,9 +30,9 @@ payload_words bytes = (bytes + 3) / 4
 unfoldable pub is_filled : ℕ → List ℕ → Bool
 is_filled bytes words = list_all (λ b. b == 0) (drop bytes (word_bytes (take (payload_words bytes) words)))
 
--- the first fault of the record that begins these words of a unit, which go from this place to the unit's end, where there is
--- one: its tag; its length, past 4,000 bytes or past the unit's end; its id word, where it isn't that of the unit's first
--- record, or has both marks, as then only the first record's can; and the bytes that fill its last word
+-- the first fault of the record that begins these words, which go from this place to the unit's end: its tag; its length, past
+-- 4,000 bytes or past the unit's end; its id word, where it isn't that of the unit's first record; both marks in that word, which
+-- show in the first record, since all others have its id word; and the bytes that fill its last word
 unfoldable pub record_fault : ℕ → ℕ → List ℕ → Option WordFault
 record_fault first_id at words =
     let head = slice_index words 0 in

@@ -1,0 +1,60 @@
+-- Steps are those of one tree.
+use Rattle.std.proofs.Common.{◌≡◌, List, [], ◌∷◌, ◌++◌, refl, sym, ap, ap₂, ◌∙◌, append_assoc}
+use Rattle.std.proofs.lemmas.List.{append-nil}
+use Rattle.query_grammar.specs.Step.{TestParts}
+use Rattle.query_grammar.specs.Step.{Step}
+use Rattle.query_grammar.specs.Step as steps
+use Rattle.query_grammar.specs.Grammar.{Written, Test, Compared, Not, Inside, And, Or}
+use Rattle.query_grammar.specs.Steps.{steps_of}
+use Rattle.query_grammar.specs.Tree.{Query, Single, Negated, Both, Either, tree_of, tree_steps}
+
+-- one step over the trees that were made, the last first
+made : Step → List Query → List Query
+made (steps.Test t) all = Single t ∷ all
+made steps.Not (q ∷ all) = Negated q ∷ all
+made steps.Not [] = []
+made steps.And (q ∷ p ∷ all) = Both p q ∷ all
+made steps.And (q ∷ []) = []
+made steps.And [] = []
+made steps.Or (q ∷ p ∷ all) = Either p q ∷ all
+made steps.Or (q ∷ []) = []
+made steps.Or [] = []
+
+made_by : List Step → List Query → List Query
+made_by [] all = all
+made_by (s ∷ more) all = made_by more (made s all)
+
+-- the steps of a tree make it
+makes : (q : Query) (more : List Step) (all : List Query) → made_by (tree_steps q ++ more) all ≡ made_by more (q ∷ all)
+unfolding made_by made
+makes (Single t) more all = refl
+makes (Negated q) more all = ap (λ (s : List Step). made_by s all) (append_assoc (tree_steps q) (steps.Not ∷ []) more) ∙ makes q (steps.Not ∷ more) all
+makes (Both p q) more all =
+    let regrouped : ((tree_steps p ++ tree_steps q) ++ steps.And ∷ []) ++ more ≡ tree_steps p ++ (tree_steps q ++ (steps.And ∷ more)) = simp append_assoc in
+    ap (λ (s : List Step). made_by s all) regrouped ∙ makes p (tree_steps q ++ (steps.And ∷ more)) all ∙ makes q (steps.And ∷ more) (p ∷ all)
+makes (Either p q) more all =
+    let regrouped : ((tree_steps p ++ tree_steps q) ++ steps.Or ∷ []) ++ more ≡ tree_steps p ++ (tree_steps q ++ (steps.Or ∷ more)) = simp append_assoc in
+    ap (λ (s : List Step). made_by s all) regrouped ∙ makes p (tree_steps q ++ (steps.Or ∷ more)) all ∙ makes q (steps.Or ∷ more) (p ∷ all)
+
+makes_all : (q : Query) → made_by (tree_steps q) [] ≡ q ∷ []
+unfolding made_by
+makes_all q = ap (λ (s : List Step). made_by s []) (sym (append-nil (tree_steps q))) ∙ makes q [] []
+
+-- trees with the same steps are the same
+pub same_tree : (p q : Query) → tree_steps p ≡ tree_steps q → p ≡ q
+same_tree p q e =
+    let lists : p ∷ [] ≡ q ∷ [] = sym (makes_all p) ∙ ap (λ (s : List Step). made_by s []) e ∙ makes_all q in
+    cc
+
+-- the steps of a query as it is written are those of its tree
+pub steps_are : (q : Written) → tree_steps (tree_of q) ≡ steps_of q
+steps_are (Test criterion) = refl
+steps_are (Compared criterion operator operand) = refl
+steps_are (Not q) = ap (λ (s : List Step). s ++ steps.Not ∷ []) (steps_are q)
+steps_are (Inside q) = steps_are q
+steps_are (And p q) = ap₂ (λ (a b : List Step). a ++ b ++ steps.And ∷ []) (steps_are p) (steps_are q)
+steps_are (Or p q) = ap₂ (λ (a b : List Step). a ++ b ++ steps.Or ∷ []) (steps_are p) (steps_are q)
+
+-- queries with the same steps have one tree
+pub one_tree : (p q : Written) → steps_of p ≡ steps_of q → tree_of p ≡ tree_of q
+one_tree p q e = same_tree (tree_of p) (tree_of q) (steps_are p ∙ e ∙ sym (steps_are q))

@@ -1,0 +1,30 @@
+use Rattle.std.proofs.Common.{sym, ◌∙◌}
+use Rattle.query_grammar.specs.Steps.{steps_of}
+use Rattle.query_grammar.specs.Scanner.{begin}
+use Rattle.query_grammar.proofs.Scan.{ok_is}
+use Rattle.query_grammar.proofs.Stops.{is_read, query_read, stops_at}
+use Rattle.query_grammar.proofs.Looser.{run_looser}
+use Rattle.query_grammar.proofs.Rulings.{are_rules}
+use Rattle.query_grammar.proofs.Fine.{fine_read}
+use Rattle.query_grammar.proofs.Postfix.{one_tree}
+use Rattle.query_grammar.proofs.laws.reading.Goals as goal
+
+pub returns-clause-complete : goal.returns-clause-complete
+returns-clause-complete c = query_read
+
+pub returns-clause-sound : goal.returns-clause-sound
+returns-clause-sound c = λ rules are line out e.
+    let h = is_read line out ((run_looser rules line 0 begin are).same_ok out e) in
+    (h.query, h.whole, h.steps)
+
+pub returns-clause-stops : goal.returns-clause-stops
+returns-clause-stops c = λ rules are line at e. stops_at line at ((run_looser rules line 0 begin are).same_stop at e)
+
+pub returns-clause-one_tree : goal.returns-clause-one_tree
+returns-clause-one_tree c = λ line p q is_p is_q. one_tree p q (ok_is (steps_of p) (steps_of q) (sym (query_read line p is_p) ∙ query_read line q is_q))
+
+pub returns-clause-rules : goal.returns-clause-rules
+returns-clause-rules c = are_rules
+
+pub returns-clause-fine : goal.returns-clause-fine
+returns-clause-fine c = fine_read

@@ -1,0 +1,15 @@
+use Rattle.query_grammar.proofs.Criterion.{text_taken, text_from}
+use Rattle.query_grammar.proofs.Levels.{criterion_taken, criterion_from}
+use Rattle.query_grammar.proofs.laws.token_bytes.Goals as goal
+
+pub returns-clause-criterion : goal.returns-clause-criterion
+returns-clause-criterion c = criterion_taken
+
+pub returns-clause-criterion_only : goal.returns-clause-criterion_only
+returns-clause-criterion_only c = λ w e. let h = criterion_from w e in (h.parts, h.good, h.same)
+
+pub returns-clause-operand : goal.returns-clause-operand
+returns-clause-operand c = text_taken
+
+pub returns-clause-operand_only : goal.returns-clause-operand_only
+returns-clause-operand_only c = λ w e. let h = text_from w e in (h.text, h.good, h.same)

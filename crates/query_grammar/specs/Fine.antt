@@ -1,0 +1,14 @@
+-- Queries without a fault beside those of syntax.
+use Rattle.std.specs.Prelude.{◌≡◌, ℕ, ◌+◌, ◌<◌, Bool, List, None}
+use Rattle.query_grammar.specs.Grammar.{Written, Test, Compared, Not, Inside, And, Or}
+use Rattle.query_grammar.specs.Judging.{criterion_fault, operand_fault}
+
+-- the names of its tests are tags, its numbers are in range, and no more than so many parentheses and `not`s are open at once,
+-- where so many are open before it
+abbrev pub IsFine : (List ℕ → Bool) → (List ℕ → Bool) → ℕ → ℕ → Written → Type 0
+IsFine is_tag is_decimal most depth (Test c) = (place : ℕ) → criterion_fault is_tag place c ≡ None
+IsFine is_tag is_decimal most depth (Compared c operator w) = ((place : ℕ) → criterion_fault is_tag place c ≡ None) × ((place : ℕ) → operand_fault is_decimal place operator w ≡ None)
+IsFine is_tag is_decimal most depth (Not q) = (depth < most) × IsFine is_tag is_decimal most (1 + depth) q
+IsFine is_tag is_decimal most depth (Inside q) = (depth < most) × IsFine is_tag is_decimal most (1 + depth) q
+IsFine is_tag is_decimal most depth (And p q) = IsFine is_tag is_decimal most depth p × IsFine is_tag is_decimal most depth q
+IsFine is_tag is_decimal most depth (Or p q) = IsFine is_tag is_decimal most depth p × IsFine is_tag is_decimal most depth q

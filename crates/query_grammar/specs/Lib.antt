@@ -1,0 +1,11 @@
+pub mod Lexical
+pub mod Criterion
+pub mod Grammar
+pub mod Steps
+pub mod Scanner
+pub mod Judging
+pub mod Fine
+pub mod Munches
+pub mod Lines
+pub mod Tree
+pub mod Step
