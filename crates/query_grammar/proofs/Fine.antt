@@ -84,7 +84,7 @@ unfolding run
 end_read rules m k out none e = record { reads = λ at place. ap (λ (o : Option (List Step)). last_done rules at (at_spot m k place []) o) e ∙ ap (λ (o : Option Fault). unless_fault o out) (none at place) }
 
 -- no token has a fault where it stands
-abbrev AllFine : Rules → Mode → Kept → List Token → Type 0
+abbrev pub AllFine : Rules → Mode → Kept → List Token → Type 0
 AllFine rules m k [] = (from place : ℕ) → rules.fault from place m k CloseMark ≡ None
 AllFine rules m k (t ∷ ts) = ((from place : ℕ) → rules.fault from place m k t ≡ None) × ((x : State) → taken m k t ≡ Some x → AllFine rules x.0 x.1 ts)
 
@@ -98,7 +98,7 @@ laid_read rules _ _ (token {ts} {rest} t good ended l) m k out fine e =
 
 -- ---- trees
 
-abbrev checked : (List ℕ → Bool) → (List ℕ → Bool) → ℕ → Rules
+abbrev pub checked : (List ℕ → Bool) → (List ℕ → Bool) → ℕ → Rules
 checked is_tag is_decimal most = rules_of is_tag is_decimal most
 
 -- `not`s and an `and` that end are open no more; none of them is counted where a query ends
@@ -118,7 +118,7 @@ named_fine is_tag is_decimal most k (NotWord ∷ ts) b f all = absurd cc
 named_fine is_tag is_decimal most k (OpenMark ∷ ts) b f all = absurd cc
 
 -- where one state follows
-then_fine : (rules : Rules) (y : State) (ts : List Token) → AllFine rules y.0 y.1 ts → (x : State) → Some y ≡ Some x → AllFine rules x.0 x.1 ts
+pub then_fine : (rules : Rules) (y : State) (ts : List Token) → AllFine rules y.0 y.1 ts → (x : State) → Some y ≡ Some x → AllFine rules x.0 x.1 ts
 then_fine rules y ts all x e = subst (λ (z : State). AllFine rules z.0 z.1 ts) (some_is y x e) all
 
 -- how a query without a fault is read, by where it stands
@@ -241,9 +241,9 @@ fine_runs is_tag is_decimal most (Or p q) e =
       as_or = fine_or is_tag is_decimal most p q (fine_runs is_tag is_decimal most p b.1) ((fine_runs is_tag is_decimal most q a.1).as_and b.0);
     }
 
--- a query without a fault is read
-pub fine_read : (is_tag is_decimal : List ℕ → Bool) (most : ℕ) (line : List ℕ) (q : Written) → IsQuery line q → IsFine is_tag is_decimal most 0 q → run (rules_of is_tag is_decimal most) 0 begin line ≡ Ok (steps_of q)
-fine_read is_tag is_decimal most line q is f =
+-- a query without a fault is read, from whatever place on
+pub fine_read : (is_tag is_decimal : List ℕ → Bool) (most : ℕ) (line : List ℕ) (q : Written) (at : ℕ) → IsQuery line q → IsFine is_tag is_decimal most 0 q → run (rules_of is_tag is_decimal most) at begin line ≡ Ok (steps_of q)
+fine_read is_tag is_decimal most line q at is f =
     let all : AllFine (checked is_tag is_decimal most) BeforeUnary start (tokens_of q ++ []) = (fine_runs is_tag is_decimal most q is.grouped).as_or [] [] [] refl refl f (λ from place. refl) in
     let mine : AllFine (checked is_tag is_decimal most) BeforeUnary start (tokens_of q) = subst (λ (ts : List Token). AllFine (checked is_tag is_decimal most) BeforeUnary start ts) (append-nil (tokens_of q)) all in
-    (laid_read (checked is_tag is_decimal most) (tokens_of q) line is.laid BeforeUnary start (steps_of q) mine (tokens_read q is.grouped)).reads 0 0
+    (laid_read (checked is_tag is_decimal most) (tokens_of q) line is.laid BeforeUnary start (steps_of q) mine (tokens_read q is.grouped)).reads at 0

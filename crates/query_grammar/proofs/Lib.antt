@@ -14,9 +14,14 @@ pub mod Criterion
 pub mod FaultExamples
 pub mod Levels
 pub mod Fine
+pub mod Places
+pub mod OnlyFine
+pub mod FineLines
 pub mod Rulings
 pub mod Lengths
 pub mod Lines
 pub mod TextStops
 pub mod Prefixes
 pub mod Postfix
+pub mod OneParts
+pub mod SeenParts

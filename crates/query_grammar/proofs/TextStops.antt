@@ -17,7 +17,7 @@ use Rattle.query_grammar.proofs.Marks.{no_blank}
 use Rattle.query_grammar.proofs.Scan.{Reads, no_out, blank_read}
 use Rattle.query_grammar.proofs.Ends.{alive}
 use Rattle.query_grammar.proofs.Stops.{NoWay, stops}
-use Rattle.query_grammar.proofs.Lines.{lines_read, lines_found}
+use Rattle.query_grammar.proofs.Lines.{queries_read, queries_found}
 
 -- ---- the lines of a text
 
@@ -293,14 +293,14 @@ text_stops _ (line_then {text} line plain l) a before at e =
 
 -- where no lines are read no text of queries goes on
 dead_text : (prefix back : List ℕ) → NoWayOn 0 None prefix back → IsDead IsText prefix back
-dead_text prefix [] none = λ q is. none (steps_of q) (lines_read (lines_of prefix) 0 None q is)
-dead_text prefix (c ∷ back) none = λ more q is. none more (steps_of q) (lines_read (lines_of (prefix ++ c ∷ more)) 0 None q is)
+dead_text prefix [] none = λ q is. none (steps_of q) (queries_read (lines_of prefix) 0 None q is)
+dead_text prefix (c ∷ back) none = λ more q is. none more (steps_of q) (queries_read (lines_of (prefix ++ c ∷ more)) 0 None q is)
 
 -- where reading a text stops no queries go on
 pub text_stops_at : (text : List ℕ) (at : ℕ) → read_lines free 0 None (lines_of text) ≡ Err (Syntax at) → StopsAt IsText text at
 text_stops_at text at e =
     let s = text_stops text (lined text) 0 None at e in
-    let r = lines_found (lines_of (s.prefix ++ s.more)) 0 None s.out s.ends in
+    let r = queries_found (lines_of (s.prefix ++ s.more)) 0 None s.out s.ends in
     record {
       prefix = s.prefix;
       back = s.back;

@@ -96,3 +96,51 @@ criterion_text p = level_text p.level ++ p.name ++ tail_text p.tail
 -- a criterion has level, names, prefix and field as they are written
 abbrev pub is_criterion : Parts → Bool
 is_criterion p = is_level p.level && is_all is_name_byte p.name && is_tail p.tail
+
+-- ---- what a reader sees of a criterion: a level, names, a prefix and a field
+
+-- the names in what stands behind a name, in order
+abbrev pub names_behind : Tail → List (List ℕ)
+names_behind (NameTail name tail) = name ∷ names_behind tail
+names_behind (PrefixTail prefix field) = []
+names_behind (FieldTail field) = []
+
+-- the prefix behind the last name
+abbrev pub prefix_behind : Tail → Option Text
+prefix_behind (NameTail name tail) = prefix_behind tail
+prefix_behind (PrefixTail prefix field) = Some prefix
+prefix_behind (FieldTail field) = None
+
+-- the field behind the last name and the prefix
+abbrev pub field_behind : Tail → Option (List ℕ)
+field_behind (NameTail name tail) = field_behind tail
+field_behind (PrefixTail prefix field) = field
+field_behind (FieldTail field) = field
+
+-- the names of a criterion, in order, the first and those behind it
+abbrev pub names_of : Parts → List (List ℕ)
+names_of p = p.name ∷ names_behind p.tail
+
+-- the prefix of a criterion, if it has one
+abbrev pub prefix_of : Parts → Option Text
+prefix_of p = prefix_behind p.tail
+
+-- the field of a criterion, if it has one
+abbrev pub field_of : Parts → Option (List ℕ)
+field_of p = field_behind p.tail
+
+-- names with a comma between each two
+abbrev pub joined_names : List (List ℕ) → List ℕ
+joined_names [] = []
+joined_names (name ∷ []) = name
+joined_names (name ∷ other ∷ names) = name ++ 44 ∷ joined_names (other ∷ names)
+
+-- the bytes of a prefix, with its colon
+abbrev pub prefix_text : Option Text → List ℕ
+prefix_text None = []
+prefix_text (Some prefix) = 58 ∷ text_of prefix
+
+-- a prefix, if there is one, is a text as it is written
+abbrev pub is_some_text : Option Text → Bool
+is_some_text None = true
+is_some_text (Some prefix) = is_text prefix

@@ -1,7 +1,8 @@
 -- Queries without a fault beside those of syntax.
-use Rattle.std.specs.Prelude.{◌≡◌, ℕ, ◌+◌, ◌<◌, Bool, List, None}
-use Rattle.query_grammar.specs.Grammar.{Written, Test, Compared, Not, Inside, And, Or}
+use Rattle.std.specs.Prelude.{◌≡◌, ℕ, ◌+◌, ◌<◌, Bool, List, Some, None}
+use Rattle.query_grammar.specs.Grammar.{Written, Test, Compared, Not, Inside, And, Or, IsQuery}
 use Rattle.query_grammar.specs.Judging.{criterion_fault, operand_fault}
+use Rattle.query_grammar.specs.Lines.{AreQueries, lines_of}
 
 -- the names of its tests are tags, its numbers are in range, and no more than so many parentheses and `not`s are open at once,
 -- where so many are open before it
@@ -12,3 +13,11 @@ IsFine is_tag is_decimal most depth (Not q) = (depth < most) × IsFine is_tag is
 IsFine is_tag is_decimal most depth (Inside q) = (depth < most) × IsFine is_tag is_decimal most (1 + depth) q
 IsFine is_tag is_decimal most depth (And p q) = IsFine is_tag is_decimal most depth p × IsFine is_tag is_decimal most depth q
 IsFine is_tag is_decimal most depth (Or p q) = IsFine is_tag is_decimal most depth p × IsFine is_tag is_decimal most depth q
+
+-- the line is this query, which has no fault
+abbrev pub IsFineQuery : (List ℕ → Bool) → (List ℕ → Bool) → ℕ → List ℕ → Written → Type 0
+IsFineQuery is_tag is_decimal most line q = IsQuery line q × IsFine is_tag is_decimal most 0 q
+
+-- the text is this query, and the query of each line has no fault; how many are open counts anew in each line
+abbrev pub IsFineText : (List ℕ → Bool) → (List ℕ → Bool) → ℕ → List ℕ → Written → Type 0
+IsFineText is_tag is_decimal most text q = AreQueries (IsFineQuery is_tag is_decimal most) None (lines_of text) (Some q)

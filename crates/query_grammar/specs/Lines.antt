@@ -18,10 +18,10 @@ abbrev pub joined : Option Written → Written → Written
 joined None q = q
 joined (Some p) q = Or p q
 
--- these lines, behind those of a query, are all in all this query
-abbrev pub AreQueries : Option Written → List (List ℕ) → Option Written → Type 0
-AreQueries before [] all = before ≡ all
-AreQueries before (line ∷ lines) all = MatchBool (is_passed line) (AreQueries before lines all) ((q : Written) × IsQuery line q × AreQueries (Some (joined before q)) lines all)
+-- these lines, behind those of a query, are all in all this query, where each line that isn't passed over is one
+abbrev pub AreQueries : (List ℕ → Written → Type 0) → Option Written → List (List ℕ) → Option Written → Type 0
+AreQueries Is before [] all = before ≡ all
+AreQueries Is before (line ∷ lines) all = MatchBool (is_passed line) (AreQueries Is before lines all) ((q : Written) × Is line q × AreQueries Is (Some (joined before q)) lines all)
 
 -- the lines of a text
 abbrev pub lines_of : List ℕ → List (List ℕ)
@@ -29,7 +29,7 @@ lines_of text = slice_split (λ c. c == 10) text
 
 -- the text is this query
 abbrev pub IsText : List ℕ → Written → Type 0
-IsText text q = AreQueries None (lines_of text) (Some q)
+IsText text q = AreQueries IsQuery None (lines_of text) (Some q)
 
 -- ---- reading, with the first fault
 

@@ -6,6 +6,7 @@ use Rattle.query_grammar.proofs.Stops.{is_read, query_read, stops_at}
 use Rattle.query_grammar.proofs.Looser.{run_looser}
 use Rattle.query_grammar.proofs.Rulings.{are_rules}
 use Rattle.query_grammar.proofs.Fine.{fine_read}
+use Rattle.query_grammar.proofs.OnlyFine.{fine_back}
 use Rattle.query_grammar.proofs.Postfix.{one_tree}
 use Rattle.query_grammar.proofs.laws.reading.Goals as goal
 
@@ -27,4 +28,9 @@ pub returns-clause-rules : goal.returns-clause-rules
 returns-clause-rules c = are_rules
 
 pub returns-clause-fine : goal.returns-clause-fine
-returns-clause-fine c = fine_read
+returns-clause-fine c = λ is_tag is_decimal most line q is f. fine_read is_tag is_decimal most line q 0 is f
+
+pub returns-clause-only_fine : goal.returns-clause-only_fine
+returns-clause-only_fine c = λ is_tag is_decimal most line out e.
+    let h = fine_back is_tag is_decimal most line out 0 e in
+    (h.query, h.whole, h.fine, h.steps)

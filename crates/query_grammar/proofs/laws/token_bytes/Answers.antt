@@ -1,5 +1,7 @@
 use Rattle.query_grammar.proofs.Criterion.{text_taken, text_from}
 use Rattle.query_grammar.proofs.Levels.{criterion_taken, criterion_from}
+use Rattle.query_grammar.proofs.OneParts.{one_text, one_parts}
+use Rattle.query_grammar.proofs.SeenParts.{criterion_seen, criterion_good, any_parts}
 use Rattle.query_grammar.proofs.laws.token_bytes.Goals as goal
 
 pub returns-clause-criterion : goal.returns-clause-criterion
@@ -13,3 +15,18 @@ returns-clause-operand c = text_taken
 
 pub returns-clause-operand_only : goal.returns-clause-operand_only
 returns-clause-operand_only c = λ w e. let h = text_from w e in (h.text, h.good, h.same)
+
+pub returns-clause-one_operand : goal.returns-clause-one_operand
+returns-clause-one_operand c = one_text
+
+pub returns-clause-one_criterion : goal.returns-clause-one_criterion
+returns-clause-one_criterion c = one_parts
+
+pub returns-clause-parts : goal.returns-clause-parts
+returns-clause-parts c = criterion_seen
+
+pub returns-clause-parts_good : goal.returns-clause-parts_good
+returns-clause-parts_good c = criterion_good
+
+pub returns-clause-parts_any : goal.returns-clause-parts_any
+returns-clause-parts_any c = any_parts
