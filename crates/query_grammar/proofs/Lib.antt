@@ -25,3 +25,4 @@ pub mod Prefixes
 pub mod Postfix
 pub mod OneParts
 pub mod SeenParts
+pub mod TextFaults

@@ -9,3 +9,4 @@ pub mod Munches
 pub mod Lines
 pub mod Tree
 pub mod Step
+pub mod QueryFault

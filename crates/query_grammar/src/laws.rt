@@ -1,6 +1,7 @@
 //! What reading a line says.
 
-ghost use Rattle.std.specs.Prelude.{◌≡◌, ◌∷◌, ◌++◌, ◌&&◌, [], ℕ, Bool, List, Option, None, Ok, Err, true};
+ghost use Rattle.std.specs.Prelude.{◌≡◌, ◌∷◌, ◌++◌, ◌&&◌, [], ℕ, Bool, List, Option, Some, None, Ok, Err, true};
+ghost use Rattle.std.specs.Str.{IsUtf8};
 ghost use Rattle.std.specs.List.{list_all};
 ghost use Rattle.query_grammar.specs.Step.{Step, TestParts};
 ghost use Rattle.query_grammar.specs.declared.lex.Lex.TheVariants.{Begin, ValueBegin};
@@ -10,6 +11,7 @@ ghost use Rattle.query_grammar.specs.Grammar.{Written, IsQuery, StopsAt};
 ghost use Rattle.query_grammar.specs.Judging.{rules_of};
 ghost use Rattle.query_grammar.specs.Fine.{IsFine, IsFineText};
 ghost use Rattle.query_grammar.specs.Lines.{IsText, lines_of, read_lines};
+ghost use Rattle.query_grammar.specs.QueryFault.{query_fault};
 ghost use Rattle.query_grammar.specs.Steps.{steps_of};
 ghost use Rattle.query_grammar.specs.Tree.{Query, is_true, tree_of, tree_steps, truths_of};
 ghost use Rattle.query_grammar.specs.Scanner.{Rules, AreRules, Syntax, free, run, begin};
@@ -58,4 +60,12 @@ pub fn text_reading()
 pub fn steps_of_trees()
     ensures one_tree { (p q : Query TestParts) → tree_steps p ≡ tree_steps q → p ≡ q }
     ensures truth { (test : TestParts → Bool) (q : Query TestParts) → truths_of test (tree_steps q) [] ≡ is_true test q ∷ [] }
+{}
+
+/// A text in UTF-8 is queries without a fault just where it has no first fault, so it never has both. Its first
+/// fault of syntax is at the first byte at which no text of queries can go on.
+pub fn text_faults()
+    ensures none { (is_tag is_decimal : List ℕ → Bool) (most : ℕ) (text : List ℕ) → query_fault is_tag is_decimal most text ≡ None → IsUtf8 text × (q : Written) × IsFineText is_tag is_decimal most text q }
+    ensures only_none { (is_tag is_decimal : List ℕ → Bool) (most : ℕ) (text : List ℕ) (q : Written) → IsUtf8 text → IsFineText is_tag is_decimal most text q → query_fault is_tag is_decimal most text ≡ None }
+    ensures syntax { (is_tag is_decimal : List ℕ → Bool) (most : ℕ) (text : List ℕ) (at : ℕ) → IsUtf8 text → query_fault is_tag is_decimal most text ≡ Some (Syntax at) → StopsAt IsText text at }
 {}

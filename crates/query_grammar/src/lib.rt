@@ -14,7 +14,7 @@ mod length;
 mod lex;
 mod mode;
 
-pub use laws::{reading, steps_of_trees, text_reading, token_bytes};
+pub use laws::{reading, steps_of_trees, text_faults, text_reading, token_bytes};
 pub use length::operand_len;
 pub use lex::{Lex, Quote};
 pub use mode::{Mode, Waiting};
