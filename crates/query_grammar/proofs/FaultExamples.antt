@@ -119,3 +119,11 @@ open_64 = refl
 open_65 : run deep 0 begin (replicate 65 40 ++ codes "End" ++ replicate 65 41) ≡ Err (Deep 64)
 unfolding run
 open_65 = refl
+
+quoted_number : run deep 0 begin (codes "End == \"2\\00\"") ≡ Ok (test_step (codes "End") (codes "==") (codes "\"2\\00\"") ∷ [])
+unfolding run
+quoted_number = refl
+
+quoted_word : run deep 0 begin (codes "End == \"2x\"") ≡ Err (Number 7)
+unfolding run
+quoted_word = refl

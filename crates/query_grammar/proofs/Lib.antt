@@ -26,3 +26,4 @@ pub mod Postfix
 pub mod OneParts
 pub mod SeenParts
 pub mod TextFaults
+pub mod Meanings

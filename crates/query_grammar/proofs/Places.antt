@@ -8,6 +8,7 @@ use Rattle.query_grammar.specs.declared.lex.Lex.TheVariants.{Begin}
 use Rattle.query_grammar.specs.Lexical.{is_name_byte, lex, is_one_of}
 use Rattle.query_grammar.specs.Grammar.{Token, CriterionToken, OperatorToken, OperandToken, NotWord, AndWord, OrWord, OpenMark, CloseMark}
 use Rattle.query_grammar.specs.Scanner.{Fault, UnknownTag, Number, Deep, Kept, Rules, open_count}
+use Rattle.query_grammar.specs.Criterion.{operand_meaning}
 use Rattle.query_grammar.specs.Judging.{or_else, name_fault, names_fault, behind_level, tags_fault, number, level_fault, is_field_open, field_value, field_fault, criterion_fault, numeric_operators, operand_fault, test_fault, rules_of}
 
 -- where the one has no fault, the other has none
@@ -79,7 +80,7 @@ criterion_same is_tag at at2 w =
 
 -- an operand has no fault at any place where it has none at one
 pub operand_same : (is_decimal : List ℕ → Bool) (at at2 : ℕ) (operator w : List ℕ) → FollowsNone (operand_fault is_decimal at operator w) (operand_fault is_decimal at2 operator w)
-operand_same is_decimal at at2 operator w = either_same (is_one_of numeric_operators operator && not (is_decimal w)) _ _ _ _ (some_same (Number at) (Some (Number at2))) none_same
+operand_same is_decimal at at2 operator w = either_same (is_one_of numeric_operators operator && not (is_decimal (operand_meaning w))) _ _ _ _ (some_same (Number at) (Some (Number at2))) none_same
 
 -- what may be opened may be opened at every place
 open_same : (b : Bool) (at at2 : ℕ) → FollowsNone (cond b None (Some (Deep at))) (cond b None (Some (Deep at2)))

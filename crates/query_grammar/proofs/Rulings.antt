@@ -8,6 +8,7 @@ use Rattle.query_grammar.specs.declared.lex.Lex.TheVariants.{Begin}
 use Rattle.query_grammar.specs.Lexical.{is_name_byte, lex, is_one_of, words}
 use Rattle.query_grammar.specs.Grammar.{Token, OperandToken, NotWord, AndWord, OrWord, OpenMark, CloseMark}
 use Rattle.query_grammar.specs.Scanner.{Fault, Syntax, UnknownTag, Number, Deep, Kept, AreRules, open_count}
+use Rattle.query_grammar.specs.Criterion.{operand_meaning}
 use Rattle.query_grammar.specs.Judging.{or_else, name_fault, names_fault, behind_level, tags_fault, number, level_fault, is_field_open, field_value, field_fault, criterion_fault, numeric_operators, operand_fault, test_fault, cut_fault, rules_of}
 
 record IsRuling (o : Option Fault) : Type 0 where
@@ -69,7 +70,7 @@ criterion_rules is_tag at w =
     both (tags_fault is_tag at w) _ (tags_rules is_tag at w) (both (level_fault at w) _ (level_rules at w) (field_rules w at (Some Begin)))
 
 operand_rules : (is_decimal : List ℕ → Bool) (at : ℕ) (operator w : List ℕ) → IsRuling (operand_fault is_decimal at operator w)
-operand_rules is_decimal at operator w = either (is_one_of numeric_operators operator && not (is_decimal w)) _ _ (numeral at) none
+operand_rules is_decimal at operator w = either (is_one_of numeric_operators operator && not (is_decimal (operand_meaning w))) _ _ (numeral at) none
 
 token_rules : (is_tag is_decimal : List ℕ → Bool) (most from place : ℕ) (m : Mode) (k : Kept) (t : Token) → IsRuling (test_fault is_tag is_decimal most from place m k t)
 token_rules is_tag is_decimal most from place BeforeUnary k NotWord = either (nat_lt (open_count k.waiting) most) _ _ none (deep from)

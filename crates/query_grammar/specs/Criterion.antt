@@ -1,8 +1,8 @@
 -- A criterion and an operand as they are written: their parts, and their text.
-use Rattle.std.specs.Prelude.{ℕ, Bool, true, false, ◌&&◌, not, ◌==◌, nat_lt, if◌then◌else◌, List, [], ◌∷◌, ◌++◌, length, Option, Some, None, codes}
+use Rattle.std.specs.Prelude.{ℕ, Bool, true, false, ◌&&◌, not, ◌==◌, nat_lt, if◌then◌else◌, List, [], ◌∷◌, ◌++◌, length, Option, Some, None, codes, take, ◌-◌}
 use Rattle.std.specs.List.{list_all}
 use Rattle.query_grammar.specs.declared.lex.Quote.{Quote}
-use Rattle.query_grammar.specs.Lexical.{is_digit, is_name_byte, is_word_byte, quote_byte}
+use Rattle.query_grammar.specs.Lexical.{is_digit, is_name_byte, is_word_byte, is_quote, quote_byte}
 
 -- one byte or more, each of which passes
 abbrev pub is_all : (ℕ → Bool) → List ℕ → Bool
@@ -28,6 +28,22 @@ is_inside false q (c ∷ w) = if c == 92 then is_inside true q w else (if c == q
 abbrev pub is_text : Text → Bool
 is_text (Plain w) = is_all is_word_byte w
 is_text (Quoted q w) = is_inside false q w
+
+-- bytes between quotes without the backslashes that take a byte as it is
+abbrev pub unescaped : Bool → List ℕ → List ℕ
+unescaped escaped [] = []
+unescaped true (c ∷ w) = c ∷ unescaped false w
+unescaped false (c ∷ w) = if c == 92 then unescaped true w else c ∷ unescaped false w
+
+-- what a prefix or an operand stands for
+abbrev pub meant_by : Text → List ℕ
+meant_by (Plain w) = w
+meant_by (Quoted q w) = unescaped false w
+
+-- what an operand's bytes stand for
+abbrev pub operand_meaning : List ℕ → List ℕ
+operand_meaning [] = []
+operand_meaning (c ∷ w) = if is_quote c then unescaped false (take (length w - 1) w) else c ∷ w
 
 -- what stands behind a name: `,name` and more, or `:prefix`, or `[digits]`, or nothing
 pub data Tail : Type 0 where

@@ -5,6 +5,7 @@ use Rattle.query_grammar.specs.declared.mode.Mode.TheVariants.{BeforeUnary, Afte
 use Rattle.query_grammar.specs.declared.lex.Lex.{Lex}
 use Rattle.query_grammar.specs.declared.lex.Lex.TheVariants.{Begin, FieldOpen}
 use Rattle.query_grammar.specs.Lexical.{is_digit, is_name_byte, lex, is_one_of, words}
+use Rattle.query_grammar.specs.Criterion.{operand_meaning}
 use Rattle.query_grammar.specs.Grammar.{Token, OperandToken, NotWord, AndWord, OrWord, OpenMark, CloseMark}
 use Rattle.query_grammar.specs.Scanner.{Fault, UnknownTag, Number, Deep, Kept, Rules, open_count}
 
@@ -70,9 +71,9 @@ criterion_fault is_tag at w = or_else (tags_fault is_tag at w) (or_else (level_f
 abbrev pub numeric_operators : List (List ℕ)
 numeric_operators = codes "==" ∷ codes "!=" ∷ codes "<" ∷ codes "<=" ∷ codes ">" ∷ codes ">=" ∷ []
 
--- a number is compared with a number
+-- a number is compared with a number, which may stand between quotes
 abbrev pub operand_fault : (List ℕ → Bool) → ℕ → List ℕ → List ℕ → Option Fault
-operand_fault is_decimal at operator w = if is_one_of numeric_operators operator && not (is_decimal w) then Some (Number at) else None
+operand_fault is_decimal at operator w = if is_one_of numeric_operators operator && not (is_decimal (operand_meaning w)) then Some (Number at) else None
 
 -- the rules: which names are tags, which texts are decimals, and how many may be open at once
 abbrev pub test_fault : (List ℕ → Bool) → (List ℕ → Bool) → ℕ → ℕ → ℕ → Mode → Kept → Token → Option Fault

@@ -6,7 +6,7 @@ ghost use Rattle.std.specs.List.{list_all};
 ghost use Rattle.query_grammar.specs.Step.{Step, TestParts};
 ghost use Rattle.query_grammar.specs.declared.lex.Lex.TheVariants.{Begin, ValueBegin};
 ghost use Rattle.query_grammar.specs.Lexical.{whole_from, is_name_byte};
-ghost use Rattle.query_grammar.specs.Criterion.{is_all, Level, is_level, is_some_text, is_field, Parts, criterion_text, is_criterion, level_text, names_of, joined_names, prefix_of, prefix_text, field_of, field_text, Text, text_of, is_text};
+ghost use Rattle.query_grammar.specs.Criterion.{is_all, Level, is_level, is_some_text, is_field, Parts, criterion_text, is_criterion, level_text, names_of, joined_names, prefix_of, prefix_text, field_of, field_text, Text, text_of, is_text, meant_by, operand_meaning};
 ghost use Rattle.query_grammar.specs.Grammar.{Written, IsQuery, StopsAt};
 ghost use Rattle.query_grammar.specs.Judging.{rules_of};
 ghost use Rattle.query_grammar.specs.Fine.{IsFine, IsFineText};
@@ -31,7 +31,7 @@ pub fn reading()
 
 /// The table of bytes takes the text of a criterion's parts, and of an operand, and no other bytes.
 /// A criterion is a level, names, a prefix and a field, one behind the other. The bytes of a criterion
-/// have one list of parts, and the bytes of an operand one text.
+/// have one list of parts, and the bytes of an operand one text; they stand for what it stands for.
 pub fn token_bytes()
     ensures criterion { (p : Parts) → is_criterion p ≡ true → whole_from Begin (criterion_text p) ≡ true }
     ensures criterion_only { (w : List ℕ) → whole_from Begin w ≡ true → (p : Parts) × (is_criterion p ≡ true) × (criterion_text p ≡ w) }
@@ -42,6 +42,7 @@ pub fn token_bytes()
     ensures parts_any { (level : Option Level) (name : List ℕ) (names : List (List ℕ)) (prefix : Option Text) (field : Option (List ℕ)) → (p : Parts) × (p.level ≡ level) × (names_of p ≡ name ∷ names) × (prefix_of p ≡ prefix) × (field_of p ≡ field) }
     ensures one_criterion { (p q : Parts) → is_criterion p ≡ true → is_criterion q ≡ true → criterion_text p ≡ criterion_text q → p ≡ q }
     ensures one_operand { (t u : Text) → is_text t ≡ true → is_text u ≡ true → text_of t ≡ text_of u → t ≡ u }
+    ensures meaning { (t : Text) → is_text t ≡ true → operand_meaning (text_of t) ≡ meant_by t }
 {}
 
 /// What is read of a text is the queries of its lines, joined by `or`, whatever the rules, and those

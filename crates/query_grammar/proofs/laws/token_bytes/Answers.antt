@@ -2,6 +2,7 @@ use Rattle.query_grammar.proofs.Criterion.{text_taken, text_from}
 use Rattle.query_grammar.proofs.Levels.{criterion_taken, criterion_from}
 use Rattle.query_grammar.proofs.OneParts.{one_text, one_parts}
 use Rattle.query_grammar.proofs.SeenParts.{criterion_seen, criterion_good, any_parts}
+use Rattle.query_grammar.proofs.Meanings.{meaning_is}
 use Rattle.query_grammar.proofs.laws.token_bytes.Goals as goal
 
 pub returns-clause-criterion : goal.returns-clause-criterion
@@ -30,3 +31,6 @@ returns-clause-parts_good c = criterion_good
 
 pub returns-clause-parts_any : goal.returns-clause-parts_any
 returns-clause-parts_any c = any_parts
+
+pub returns-clause-meaning : goal.returns-clause-meaning
+returns-clause-meaning c = meaning_is
