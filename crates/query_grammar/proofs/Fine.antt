@@ -12,7 +12,8 @@ use Rattle.query_grammar.specs.Step as steps
 use Rattle.query_grammar.specs.Lexical.{is_blank}
 use Rattle.query_grammar.specs.Grammar.{Token, CriterionToken, OperatorToken, OperandToken, NotWord, AndWord, OrWord, OpenMark, CloseMark, token_text, is_token, is_ended, IsLaid, nothing, blank, token, Written, Test, Compared, Not, Inside, And, Or, tokens_of, is_unary, is_and, is_grouped, IsQuery}
 use Rattle.query_grammar.specs.Steps.{steps_of}
-use Rattle.query_grammar.specs.Judging.{rules_of, criterion_fault, operand_fault, or_else}
+use Rattle.std.specs.Option.{option_or}
+use Rattle.query_grammar.specs.Judging.{rules_of, criterion_fault, operand_fault}
 use Rattle.query_grammar.specs.Fine.{IsFine}
 use Rattle.query_grammar.specs.Scanner.{Fault, Deep, ◌>>=◌, Kept, State, Rules, Spot, open_count, begins, whole, taken, last, unless_fault, place_after, token_taken, token_done, fresh, last_done, run, start, begin, tightened, loosened, rested, waits_for, tested}
 use Rattle.query_grammar.proofs.Tokens.{taken_all, some_is, and_then_some}
@@ -159,7 +160,7 @@ fine_compared is_tag is_decimal most w operator operand ws done ts b f all =
     let R : Rules = checked is_tag is_decimal most in
     let k : Kept = record { criterion = w; operator = []; waiting = ws; steps = done } in
     let k2 : Kept = record { criterion = w; operator = operator; waiting = ws; steps = done } in
-    let value : AllFine R BeforeOperand k2 (OperandToken operand ∷ ts) = (λ from place. ap (λ (o : Option Fault). or_else o (operand_fault is_decimal from operator operand)) (f.0 place) ∙ f.1 from, then_fine R (tested k2 operand) ts all) in
+    let value : AllFine R BeforeOperand k2 (OperandToken operand ∷ ts) = (λ from place. ap (λ (o : Option Fault). option_or o (operand_fault is_decimal from operator operand)) (f.0 place) ∙ f.1 from, then_fine R (tested k2 operand) ts all) in
     let behind : AllFine R AfterCriterion k (OperatorToken operator ∷ OperandToken operand ∷ ts) = (λ from place. refl, then_fine R (BeforeOperand, k2) (OperandToken operand ∷ ts) value) in
     (λ from place. refl, then_fine R (AfterCriterion, k) (OperatorToken operator ∷ OperandToken operand ∷ ts) behind)
 

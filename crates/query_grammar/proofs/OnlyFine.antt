@@ -12,7 +12,8 @@ use Rattle.query_grammar.specs.Step as steps
 use Rattle.query_grammar.specs.Lexical.{is_blank}
 use Rattle.query_grammar.specs.Grammar.{Token, CriterionToken, OperatorToken, OperandToken, NotWord, AndWord, OrWord, OpenMark, CloseMark, token_text, is_token, is_ended, IsLaid, nothing, blank, token, Written, Test, Compared, Not, Inside, And, Or, tokens_of, is_unary, is_and, is_grouped, IsQuery}
 use Rattle.query_grammar.specs.Steps.{steps_of}
-use Rattle.query_grammar.specs.Judging.{rules_of, criterion_fault, operand_fault, or_else}
+use Rattle.std.specs.Option.{option_or}
+use Rattle.query_grammar.specs.Judging.{rules_of, criterion_fault, operand_fault}
 use Rattle.query_grammar.specs.Fine.{IsFine}
 use Rattle.query_grammar.specs.Scanner.{Fault, Deep, ◌>>=◌, Kept, State, Rules, Spot, open_count, begins, whole, taken, last, unless_fault, place_after, token_taken, token_done, fresh, last_done, run, start, begin, tightened, loosened, rested, waits_for, tested}
 use Rattle.query_grammar.proofs.Tokens.{taken_all, and_then_some}
@@ -149,7 +150,7 @@ named_back is_tag is_decimal most k (NotWord ∷ ts) b all = absurd cc
 named_back is_tag is_decimal most k (OpenMark ∷ ts) b all = absurd cc
 
 -- neither of two faults is there
-or_else_none : (x y : Option Fault) → or_else x y ≡ None → (x ≡ None) × (y ≡ None)
+or_else_none : (x y : Option Fault) → option_or x y ≡ None → (x ≡ None) × (y ≡ None)
 or_else_none None y e = (refl, e)
 or_else_none (Some f) y e = absurd cc
 

@@ -9,7 +9,8 @@ use Rattle.query_grammar.specs.Lexical.{is_name_byte, lex, is_one_of}
 use Rattle.query_grammar.specs.Grammar.{Token, CriterionToken, OperatorToken, OperandToken, NotWord, AndWord, OrWord, OpenMark, CloseMark}
 use Rattle.query_grammar.specs.Scanner.{Fault, UnknownTag, Number, Deep, Kept, Rules, open_count}
 use Rattle.query_grammar.specs.Criterion.{operand_meaning}
-use Rattle.query_grammar.specs.Judging.{or_else, name_fault, names_fault, behind_level, tags_fault, number, level_fault, is_field_open, field_value, field_fault, criterion_fault, numeric_operators, operand_fault, test_fault, rules_of}
+use Rattle.std.specs.Option.{option_or}
+use Rattle.query_grammar.specs.Judging.{name_fault, names_fault, behind_level, tags_fault, number, level_fault, is_field_open, field_value, field_fault, criterion_fault, numeric_operators, operand_fault, test_fault, rules_of}
 
 -- where the one has no fault, the other has none
 pub record FollowsNone (x y : Option Fault) : Type 0 where
@@ -29,10 +30,10 @@ either_same true x y x2 y2 p q = p
 either_same false x y x2 y2 p q = q
 
 -- the first of two faults is none where both are
-both_same : (x y x2 y2 : Option Fault) → FollowsNone x x2 → FollowsNone y y2 → FollowsNone (or_else x y) (or_else x2 y2)
+both_same : (x y x2 y2 : Option Fault) → FollowsNone x x2 → FollowsNone y y2 → FollowsNone (option_or x y) (option_or x2 y2)
 both_same None y None y2 p q = q
 both_same None y (Some f) y2 p q = record { none = λ e. let never : Some f ≡ None = p.none refl in absurd cc }
-both_same (Some f) y x2 y2 p q = some_same f (or_else x2 y2)
+both_same (Some f) y x2 y2 p q = some_same f (option_or x2 y2)
 
 -- a name is a tag at every place
 name_same : (is_tag : List ℕ → Bool) (at at2 : ℕ) (w : List ℕ) → FollowsNone (name_fault is_tag at w) (name_fault is_tag at2 w)

@@ -9,7 +9,8 @@ use Rattle.query_grammar.specs.Lexical.{is_name_byte, lex, is_one_of, words}
 use Rattle.query_grammar.specs.Grammar.{Token, OperandToken, NotWord, AndWord, OrWord, OpenMark, CloseMark}
 use Rattle.query_grammar.specs.Scanner.{Fault, Syntax, UnknownTag, Number, Deep, Kept, AreRules, open_count}
 use Rattle.query_grammar.specs.Criterion.{operand_meaning}
-use Rattle.query_grammar.specs.Judging.{or_else, name_fault, names_fault, behind_level, tags_fault, number, level_fault, is_field_open, field_value, field_fault, criterion_fault, numeric_operators, operand_fault, test_fault, cut_fault, rules_of}
+use Rattle.std.specs.Option.{option_or}
+use Rattle.query_grammar.specs.Judging.{name_fault, names_fault, behind_level, tags_fault, number, level_fault, is_field_open, field_value, field_fault, criterion_fault, numeric_operators, operand_fault, test_fault, cut_fault, rules_of}
 
 record IsRuling (o : Option Fault) : Type 0 where
   never : (at : ℕ) → o ≡ Some (Syntax at) → ⊥
@@ -30,7 +31,7 @@ either : (b : Bool) (x y : Option Fault) → IsRuling x → IsRuling y → IsRul
 either true x y p q = p
 either false x y p q = q
 
-both : (x y : Option Fault) → IsRuling x → IsRuling y → IsRuling (or_else x y)
+both : (x y : Option Fault) → IsRuling x → IsRuling y → IsRuling (option_or x y)
 both None y p q = q
 both (Some f) y p q = p
 

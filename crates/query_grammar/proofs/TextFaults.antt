@@ -8,14 +8,15 @@ use Rattle.query_grammar.specs.Step.{Step}
 use Rattle.query_grammar.specs.Scanner.{Fault, Syntax}
 use Rattle.query_grammar.specs.Judging.{rules_of}
 use Rattle.query_grammar.specs.Lines.{lines_of, read_lines}
-use Rattle.query_grammar.specs.QueryFault.{fault_of, query_fault}
+use Rattle.std.specs.Result.{result_err}
+use Rattle.query_grammar.specs.QueryFault.{query_fault}
 
 -- what was read, where there is no fault
 pub record NoFault (r : Result (List Step) Fault) : Type 0 where
   pub steps : List Step
   pub read : r ≡ Ok steps
 
-no_fault : (r : Result (List Step) Fault) → fault_of r ≡ None → NoFault r
+no_fault : (r : Result (List Step) Fault) → result_err r ≡ None → NoFault r
 no_fault (Ok steps) e = record { steps = steps; read = refl }
 no_fault (Err f) e = absurd cc
 
@@ -25,7 +26,7 @@ pub record IsFaultless (is_tag is_decimal : List ℕ → Bool) (most : ℕ) (tex
   pub read : NoFault (read_lines (rules_of is_tag is_decimal most) 0 None (lines_of text))
 
 by_utf8 : (is_tag is_decimal : List ℕ → Bool) (most : ℕ) (text : List ℕ) (b : Bool) → is_utf8 text ≡ b
-    → cond b (fault_of (read_lines (rules_of is_tag is_decimal most) 0 None (lines_of text))) (Some (Syntax (utf8_valid_len text))) ≡ None
+    → cond b (result_err (read_lines (rules_of is_tag is_decimal most) 0 None (lines_of text))) (Some (Syntax (utf8_valid_len text))) ≡ None
     → IsFaultless is_tag is_decimal most text
 by_utf8 is_tag is_decimal most text true u e = record { utf8 = IsUtf8-from_is_utf8 text u; read = no_fault _ e }
 by_utf8 is_tag is_decimal most text false u e = absurd cc
@@ -35,10 +36,10 @@ faultless is_tag is_decimal most text e = by_utf8 is_tag is_decimal most text (i
 
 -- in UTF-8 the fault is that of the lines
 pub fault_is : (is_tag is_decimal : List ℕ → Bool) (most : ℕ) (text : List ℕ) → IsUtf8 text
-    → query_fault is_tag is_decimal most text ≡ fault_of (read_lines (rules_of is_tag is_decimal most) 0 None (lines_of text))
+    → query_fault is_tag is_decimal most text ≡ result_err (read_lines (rules_of is_tag is_decimal most) 0 None (lines_of text))
 fault_is is_tag is_decimal most text u = cond-true (is_utf8 text) _ _ (is_utf8-from_IsUtf8 text u)
 
 -- a fault is that of the reading
-pub fault_read : (r : Result (List Step) Fault) (f : Fault) → fault_of r ≡ Some f → r ≡ Err f
+pub fault_read : (r : Result (List Step) Fault) (f : Fault) → result_err r ≡ Some f → r ≡ Err f
 fault_read (Ok steps) f e = absurd cc
 fault_read (Err g) f e = let same : g ≡ f = cc in ap (λ (x : Fault). Err x) same

@@ -1,5 +1,6 @@
 -- The faults of a test beside those of syntax: its names first, and then its numbers by their places.
 use Rattle.std.specs.Prelude.{ℕ, ◌+◌, ◌-◌, ◌*◌, Bool, true, false, ◌&&◌, ◌||◌, not, ◌==◌, nat_lt, if◌then◌else◌, List, [], ◌∷◌, ◌++◌, length, Option, Some, None, codes}
+use Rattle.std.specs.Option.{option_or}
 use Rattle.query_grammar.specs.declared.mode.Mode.{Mode}
 use Rattle.query_grammar.specs.declared.mode.Mode.TheVariants.{BeforeUnary, AfterCriterion, BeforeOperand, AfterUnary}
 use Rattle.query_grammar.specs.declared.lex.Lex.{Lex}
@@ -8,11 +9,6 @@ use Rattle.query_grammar.specs.Lexical.{is_digit, is_name_byte, lex, is_one_of, 
 use Rattle.query_grammar.specs.Criterion.{operand_meaning}
 use Rattle.query_grammar.specs.Grammar.{Token, OperandToken, NotWord, AndWord, OrWord, OpenMark, CloseMark}
 use Rattle.query_grammar.specs.Scanner.{Fault, UnknownTag, Number, Deep, Kept, Rules, open_count}
-
--- the first of two faults
-abbrev pub or_else : Option Fault → Option Fault → Option Fault
-or_else None g = g
-or_else (Some f) g = Some f
 
 -- a name and its place, where one is
 abbrev pub name_fault : (List ℕ → Bool) → ℕ → List ℕ → Option Fault
@@ -24,7 +20,7 @@ abbrev pub names_fault : (List ℕ → Bool) → ℕ → ℕ → List ℕ → Li
 names_fault is_tag at from name [] = name_fault is_tag from name
 names_fault is_tag at from name (c ∷ w) =
     if is_name_byte c then names_fault is_tag (at + 1) from (name ++ c ∷ []) w else
-    or_else (name_fault is_tag from name) (if c == 44 then names_fault is_tag (at + 1) (at + 1) [] w else None)
+    option_or (name_fault is_tag from name) (if c == 44 then names_fault is_tag (at + 1) (at + 1) [] w else None)
 
 -- behind the level
 abbrev pub behind_level : (List ℕ → Bool) → ℕ → List ℕ → Option Fault
@@ -65,7 +61,7 @@ field_fault at (Some l) (c ∷ w) = if is_field_open (lex l c) then field_value 
 
 -- a criterion, also one that is cut off
 abbrev pub criterion_fault : (List ℕ → Bool) → ℕ → List ℕ → Option Fault
-criterion_fault is_tag at w = or_else (tags_fault is_tag at w) (or_else (level_fault at w) (field_fault at (Some Begin) w))
+criterion_fault is_tag at w = option_or (tags_fault is_tag at w) (option_or (level_fault at w) (field_fault at (Some Begin) w))
 
 -- the operators that compare numbers
 abbrev pub numeric_operators : List (List ℕ)
@@ -82,7 +78,7 @@ test_fault is_tag is_decimal most from place BeforeUnary k OpenMark = if nat_lt 
 test_fault is_tag is_decimal most from place AfterCriterion k AndWord = criterion_fault is_tag place k.criterion
 test_fault is_tag is_decimal most from place AfterCriterion k OrWord = criterion_fault is_tag place k.criterion
 test_fault is_tag is_decimal most from place AfterCriterion k CloseMark = criterion_fault is_tag place k.criterion
-test_fault is_tag is_decimal most from place BeforeOperand k (OperandToken w) = or_else (criterion_fault is_tag place k.criterion) (operand_fault is_decimal from k.operator w)
+test_fault is_tag is_decimal most from place BeforeOperand k (OperandToken w) = option_or (criterion_fault is_tag place k.criterion) (operand_fault is_decimal from k.operator w)
 test_fault is_tag is_decimal most from place _ k _ = None
 
 -- what is wrong with a test that is cut off

@@ -1,5 +1,5 @@
 use Rattle.std.proofs.Common.{None, sym, ap, ◌∙◌}
-use Rattle.query_grammar.specs.QueryFault.{fault_of}
+use Rattle.std.specs.Result.{result_err}
 use Rattle.query_grammar.specs.Judging.{rules_of}
 use Rattle.query_grammar.specs.Lines.{lines_of}
 use Rattle.query_grammar.specs.Fine.{IsFineQuery}
@@ -20,7 +20,7 @@ returns-clause-none c = λ is_tag is_decimal most text e.
 pub returns-clause-only_none : goal.returns-clause-only_none
 returns-clause-only_none c = λ is_tag is_decimal most text q u is.
     fault_is is_tag is_decimal most text u
-    ∙ ap fault_of (lines_read (rules_of is_tag is_decimal most) (IsFineQuery is_tag is_decimal most) (fine_lines_read is_tag is_decimal most) (lines_of text) 0 None q is)
+    ∙ ap result_err (lines_read (rules_of is_tag is_decimal most) (IsFineQuery is_tag is_decimal most) (fine_lines_read is_tag is_decimal most) (lines_of text) 0 None q is)
 
 pub returns-clause-syntax : goal.returns-clause-syntax
 returns-clause-syntax c = λ is_tag is_decimal most text at u e.
