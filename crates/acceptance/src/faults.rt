@@ -65,11 +65,11 @@ fn answer_without_call<'a>(
     let mut flush: &[u8] = b"";
     let header_reads = reads_up_to(8, &mut bytes);
     if is_among(failing, &mut call, header_reads) {
-        return Ok(taken(Ending::ReadFault, units, text));
+        return Ok(taken(Ending::ReadFault("f"), units, text));
     }
     for (end, unit_text, unit_flush) in log.units {
         if is_among(failing, &mut call, reads_up_to(*end, &mut bytes)) {
-            return Ok(taken(Ending::ReadFault, units, text));
+            return Ok(taken(Ending::ReadFault("f"), units, text));
         }
         units = units.saturating_add(1);
         flush = *unit_flush;
@@ -79,7 +79,7 @@ fn answer_without_call<'a>(
     }
     // the last read finds the end
     if is_among(failing, &mut call, 1) {
-        return Ok(taken(Ending::ReadFault, units, text));
+        return Ok(taken(Ending::ReadFault("f"), units, text));
     }
     if write_until(failing, &mut call, flush, text)? {
         return Ok(taken(unwritten, units, text));

@@ -19,6 +19,8 @@ mod files;
 #[cfg(test)]
 mod groups;
 #[cfg(test)]
+mod queries;
+#[cfg(test)]
 mod support;
 #[cfg(test)]
 mod units;

@@ -161,7 +161,8 @@ pub enum Ending {
     NotBuilt,
     /// The file of this name can't be opened or created.
     NoOpen(&'static str),
-    ReadFault,
+    /// A read of the file of this name failed.
+    ReadFault(&'static str),
     /// A write to what has this name failed.
     WriteFault(&'static str),
     /// At this byte.
@@ -186,7 +187,7 @@ fn fault_of(ending: Ending) -> (&'static str, &'static str, u64) {
         Ending::BadValue => ("BadValue", "", 0),
         Ending::NotBuilt => ("NotBuilt", "", 0),
         Ending::NoOpen(name) => ("NoOpen", name, 0),
-        Ending::ReadFault => ("ReadFault", "f", 0),
+        Ending::ReadFault(name) => ("ReadFault", name, 0),
         Ending::WriteFault(name) => ("WriteFault", name, 0),
         Ending::NotALog(at) => ("NotALog", "f", at),
         Ending::Damaged(at) => ("Damaged", "f", at),
@@ -200,7 +201,7 @@ fn what_of(ending: Ending) -> &'static str {
         Ending::BadValue => "bad value: -k0",
         Ending::NotBuilt => "not built yet",
         Ending::NoOpen(_) => ": cannot open",
-        Ending::ReadFault => ": read failed",
+        Ending::ReadFault(_) => ": read failed",
         Ending::WriteFault(_) => ": write failed",
         Ending::NotALog(_) => ": not a log at ",
         Ending::Damaged(_) => ": damaged at ",
@@ -240,6 +241,7 @@ fn variant_of(fault: &ToolFault) -> &'static str {
         ToolFault::Usage(UsageFault::BadValue { .. }) => "BadValue",
         ToolFault::Usage(_) => "Usage",
         ToolFault::NotBuilt => "NotBuilt",
+        ToolFault::BadQuery { .. } => "BadQuery",
         ToolFault::NoOpen { .. } => "NoOpen",
         ToolFault::ReadFault { .. } => "ReadFault",
         ToolFault::WriteFault { .. } => "WriteFault",
@@ -254,6 +256,7 @@ fn told_in(fault: &ToolFault) -> (&str, u64) {
     match fault {
         ToolFault::Usage(_) => ("", 0),
         ToolFault::NotBuilt => ("", 0),
+        ToolFault::BadQuery { query, .. } => ("", u64::from(*query)),
         ToolFault::NoOpen { name } => (name.as_str(), 0),
         ToolFault::ReadFault { name } => (name.as_str(), 0),
         ToolFault::WriteFault { name } => (name.as_str(), 0),

@@ -1,7 +1,7 @@
 -- Lines and what reading gives.
 use Rattle.std.proofs.Common.{◌≡◌, [], ◌∷◌, Ok, Err, refl}
 use Rattle.std.specs.Prelude.{codes}
-use Rattle.query_grammar.specs.Step as steps
+use Rattle.query_grammar.specs.declared.step.StepOver.TheVariants as steps
 use Rattle.query_grammar.specs.Scanner.{Syntax, free, run, begin}
 use Rattle.query_grammar.specs.Steps.{test_step}
 

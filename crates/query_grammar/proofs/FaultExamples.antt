@@ -1,11 +1,12 @@
 -- Lines and their first fault.
 use Rattle.std.proofs.Common.{◌≡◌, ℕ, Bool, List, [], ◌∷◌, ◌++◌, Ok, Err, refl}
-use Rattle.std.specs.Prelude.{codes, replicate}
-use Rattle.query_grammar.specs.Step as steps
+use Rattle.std.specs.Prelude.{codes, not, replicate}
+use Rattle.std.specs.Str.{bytes_eq}
+use Rattle.query_grammar.specs.declared.step.StepOver.TheVariants as steps
 use Rattle.query_grammar.specs.Steps.{test_step}
 use Rattle.query_grammar.specs.Lexical.{is_digit, is_one_of}
 use Rattle.query_grammar.specs.Criterion.{is_all}
-use Rattle.query_grammar.specs.Scanner.{Syntax, UnknownTag, Number, Deep, Rules, run, begin}
+use Rattle.query_grammar.specs.Scanner.{Syntax, UnknownTag, Number, Pattern, Deep, Rules, run, begin}
 use Rattle.std.specs.Prelude.{None}
 use Rattle.query_grammar.specs.Scanner.{free}
 use Rattle.query_grammar.specs.Lines.{lines_of, read_lines}
@@ -14,8 +15,12 @@ use Rattle.query_grammar.specs.Judging.{rules_of}
 abbrev few : List ℕ → Bool
 few w = is_one_of (codes "End" ∷ codes "Begin" ∷ codes "ReqURL" ∷ codes "RespStatus" ∷ []) w
 
+-- every pattern is good but `(`
+abbrev good : List ℕ → Bool
+good w = not (bytes_eq w (codes "("))
+
 abbrev rules : Rules
-rules = rules_of few (λ w. is_all is_digit w) 3
+rules = rules_of few (λ w. is_all is_digit w) good 3
 
 tag_first : run rules 0 begin (codes "{99999}Foo") ≡ Err (UnknownTag 7)
 unfolding run
@@ -69,6 +74,22 @@ not_too_deep : run rules 0 begin (codes "((not End) or not not (End") ≡ Err (D
 unfolding run
 not_too_deep = refl
 
+bad_pattern : run rules 0 begin (codes "ReqURL ~ \"(\" %") ≡ Err (Pattern 9)
+unfolding run
+bad_pattern = refl
+
+pattern_before_number : run rules 0 begin (codes "ReqURL !~ '(' and RespStatus == x") ≡ Err (Pattern 10)
+unfolding run
+pattern_before_number = refl
+
+number_before_pattern : run rules 0 begin (codes "RespStatus == x or ReqURL ~ '('") ≡ Err (Number 14)
+unfolding run
+number_before_pattern = refl
+
+bad_text : run rules 0 begin (codes "ReqURL eq '('") ≡ Ok (test_step (codes "ReqURL") (codes "eq") (codes "'('") ∷ [])
+unfolding run
+bad_text = refl
+
 open_quote : run rules 0 begin (codes "ReqURL ~ 'a") ≡ Err (Syntax 11)
 unfolding run
 open_quote = refl
@@ -110,7 +131,7 @@ unfolding run
 sign_then_word = refl
 
 abbrev deep : Rules
-deep = rules_of few (λ w. is_all is_digit w) 64
+deep = rules_of few (λ w. is_all is_digit w) good 64
 
 open_64 : run deep 0 begin (replicate 64 40 ++ codes "End" ++ replicate 64 41) ≡ Ok (test_step (codes "End") [] [] ∷ [])
 unfolding run

@@ -8,7 +8,7 @@ use Rattle.query_grammar.specs.declared.mode.Mode.TheVariants.{BeforeUnary, Afte
 use Rattle.query_grammar.specs.declared.mode.Waiting.{Waiting}
 use Rattle.query_grammar.specs.declared.mode.Waiting.TheVariants as waits
 use Rattle.query_grammar.specs.Step.{Step}
-use Rattle.query_grammar.specs.Step as steps
+use Rattle.query_grammar.specs.declared.step.StepOver.TheVariants as steps
 use Rattle.query_grammar.specs.Lexical.{is_blank}
 use Rattle.query_grammar.specs.Grammar.{Token, CriterionToken, OperatorToken, OperandToken, NotWord, AndWord, OrWord, OpenMark, CloseMark, token_text, is_token, is_ended, IsLaid, nothing, blank, token, Written, Test, Compared, Not, Inside, And, Or, tokens_of, is_unary, is_and, is_grouped, IsQuery}
 use Rattle.query_grammar.specs.Steps.{steps_of}
@@ -99,68 +99,68 @@ laid_read rules _ _ (token {ts} {rest} t good ended l) m k out fine e =
 
 -- ---- trees
 
-abbrev pub checked : (List ℕ → Bool) → (List ℕ → Bool) → ℕ → Rules
-checked is_tag is_decimal most = rules_of is_tag is_decimal most
+abbrev pub checked : (List ℕ → Bool) → (List ℕ → Bool) → (List ℕ → Bool) → ℕ → Rules
+checked is_tag is_decimal is_pattern most = rules_of is_tag is_decimal is_pattern most
 
 -- `not`s and an `and` that end are open no more; none of them is counted where a query ends
 tightened_open : (ws : List Waiting) (done : List Step) → is_loose ws ≡ true → (tightened ws done).0 ≡ ws
 tightened_open ws done e = ap (λ (x : List Waiting × List Step). x.0) (loose_stays ws done e)
 
 -- a criterion's fault isn't there, so the test's isn't
-named_fine : (is_tag is_decimal : List ℕ → Bool) (most : ℕ) (k : Kept) (ts : List Token) → is_behind ts ≡ true → ((place : ℕ) → criterion_fault is_tag place k.criterion ≡ None) → AllFine (checked is_tag is_decimal most) AfterUnary (tested k []).1 ts → AllFine (checked is_tag is_decimal most) AfterCriterion k ts
-named_fine is_tag is_decimal most k [] b f all = λ from place. f place
-named_fine is_tag is_decimal most k (AndWord ∷ ts) b f all = (λ from place. f place, all.1)
-named_fine is_tag is_decimal most k (OrWord ∷ ts) b f all = (λ from place. f place, all.1)
-named_fine is_tag is_decimal most k (CloseMark ∷ ts) b f all = (λ from place. f place, all.1)
-named_fine is_tag is_decimal most k (CriterionToken w ∷ ts) b f all = absurd cc
-named_fine is_tag is_decimal most k (OperatorToken w ∷ ts) b f all = absurd cc
-named_fine is_tag is_decimal most k (OperandToken w ∷ ts) b f all = absurd cc
-named_fine is_tag is_decimal most k (NotWord ∷ ts) b f all = absurd cc
-named_fine is_tag is_decimal most k (OpenMark ∷ ts) b f all = absurd cc
+named_fine : (is_tag is_decimal is_pattern : List ℕ → Bool) (most : ℕ) (k : Kept) (ts : List Token) → is_behind ts ≡ true → ((place : ℕ) → criterion_fault is_tag place k.criterion ≡ None) → AllFine (checked is_tag is_decimal is_pattern most) AfterUnary (tested k []).1 ts → AllFine (checked is_tag is_decimal is_pattern most) AfterCriterion k ts
+named_fine is_tag is_decimal is_pattern most k [] b f all = λ from place. f place
+named_fine is_tag is_decimal is_pattern most k (AndWord ∷ ts) b f all = (λ from place. f place, all.1)
+named_fine is_tag is_decimal is_pattern most k (OrWord ∷ ts) b f all = (λ from place. f place, all.1)
+named_fine is_tag is_decimal is_pattern most k (CloseMark ∷ ts) b f all = (λ from place. f place, all.1)
+named_fine is_tag is_decimal is_pattern most k (CriterionToken w ∷ ts) b f all = absurd cc
+named_fine is_tag is_decimal is_pattern most k (OperatorToken w ∷ ts) b f all = absurd cc
+named_fine is_tag is_decimal is_pattern most k (OperandToken w ∷ ts) b f all = absurd cc
+named_fine is_tag is_decimal is_pattern most k (NotWord ∷ ts) b f all = absurd cc
+named_fine is_tag is_decimal is_pattern most k (OpenMark ∷ ts) b f all = absurd cc
 
 -- where one state follows
 pub then_fine : (rules : Rules) (y : State) (ts : List Token) → AllFine rules y.0 y.1 ts → (x : State) → Some y ≡ Some x → AllFine rules x.0 x.1 ts
 then_fine rules y ts all x e = subst (λ (z : State). AllFine rules z.0 z.1 ts) (some_is y x e) all
 
 -- how a query without a fault is read, by where it stands
-record FineRuns (is_tag is_decimal : List ℕ → Bool) (most : ℕ) (q : Written) : Type 0 where
-  as_unary : is_unary q ≡ true → (ws : List Waiting) (done : List Step) (ts : List Token) → is_behind ts ≡ true → IsFine is_tag is_decimal most (open_count ws) q
-      → AllFine (checked is_tag is_decimal most) AfterUnary (before (tightened ws (done ++ steps_of q))) ts → AllFine (checked is_tag is_decimal most) BeforeUnary (before (ws, done)) (tokens_of q ++ ts)
-  as_and : is_and q ≡ true → (ws : List Waiting) (done : List Step) (ts : List Token) → is_loose ws ≡ true → is_behind ts ≡ true → IsFine is_tag is_decimal most (open_count ws) q
-      → AllFine (checked is_tag is_decimal most) AfterUnary (before (ws, done ++ steps_of q)) ts → AllFine (checked is_tag is_decimal most) BeforeUnary (before (ws, done)) (tokens_of q ++ ts)
-  as_or : (ws : List Waiting) (done : List Step) (ts : List Token) → is_base ws ≡ true → is_closing ts ≡ true → IsFine is_tag is_decimal most (open_count ws) q
-      → AllFine (checked is_tag is_decimal most) AfterUnary (before (ws, done ++ steps_of q)) ts → AllFine (checked is_tag is_decimal most) BeforeUnary (before (ws, done)) (tokens_of q ++ ts)
+record FineRuns (is_tag is_decimal is_pattern : List ℕ → Bool) (most : ℕ) (q : Written) : Type 0 where
+  as_unary : is_unary q ≡ true → (ws : List Waiting) (done : List Step) (ts : List Token) → is_behind ts ≡ true → IsFine is_tag is_decimal is_pattern most (open_count ws) q
+      → AllFine (checked is_tag is_decimal is_pattern most) AfterUnary (before (tightened ws (done ++ steps_of q))) ts → AllFine (checked is_tag is_decimal is_pattern most) BeforeUnary (before (ws, done)) (tokens_of q ++ ts)
+  as_and : is_and q ≡ true → (ws : List Waiting) (done : List Step) (ts : List Token) → is_loose ws ≡ true → is_behind ts ≡ true → IsFine is_tag is_decimal is_pattern most (open_count ws) q
+      → AllFine (checked is_tag is_decimal is_pattern most) AfterUnary (before (ws, done ++ steps_of q)) ts → AllFine (checked is_tag is_decimal is_pattern most) BeforeUnary (before (ws, done)) (tokens_of q ++ ts)
+  as_or : (ws : List Waiting) (done : List Step) (ts : List Token) → is_base ws ≡ true → is_closing ts ≡ true → IsFine is_tag is_decimal is_pattern most (open_count ws) q
+      → AllFine (checked is_tag is_decimal is_pattern most) AfterUnary (before (ws, done ++ steps_of q)) ts → AllFine (checked is_tag is_decimal is_pattern most) BeforeUnary (before (ws, done)) (tokens_of q ++ ts)
 
-abbrev FineUnary : (List ℕ → Bool) → (List ℕ → Bool) → ℕ → Written → Type 0
-FineUnary is_tag is_decimal most q = (ws : List Waiting) (done : List Step) (ts : List Token) → is_behind ts ≡ true → IsFine is_tag is_decimal most (open_count ws) q
-    → AllFine (checked is_tag is_decimal most) AfterUnary (before (tightened ws (done ++ steps_of q))) ts → AllFine (checked is_tag is_decimal most) BeforeUnary (before (ws, done)) (tokens_of q ++ ts)
+abbrev FineUnary : (List ℕ → Bool) → (List ℕ → Bool) → (List ℕ → Bool) → ℕ → Written → Type 0
+FineUnary is_tag is_decimal is_pattern most q = (ws : List Waiting) (done : List Step) (ts : List Token) → is_behind ts ≡ true → IsFine is_tag is_decimal is_pattern most (open_count ws) q
+    → AllFine (checked is_tag is_decimal is_pattern most) AfterUnary (before (tightened ws (done ++ steps_of q))) ts → AllFine (checked is_tag is_decimal is_pattern most) BeforeUnary (before (ws, done)) (tokens_of q ++ ts)
 
-abbrev FineAnd : (List ℕ → Bool) → (List ℕ → Bool) → ℕ → Written → Type 0
-FineAnd is_tag is_decimal most q = (ws : List Waiting) (done : List Step) (ts : List Token) → is_loose ws ≡ true → is_behind ts ≡ true → IsFine is_tag is_decimal most (open_count ws) q
-    → AllFine (checked is_tag is_decimal most) AfterUnary (before (ws, done ++ steps_of q)) ts → AllFine (checked is_tag is_decimal most) BeforeUnary (before (ws, done)) (tokens_of q ++ ts)
+abbrev FineAnd : (List ℕ → Bool) → (List ℕ → Bool) → (List ℕ → Bool) → ℕ → Written → Type 0
+FineAnd is_tag is_decimal is_pattern most q = (ws : List Waiting) (done : List Step) (ts : List Token) → is_loose ws ≡ true → is_behind ts ≡ true → IsFine is_tag is_decimal is_pattern most (open_count ws) q
+    → AllFine (checked is_tag is_decimal is_pattern most) AfterUnary (before (ws, done ++ steps_of q)) ts → AllFine (checked is_tag is_decimal is_pattern most) BeforeUnary (before (ws, done)) (tokens_of q ++ ts)
 
-fine_and_of : (is_tag is_decimal : List ℕ → Bool) (most : ℕ) (q : Written) → FineUnary is_tag is_decimal most q → FineAnd is_tag is_decimal most q
-fine_and_of is_tag is_decimal most q h ws done ts loose b f all =
-    h ws done ts b f (subst (λ (x : List Waiting × List Step). AllFine (checked is_tag is_decimal most) AfterUnary (before x) ts) (sym (loose_stays ws (done ++ steps_of q) loose)) all)
+fine_and_of : (is_tag is_decimal is_pattern : List ℕ → Bool) (most : ℕ) (q : Written) → FineUnary is_tag is_decimal is_pattern most q → FineAnd is_tag is_decimal is_pattern most q
+fine_and_of is_tag is_decimal is_pattern most q h ws done ts loose b f all =
+    h ws done ts b f (subst (λ (x : List Waiting × List Step). AllFine (checked is_tag is_decimal is_pattern most) AfterUnary (before x) ts) (sym (loose_stays ws (done ++ steps_of q) loose)) all)
 
-fine_from_unary : (is_tag is_decimal : List ℕ → Bool) (most : ℕ) (q : Written) → FineUnary is_tag is_decimal most q → FineRuns is_tag is_decimal most q
-fine_from_unary is_tag is_decimal most q h = record {
+fine_from_unary : (is_tag is_decimal is_pattern : List ℕ → Bool) (most : ℕ) (q : Written) → FineUnary is_tag is_decimal is_pattern most q → FineRuns is_tag is_decimal is_pattern most q
+fine_from_unary is_tag is_decimal is_pattern most q h = record {
   as_unary = λ u. h;
-  as_and = λ u. fine_and_of is_tag is_decimal most q h;
-  as_or = λ ws done ts base c f all. fine_and_of is_tag is_decimal most q h ws done ts (base_loose ws base) (closing_behind ts c) f all;
+  as_and = λ u. fine_and_of is_tag is_decimal is_pattern most q h;
+  as_or = λ ws done ts base c f all. fine_and_of is_tag is_decimal is_pattern most q h ws done ts (base_loose ws base) (closing_behind ts c) f all;
 }
 
-fine_test : (is_tag is_decimal : List ℕ → Bool) (most : ℕ) (w : List ℕ) → FineUnary is_tag is_decimal most (Test w)
-fine_test is_tag is_decimal most w ws done ts b f all =
+fine_test : (is_tag is_decimal is_pattern : List ℕ → Bool) (most : ℕ) (w : List ℕ) → FineUnary is_tag is_decimal is_pattern most (Test w)
+fine_test is_tag is_decimal is_pattern most w ws done ts b f all =
     let k : Kept = record { criterion = w; operator = []; waiting = ws; steps = done } in
-    (λ from place. refl, then_fine (checked is_tag is_decimal most) (AfterCriterion, k) ts (named_fine is_tag is_decimal most k ts b f all))
+    (λ from place. refl, then_fine (checked is_tag is_decimal is_pattern most) (AfterCriterion, k) ts (named_fine is_tag is_decimal is_pattern most k ts b f all))
 
-fine_compared : (is_tag is_decimal : List ℕ → Bool) (most : ℕ) (w operator operand : List ℕ) → FineUnary is_tag is_decimal most (Compared w operator operand)
-fine_compared is_tag is_decimal most w operator operand ws done ts b f all =
-    let R : Rules = checked is_tag is_decimal most in
+fine_compared : (is_tag is_decimal is_pattern : List ℕ → Bool) (most : ℕ) (w operator operand : List ℕ) → FineUnary is_tag is_decimal is_pattern most (Compared w operator operand)
+fine_compared is_tag is_decimal is_pattern most w operator operand ws done ts b f all =
+    let R : Rules = checked is_tag is_decimal is_pattern most in
     let k : Kept = record { criterion = w; operator = []; waiting = ws; steps = done } in
     let k2 : Kept = record { criterion = w; operator = operator; waiting = ws; steps = done } in
-    let value : AllFine R BeforeOperand k2 (OperandToken operand ∷ ts) = (λ from place. ap (λ (o : Option Fault). option_or o (operand_fault is_decimal from operator operand)) (f.0 place) ∙ f.1 from, then_fine R (tested k2 operand) ts all) in
+    let value : AllFine R BeforeOperand k2 (OperandToken operand ∷ ts) = (λ from place. ap (λ (o : Option Fault). option_or o (operand_fault is_decimal is_pattern from operator operand)) (f.0 place) ∙ f.1 from, then_fine R (tested k2 operand) ts all) in
     let behind : AllFine R AfterCriterion k (OperatorToken operator ∷ OperandToken operand ∷ ts) = (λ from place. refl, then_fine R (BeforeOperand, k2) (OperandToken operand ∷ ts) value) in
     (λ from place. refl, then_fine R (AfterCriterion, k) (OperatorToken operator ∷ OperandToken operand ∷ ts) behind)
 
@@ -168,23 +168,23 @@ fine_compared is_tag is_decimal most w operator operand ws done ts b f all =
 may_open : (n most from : ℕ) → n < most → cond (nat_lt n most) None (Some (Deep from)) ≡ None
 may_open n most from lt = cond-true (nat_lt n most) None (Some (Deep from)) (lt-ltb n most lt)
 
-fine_not : (is_tag is_decimal : List ℕ → Bool) (most : ℕ) (q : Written) → FineUnary is_tag is_decimal most q → FineUnary is_tag is_decimal most (Not q)
-fine_not is_tag is_decimal most q h ws done ts b f all =
-    let R : Rules = checked is_tag is_decimal most in
+fine_not : (is_tag is_decimal is_pattern : List ℕ → Bool) (most : ℕ) (q : Written) → FineUnary is_tag is_decimal is_pattern most q → FineUnary is_tag is_decimal is_pattern most (Not q)
+fine_not is_tag is_decimal is_pattern most q h ws done ts b f all =
+    let R : Rules = checked is_tag is_decimal is_pattern most in
     let moved : AllFine R AfterUnary (before (tightened ws ((done ++ steps_of q) ++ steps.Not ∷ []))) ts = subst (λ (d : List Step). AllFine R AfterUnary (before (tightened ws d)) ts) (sym (append_assoc done (steps_of q) (steps.Not ∷ []))) all in
     (λ from place. may_open (open_count ws) most from f.0, then_fine R (waits_for waits.Not (ws, done)) (tokens_of q ++ ts) (h (waits.Not ∷ ws) done ts b f.1 moved))
 
-fine_inside : (is_tag is_decimal : List ℕ → Bool) (most : ℕ) (q : Written) → FineRuns is_tag is_decimal most q → FineUnary is_tag is_decimal most (Inside q)
-fine_inside is_tag is_decimal most q h ws done ts b f all =
-    let R : Rules = checked is_tag is_decimal most in
+fine_inside : (is_tag is_decimal is_pattern : List ℕ → Bool) (most : ℕ) (q : Written) → FineRuns is_tag is_decimal is_pattern most q → FineUnary is_tag is_decimal is_pattern most (Inside q)
+fine_inside is_tag is_decimal is_pattern most q h ws done ts b f all =
+    let R : Rules = checked is_tag is_decimal is_pattern most in
     let close : AllFine R AfterUnary (before (waits.Open ∷ ws, done ++ steps_of q)) (CloseMark ∷ ts) = (λ from place. refl, then_fine R (rested (tightened ws (done ++ steps_of q))) ts all) in
     let inner : AllFine R BeforeUnary (before (waits.Open ∷ ws, done)) (tokens_of q ++ CloseMark ∷ ts) = h.as_or (waits.Open ∷ ws) done (CloseMark ∷ ts) refl refl f.1 close in
     let regrouped : AllFine R BeforeUnary (before (waits.Open ∷ ws, done)) ((tokens_of q ++ CloseMark ∷ []) ++ ts) = subst (λ (x : List Token). AllFine R BeforeUnary (before (waits.Open ∷ ws, done)) x) (sym (append_assoc (tokens_of q) (CloseMark ∷ []) ts)) inner in
     (λ from place. may_open (open_count ws) most from f.0, then_fine R (waits_for waits.Open (ws, done)) ((tokens_of q ++ CloseMark ∷ []) ++ ts) regrouped)
 
-fine_and : (is_tag is_decimal : List ℕ → Bool) (most : ℕ) (p q : Written) → FineAnd is_tag is_decimal most p → FineUnary is_tag is_decimal most q → FineAnd is_tag is_decimal most (And p q)
-fine_and is_tag is_decimal most p q hp hq ws done ts loose b f all =
-    let R : Rules = checked is_tag is_decimal most in
+fine_and : (is_tag is_decimal is_pattern : List ℕ → Bool) (most : ℕ) (p q : Written) → FineAnd is_tag is_decimal is_pattern most p → FineUnary is_tag is_decimal is_pattern most q → FineAnd is_tag is_decimal is_pattern most (And p q)
+fine_and is_tag is_decimal is_pattern most p q hp hq ws done ts loose b f all =
+    let R : Rules = checked is_tag is_decimal is_pattern most in
     let d : List Step = ((done ++ steps_of p) ++ steps_of q) ++ steps.And ∷ [] in
     let steps_same : done ++ ((steps_of p ++ steps_of q) ++ steps.And ∷ []) ≡ ((done ++ steps_of p) ++ steps_of q) ++ steps.And ∷ [] = simp append_assoc in
     let moved : AllFine R AfterUnary (before (ws, d)) ts = subst (λ (x : List Step). AllFine R AfterUnary (before (ws, x)) ts) steps_same all in
@@ -194,57 +194,57 @@ fine_and is_tag is_decimal most p q hp hq ws done ts loose b f all =
     subst (λ (x : List Token). AllFine R BeforeUnary (before (ws, done)) x) (sym (append_assoc (tokens_of p) (AndWord ∷ tokens_of q) ts)) (hp ws done (AndWord ∷ (tokens_of q ++ ts)) loose refl f.0 joint)
 
 -- an `or` ends where the query ends
-or_fine : (is_tag is_decimal : List ℕ → Bool) (most : ℕ) (ts : List Token) (ws : List Waiting) (done : List Step) → is_closing ts ≡ true → AllFine (checked is_tag is_decimal most) AfterUnary (before (ws, done ++ steps.Or ∷ [])) ts → AllFine (checked is_tag is_decimal most) AfterUnary (before (waits.Or ∷ ws, done)) ts
-or_fine is_tag is_decimal most [] ws done c all = λ from place. refl
-or_fine is_tag is_decimal most (OrWord ∷ ts) ws done c all = (λ from place. refl, all.1)
-or_fine is_tag is_decimal most (CloseMark ∷ ts) ws done c all = (λ from place. refl, all.1)
-or_fine is_tag is_decimal most (AndWord ∷ ts) ws done c all = absurd cc
-or_fine is_tag is_decimal most (CriterionToken w ∷ ts) ws done c all = absurd cc
-or_fine is_tag is_decimal most (OperatorToken w ∷ ts) ws done c all = absurd cc
-or_fine is_tag is_decimal most (OperandToken w ∷ ts) ws done c all = absurd cc
-or_fine is_tag is_decimal most (NotWord ∷ ts) ws done c all = absurd cc
-or_fine is_tag is_decimal most (OpenMark ∷ ts) ws done c all = absurd cc
+or_fine : (is_tag is_decimal is_pattern : List ℕ → Bool) (most : ℕ) (ts : List Token) (ws : List Waiting) (done : List Step) → is_closing ts ≡ true → AllFine (checked is_tag is_decimal is_pattern most) AfterUnary (before (ws, done ++ steps.Or ∷ [])) ts → AllFine (checked is_tag is_decimal is_pattern most) AfterUnary (before (waits.Or ∷ ws, done)) ts
+or_fine is_tag is_decimal is_pattern most [] ws done c all = λ from place. refl
+or_fine is_tag is_decimal is_pattern most (OrWord ∷ ts) ws done c all = (λ from place. refl, all.1)
+or_fine is_tag is_decimal is_pattern most (CloseMark ∷ ts) ws done c all = (λ from place. refl, all.1)
+or_fine is_tag is_decimal is_pattern most (AndWord ∷ ts) ws done c all = absurd cc
+or_fine is_tag is_decimal is_pattern most (CriterionToken w ∷ ts) ws done c all = absurd cc
+or_fine is_tag is_decimal is_pattern most (OperatorToken w ∷ ts) ws done c all = absurd cc
+or_fine is_tag is_decimal is_pattern most (OperandToken w ∷ ts) ws done c all = absurd cc
+or_fine is_tag is_decimal is_pattern most (NotWord ∷ ts) ws done c all = absurd cc
+or_fine is_tag is_decimal is_pattern most (OpenMark ∷ ts) ws done c all = absurd cc
 
-fine_or : (is_tag is_decimal : List ℕ → Bool) (most : ℕ) (p q : Written) → FineRuns is_tag is_decimal most p → FineAnd is_tag is_decimal most q → (ws : List Waiting) (done : List Step) (ts : List Token) → is_base ws ≡ true → is_closing ts ≡ true → IsFine is_tag is_decimal most (open_count ws) (Or p q)
-    → AllFine (checked is_tag is_decimal most) AfterUnary (before (ws, done ++ steps_of (Or p q))) ts → AllFine (checked is_tag is_decimal most) BeforeUnary (before (ws, done)) (tokens_of (Or p q) ++ ts)
-fine_or is_tag is_decimal most p q hp hq ws done ts base c f all =
-    let R : Rules = checked is_tag is_decimal most in
+fine_or : (is_tag is_decimal is_pattern : List ℕ → Bool) (most : ℕ) (p q : Written) → FineRuns is_tag is_decimal is_pattern most p → FineAnd is_tag is_decimal is_pattern most q → (ws : List Waiting) (done : List Step) (ts : List Token) → is_base ws ≡ true → is_closing ts ≡ true → IsFine is_tag is_decimal is_pattern most (open_count ws) (Or p q)
+    → AllFine (checked is_tag is_decimal is_pattern most) AfterUnary (before (ws, done ++ steps_of (Or p q))) ts → AllFine (checked is_tag is_decimal is_pattern most) BeforeUnary (before (ws, done)) (tokens_of (Or p q) ++ ts)
+fine_or is_tag is_decimal is_pattern most p q hp hq ws done ts base c f all =
+    let R : Rules = checked is_tag is_decimal is_pattern most in
     let steps_same : done ++ ((steps_of p ++ steps_of q) ++ steps.Or ∷ []) ≡ ((done ++ steps_of p) ++ steps_of q) ++ steps.Or ∷ [] = simp append_assoc in
     let moved : AllFine R AfterUnary (before (ws, ((done ++ steps_of p) ++ steps_of q) ++ steps.Or ∷ [])) ts = subst (λ (x : List Step). AllFine R AfterUnary (before (ws, x)) ts) steps_same all in
-    let second = hq (waits.Or ∷ ws) (done ++ steps_of p) ts refl (closing_behind ts c) f.1 (or_fine is_tag is_decimal most ts ws ((done ++ steps_of p) ++ steps_of q) c moved) in
+    let second = hq (waits.Or ∷ ws) (done ++ steps_of p) ts refl (closing_behind ts c) f.1 (or_fine is_tag is_decimal is_pattern most ts ws ((done ++ steps_of p) ++ steps_of q) c moved) in
     let loose : AllFine R BeforeUnary (waits_for waits.Or (loosened ws (done ++ steps_of p))).1 (tokens_of q ++ ts) = subst (λ (x : List Waiting × List Step). AllFine R BeforeUnary (waits_for waits.Or x).1 (tokens_of q ++ ts)) (sym (base_stays ws (done ++ steps_of p) base)) second in
     let joint : AllFine R AfterUnary (before (ws, done ++ steps_of p)) (OrWord ∷ (tokens_of q ++ ts)) = (λ from place. refl, then_fine R (waits_for waits.Or (loosened ws (done ++ steps_of p))) (tokens_of q ++ ts) loose) in
     subst (λ (x : List Token). AllFine R BeforeUnary (before (ws, done)) x) (sym (append_assoc (tokens_of p) (OrWord ∷ tokens_of q) ts)) (hp.as_or ws done (OrWord ∷ (tokens_of q ++ ts)) base refl f.0 joint)
 
-fine_runs : (is_tag is_decimal : List ℕ → Bool) (most : ℕ) (q : Written) → is_grouped q ≡ true → FineRuns is_tag is_decimal most q
-fine_runs is_tag is_decimal most (Test w) e = fine_from_unary is_tag is_decimal most (Test w) (fine_test is_tag is_decimal most w)
-fine_runs is_tag is_decimal most (Compared w operator operand) e = fine_from_unary is_tag is_decimal most (Compared w operator operand) (fine_compared is_tag is_decimal most w operator operand)
-fine_runs is_tag is_decimal most (Not q) e =
+fine_runs : (is_tag is_decimal is_pattern : List ℕ → Bool) (most : ℕ) (q : Written) → is_grouped q ≡ true → FineRuns is_tag is_decimal is_pattern most q
+fine_runs is_tag is_decimal is_pattern most (Test w) e = fine_from_unary is_tag is_decimal is_pattern most (Test w) (fine_test is_tag is_decimal is_pattern most w)
+fine_runs is_tag is_decimal is_pattern most (Compared w operator operand) e = fine_from_unary is_tag is_decimal is_pattern most (Compared w operator operand) (fine_compared is_tag is_decimal is_pattern most w operator operand)
+fine_runs is_tag is_decimal is_pattern most (Not q) e =
     let g = and_parts (is_unary q) (is_grouped q) e in
-    fine_from_unary is_tag is_decimal most (Not q) (fine_not is_tag is_decimal most q ((fine_runs is_tag is_decimal most q g.1).as_unary g.0))
-fine_runs is_tag is_decimal most (Inside q) e = fine_from_unary is_tag is_decimal most (Inside q) (fine_inside is_tag is_decimal most q (fine_runs is_tag is_decimal most q e))
-fine_runs is_tag is_decimal most (And p q) e =
+    fine_from_unary is_tag is_decimal is_pattern most (Not q) (fine_not is_tag is_decimal is_pattern most q ((fine_runs is_tag is_decimal is_pattern most q g.1).as_unary g.0))
+fine_runs is_tag is_decimal is_pattern most (Inside q) e = fine_from_unary is_tag is_decimal is_pattern most (Inside q) (fine_inside is_tag is_decimal is_pattern most q (fine_runs is_tag is_decimal is_pattern most q e))
+fine_runs is_tag is_decimal is_pattern most (And p q) e =
     let a = and_parts (is_and p && is_unary q && is_grouped p) (is_grouped q) e in
     let b = and_parts (is_and p && is_unary q) (is_grouped p) a.0 in
     let d = and_parts (is_and p) (is_unary q) b.0 in
-    let h = fine_and is_tag is_decimal most p q ((fine_runs is_tag is_decimal most p b.1).as_and d.0) ((fine_runs is_tag is_decimal most q a.1).as_unary d.1) in
+    let h = fine_and is_tag is_decimal is_pattern most p q ((fine_runs is_tag is_decimal is_pattern most p b.1).as_and d.0) ((fine_runs is_tag is_decimal is_pattern most q a.1).as_unary d.1) in
     record {
       as_unary = λ u. absurd cc;
       as_and = λ u. h;
       as_or = λ ws done ts base c f all. h ws done ts (base_loose ws base) (closing_behind ts c) f all;
     }
-fine_runs is_tag is_decimal most (Or p q) e =
+fine_runs is_tag is_decimal is_pattern most (Or p q) e =
     let a = and_parts (is_and q && is_grouped p) (is_grouped q) e in
     let b = and_parts (is_and q) (is_grouped p) a.0 in
     record {
       as_unary = λ u. absurd cc;
       as_and = λ u. absurd cc;
-      as_or = fine_or is_tag is_decimal most p q (fine_runs is_tag is_decimal most p b.1) ((fine_runs is_tag is_decimal most q a.1).as_and b.0);
+      as_or = fine_or is_tag is_decimal is_pattern most p q (fine_runs is_tag is_decimal is_pattern most p b.1) ((fine_runs is_tag is_decimal is_pattern most q a.1).as_and b.0);
     }
 
 -- a query without a fault is read, from whatever place on
-pub fine_read : (is_tag is_decimal : List ℕ → Bool) (most : ℕ) (line : List ℕ) (q : Written) (at : ℕ) → IsQuery line q → IsFine is_tag is_decimal most 0 q → run (rules_of is_tag is_decimal most) at begin line ≡ Ok (steps_of q)
-fine_read is_tag is_decimal most line q at is f =
-    let all : AllFine (checked is_tag is_decimal most) BeforeUnary start (tokens_of q ++ []) = (fine_runs is_tag is_decimal most q is.grouped).as_or [] [] [] refl refl f (λ from place. refl) in
-    let mine : AllFine (checked is_tag is_decimal most) BeforeUnary start (tokens_of q) = subst (λ (ts : List Token). AllFine (checked is_tag is_decimal most) BeforeUnary start ts) (append-nil (tokens_of q)) all in
-    (laid_read (checked is_tag is_decimal most) (tokens_of q) line is.laid BeforeUnary start (steps_of q) mine (tokens_read q is.grouped)).reads at 0
+pub fine_read : (is_tag is_decimal is_pattern : List ℕ → Bool) (most : ℕ) (line : List ℕ) (q : Written) (at : ℕ) → IsQuery line q → IsFine is_tag is_decimal is_pattern most 0 q → run (rules_of is_tag is_decimal is_pattern most) at begin line ≡ Ok (steps_of q)
+fine_read is_tag is_decimal is_pattern most line q at is f =
+    let all : AllFine (checked is_tag is_decimal is_pattern most) BeforeUnary start (tokens_of q ++ []) = (fine_runs is_tag is_decimal is_pattern most q is.grouped).as_or [] [] [] refl refl f (λ from place. refl) in
+    let mine : AllFine (checked is_tag is_decimal is_pattern most) BeforeUnary start (tokens_of q) = subst (λ (ts : List Token). AllFine (checked is_tag is_decimal is_pattern most) BeforeUnary start ts) (append-nil (tokens_of q)) all in
+    (laid_read (checked is_tag is_decimal is_pattern most) (tokens_of q) line is.laid BeforeUnary start (steps_of q) mine (tokens_read q is.grouped)).reads at 0

@@ -8,7 +8,7 @@ use Rattle.query_grammar.specs.declared.mode.Mode.TheVariants.{BeforeUnary, Afte
 use Rattle.query_grammar.specs.declared.mode.Waiting.{Waiting}
 use Rattle.query_grammar.specs.declared.mode.Waiting.TheVariants as waits
 use Rattle.query_grammar.specs.Step.{Step}
-use Rattle.query_grammar.specs.Step as steps
+use Rattle.query_grammar.specs.declared.step.StepOver.TheVariants as steps
 use Rattle.query_grammar.specs.Lexical.{is_blank}
 use Rattle.query_grammar.specs.Grammar.{Token, CriterionToken, OperatorToken, OperandToken, NotWord, AndWord, OrWord, OpenMark, CloseMark, token_text, is_token, is_ended, IsLaid, nothing, blank, token, Written, Test, Compared, Not, Inside, And, Or, tokens_of, is_unary, is_and, is_grouped, IsQuery}
 use Rattle.query_grammar.specs.Steps.{steps_of}
@@ -138,16 +138,16 @@ open_back n most from true e none = ltb-true n most e
 open_back n most from false e none = absurd cc
 
 -- the test behind a criterion has no fault, so the criterion has none
-named_back : (is_tag is_decimal : List ℕ → Bool) (most : ℕ) (k : Kept) (ts : List Token) → is_behind ts ≡ true → AllFine (checked is_tag is_decimal most) AfterCriterion k ts → ((place : ℕ) → criterion_fault is_tag place k.criterion ≡ None) × AllFine (checked is_tag is_decimal most) AfterUnary (tested k []).1 ts
-named_back is_tag is_decimal most k [] b all = (λ place. all place place, λ from place. refl)
-named_back is_tag is_decimal most k (AndWord ∷ ts) b all = (λ place. all.0 place place, (λ from place. refl, all.1))
-named_back is_tag is_decimal most k (OrWord ∷ ts) b all = (λ place. all.0 place place, (λ from place. refl, all.1))
-named_back is_tag is_decimal most k (CloseMark ∷ ts) b all = (λ place. all.0 place place, (λ from place. refl, all.1))
-named_back is_tag is_decimal most k (CriterionToken w ∷ ts) b all = absurd cc
-named_back is_tag is_decimal most k (OperatorToken w ∷ ts) b all = absurd cc
-named_back is_tag is_decimal most k (OperandToken w ∷ ts) b all = absurd cc
-named_back is_tag is_decimal most k (NotWord ∷ ts) b all = absurd cc
-named_back is_tag is_decimal most k (OpenMark ∷ ts) b all = absurd cc
+named_back : (is_tag is_decimal is_pattern : List ℕ → Bool) (most : ℕ) (k : Kept) (ts : List Token) → is_behind ts ≡ true → AllFine (checked is_tag is_decimal is_pattern most) AfterCriterion k ts → ((place : ℕ) → criterion_fault is_tag place k.criterion ≡ None) × AllFine (checked is_tag is_decimal is_pattern most) AfterUnary (tested k []).1 ts
+named_back is_tag is_decimal is_pattern most k [] b all = (λ place. all place place, λ from place. refl)
+named_back is_tag is_decimal is_pattern most k (AndWord ∷ ts) b all = (λ place. all.0 place place, (λ from place. refl, all.1))
+named_back is_tag is_decimal is_pattern most k (OrWord ∷ ts) b all = (λ place. all.0 place place, (λ from place. refl, all.1))
+named_back is_tag is_decimal is_pattern most k (CloseMark ∷ ts) b all = (λ place. all.0 place place, (λ from place. refl, all.1))
+named_back is_tag is_decimal is_pattern most k (CriterionToken w ∷ ts) b all = absurd cc
+named_back is_tag is_decimal is_pattern most k (OperatorToken w ∷ ts) b all = absurd cc
+named_back is_tag is_decimal is_pattern most k (OperandToken w ∷ ts) b all = absurd cc
+named_back is_tag is_decimal is_pattern most k (NotWord ∷ ts) b all = absurd cc
+named_back is_tag is_decimal is_pattern most k (OpenMark ∷ ts) b all = absurd cc
 
 -- neither of two faults is there
 or_else_none : (x y : Option Fault) → option_or x y ≡ None → (x ≡ None) × (y ≡ None)
@@ -155,74 +155,74 @@ or_else_none None y e = (refl, e)
 or_else_none (Some f) y e = absurd cc
 
 -- the query is fine, and so is what stands behind it
-abbrev BackUnary : (List ℕ → Bool) → (List ℕ → Bool) → ℕ → Written → Type 0
-BackUnary is_tag is_decimal most q = (ws : List Waiting) (done : List Step) (ts : List Token) → is_behind ts ≡ true → AllFine (checked is_tag is_decimal most) BeforeUnary (before (ws, done)) (tokens_of q ++ ts)
-    → IsFine is_tag is_decimal most (open_count ws) q × AllFine (checked is_tag is_decimal most) AfterUnary (before (tightened ws (done ++ steps_of q))) ts
+abbrev BackUnary : (List ℕ → Bool) → (List ℕ → Bool) → (List ℕ → Bool) → ℕ → Written → Type 0
+BackUnary is_tag is_decimal is_pattern most q = (ws : List Waiting) (done : List Step) (ts : List Token) → is_behind ts ≡ true → AllFine (checked is_tag is_decimal is_pattern most) BeforeUnary (before (ws, done)) (tokens_of q ++ ts)
+    → IsFine is_tag is_decimal is_pattern most (open_count ws) q × AllFine (checked is_tag is_decimal is_pattern most) AfterUnary (before (tightened ws (done ++ steps_of q))) ts
 
 -- the same for what may stand before `and`
-abbrev BackAnd : (List ℕ → Bool) → (List ℕ → Bool) → ℕ → Written → Type 0
-BackAnd is_tag is_decimal most q = (ws : List Waiting) (done : List Step) (ts : List Token) → is_loose ws ≡ true → is_behind ts ≡ true → AllFine (checked is_tag is_decimal most) BeforeUnary (before (ws, done)) (tokens_of q ++ ts)
-    → IsFine is_tag is_decimal most (open_count ws) q × AllFine (checked is_tag is_decimal most) AfterUnary (before (ws, done ++ steps_of q)) ts
+abbrev BackAnd : (List ℕ → Bool) → (List ℕ → Bool) → (List ℕ → Bool) → ℕ → Written → Type 0
+BackAnd is_tag is_decimal is_pattern most q = (ws : List Waiting) (done : List Step) (ts : List Token) → is_loose ws ≡ true → is_behind ts ≡ true → AllFine (checked is_tag is_decimal is_pattern most) BeforeUnary (before (ws, done)) (tokens_of q ++ ts)
+    → IsFine is_tag is_decimal is_pattern most (open_count ws) q × AllFine (checked is_tag is_decimal is_pattern most) AfterUnary (before (ws, done ++ steps_of q)) ts
 
 -- the same for a query up to its end
-abbrev BackOr : (List ℕ → Bool) → (List ℕ → Bool) → ℕ → Written → Type 0
-BackOr is_tag is_decimal most q = (ws : List Waiting) (done : List Step) (ts : List Token) → is_base ws ≡ true → is_closing ts ≡ true → AllFine (checked is_tag is_decimal most) BeforeUnary (before (ws, done)) (tokens_of q ++ ts)
-    → IsFine is_tag is_decimal most (open_count ws) q × AllFine (checked is_tag is_decimal most) AfterUnary (before (ws, done ++ steps_of q)) ts
+abbrev BackOr : (List ℕ → Bool) → (List ℕ → Bool) → (List ℕ → Bool) → ℕ → Written → Type 0
+BackOr is_tag is_decimal is_pattern most q = (ws : List Waiting) (done : List Step) (ts : List Token) → is_base ws ≡ true → is_closing ts ≡ true → AllFine (checked is_tag is_decimal is_pattern most) BeforeUnary (before (ws, done)) (tokens_of q ++ ts)
+    → IsFine is_tag is_decimal is_pattern most (open_count ws) q × AllFine (checked is_tag is_decimal is_pattern most) AfterUnary (before (ws, done ++ steps_of q)) ts
 
 -- a query whose tokens have no fault is fine, by where it stands
-record FineBack (is_tag is_decimal : List ℕ → Bool) (most : ℕ) (q : Written) : Type 0 where
-  as_unary : is_unary q ≡ true → BackUnary is_tag is_decimal most q
-  as_and : is_and q ≡ true → BackAnd is_tag is_decimal most q
-  as_or : BackOr is_tag is_decimal most q
+record FineBack (is_tag is_decimal is_pattern : List ℕ → Bool) (most : ℕ) (q : Written) : Type 0 where
+  as_unary : is_unary q ≡ true → BackUnary is_tag is_decimal is_pattern most q
+  as_and : is_and q ≡ true → BackAnd is_tag is_decimal is_pattern most q
+  as_or : BackOr is_tag is_decimal is_pattern most q
 
 -- a unary before `and`
-and_back_of : (is_tag is_decimal : List ℕ → Bool) (most : ℕ) (q : Written) → BackUnary is_tag is_decimal most q → BackAnd is_tag is_decimal most q
-and_back_of is_tag is_decimal most q h ws done ts loose b all =
+and_back_of : (is_tag is_decimal is_pattern : List ℕ → Bool) (most : ℕ) (q : Written) → BackUnary is_tag is_decimal is_pattern most q → BackAnd is_tag is_decimal is_pattern most q
+and_back_of is_tag is_decimal is_pattern most q h ws done ts loose b all =
     let p = h ws done ts b all in
-    (p.0, subst (λ (x : List Waiting × List Step). AllFine (checked is_tag is_decimal most) AfterUnary (before x) ts) (loose_stays ws (done ++ steps_of q) loose) p.1)
+    (p.0, subst (λ (x : List Waiting × List Step). AllFine (checked is_tag is_decimal is_pattern most) AfterUnary (before x) ts) (loose_stays ws (done ++ steps_of q) loose) p.1)
 
 -- a unary, wherever it stands
-back_from_unary : (is_tag is_decimal : List ℕ → Bool) (most : ℕ) (q : Written) → BackUnary is_tag is_decimal most q → FineBack is_tag is_decimal most q
-back_from_unary is_tag is_decimal most q h = record {
+back_from_unary : (is_tag is_decimal is_pattern : List ℕ → Bool) (most : ℕ) (q : Written) → BackUnary is_tag is_decimal is_pattern most q → FineBack is_tag is_decimal is_pattern most q
+back_from_unary is_tag is_decimal is_pattern most q h = record {
   as_unary = λ u. h;
-  as_and = λ u. and_back_of is_tag is_decimal most q h;
-  as_or = λ ws done ts base c all. and_back_of is_tag is_decimal most q h ws done ts (base_loose ws base) (closing_behind ts c) all;
+  as_and = λ u. and_back_of is_tag is_decimal is_pattern most q h;
+  as_or = λ ws done ts base c all. and_back_of is_tag is_decimal is_pattern most q h ws done ts (base_loose ws base) (closing_behind ts c) all;
 }
 
 -- a criterion alone
-back_test : (is_tag is_decimal : List ℕ → Bool) (most : ℕ) (w : List ℕ) → BackUnary is_tag is_decimal most (Test w)
-back_test is_tag is_decimal most w ws done ts b all =
+back_test : (is_tag is_decimal is_pattern : List ℕ → Bool) (most : ℕ) (w : List ℕ) → BackUnary is_tag is_decimal is_pattern most (Test w)
+back_test is_tag is_decimal is_pattern most w ws done ts b all =
     let k : Kept = record { criterion = w; operator = []; waiting = ws; steps = done } in
-    named_back is_tag is_decimal most k ts b (all.1 (AfterCriterion, k) refl)
+    named_back is_tag is_decimal is_pattern most k ts b (all.1 (AfterCriterion, k) refl)
 
 -- a comparison
-back_compared : (is_tag is_decimal : List ℕ → Bool) (most : ℕ) (w operator operand : List ℕ) → BackUnary is_tag is_decimal most (Compared w operator operand)
-back_compared is_tag is_decimal most w operator operand ws done ts b all =
-    let R : Rules = checked is_tag is_decimal most in
+back_compared : (is_tag is_decimal is_pattern : List ℕ → Bool) (most : ℕ) (w operator operand : List ℕ) → BackUnary is_tag is_decimal is_pattern most (Compared w operator operand)
+back_compared is_tag is_decimal is_pattern most w operator operand ws done ts b all =
+    let R : Rules = checked is_tag is_decimal is_pattern most in
     let k : Kept = record { criterion = w; operator = []; waiting = ws; steps = done } in
     let k2 : Kept = record { criterion = w; operator = operator; waiting = ws; steps = done } in
     let behind : AllFine R AfterCriterion k (OperatorToken operator ∷ OperandToken operand ∷ ts) = all.1 (AfterCriterion, k) refl in
     let value : AllFine R BeforeOperand k2 (OperandToken operand ∷ ts) = behind.1 (BeforeOperand, k2) refl in (
       (
-        λ place. (or_else_none (criterion_fault is_tag place w) (operand_fault is_decimal place operator operand) (value.0 place place)).0,
-        λ place. (or_else_none (criterion_fault is_tag place w) (operand_fault is_decimal place operator operand) (value.0 place place)).1,
+        λ place. (or_else_none (criterion_fault is_tag place w) (operand_fault is_decimal is_pattern place operator operand) (value.0 place place)).0,
+        λ place. (or_else_none (criterion_fault is_tag place w) (operand_fault is_decimal is_pattern place operator operand) (value.0 place place)).1,
       ),
       value.1 (tested k2 operand) refl,
     )
 
 -- a `not` before a query
-back_not : (is_tag is_decimal : List ℕ → Bool) (most : ℕ) (q : Written) → BackUnary is_tag is_decimal most q → BackUnary is_tag is_decimal most (Not q)
-back_not is_tag is_decimal most q h ws done ts b all =
-    let R : Rules = checked is_tag is_decimal most in
+back_not : (is_tag is_decimal is_pattern : List ℕ → Bool) (most : ℕ) (q : Written) → BackUnary is_tag is_decimal is_pattern most q → BackUnary is_tag is_decimal is_pattern most (Not q)
+back_not is_tag is_decimal is_pattern most q h ws done ts b all =
+    let R : Rules = checked is_tag is_decimal is_pattern most in
     let p = h (waits.Not ∷ ws) done ts b (all.1 (waits_for waits.Not (ws, done)) refl) in (
       (open_back (open_count ws) most 0 (nat_lt (open_count ws) most) refl (all.0 0 0), p.0),
       subst (λ (d : List Step). AllFine R AfterUnary (before (tightened ws d)) ts) (append_assoc done (steps_of q) (steps.Not ∷ [])) p.1,
     )
 
 -- a query in parentheses
-back_inside : (is_tag is_decimal : List ℕ → Bool) (most : ℕ) (q : Written) → FineBack is_tag is_decimal most q → BackUnary is_tag is_decimal most (Inside q)
-back_inside is_tag is_decimal most q h ws done ts b all =
-    let R : Rules = checked is_tag is_decimal most in
+back_inside : (is_tag is_decimal is_pattern : List ℕ → Bool) (most : ℕ) (q : Written) → FineBack is_tag is_decimal is_pattern most q → BackUnary is_tag is_decimal is_pattern most (Inside q)
+back_inside is_tag is_decimal is_pattern most q h ws done ts b all =
+    let R : Rules = checked is_tag is_decimal is_pattern most in
     let regrouped : AllFine R BeforeUnary (before (waits.Open ∷ ws, done)) ((tokens_of q ++ CloseMark ∷ []) ++ ts) = all.1 (waits_for waits.Open (ws, done)) refl in
     let inner : AllFine R BeforeUnary (before (waits.Open ∷ ws, done)) (tokens_of q ++ CloseMark ∷ ts) = subst (λ (x : List Token). AllFine R BeforeUnary (before (waits.Open ∷ ws, done)) x) (append_assoc (tokens_of q) (CloseMark ∷ []) ts) regrouped in
     let p = h.as_or (waits.Open ∷ ws) done (CloseMark ∷ ts) refl refl inner in
@@ -230,9 +230,9 @@ back_inside is_tag is_decimal most q h ws done ts b all =
     ((open_back (open_count ws) most 0 (nat_lt (open_count ws) most) refl (all.0 0 0), p.0), close.1 (rested (tightened ws (done ++ steps_of q))) refl)
 
 -- two queries joined by `and`
-back_and : (is_tag is_decimal : List ℕ → Bool) (most : ℕ) (p q : Written) → BackAnd is_tag is_decimal most p → BackUnary is_tag is_decimal most q → BackAnd is_tag is_decimal most (And p q)
-back_and is_tag is_decimal most p q hp hq ws done ts loose b all =
-    let R : Rules = checked is_tag is_decimal most in
+back_and : (is_tag is_decimal is_pattern : List ℕ → Bool) (most : ℕ) (p q : Written) → BackAnd is_tag is_decimal is_pattern most p → BackUnary is_tag is_decimal is_pattern most q → BackAnd is_tag is_decimal is_pattern most (And p q)
+back_and is_tag is_decimal is_pattern most p q hp hq ws done ts loose b all =
+    let R : Rules = checked is_tag is_decimal is_pattern most in
     let d : List Step = ((done ++ steps_of p) ++ steps_of q) ++ steps.And ∷ [] in
     let steps_same : ((done ++ steps_of p) ++ steps_of q) ++ steps.And ∷ [] ≡ done ++ ((steps_of p ++ steps_of q) ++ steps.And ∷ []) = simp append_assoc in
     let first = hp ws done (AndWord ∷ (tokens_of q ++ ts)) loose refl (subst (λ (x : List Token). AllFine R BeforeUnary (before (ws, done)) x) (append_assoc (tokens_of p) (AndWord ∷ tokens_of q) ts) all) in
@@ -243,69 +243,69 @@ back_and is_tag is_decimal most p q hp hq ws done ts loose b all =
     ((first.0, second.0), subst (λ (x : List Step). AllFine R AfterUnary (before (ws, x)) ts) steps_same moved)
 
 -- behind an `or` that ends where the query ends
-or_back : (is_tag is_decimal : List ℕ → Bool) (most : ℕ) (ts : List Token) (ws : List Waiting) (done : List Step) → is_closing ts ≡ true → AllFine (checked is_tag is_decimal most) AfterUnary (before (waits.Or ∷ ws, done)) ts → AllFine (checked is_tag is_decimal most) AfterUnary (before (ws, done ++ steps.Or ∷ [])) ts
-or_back is_tag is_decimal most [] ws done c all = λ from place. refl
-or_back is_tag is_decimal most (OrWord ∷ ts) ws done c all = (λ from place. refl, all.1)
-or_back is_tag is_decimal most (CloseMark ∷ ts) ws done c all = (λ from place. refl, all.1)
-or_back is_tag is_decimal most (AndWord ∷ ts) ws done c all = absurd cc
-or_back is_tag is_decimal most (CriterionToken w ∷ ts) ws done c all = absurd cc
-or_back is_tag is_decimal most (OperatorToken w ∷ ts) ws done c all = absurd cc
-or_back is_tag is_decimal most (OperandToken w ∷ ts) ws done c all = absurd cc
-or_back is_tag is_decimal most (NotWord ∷ ts) ws done c all = absurd cc
-or_back is_tag is_decimal most (OpenMark ∷ ts) ws done c all = absurd cc
+or_back : (is_tag is_decimal is_pattern : List ℕ → Bool) (most : ℕ) (ts : List Token) (ws : List Waiting) (done : List Step) → is_closing ts ≡ true → AllFine (checked is_tag is_decimal is_pattern most) AfterUnary (before (waits.Or ∷ ws, done)) ts → AllFine (checked is_tag is_decimal is_pattern most) AfterUnary (before (ws, done ++ steps.Or ∷ [])) ts
+or_back is_tag is_decimal is_pattern most [] ws done c all = λ from place. refl
+or_back is_tag is_decimal is_pattern most (OrWord ∷ ts) ws done c all = (λ from place. refl, all.1)
+or_back is_tag is_decimal is_pattern most (CloseMark ∷ ts) ws done c all = (λ from place. refl, all.1)
+or_back is_tag is_decimal is_pattern most (AndWord ∷ ts) ws done c all = absurd cc
+or_back is_tag is_decimal is_pattern most (CriterionToken w ∷ ts) ws done c all = absurd cc
+or_back is_tag is_decimal is_pattern most (OperatorToken w ∷ ts) ws done c all = absurd cc
+or_back is_tag is_decimal is_pattern most (OperandToken w ∷ ts) ws done c all = absurd cc
+or_back is_tag is_decimal is_pattern most (NotWord ∷ ts) ws done c all = absurd cc
+or_back is_tag is_decimal is_pattern most (OpenMark ∷ ts) ws done c all = absurd cc
 
 -- two queries joined by `or`
-back_or : (is_tag is_decimal : List ℕ → Bool) (most : ℕ) (p q : Written) → FineBack is_tag is_decimal most p → BackAnd is_tag is_decimal most q → BackOr is_tag is_decimal most (Or p q)
-back_or is_tag is_decimal most p q hp hq ws done ts base c all =
-    let R : Rules = checked is_tag is_decimal most in
+back_or : (is_tag is_decimal is_pattern : List ℕ → Bool) (most : ℕ) (p q : Written) → FineBack is_tag is_decimal is_pattern most p → BackAnd is_tag is_decimal is_pattern most q → BackOr is_tag is_decimal is_pattern most (Or p q)
+back_or is_tag is_decimal is_pattern most p q hp hq ws done ts base c all =
+    let R : Rules = checked is_tag is_decimal is_pattern most in
     let steps_same : ((done ++ steps_of p) ++ steps_of q) ++ steps.Or ∷ [] ≡ done ++ ((steps_of p ++ steps_of q) ++ steps.Or ∷ []) = simp append_assoc in
     let first = hp.as_or ws done (OrWord ∷ (tokens_of q ++ ts)) base refl (subst (λ (x : List Token). AllFine R BeforeUnary (before (ws, done)) x) (append_assoc (tokens_of p) (OrWord ∷ tokens_of q) ts) all) in
     let joint : AllFine R AfterUnary (before (ws, done ++ steps_of p)) (OrWord ∷ (tokens_of q ++ ts)) = first.1 in
     let loose : AllFine R BeforeUnary (waits_for waits.Or (loosened ws (done ++ steps_of p))).1 (tokens_of q ++ ts) = joint.1 (waits_for waits.Or (loosened ws (done ++ steps_of p))) refl in
     let based : AllFine R BeforeUnary (before (waits.Or ∷ ws, done ++ steps_of p)) (tokens_of q ++ ts) = subst (λ (x : List Waiting × List Step). AllFine R BeforeUnary (waits_for waits.Or x).1 (tokens_of q ++ ts)) (base_stays ws (done ++ steps_of p) base) loose in
     let second = hq (waits.Or ∷ ws) (done ++ steps_of p) ts refl (closing_behind ts c) based in
-    ((first.0, second.0), subst (λ (x : List Step). AllFine R AfterUnary (before (ws, x)) ts) steps_same (or_back is_tag is_decimal most ts ws ((done ++ steps_of p) ++ steps_of q) c second.1))
+    ((first.0, second.0), subst (λ (x : List Step). AllFine R AfterUnary (before (ws, x)) ts) steps_same (or_back is_tag is_decimal is_pattern most ts ws ((done ++ steps_of p) ++ steps_of q) c second.1))
 
 -- each query whose tokens have no fault is fine
-fine_backs : (is_tag is_decimal : List ℕ → Bool) (most : ℕ) (q : Written) → is_grouped q ≡ true → FineBack is_tag is_decimal most q
-fine_backs is_tag is_decimal most (Test w) e = back_from_unary is_tag is_decimal most (Test w) (back_test is_tag is_decimal most w)
-fine_backs is_tag is_decimal most (Compared w operator operand) e = back_from_unary is_tag is_decimal most (Compared w operator operand) (back_compared is_tag is_decimal most w operator operand)
-fine_backs is_tag is_decimal most (Not q) e =
+fine_backs : (is_tag is_decimal is_pattern : List ℕ → Bool) (most : ℕ) (q : Written) → is_grouped q ≡ true → FineBack is_tag is_decimal is_pattern most q
+fine_backs is_tag is_decimal is_pattern most (Test w) e = back_from_unary is_tag is_decimal is_pattern most (Test w) (back_test is_tag is_decimal is_pattern most w)
+fine_backs is_tag is_decimal is_pattern most (Compared w operator operand) e = back_from_unary is_tag is_decimal is_pattern most (Compared w operator operand) (back_compared is_tag is_decimal is_pattern most w operator operand)
+fine_backs is_tag is_decimal is_pattern most (Not q) e =
     let g = and_parts (is_unary q) (is_grouped q) e in
-    back_from_unary is_tag is_decimal most (Not q) (back_not is_tag is_decimal most q ((fine_backs is_tag is_decimal most q g.1).as_unary g.0))
-fine_backs is_tag is_decimal most (Inside q) e = back_from_unary is_tag is_decimal most (Inside q) (back_inside is_tag is_decimal most q (fine_backs is_tag is_decimal most q e))
-fine_backs is_tag is_decimal most (And p q) e =
+    back_from_unary is_tag is_decimal is_pattern most (Not q) (back_not is_tag is_decimal is_pattern most q ((fine_backs is_tag is_decimal is_pattern most q g.1).as_unary g.0))
+fine_backs is_tag is_decimal is_pattern most (Inside q) e = back_from_unary is_tag is_decimal is_pattern most (Inside q) (back_inside is_tag is_decimal is_pattern most q (fine_backs is_tag is_decimal is_pattern most q e))
+fine_backs is_tag is_decimal is_pattern most (And p q) e =
     let a = and_parts (is_and p && is_unary q && is_grouped p) (is_grouped q) e in
     let b = and_parts (is_and p && is_unary q) (is_grouped p) a.0 in
     let d = and_parts (is_and p) (is_unary q) b.0 in
-    let h = back_and is_tag is_decimal most p q ((fine_backs is_tag is_decimal most p b.1).as_and d.0) ((fine_backs is_tag is_decimal most q a.1).as_unary d.1) in
+    let h = back_and is_tag is_decimal is_pattern most p q ((fine_backs is_tag is_decimal is_pattern most p b.1).as_and d.0) ((fine_backs is_tag is_decimal is_pattern most q a.1).as_unary d.1) in
     record {
       as_unary = λ u. absurd cc;
       as_and = λ u. h;
       as_or = λ ws done ts base c all. h ws done ts (base_loose ws base) (closing_behind ts c) all;
     }
-fine_backs is_tag is_decimal most (Or p q) e =
+fine_backs is_tag is_decimal is_pattern most (Or p q) e =
     let a = and_parts (is_and q && is_grouped p) (is_grouped q) e in
     let b = and_parts (is_and q) (is_grouped p) a.0 in
     record {
       as_unary = λ u. absurd cc;
       as_and = λ u. absurd cc;
-      as_or = back_or is_tag is_decimal most p q (fine_backs is_tag is_decimal most p b.1) ((fine_backs is_tag is_decimal most q a.1).as_and b.0);
+      as_or = back_or is_tag is_decimal is_pattern most p q (fine_backs is_tag is_decimal is_pattern most p b.1) ((fine_backs is_tag is_decimal is_pattern most q a.1).as_and b.0);
     }
 
 -- a query without a fault, and its steps
-pub record FineLine (is_tag is_decimal : List ℕ → Bool) (most : ℕ) (line : List ℕ) (out : List Step) : Type 0 where
+pub record FineLine (is_tag is_decimal is_pattern : List ℕ → Bool) (most : ℕ) (line : List ℕ) (out : List Step) : Type 0 where
   pub query : Written
   pub whole : IsQuery line query
-  pub fine : IsFine is_tag is_decimal most 0 query
+  pub fine : IsFine is_tag is_decimal is_pattern most 0 query
   pub steps : steps_of query ≡ out
 
 -- what is read, from whatever place on, is a query without a fault
-pub fine_back : (is_tag is_decimal : List ℕ → Bool) (most : ℕ) (line : List ℕ) (out : List Step) (at : ℕ) → run (rules_of is_tag is_decimal most) at begin line ≡ Ok out → FineLine is_tag is_decimal most line out
-fine_back is_tag is_decimal most line out at e =
-    let R : Rules = checked is_tag is_decimal most in
-    let r = line_read at line out ((run_looser R line at begin (are_rules is_tag is_decimal most)).same_ok out e) in
+pub fine_back : (is_tag is_decimal is_pattern : List ℕ → Bool) (most : ℕ) (line : List ℕ) (out : List Step) (at : ℕ) → run (rules_of is_tag is_decimal is_pattern most) at begin line ≡ Ok out → FineLine is_tag is_decimal is_pattern most line out
+fine_back is_tag is_decimal is_pattern most line out at e =
+    let R : Rules = checked is_tag is_decimal is_pattern most in
+    let r = line_read at line out ((run_looser R line at begin (are_rules is_tag is_decimal is_pattern most)).same_ok out e) in
     let q = r.query in
-    let all : AllFine R BeforeUnary start (tokens_of q) = laid_fine R (are_placeless is_tag is_decimal most) (tokens_of q) line r.whole.laid BeforeUnary start out (steps_of q) (tokens_read q r.whole.grouped) (record { at = at; place = 0; ran = e }) in
+    let all : AllFine R BeforeUnary start (tokens_of q) = laid_fine R (are_placeless is_tag is_decimal is_pattern most) (tokens_of q) line r.whole.laid BeforeUnary start out (steps_of q) (tokens_read q r.whole.grouped) (record { at = at; place = 0; ran = e }) in
     let wide : AllFine R BeforeUnary start (tokens_of q ++ []) = subst (λ (ts : List Token). AllFine R BeforeUnary start ts) (sym (append-nil (tokens_of q))) all in
-    record { query = q; whole = r.whole; fine = ((fine_backs is_tag is_decimal most q r.whole.grouped).as_or [] [] [] refl refl wide).0; steps = r.steps }
+    record { query = q; whole = r.whole; fine = ((fine_backs is_tag is_decimal is_pattern most q r.whole.grouped).as_or [] [] [] refl refl wide).0; steps = r.steps }

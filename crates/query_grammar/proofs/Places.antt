@@ -7,10 +7,10 @@ use Rattle.query_grammar.specs.declared.lex.Lex.{Lex}
 use Rattle.query_grammar.specs.declared.lex.Lex.TheVariants.{Begin}
 use Rattle.query_grammar.specs.Lexical.{is_name_byte, lex, is_one_of}
 use Rattle.query_grammar.specs.Grammar.{Token, CriterionToken, OperatorToken, OperandToken, NotWord, AndWord, OrWord, OpenMark, CloseMark}
-use Rattle.query_grammar.specs.Scanner.{Fault, UnknownTag, Number, Deep, Kept, Rules, open_count}
+use Rattle.query_grammar.specs.Scanner.{Fault, UnknownTag, Number, Pattern, Deep, Kept, Rules, open_count}
 use Rattle.query_grammar.specs.Criterion.{operand_meaning}
 use Rattle.std.specs.Option.{option_or}
-use Rattle.query_grammar.specs.Judging.{name_fault, names_fault, behind_level, tags_fault, number, level_fault, is_field_open, field_value, field_fault, criterion_fault, numeric_operators, operand_fault, test_fault, rules_of}
+use Rattle.query_grammar.specs.Judging.{name_fault, names_fault, behind_level, tags_fault, number, level_fault, is_field_open, field_value, field_fault, criterion_fault, numeric_operators, pattern_operators, operand_fault, test_fault, rules_of}
 
 -- where the one has no fault, the other has none
 pub record FollowsNone (x y : Option Fault) : Type 0 where
@@ -80,8 +80,10 @@ criterion_same is_tag at at2 w =
     (both_same (level_fault at w) _ (level_fault at2 w) _ (level_same at at2 w) (field_same w at at2 (Some Begin)))
 
 -- an operand has no fault at any place where it has none at one
-pub operand_same : (is_decimal : List ℕ → Bool) (at at2 : ℕ) (operator w : List ℕ) → FollowsNone (operand_fault is_decimal at operator w) (operand_fault is_decimal at2 operator w)
-operand_same is_decimal at at2 operator w = either_same (is_one_of numeric_operators operator && not (is_decimal (operand_meaning w))) _ _ _ _ (some_same (Number at) (Some (Number at2))) none_same
+pub operand_same : (is_decimal is_pattern : List ℕ → Bool) (at at2 : ℕ) (operator w : List ℕ) → FollowsNone (operand_fault is_decimal is_pattern at operator w) (operand_fault is_decimal is_pattern at2 operator w)
+operand_same is_decimal is_pattern at at2 operator w =
+    either_same (is_one_of numeric_operators operator && not (is_decimal (operand_meaning w))) _ _ _ _ (some_same (Number at) (Some (Number at2)))
+    (either_same (is_one_of pattern_operators operator && not (is_pattern (operand_meaning w))) _ _ _ _ (some_same (Pattern at) (Some (Pattern at2))) none_same)
 
 -- what may be opened may be opened at every place
 open_same : (b : Bool) (at at2 : ℕ) → FollowsNone (cond b None (Some (Deep at))) (cond b None (Some (Deep at2)))
@@ -92,46 +94,46 @@ pub record ArePlaceless (rules : Rules) : Type 0 where
   pub fault : (from from2 place place2 : ℕ) (m : Mode) (k : Kept) (t : Token) → rules.fault from place m k t ≡ None → rules.fault from2 place2 m k t ≡ None
 
 -- a token where a unary may stand
-unary_same : (is_tag is_decimal : List ℕ → Bool) (most from from2 place place2 : ℕ) (k : Kept) (t : Token) → FollowsNone (test_fault is_tag is_decimal most from place BeforeUnary k t) (test_fault is_tag is_decimal most from2 place2 BeforeUnary k t)
-unary_same is_tag is_decimal most from from2 place place2 k NotWord = open_same (nat_lt (open_count k.waiting) most) from from2
-unary_same is_tag is_decimal most from from2 place place2 k OpenMark = open_same (nat_lt (open_count k.waiting) most) from from2
-unary_same is_tag is_decimal most from from2 place place2 k (CriterionToken w) = none_same
-unary_same is_tag is_decimal most from from2 place place2 k (OperatorToken w) = none_same
-unary_same is_tag is_decimal most from from2 place place2 k (OperandToken w) = none_same
-unary_same is_tag is_decimal most from from2 place place2 k AndWord = none_same
-unary_same is_tag is_decimal most from from2 place place2 k OrWord = none_same
-unary_same is_tag is_decimal most from from2 place place2 k CloseMark = none_same
+unary_same : (is_tag is_decimal is_pattern : List ℕ → Bool) (most from from2 place place2 : ℕ) (k : Kept) (t : Token) → FollowsNone (test_fault is_tag is_decimal is_pattern most from place BeforeUnary k t) (test_fault is_tag is_decimal is_pattern most from2 place2 BeforeUnary k t)
+unary_same is_tag is_decimal is_pattern most from from2 place place2 k NotWord = open_same (nat_lt (open_count k.waiting) most) from from2
+unary_same is_tag is_decimal is_pattern most from from2 place place2 k OpenMark = open_same (nat_lt (open_count k.waiting) most) from from2
+unary_same is_tag is_decimal is_pattern most from from2 place place2 k (CriterionToken w) = none_same
+unary_same is_tag is_decimal is_pattern most from from2 place place2 k (OperatorToken w) = none_same
+unary_same is_tag is_decimal is_pattern most from from2 place place2 k (OperandToken w) = none_same
+unary_same is_tag is_decimal is_pattern most from from2 place place2 k AndWord = none_same
+unary_same is_tag is_decimal is_pattern most from from2 place place2 k OrWord = none_same
+unary_same is_tag is_decimal is_pattern most from from2 place place2 k CloseMark = none_same
 
 -- a token behind a criterion
-named_same : (is_tag is_decimal : List ℕ → Bool) (most from from2 place place2 : ℕ) (k : Kept) (t : Token) → FollowsNone (test_fault is_tag is_decimal most from place AfterCriterion k t) (test_fault is_tag is_decimal most from2 place2 AfterCriterion k t)
-named_same is_tag is_decimal most from from2 place place2 k AndWord = criterion_same is_tag place place2 k.criterion
-named_same is_tag is_decimal most from from2 place place2 k OrWord = criterion_same is_tag place place2 k.criterion
-named_same is_tag is_decimal most from from2 place place2 k CloseMark = criterion_same is_tag place place2 k.criterion
-named_same is_tag is_decimal most from from2 place place2 k (CriterionToken w) = none_same
-named_same is_tag is_decimal most from from2 place place2 k (OperatorToken w) = none_same
-named_same is_tag is_decimal most from from2 place place2 k (OperandToken w) = none_same
-named_same is_tag is_decimal most from from2 place place2 k NotWord = none_same
-named_same is_tag is_decimal most from from2 place place2 k OpenMark = none_same
+named_same : (is_tag is_decimal is_pattern : List ℕ → Bool) (most from from2 place place2 : ℕ) (k : Kept) (t : Token) → FollowsNone (test_fault is_tag is_decimal is_pattern most from place AfterCriterion k t) (test_fault is_tag is_decimal is_pattern most from2 place2 AfterCriterion k t)
+named_same is_tag is_decimal is_pattern most from from2 place place2 k AndWord = criterion_same is_tag place place2 k.criterion
+named_same is_tag is_decimal is_pattern most from from2 place place2 k OrWord = criterion_same is_tag place place2 k.criterion
+named_same is_tag is_decimal is_pattern most from from2 place place2 k CloseMark = criterion_same is_tag place place2 k.criterion
+named_same is_tag is_decimal is_pattern most from from2 place place2 k (CriterionToken w) = none_same
+named_same is_tag is_decimal is_pattern most from from2 place place2 k (OperatorToken w) = none_same
+named_same is_tag is_decimal is_pattern most from from2 place place2 k (OperandToken w) = none_same
+named_same is_tag is_decimal is_pattern most from from2 place place2 k NotWord = none_same
+named_same is_tag is_decimal is_pattern most from from2 place place2 k OpenMark = none_same
 
 -- a token where an operand stands
-value_token_same : (is_tag is_decimal : List ℕ → Bool) (most from from2 place place2 : ℕ) (k : Kept) (t : Token) → FollowsNone (test_fault is_tag is_decimal most from place BeforeOperand k t) (test_fault is_tag is_decimal most from2 place2 BeforeOperand k t)
-value_token_same is_tag is_decimal most from from2 place place2 k (OperandToken w) =
-    both_same (criterion_fault is_tag place k.criterion) _ (criterion_fault is_tag place2 k.criterion) _ (criterion_same is_tag place place2 k.criterion) (operand_same is_decimal from from2 k.operator w)
-value_token_same is_tag is_decimal most from from2 place place2 k (CriterionToken w) = none_same
-value_token_same is_tag is_decimal most from from2 place place2 k (OperatorToken w) = none_same
-value_token_same is_tag is_decimal most from from2 place place2 k NotWord = none_same
-value_token_same is_tag is_decimal most from from2 place place2 k AndWord = none_same
-value_token_same is_tag is_decimal most from from2 place place2 k OrWord = none_same
-value_token_same is_tag is_decimal most from from2 place place2 k OpenMark = none_same
-value_token_same is_tag is_decimal most from from2 place place2 k CloseMark = none_same
+value_token_same : (is_tag is_decimal is_pattern : List ℕ → Bool) (most from from2 place place2 : ℕ) (k : Kept) (t : Token) → FollowsNone (test_fault is_tag is_decimal is_pattern most from place BeforeOperand k t) (test_fault is_tag is_decimal is_pattern most from2 place2 BeforeOperand k t)
+value_token_same is_tag is_decimal is_pattern most from from2 place place2 k (OperandToken w) =
+    both_same (criterion_fault is_tag place k.criterion) _ (criterion_fault is_tag place2 k.criterion) _ (criterion_same is_tag place place2 k.criterion) (operand_same is_decimal is_pattern from from2 k.operator w)
+value_token_same is_tag is_decimal is_pattern most from from2 place place2 k (CriterionToken w) = none_same
+value_token_same is_tag is_decimal is_pattern most from from2 place place2 k (OperatorToken w) = none_same
+value_token_same is_tag is_decimal is_pattern most from from2 place place2 k NotWord = none_same
+value_token_same is_tag is_decimal is_pattern most from from2 place place2 k AndWord = none_same
+value_token_same is_tag is_decimal is_pattern most from from2 place place2 k OrWord = none_same
+value_token_same is_tag is_decimal is_pattern most from from2 place place2 k OpenMark = none_same
+value_token_same is_tag is_decimal is_pattern most from from2 place place2 k CloseMark = none_same
 
 -- a token, wherever it stands
-token_same : (is_tag is_decimal : List ℕ → Bool) (most from from2 place place2 : ℕ) (m : Mode) (k : Kept) (t : Token) → FollowsNone (test_fault is_tag is_decimal most from place m k t) (test_fault is_tag is_decimal most from2 place2 m k t)
-token_same is_tag is_decimal most from from2 place place2 BeforeUnary k t = unary_same is_tag is_decimal most from from2 place place2 k t
-token_same is_tag is_decimal most from from2 place place2 AfterCriterion k t = named_same is_tag is_decimal most from from2 place place2 k t
-token_same is_tag is_decimal most from from2 place place2 BeforeOperand k t = value_token_same is_tag is_decimal most from from2 place place2 k t
-token_same is_tag is_decimal most from from2 place place2 AfterUnary k t = none_same
+token_same : (is_tag is_decimal is_pattern : List ℕ → Bool) (most from from2 place place2 : ℕ) (m : Mode) (k : Kept) (t : Token) → FollowsNone (test_fault is_tag is_decimal is_pattern most from place m k t) (test_fault is_tag is_decimal is_pattern most from2 place2 m k t)
+token_same is_tag is_decimal is_pattern most from from2 place place2 BeforeUnary k t = unary_same is_tag is_decimal is_pattern most from from2 place place2 k t
+token_same is_tag is_decimal is_pattern most from from2 place place2 AfterCriterion k t = named_same is_tag is_decimal is_pattern most from from2 place place2 k t
+token_same is_tag is_decimal is_pattern most from from2 place place2 BeforeOperand k t = value_token_same is_tag is_decimal is_pattern most from from2 place place2 k t
+token_same is_tag is_decimal is_pattern most from from2 place place2 AfterUnary k t = none_same
 
 -- the rules of the query language find a fault at every place or at none
-pub are_placeless : (is_tag is_decimal : List ℕ → Bool) (most : ℕ) → ArePlaceless (rules_of is_tag is_decimal most)
-are_placeless is_tag is_decimal most = record { fault = λ from from2 place place2 m k t e. (token_same is_tag is_decimal most from from2 place place2 m k t).none e }
+pub are_placeless : (is_tag is_decimal is_pattern : List ℕ → Bool) (most : ℕ) → ArePlaceless (rules_of is_tag is_decimal is_pattern most)
+are_placeless is_tag is_decimal is_pattern most = record { fault = λ from from2 place place2 m k t e. (token_same is_tag is_decimal is_pattern most from from2 place place2 m k t).none e }

@@ -7,10 +7,10 @@ use Rattle.query_grammar.specs.declared.lex.Lex.{Lex}
 use Rattle.query_grammar.specs.declared.lex.Lex.TheVariants.{Begin}
 use Rattle.query_grammar.specs.Lexical.{is_name_byte, lex, is_one_of, words}
 use Rattle.query_grammar.specs.Grammar.{Token, OperandToken, NotWord, AndWord, OrWord, OpenMark, CloseMark}
-use Rattle.query_grammar.specs.Scanner.{Fault, Syntax, UnknownTag, Number, Deep, Kept, AreRules, open_count}
+use Rattle.query_grammar.specs.Scanner.{Fault, Syntax, UnknownTag, Number, Pattern, Deep, Kept, AreRules, open_count}
 use Rattle.query_grammar.specs.Criterion.{operand_meaning}
 use Rattle.std.specs.Option.{option_or}
-use Rattle.query_grammar.specs.Judging.{name_fault, names_fault, behind_level, tags_fault, number, level_fault, is_field_open, field_value, field_fault, criterion_fault, numeric_operators, operand_fault, test_fault, cut_fault, rules_of}
+use Rattle.query_grammar.specs.Judging.{name_fault, names_fault, behind_level, tags_fault, number, level_fault, is_field_open, field_value, field_fault, criterion_fault, numeric_operators, pattern_operators, operand_fault, test_fault, cut_fault, rules_of}
 
 record IsRuling (o : Option Fault) : Type 0 where
   never : (at : ℕ) → o ≡ Some (Syntax at) → ⊥
@@ -23,6 +23,9 @@ tag n = record { never = λ at e. absurd cc }
 
 numeral : (n : ℕ) → IsRuling (Some (Number n))
 numeral n = record { never = λ at e. absurd cc }
+
+pattern : (n : ℕ) → IsRuling (Some (Pattern n))
+pattern n = record { never = λ at e. absurd cc }
 
 deep : (n : ℕ) → IsRuling (Some (Deep n))
 deep n = record { never = λ at e. absurd cc }
@@ -70,17 +73,19 @@ criterion_rules : (is_tag : List ℕ → Bool) (at : ℕ) (w : List ℕ) → IsR
 criterion_rules is_tag at w =
     both (tags_fault is_tag at w) _ (tags_rules is_tag at w) (both (level_fault at w) _ (level_rules at w) (field_rules w at (Some Begin)))
 
-operand_rules : (is_decimal : List ℕ → Bool) (at : ℕ) (operator w : List ℕ) → IsRuling (operand_fault is_decimal at operator w)
-operand_rules is_decimal at operator w = either (is_one_of numeric_operators operator && not (is_decimal (operand_meaning w))) _ _ (numeral at) none
+operand_rules : (is_decimal is_pattern : List ℕ → Bool) (at : ℕ) (operator w : List ℕ) → IsRuling (operand_fault is_decimal is_pattern at operator w)
+operand_rules is_decimal is_pattern at operator w =
+    either (is_one_of numeric_operators operator && not (is_decimal (operand_meaning w))) _ _ (numeral at)
+    (either (is_one_of pattern_operators operator && not (is_pattern (operand_meaning w))) _ _ (pattern at) none)
 
-token_rules : (is_tag is_decimal : List ℕ → Bool) (most from place : ℕ) (m : Mode) (k : Kept) (t : Token) → IsRuling (test_fault is_tag is_decimal most from place m k t)
-token_rules is_tag is_decimal most from place BeforeUnary k NotWord = either (nat_lt (open_count k.waiting) most) _ _ none (deep from)
-token_rules is_tag is_decimal most from place BeforeUnary k OpenMark = either (nat_lt (open_count k.waiting) most) _ _ none (deep from)
-token_rules is_tag is_decimal most from place AfterCriterion k AndWord = criterion_rules is_tag place k.criterion
-token_rules is_tag is_decimal most from place AfterCriterion k OrWord = criterion_rules is_tag place k.criterion
-token_rules is_tag is_decimal most from place AfterCriterion k CloseMark = criterion_rules is_tag place k.criterion
-token_rules is_tag is_decimal most from place BeforeOperand k (OperandToken w) = both (criterion_fault is_tag place k.criterion) _ (criterion_rules is_tag place k.criterion) (operand_rules is_decimal from k.operator w)
-token_rules is_tag is_decimal most from place _ k _ = none
+token_rules : (is_tag is_decimal is_pattern : List ℕ → Bool) (most from place : ℕ) (m : Mode) (k : Kept) (t : Token) → IsRuling (test_fault is_tag is_decimal is_pattern most from place m k t)
+token_rules is_tag is_decimal is_pattern most from place BeforeUnary k NotWord = either (nat_lt (open_count k.waiting) most) _ _ none (deep from)
+token_rules is_tag is_decimal is_pattern most from place BeforeUnary k OpenMark = either (nat_lt (open_count k.waiting) most) _ _ none (deep from)
+token_rules is_tag is_decimal is_pattern most from place AfterCriterion k AndWord = criterion_rules is_tag place k.criterion
+token_rules is_tag is_decimal is_pattern most from place AfterCriterion k OrWord = criterion_rules is_tag place k.criterion
+token_rules is_tag is_decimal is_pattern most from place AfterCriterion k CloseMark = criterion_rules is_tag place k.criterion
+token_rules is_tag is_decimal is_pattern most from place BeforeOperand k (OperandToken w) = both (criterion_fault is_tag place k.criterion) _ (criterion_rules is_tag place k.criterion) (operand_rules is_decimal is_pattern from k.operator w)
+token_rules is_tag is_decimal is_pattern most from place _ k _ = none
 
 cut_rules : (is_tag : List ℕ → Bool) (at place : ℕ) (m : Mode) (k : Kept) (w : List ℕ) → IsRuling (cut_fault is_tag at place m k w)
 cut_rules is_tag at place BeforeUnary k w = either (is_one_of words w) _ _ none (criterion_rules is_tag (at - length w) w)
@@ -88,8 +93,8 @@ cut_rules is_tag at place AfterCriterion k w = criterion_rules is_tag place k.cr
 cut_rules is_tag at place BeforeOperand k w = criterion_rules is_tag place k.criterion
 cut_rules is_tag at place AfterUnary k w = none
 
-pub are_rules : (is_tag is_decimal : List ℕ → Bool) (most : ℕ) → AreRules (rules_of is_tag is_decimal most)
-are_rules is_tag is_decimal most = record {
-  fault = λ from place m k t at e. (token_rules is_tag is_decimal most from place m k t).never at e;
+pub are_rules : (is_tag is_decimal is_pattern : List ℕ → Bool) (most : ℕ) → AreRules (rules_of is_tag is_decimal is_pattern most)
+are_rules is_tag is_decimal is_pattern most = record {
+  fault = λ from place m k t at e. (token_rules is_tag is_decimal is_pattern most from place m k t).never at e;
   cut = λ here place m k w at e. (cut_rules is_tag here place m k w).never at e;
 }

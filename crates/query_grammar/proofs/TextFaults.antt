@@ -21,23 +21,23 @@ no_fault (Ok steps) e = record { steps = steps; read = refl }
 no_fault (Err f) e = absurd cc
 
 -- a text without a fault is UTF-8, and is read
-pub record IsFaultless (is_tag is_decimal : List ℕ → Bool) (most : ℕ) (text : List ℕ) : Type 0 where
+pub record IsFaultless (is_tag is_decimal is_pattern : List ℕ → Bool) (most : ℕ) (text : List ℕ) : Type 0 where
   pub utf8 : IsUtf8 text
-  pub read : NoFault (read_lines (rules_of is_tag is_decimal most) 0 None (lines_of text))
+  pub read : NoFault (read_lines (rules_of is_tag is_decimal is_pattern most) 0 None (lines_of text))
 
-by_utf8 : (is_tag is_decimal : List ℕ → Bool) (most : ℕ) (text : List ℕ) (b : Bool) → is_utf8 text ≡ b
-    → cond b (result_err (read_lines (rules_of is_tag is_decimal most) 0 None (lines_of text))) (Some (Syntax (utf8_valid_len text))) ≡ None
-    → IsFaultless is_tag is_decimal most text
-by_utf8 is_tag is_decimal most text true u e = record { utf8 = IsUtf8-from_is_utf8 text u; read = no_fault _ e }
-by_utf8 is_tag is_decimal most text false u e = absurd cc
+by_utf8 : (is_tag is_decimal is_pattern : List ℕ → Bool) (most : ℕ) (text : List ℕ) (b : Bool) → is_utf8 text ≡ b
+    → cond b (result_err (read_lines (rules_of is_tag is_decimal is_pattern most) 0 None (lines_of text))) (Some (Syntax (utf8_valid_len text))) ≡ None
+    → IsFaultless is_tag is_decimal is_pattern most text
+by_utf8 is_tag is_decimal is_pattern most text true u e = record { utf8 = IsUtf8-from_is_utf8 text u; read = no_fault _ e }
+by_utf8 is_tag is_decimal is_pattern most text false u e = absurd cc
 
-pub faultless : (is_tag is_decimal : List ℕ → Bool) (most : ℕ) (text : List ℕ) → query_fault is_tag is_decimal most text ≡ None → IsFaultless is_tag is_decimal most text
-faultless is_tag is_decimal most text e = by_utf8 is_tag is_decimal most text (is_utf8 text) refl e
+pub faultless : (is_tag is_decimal is_pattern : List ℕ → Bool) (most : ℕ) (text : List ℕ) → query_fault is_tag is_decimal is_pattern most text ≡ None → IsFaultless is_tag is_decimal is_pattern most text
+faultless is_tag is_decimal is_pattern most text e = by_utf8 is_tag is_decimal is_pattern most text (is_utf8 text) refl e
 
 -- in UTF-8 the fault is that of the lines
-pub fault_is : (is_tag is_decimal : List ℕ → Bool) (most : ℕ) (text : List ℕ) → IsUtf8 text
-    → query_fault is_tag is_decimal most text ≡ result_err (read_lines (rules_of is_tag is_decimal most) 0 None (lines_of text))
-fault_is is_tag is_decimal most text u = cond-true (is_utf8 text) _ _ (is_utf8-from_IsUtf8 text u)
+pub fault_is : (is_tag is_decimal is_pattern : List ℕ → Bool) (most : ℕ) (text : List ℕ) → IsUtf8 text
+    → query_fault is_tag is_decimal is_pattern most text ≡ result_err (read_lines (rules_of is_tag is_decimal is_pattern most) 0 None (lines_of text))
+fault_is is_tag is_decimal is_pattern most text u = cond-true (is_utf8 text) _ _ (is_utf8-from_IsUtf8 text u)
 
 -- a fault is that of the reading
 pub fault_read : (r : Result (List Step) Fault) (f : Fault) → result_err r ≡ Some f → r ≡ Err f

@@ -6,7 +6,7 @@ use Rattle.query_grammar.specs.declared.mode.Mode.TheVariants.{BeforeUnary, Afte
 use Rattle.query_grammar.specs.declared.mode.Waiting.{Waiting}
 use Rattle.query_grammar.specs.declared.mode.Waiting.TheVariants as waits
 use Rattle.query_grammar.specs.Step.{Step}
-use Rattle.query_grammar.specs.Step as steps
+use Rattle.query_grammar.specs.declared.step.StepOver.TheVariants as steps
 use Rattle.query_grammar.specs.Grammar.{Token, CriterionToken, OperatorToken, OperandToken, NotWord, AndWord, OrWord, OpenMark, CloseMark, Written, Test, Compared, Not, Inside, And, Or, tokens_of, is_unary, is_and, is_grouped}
 use Rattle.query_grammar.specs.Steps.{steps_of}
 use Rattle.query_grammar.specs.Scanner.{Kept, tightened, loosened, waits_for, tested, start}

@@ -8,7 +8,7 @@ use Rattle.query_grammar.specs.declared.lex.Lex.TheVariants.{Begin, FieldOpen}
 use Rattle.query_grammar.specs.Lexical.{is_digit, is_name_byte, lex, is_one_of, words}
 use Rattle.query_grammar.specs.Criterion.{operand_meaning}
 use Rattle.query_grammar.specs.Grammar.{Token, OperandToken, NotWord, AndWord, OrWord, OpenMark, CloseMark}
-use Rattle.query_grammar.specs.Scanner.{Fault, UnknownTag, Number, Deep, Kept, Rules, open_count}
+use Rattle.query_grammar.specs.Scanner.{Fault, UnknownTag, Number, Pattern, Deep, Kept, Rules, open_count}
 
 -- a name and its place, where one is
 abbrev pub name_fault : (List ℕ → Bool) → ℕ → List ℕ → Option Fault
@@ -67,19 +67,25 @@ criterion_fault is_tag at w = option_or (tags_fault is_tag at w) (option_or (lev
 abbrev pub numeric_operators : List (List ℕ)
 numeric_operators = codes "==" ∷ codes "!=" ∷ codes "<" ∷ codes "<=" ∷ codes ">" ∷ codes ">=" ∷ []
 
--- a number is compared with a number, which may stand between quotes
-abbrev pub operand_fault : (List ℕ → Bool) → ℕ → List ℕ → List ℕ → Option Fault
-operand_fault is_decimal at operator w = if is_one_of numeric_operators operator && not (is_decimal (operand_meaning w)) then Some (Number at) else None
+-- the operators that ask a pattern
+abbrev pub pattern_operators : List (List ℕ)
+pattern_operators = codes "~" ∷ codes "!~" ∷ []
 
--- the rules: which names are tags, which texts are decimals, and how many may be open at once
-abbrev pub test_fault : (List ℕ → Bool) → (List ℕ → Bool) → ℕ → ℕ → ℕ → Mode → Kept → Token → Option Fault
-test_fault is_tag is_decimal most from place BeforeUnary k NotWord = if nat_lt (open_count k.waiting) most then None else Some (Deep from)
-test_fault is_tag is_decimal most from place BeforeUnary k OpenMark = if nat_lt (open_count k.waiting) most then None else Some (Deep from)
-test_fault is_tag is_decimal most from place AfterCriterion k AndWord = criterion_fault is_tag place k.criterion
-test_fault is_tag is_decimal most from place AfterCriterion k OrWord = criterion_fault is_tag place k.criterion
-test_fault is_tag is_decimal most from place AfterCriterion k CloseMark = criterion_fault is_tag place k.criterion
-test_fault is_tag is_decimal most from place BeforeOperand k (OperandToken w) = option_or (criterion_fault is_tag place k.criterion) (operand_fault is_decimal from k.operator w)
-test_fault is_tag is_decimal most from place _ k _ = None
+-- a number is compared with a number, which may stand between quotes, and a pattern is a good one
+abbrev pub operand_fault : (List ℕ → Bool) → (List ℕ → Bool) → ℕ → List ℕ → List ℕ → Option Fault
+operand_fault is_decimal is_pattern at operator w =
+    if is_one_of numeric_operators operator && not (is_decimal (operand_meaning w)) then Some (Number at) else (
+    if is_one_of pattern_operators operator && not (is_pattern (operand_meaning w)) then Some (Pattern at) else None)
+
+-- the rules: which names are tags, which texts are decimals, which are good patterns, and how many may be open at once
+abbrev pub test_fault : (List ℕ → Bool) → (List ℕ → Bool) → (List ℕ → Bool) → ℕ → ℕ → ℕ → Mode → Kept → Token → Option Fault
+test_fault is_tag is_decimal is_pattern most from place BeforeUnary k NotWord = if nat_lt (open_count k.waiting) most then None else Some (Deep from)
+test_fault is_tag is_decimal is_pattern most from place BeforeUnary k OpenMark = if nat_lt (open_count k.waiting) most then None else Some (Deep from)
+test_fault is_tag is_decimal is_pattern most from place AfterCriterion k AndWord = criterion_fault is_tag place k.criterion
+test_fault is_tag is_decimal is_pattern most from place AfterCriterion k OrWord = criterion_fault is_tag place k.criterion
+test_fault is_tag is_decimal is_pattern most from place AfterCriterion k CloseMark = criterion_fault is_tag place k.criterion
+test_fault is_tag is_decimal is_pattern most from place BeforeOperand k (OperandToken w) = option_or (criterion_fault is_tag place k.criterion) (operand_fault is_decimal is_pattern from k.operator w)
+test_fault is_tag is_decimal is_pattern most from place _ k _ = None
 
 -- what is wrong with a test that is cut off
 abbrev pub cut_fault : (List ℕ → Bool) → ℕ → ℕ → Mode → Kept → List ℕ → Option Fault
@@ -89,5 +95,5 @@ cut_fault is_tag at place BeforeOperand k w = criterion_fault is_tag place k.cri
 cut_fault is_tag at place AfterUnary k w = None
 
 -- the rules of the query language
-abbrev pub rules_of : (List ℕ → Bool) → (List ℕ → Bool) → ℕ → Rules
-rules_of is_tag is_decimal most = record { fault = test_fault is_tag is_decimal most; cut = cut_fault is_tag }
+abbrev pub rules_of : (List ℕ → Bool) → (List ℕ → Bool) → (List ℕ → Bool) → ℕ → Rules
+rules_of is_tag is_decimal is_pattern most = record { fault = test_fault is_tag is_decimal is_pattern most; cut = cut_fault is_tag }

@@ -5,8 +5,9 @@ use Rattle.query_grammar.specs.declared.mode.Mode.{Mode}
 use Rattle.query_grammar.specs.declared.mode.Mode.TheVariants.{BeforeUnary, AfterCriterion, BeforeOperand, AfterUnary}
 use Rattle.query_grammar.specs.declared.mode.Waiting.{Waiting}
 use Rattle.query_grammar.specs.declared.mode.Waiting.TheVariants as waits
+use Rattle.query_grammar.specs.declared.step.StepOver.{StepOver}
 use Rattle.query_grammar.specs.Step.{Step}
-use Rattle.query_grammar.specs.Step as steps
+use Rattle.query_grammar.specs.declared.step.StepOver.TheVariants as steps
 use Rattle.query_grammar.specs.declared.lex.Lex.TheVariants.{Begin, ValueBegin}
 use Rattle.query_grammar.specs.Lexical.{is_blank, begins_from, whole_from, is_one_of, begins_one_of, operators, words, ends_word}
 use Rattle.query_grammar.specs.Grammar.{Token, CriterionToken, OperatorToken, OperandToken, NotWord, AndWord, OrWord, OpenMark, CloseMark, operator_words}
@@ -17,6 +18,7 @@ pub data Fault : Type 0 where
   Syntax : ℕ → Fault
   UnknownTag : ℕ → Fault
   Number : ℕ → Fault
+  Pattern : ℕ → Fault
   Deep : ℕ → Fault
 
 -- goes on where there is no fault
@@ -57,7 +59,7 @@ can_close (waits.And ∷ ws) = can_close ws
 can_close (waits.Or ∷ ws) = can_close ws
 
 -- the `not`s and the `and` before a unary end with it
-abbrev pub tightened : List Waiting → List Step → List Waiting × List Step
+abbrev pub tightened : {A : Type 0} → List Waiting → List (StepOver A) → List Waiting × List (StepOver A)
 tightened [] done = ([], done)
 tightened (waits.Not ∷ ws) done = tightened ws (done ++ steps.Not ∷ [])
 tightened (waits.And ∷ ws) done = tightened ws (done ++ steps.And ∷ [])
@@ -65,7 +67,7 @@ tightened (waits.Or ∷ ws) done = (waits.Or ∷ ws, done)
 tightened (waits.Open ∷ ws) done = (waits.Open ∷ ws, done)
 
 -- all that waits up to an open parenthesis ends with it
-abbrev pub loosened : List Waiting → List Step → List Waiting × List Step
+abbrev pub loosened : {A : Type 0} → List Waiting → List (StepOver A) → List Waiting × List (StepOver A)
 loosened [] done = ([], done)
 loosened (waits.Not ∷ ws) done = loosened ws (done ++ steps.Not ∷ [])
 loosened (waits.And ∷ ws) done = loosened ws (done ++ steps.And ∷ [])
@@ -146,7 +148,7 @@ taken BeforeOperand k t = taken_before_operand k t
 taken AfterUnary k t = taken_after_unary k t
 
 -- nothing is left open
-abbrev pub all_closed : List Waiting × List Step → Option (List Step)
+abbrev pub all_closed : {A : Type 0} → List Waiting × List (StepOver A) → Option (List (StepOver A))
 all_closed ([], done) = Some done
 all_closed ((w ∷ ws), done) = None
 

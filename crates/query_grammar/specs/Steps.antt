@@ -1,7 +1,7 @@
 -- The steps of a query: its tests and operators, each operator behind its operands.
 use Rattle.std.specs.Prelude.{ℕ, List, [], ◌∷◌, ◌++◌}
 use Rattle.query_grammar.specs.Step.{Step}
-use Rattle.query_grammar.specs.Step as steps
+use Rattle.query_grammar.specs.declared.step.StepOver.TheVariants as steps
 use Rattle.query_grammar.specs.Grammar.{Written, Test, Compared, Not, Inside, And, Or}
 
 -- the step of a test

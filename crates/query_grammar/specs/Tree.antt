@@ -1,7 +1,8 @@
 -- A query's tree, which parentheses are not part of (vsl-query(7), "Query Expressions").
 use Rattle.std.specs.Prelude.{Bool, not, ◌&&◌, ◌||◌, List, [], ◌∷◌, ◌++◌}
-use Rattle.query_grammar.specs.Step.{StepOver, TestParts}
-use Rattle.query_grammar.specs.Step as steps
+use Rattle.query_grammar.specs.declared.step.StepOver.{StepOver}
+use Rattle.query_grammar.specs.Step.{TestParts}
+use Rattle.query_grammar.specs.declared.step.StepOver.TheVariants as steps
 use Rattle.query_grammar.specs.Grammar.{Written, Test, Compared, Not, Inside, And, Or}
 
 -- a query over tests of this kind: a test, or queries that are joined

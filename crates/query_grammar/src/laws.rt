@@ -23,9 +23,9 @@ pub fn reading()
     ensures complete { (line : List ℕ) (q : Written) → IsQuery line q → run free 0 begin line ≡ Ok (steps_of q) }
     ensures sound { (rules : Rules) → AreRules rules → (line : List ℕ) (out : List Step) → run rules 0 begin line ≡ Ok out → (q : Written) × IsQuery line q × (steps_of q ≡ out) }
     ensures stops { (rules : Rules) → AreRules rules → (line : List ℕ) (at : ℕ) → run rules 0 begin line ≡ Err (Syntax at) → StopsAt IsQuery line at }
-    ensures rules { (is_tag is_decimal : List ℕ → Bool) (most : ℕ) → AreRules (rules_of is_tag is_decimal most) }
-    ensures fine { (is_tag is_decimal : List ℕ → Bool) (most : ℕ) (line : List ℕ) (q : Written) → IsQuery line q → IsFine is_tag is_decimal most 0 q → run (rules_of is_tag is_decimal most) 0 begin line ≡ Ok (steps_of q) }
-    ensures only_fine { (is_tag is_decimal : List ℕ → Bool) (most : ℕ) (line : List ℕ) (out : List Step) → run (rules_of is_tag is_decimal most) 0 begin line ≡ Ok out → (q : Written) × IsQuery line q × IsFine is_tag is_decimal most 0 q × (steps_of q ≡ out) }
+    ensures rules { (is_tag is_decimal is_pattern : List ℕ → Bool) (most : ℕ) → AreRules (rules_of is_tag is_decimal is_pattern most) }
+    ensures fine { (is_tag is_decimal is_pattern : List ℕ → Bool) (most : ℕ) (line : List ℕ) (q : Written) → IsQuery line q → IsFine is_tag is_decimal is_pattern most 0 q → run (rules_of is_tag is_decimal is_pattern most) 0 begin line ≡ Ok (steps_of q) }
+    ensures only_fine { (is_tag is_decimal is_pattern : List ℕ → Bool) (most : ℕ) (line : List ℕ) (out : List Step) → run (rules_of is_tag is_decimal is_pattern most) 0 begin line ≡ Ok out → (q : Written) × IsQuery line q × IsFine is_tag is_decimal is_pattern most 0 q × (steps_of q ≡ out) }
     ensures one_tree { (line : List ℕ) (p q : Written) → IsQuery line p → IsQuery line q → tree_of p ≡ tree_of q }
 {}
 
@@ -53,8 +53,8 @@ pub fn text_reading()
     ensures one_tree { (text : List ℕ) (p q : Written) → IsText text p → IsText text q → tree_of p ≡ tree_of q }
     ensures sound { (rules : Rules) → AreRules rules → (text : List ℕ) (out : List Step) → read_lines rules 0 None (lines_of text) ≡ Ok out → (q : Written) × IsText text q × (steps_of q ≡ out) }
     ensures stops { (rules : Rules) → AreRules rules → (text : List ℕ) (at : ℕ) → read_lines rules 0 None (lines_of text) ≡ Err (Syntax at) → StopsAt IsText text at }
-    ensures fine { (is_tag is_decimal : List ℕ → Bool) (most : ℕ) (text : List ℕ) (q : Written) → IsFineText is_tag is_decimal most text q → read_lines (rules_of is_tag is_decimal most) 0 None (lines_of text) ≡ Ok (steps_of q) }
-    ensures only_fine { (is_tag is_decimal : List ℕ → Bool) (most : ℕ) (text : List ℕ) (out : List Step) → read_lines (rules_of is_tag is_decimal most) 0 None (lines_of text) ≡ Ok out → (q : Written) × IsFineText is_tag is_decimal most text q × (steps_of q ≡ out) }
+    ensures fine { (is_tag is_decimal is_pattern : List ℕ → Bool) (most : ℕ) (text : List ℕ) (q : Written) → IsFineText is_tag is_decimal is_pattern most text q → read_lines (rules_of is_tag is_decimal is_pattern most) 0 None (lines_of text) ≡ Ok (steps_of q) }
+    ensures only_fine { (is_tag is_decimal is_pattern : List ℕ → Bool) (most : ℕ) (text : List ℕ) (out : List Step) → read_lines (rules_of is_tag is_decimal is_pattern most) 0 None (lines_of text) ≡ Ok out → (q : Written) × IsFineText is_tag is_decimal is_pattern most text q × (steps_of q ≡ out) }
 {}
 
 /// Steps are those of at most one tree, and leave its truth, whatever the truth of each test.
@@ -66,7 +66,7 @@ pub fn steps_of_trees()
 /// A text in UTF-8 is queries without a fault just where it has no first fault, so it never has both. Its first
 /// fault of syntax is at the first byte at which no text of queries can go on.
 pub fn text_faults()
-    ensures none { (is_tag is_decimal : List ℕ → Bool) (most : ℕ) (text : List ℕ) → query_fault is_tag is_decimal most text ≡ None → IsUtf8 text × (q : Written) × IsFineText is_tag is_decimal most text q }
-    ensures only_none { (is_tag is_decimal : List ℕ → Bool) (most : ℕ) (text : List ℕ) (q : Written) → IsUtf8 text → IsFineText is_tag is_decimal most text q → query_fault is_tag is_decimal most text ≡ None }
-    ensures syntax { (is_tag is_decimal : List ℕ → Bool) (most : ℕ) (text : List ℕ) (at : ℕ) → IsUtf8 text → query_fault is_tag is_decimal most text ≡ Some (Syntax at) → StopsAt IsText text at }
+    ensures none { (is_tag is_decimal is_pattern : List ℕ → Bool) (most : ℕ) (text : List ℕ) → query_fault is_tag is_decimal is_pattern most text ≡ None → IsUtf8 text × (q : Written) × IsFineText is_tag is_decimal is_pattern most text q }
+    ensures only_none { (is_tag is_decimal is_pattern : List ℕ → Bool) (most : ℕ) (text : List ℕ) (q : Written) → IsUtf8 text → IsFineText is_tag is_decimal is_pattern most text q → query_fault is_tag is_decimal is_pattern most text ≡ None }
+    ensures syntax { (is_tag is_decimal is_pattern : List ℕ → Bool) (most : ℕ) (text : List ℕ) (at : ℕ) → IsUtf8 text → query_fault is_tag is_decimal is_pattern most text ≡ Some (Syntax at) → StopsAt IsText text at }
 {}

@@ -80,7 +80,7 @@ fn is_word(c: u8) -> bool
 
 impl Lex {
     /// Where one byte more leads.
-    fn next(self, c: u8) -> Option<Lex>
+    pub fn next(self, c: u8) -> Option<Lex>
         ensures { result ≡ lex self c }
     {
         match self {

@@ -2,7 +2,7 @@
 //!
 //! The grammar is a tree, the tokens that spell it, and how they lie in a line. A reading of the
 //! line, byte by byte, is proved to find the one tree of each query, and the first byte at which no query
-//! can go on. `Lex` and `operand_len` follow a token's bytes. Nothing here takes memory, and nothing here knows tags
+//! can go on. `Lex` follows a token's bytes. Nothing here takes memory, and nothing here knows tags
 //! or numbers: which names are tags is a parameter of the reading.
 //!
 //! Start with `specs/Grammar.antt`, then `specs/Criterion.antt` and `specs/Lines.antt`. Source: vsl-query(7). Where the
@@ -10,11 +10,11 @@
 #![tactic(auto)]
 
 mod laws;
-mod length;
 mod lex;
 mod mode;
+mod step;
 
 pub use laws::{reading, steps_of_trees, text_faults, text_reading, token_bytes};
-pub use length::operand_len;
 pub use lex::{Lex, Quote};
 pub use mode::{Mode, Waiting};
+pub use step::StepOver;

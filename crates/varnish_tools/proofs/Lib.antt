@@ -2,7 +2,10 @@ mod LayoutLemmas
 mod ObjectLemmas
 mod PrinterLemmas
 mod LoopLemmas
+mod QueryLemmas
+mod TakenLemmas
 mod LogSourceLemmas
 mod RunLemmas
 mod LogFileLemmas
+mod JobLemmas
 mod ToolLemmas

@@ -9,11 +9,13 @@ use Rattle.vio.specs.World.{Seen, Opening, Creating, Reading, Writing, FaultsRos
 use Rattle.vio.specs.Writes.{WroteOn}
 use Rattle.vio.specs.Touches.{IsOneOf, Touches}
 use Rattle.vio.proofs.WholeLemmas.{NoCountFalls-then}
-use Rattle.vio.proofs.TouchLemmas.{only_one, touches_wrote}
+use Rattle.vio.proofs.TouchLemmas.{touches_wrote}
 use Rattle.vsl_record.specs.Unit.{Log}
 use Rattle.vsl_file.specs.File.{most_bytes}
 use Rattle.txn_rows.specs.declared.group.Grouping.{Grouping}
 use Rattle.txn_rows.specs.Grouping.{groups_of}
+use Rattle.query_parser.specs.declared.query.Query.{Query}
+use Rattle.query_eval.specs.Meaning.{is_held}
 use Rattle.tool_words.specs.declared.job.Job.{Job}
 use Rattle.varnish_tools.specs.declared.fault.ToolFault.TheVariants.{NoOpen, WriteFault}
 use Rattle.varnish_tools.specs.declared.layout.Layout.{Layout}
@@ -25,19 +27,21 @@ use Rattle.varnish_tools.specs.declared.log_source.LogFile.{LogFile}
 use Rattle.varnish_tools.specs.declared.source.SourceFault.{SourceFault}
 use Rattle.varnish_tools.specs.declared.source.SourceFault.TheVariants as source_faults
 use Rattle.varnish_tools.specs.Asked.{Asked, Work, file_of, write_of}
-use Rattle.varnish_tools.specs.Objects.{GivesAtMost, Object, OpenedFile, CreatedFile, source_of, sink_of, opened_of, created_of, SinkGained}
+use Rattle.varnish_tools.specs.Objects.{GivesAtMost, Object, OpenedFile, CreatedFile, source_of, sink_of, query_files, opened_of, created_of, SinkGained}
+use Rattle.varnish_tools.specs.Queries.{Ask, chosen}
 use Rattle.varnish_tools.specs.Run.{Ending, Faulted, no_run, run_of}
 use Rattle.varnish_tools.specs.Output.{head_text, laid_out, layout_of, is_flushed, sink_text}
 use Rattle.varnish_tools.specs.Printer.{PrinterState, due}
-use Rattle.varnish_tools.specs.Promise.{Input, IsInput, IsDue, ReadsOnce, WorksOff, WritesPrefix, whole_text, is_whole, ending_begun}
-use Rattle.varnish_tools.specs.inside.LogFile.{HasBegun, IsJobPrinter, SourceOpened, SinkCreated}
+use Rattle.varnish_tools.specs.Promise.{Input, IsInput, IsDue, ReadsOnce, HasFailed, WritesPrefix, whole_text, is_whole, ending_begun}
+use Rattle.varnish_tools.specs.inside.LogFile.{HasBegun, HoldsAsAsked, IsJobPrinter, SourceOpened, SinkCreated}
 use Rattle.varnish_tools.specs.inside.LogSource.{GaveUnits, GaveFirst, StoppedSo}
+use Rattle.varnish_tools.specs.inside.Works.{WorksFor, PrefixFor}
 use Rattle.varnish_tools.specs.inside.Loop.{Added, AddedSome, RanUntil}
 use Rattle.varnish_tools.proofs.LogSourceLemmas.{gave_as_first}
 use Rattle.varnish_tools.proofs.LoopLemmas.{laid_nil}
-use Rattle.varnish_tools.proofs.ObjectLemmas.{source_name, sink_name, source_still, sink_still, holds_more, IsStill, untouched_none, untouched_still, still_counts, still_then, still_opened, is_open, is_made, sink_before, begins_before, holds_before, touches_opening, touches_making, IsSource, is_source, source_still_left, gives_then, gives_still, gives_none, gives_more, gives_opening, gives_making}
+use Rattle.varnish_tools.proofs.ObjectLemmas.{source_name, sink_name, source_still, sink_still, holds_more, IsStill, untouched_none, untouched_still, still_counts, still_then, still_opened, is_open, is_made, sink_before, begins_before, holds_before, touches_opening, touches_making, is_source, are_sources, last_opened, source_still_left, gives_then, gives_still, gives_none, gives_more, gives_opening, gives_making}
 use Rattle.varnish_tools.proofs.PrinterLemmas.{due_first}
-use Rattle.varnish_tools.proofs.RunLemmas.{each_one, works_by, sink_gained, given_first, given_all, whole_is}
+use Rattle.varnish_tools.proofs.RunLemmas.{each_one, run_began, works_by, sink_gained, given_first, given_all, whole_is}
 
 -- a file has fewer units than a count has values
 pub few_units : (n : ℕ) → most_bytes - n < 18446744073709551616
@@ -47,37 +51,38 @@ few_units n = omega arith
 -- want of memory
 
 -- the text that is due for what was given is a prefix of that of the input
-text_prefix : (job : Job) (k : ℕ) (p : PrinterState) (empty all : Bool) (units : Log) (input : Input) → IsJobPrinter job k p → input.sink_empty ≡ empty
-    → (all ≡ true → (units ≡ input.units) × (is_whole input.file_ending ≡ true)) → units ≡ take (length units) input.units → IsPrefix (head_text job empty ++ due p units all) (whole_text (Work job) input)
-text_prefix job k p empty true units input is same whole first =
+text_prefix : (job : Job) (ask : Ask) (k : ℕ) (p : PrinterState) (empty all : Bool) (units : Log) (input : Input) → IsJobPrinter job ask k p → input.sink_empty ≡ empty
+    → (all ≡ true → (units ≡ input.units) × (is_whole input.file_ending ≡ true)) → units ≡ take (length units) input.units → IsPrefix (head_text job empty ++ due p units all) (whole_text (Work job) ask input)
+text_prefix job ask k p empty true units input is same whole first =
     let all = whole refl in
-    subst (λ (x : List ℕ). IsPrefix (head_text job empty ++ due p units true) x) (whole_is job k p empty input is same)
+    subst (λ (x : List ℕ). IsPrefix (head_text job empty ++ due p units true) x) (whole_is job ask k p empty input is same)
     (rw (all.0, all.1) (prefix_same (head_text job empty ++ due p input.units true)))
-text_prefix job k p empty false units input is same whole first =
-    subst (λ (x : List ℕ). IsPrefix (head_text job empty ++ due p units false) x) (whole_is job k p empty input is same)
-    (prefix_after (head_text job empty) (subst (λ (us : Log). IsPrefix (due p us false) (due p input.units (is_whole input.file_ending))) (sym first) (due_first p.layout p.table.options.grouping input.units (length units) (is_whole input.file_ending))))
+text_prefix job ask k p empty false units input is same whole first =
+    subst (λ (x : List ℕ). IsPrefix (head_text job empty ++ due p units false) x) (whole_is job ask k p empty input is same)
+    (prefix_after (head_text job empty) (subst (λ (us : Log). IsPrefix (due p us false) (due p input.units (is_whole input.file_ending))) (sym first) (due_first p.layout (is_held p.query) p.table.options.grouping input.units (length units) (is_whole input.file_ending))))
 
 -- a sink that gained a part of what is due for the units that were given
-prefix_by : {IsSo : List ℕ → Type 0} (job : Job) (source sink : ℕ) (empty all : Bool) (p : PrinterState) (units : Log) (r s t : Seen) → HasBegun job source sink empty (head_text job empty) r s → IsJobPrinter job sink p
+prefix_by : {IsSo : List ℕ → Type 0} (job : Job) (ask : Ask) (source sink : ℕ) (empty all : Bool) (p : PrinterState) (units : Log) (r s t : Seen) → HasBegun job source sink empty (head_text job empty) r s → IsJobPrinter job ask sink p
     → Touches (source ∷ []) (sink ∷ []) [] [] s t → GaveFirst source s t units → ((input : Input) → IsInput (Work job) r input → all ≡ true → (units ≡ input.units) × (is_whole input.file_ending ≡ true))
-    → ((text : List ℕ) → IsSo text → IsPrefix text (due p units all)) → AddedSome IsSo p.sink s t → WritesPrefix (Work job) r t
-prefix_by job source sink empty all p units r s t begun is touched gave whole part added = λ input is_input o one.
+    → ((text : List ℕ) → IsSo text → IsPrefix text (due p units all)) → AddedSome IsSo p.sink s t → PrefixFor ask (Work job) r t
+prefix_by job ask source sink empty all p units r s t begun is touched gave whole part added = λ input is_input o one.
     let same = begun.begins input.sink_empty is_input.2 in
     let first = given_first job source sink empty r s t units input begun gave is_input in
-    inr (each_one (λ o. SinkGained (λ text. IsPrefix text (whole_text (Work job) input)) o r t) (sink_of job) (sink_gained job source sink empty p r s t begun is touched
-    (λ text so. prefix_then (prefix_after (head_text job empty) (part text so)) (text_prefix job sink p empty all units input is same (whole input is_input) first.1)) added) o one)
+    inr (each_one (λ o. SinkGained (λ text. IsPrefix text (whole_text (Work job) ask input)) o r t) (sink_of job) (sink_gained job ask source sink empty p r s t begun is touched
+    (λ text so. prefix_then (prefix_after (head_text job empty) (part text so)) (text_prefix job ask sink p empty all units input is same (whole input is_input) first.1)) added) o one)
 
-pub prefix_source : (job : Job) (source sink : ℕ) (empty : Bool) (p : PrinterState) (units : Log) (r s t : Seen) → IsJobPrinter job sink p → Touches (source ∷ []) (sink ∷ []) [] [] s t → GaveFirst source s t units
-    → AddedSome (λ text. text ≡ due p units false) p.sink s t → HasBegun job source sink empty (head_text job empty) r s → WritesPrefix (Work job) r t
-prefix_source job source sink empty p units r s t is touched gave added begun =
-    prefix_by job source sink empty false p units r s t begun is touched gave (λ input is_input e. absurd cc) (λ text so. rw so (prefix_same (due p units false))) added
+pub prefix_source : (job : Job) (ask : Ask) (source sink : ℕ) (empty : Bool) (p : PrinterState) (units : Log) (r s t : Seen) → IsJobPrinter job ask sink p → Touches (source ∷ []) (sink ∷ []) [] [] s t → GaveFirst source s t units
+    → AddedSome (λ text. text ≡ due p units false) p.sink s t → HasBegun job source sink empty (head_text job empty) r s → PrefixFor ask (Work job) r t
+prefix_source job ask source sink empty p units r s t is touched gave added begun =
+    prefix_by job ask source sink empty false p units r s t begun is touched gave (λ input is_input e. absurd cc) (λ text so. rw so (prefix_same (due p units false))) added
 
 -- the source had no memory
-pub prefix_stopped : (job : Job) (source sink : ℕ) (start now : LogFile) (fault : SourceFault) (n : ℕ) (p : PrinterState) (s t : Seen) → start.reader.handle ≡ source → IsJobPrinter job sink p → Touches (source ∷ []) (sink ∷ []) [] [] s t
-    → fault ≡ source_faults.NoMemory → RanUntil (BySource fault n) (GaveUnits start now s t) (λ why units. StoppedSo start.reader.handle why s t units) p s t → (r : Seen) (empty : Bool) → HasBegun job source sink empty (head_text job empty) r s → WritesPrefix (Work job) r t
-prefix_stopped job source sink start now fault n p s t handle is touched e ran = λ r empty begun.
+pub prefix_stopped : (job : Job) (query : Query) (source sink : ℕ) (start now : LogFile) (fault : SourceFault) (n : ℕ) (p : PrinterState) (s t : Seen) → start.reader.handle ≡ source → ((ask : Ask) → HoldsAsAsked query ask → IsJobPrinter job ask sink p) → Touches (source ∷ []) (p.sink ∷ []) [] [] s t
+    → fault ≡ source_faults.NoMemory → RanUntil (BySource fault n) (GaveUnits start now s t) (λ why units. StoppedSo start.reader.handle why s t units) p s t
+    → (ask : Ask) (r : Seen) (empty : Bool) → HoldsAsAsked query ask → HasBegun job source sink empty (head_text job empty) r s → PrefixFor ask (Work job) r t
+prefix_stopped job query source sink start now fault n p s t handle is touched e ran = λ ask r empty holds begun.
     let stop : StoppedSo source source_faults.NoMemory s t ran.units = subst (λ (x : SourceFault). StoppedSo source x s t ran.units) e (subst (λ (h : ℕ). StoppedSo h fault s t ran.units) handle ran.given) in
-    prefix_source job source sink empty p ran.units r s t is touched stop ran.gains begun
+    prefix_source job ask source sink empty p ran.units r s t (is ask holds) (subst (λ (h : ℕ). Touches (source ∷ []) (h ∷ []) [] [] s t) (is ask holds).sink touched) stop ran.gains begun
 
 -- the units of a source that gave all
 all_given : (job : Job) (source sink : ℕ) (empty all : Bool) (start now : LogFile) (r s t : Seen) (units : Log) → start.reader.handle ≡ source → HasBegun job source sink empty (head_text job empty) r s → GaveUnits start now s t units all
@@ -86,11 +91,11 @@ all_given job source sink empty true start now r s t units handle begun gave = �
     let whole = given_all job source sink empty start now r s t units input handle begun gave is_input in (whole.0, ap is_whole whole.1)
 all_given job source sink empty false start now r s t units handle begun gave = λ input is_input e. absurd cc
 
-pub prefix_printer : (job : Job) (source sink : ℕ) (empty : Bool) (start now : LogFile) (n : ℕ) (p : PrinterState) (r s t : Seen) → start.reader.handle ≡ source → IsJobPrinter job sink p → Touches (source ∷ []) (sink ∷ []) [] [] s t
-    → RanUntil (ByPrinter print_faults.NoMemory n) (GaveUnits start now s t) (λ fault units. StoppedSo start.reader.handle fault s t units) p s t → HasBegun job source sink empty (head_text job empty) r s → WritesPrefix (Work job) r t
-prefix_printer job source sink empty start now n p r s t handle is touched ran begun =
+pub prefix_printer : (job : Job) (ask : Ask) (source sink : ℕ) (empty : Bool) (start now : LogFile) (n : ℕ) (p : PrinterState) (r s t : Seen) → start.reader.handle ≡ source → IsJobPrinter job ask sink p → Touches (source ∷ []) (sink ∷ []) [] [] s t
+    → RanUntil (ByPrinter print_faults.NoMemory n) (GaveUnits start now s t) (λ fault units. StoppedSo start.reader.handle fault s t units) p s t → HasBegun job source sink empty (head_text job empty) r s → PrefixFor ask (Work job) r t
+prefix_printer job ask source sink empty start now n p r s t handle is touched ran begun =
     let run = ran.1.1 in
-    prefix_by job source sink empty ran.1.0 p run.units r s t begun is touched (gave_as_first start now source s t run.units ran.1.0 handle run.given)
+    prefix_by job ask source sink empty ran.1.0 p run.units r s t begun is touched (gave_as_first start now source s t run.units ran.1.0 handle run.given)
     (all_given job source sink empty ran.1.0 start now r s t run.units handle begun run.given) (λ text so. so) run.gains
 
 -- a sink to which this much was written
@@ -98,17 +103,17 @@ pub sink_begun : {IsSo : List ℕ → Type 0} (job : Job) (source sink : ℕ) (e
 sink_begun job source sink empty head r s begun so = record { handle = sink; is_handle = begun.is_sink; text = head; is = so; gains = begun.gains; holds = begun.holds }
 
 -- what an input's text begins with
-head_prefix : (job : Job) (empty : Bool) (input : Input) → input.sink_empty ≡ empty → IsPrefix (head_text job empty) (whole_text (Work job) input)
-head_prefix job empty input same = subst (λ (b : Bool). IsPrefix (head_text job b) (whole_text (Work job) input)) same
-    (prefix_append (head_text job input.sink_empty) (laid_out (layout_of job) (groups_of job.grouping input.units (is_whole input.file_ending))))
+head_prefix : (job : Job) (ask : Ask) (empty : Bool) (input : Input) → input.sink_empty ≡ empty → IsPrefix (head_text job empty) (whole_text (Work job) ask input)
+head_prefix job ask empty input same = subst (λ (b : Bool). IsPrefix (head_text job b) (whole_text (Work job) ask input)) same
+    (prefix_append (head_text job input.sink_empty) (laid_out (layout_of job) (chosen ask (groups_of job.grouping input.units (is_whole input.file_ending)))))
 
-pub prefix_begun : (job : Job) (source sink : ℕ) (empty : Bool) (head : List ℕ) (r s : Seen) → IsPrefix head (head_text job empty) → HasBegun job source sink empty head r s → WritesPrefix (Work job) r s
-prefix_begun job source sink empty head r s part begun = λ input is_input o one.
-    inr (each_one (λ o. SinkGained (λ text. IsPrefix text (whole_text (Work job) input)) o r s) (sink_of job)
-    (sink_begun job source sink empty head r s begun (prefix_then part (head_prefix job empty input (begun.begins input.sink_empty is_input.2)))) o one)
+pub prefix_begun : (job : Job) (ask : Ask) (source sink : ℕ) (empty : Bool) (head : List ℕ) (r s : Seen) → IsPrefix head (head_text job empty) → HasBegun job source sink empty head r s → PrefixFor ask (Work job) r s
+prefix_begun job ask source sink empty head r s part begun = λ input is_input o one.
+    inr (each_one (λ o. SinkGained (λ text. IsPrefix text (whole_text (Work job) ask input)) o r s) (sink_of job)
+    (sink_begun job source sink empty head r s begun (prefix_then part (head_prefix job ask empty input (begun.begins input.sink_empty is_input.2)))) o one)
 
-pub prefix_still : (job : Job) (r t : Seen) → IsStill r t → WritesPrefix (Work job) r t
-prefix_still job r t still = λ input is_input o one. inl (untouched_still o r t still)
+pub prefix_still : (job : Job) (ask : Ask) (r t : Seen) → IsStill r t → PrefixFor ask (Work job) r t
+prefix_still job ask r t still = λ input is_input o one. inl (untouched_still o r t still)
 
 -- the header
 
@@ -133,23 +138,24 @@ begun_more job source sink empty text r s t begun w =
     }
 
 -- no unit, no text
-nothing_laid : (l : Layout) (by : Grouping) (b : Bool) → laid_out l (groups_of by [] b) ≡ []
-nothing_laid l by true = laid_nil l
-nothing_laid l by false = laid_nil l
+nothing_laid : (l : Layout) (ask : Ask) (by : Grouping) (b : Bool) → laid_out l (chosen ask (groups_of by [] b)) ≡ []
+nothing_laid l ask by true = laid_nil l
+nothing_laid l ask by false = laid_nil l
 
 -- the text of a run that took no unit is the header
-headed : (job : Job) (empty : Bool) (ending : Ending) → sink_text (Work job) (run_of empty []) ending ≡ head_text job empty
-headed job empty ending = ap (λ (x : List ℕ). head_text job empty ++ x) (nothing_laid (layout_of job) job.grouping (is_flushed ending)) ∙ append-nil (head_text job empty)
+headed : (job : Job) (ask : Ask) (empty : Bool) (ending : Ending) → sink_text (Work job) ask (run_of empty []) ending ≡ head_text job empty
+headed job ask empty ending = ap (λ (x : List ℕ). head_text job empty ++ x) (nothing_laid (layout_of job) ask job.grouping (is_flushed ending)) ∙ append-nil (head_text job empty)
 
 -- the write of the header failed
-pub works_headless : (job : Job) (source sink : ℕ) (empty : Bool) (r s t : Seen) → HasBegun job source sink empty [] r s → WroteOn sink [] (λ text. IsProperPrefix text (head_text job empty)) s t → FaultsRose Writing sink s t
-    → WorksOff (Work job) (Some (WriteFault (write_of job))) (Counted 0 1) r t
-works_headless job source sink empty r s t begun left rose =
+pub works_headless : (job : Job) (ask : Ask) (source sink : ℕ) (empty : Bool) (r s t : Seen) → HasBegun job source sink empty [] r s → WroteOn sink [] (λ text. IsProperPrefix text (head_text job empty)) s t → FaultsRose Writing sink s t
+    → WorksFor ask (Work job) (Some (WriteFault (write_of job))) (Counted 0 1) r t
+works_headless job ask source sink empty r s t begun left rose =
     let more = begun_more job source sink empty left.added r s t begun left.wrote in
     let fault = WriteFault (write_of job) in
-    works_by job fault (Counted 0 1) r t
+    works_by job ask fault (Counted 0 1) r t
     (inl (sym (sink_name job.append (write_of job))), omega (arith, begun.counts.each Writing (write_of job), rose.each (write_of job) begun.writes))
     tt
+    (run_began job source sink empty 0 r s t begun (touches_wrote (source ∷ []) sink left.added s t left.wrote))
     (λ input is_input.
     let run = run_of input.sink_empty [] in
     let same = begun.begins input.sink_empty is_input.2 in record {
@@ -160,14 +166,14 @@ works_headless job source sink empty r s t begun left rose =
       takes = (0, omega arith, refl);
       reads_once = each_one (λ o. ReadsOnce (Faulted fault) o input run r t) (source_of job)
           ([], omega arith, record { handle = source; is_handle = more.is_source; rest = input.bytes; left = more.told input.bytes is_input.0; parts = refl });
-      sinks = each_one (λ o. SinkGained (IsDue (Work job) input run (Faulted fault)) o r t) (sink_of job) (sink_begun job source sink empty left.added r t more (
+      sinks = each_one (λ o. SinkGained (IsDue (Work job) ask input run (Faulted fault)) o r t) (sink_of job) (sink_begun job source sink empty left.added r t more (
         λ some. absurd (omega (arith, some)),
-        subst (λ (x : List ℕ). IsProperPrefix left.added x) (sym (headed job input.sink_empty (ending_begun input run (Faulted fault)) ∙ ap (λ (b : Bool). head_text job b) same)) left.is,
+        subst (λ (x : List ℕ). IsProperPrefix left.added x) (sym (headed job ask input.sink_empty (ending_begun input run (Faulted fault)) ∙ ap (λ (b : Bool). head_text job b) same)) left.is,
       ));
     })
 
-pub prefix_headless : (job : Job) (source sink : ℕ) (empty : Bool) (r s t : Seen) → WroteOn sink [] (λ text. IsProperPrefix text (head_text job empty)) s t → HasBegun job source sink empty [] r s → WritesPrefix (Work job) r t
-prefix_headless job source sink empty r s t left begun = prefix_begun job source sink empty left.added r t left.is.prefix (begun_more job source sink empty left.added r s t begun left.wrote)
+pub prefix_headless : (job : Job) (ask : Ask) (source sink : ℕ) (empty : Bool) (r s t : Seen) → WroteOn sink [] (λ text. IsProperPrefix text (head_text job empty)) s t → HasBegun job source sink empty [] r s → PrefixFor ask (Work job) r t
+prefix_headless job ask source sink empty r s t left begun = prefix_begun job ask source sink empty left.added r t left.is.prefix (begun_more job source sink empty left.added r s t begun left.wrote)
 
 -- opening and creating
 
@@ -203,25 +209,25 @@ pub created_handles : (job : Job) (source sink : ℕ) (empty : Bool) (s t u : Se
 created_handles job source sink empty s t u created touched = gives_still _ s t u (gives_making (sink_of job) sink empty s t created) (gives_none t u touched)
 
 -- a job whose object could not be opened or created
-works_refused : (job : Job) (name : List ℕ) (r t : Seen) → HasStreams r → IsStill r t → (IsOneOf name (opened_of (source_of job ∷ [])) × HasNewFault (r.faults Opening name) (t.faults Opening name)) ⊎ (IsOneOf name (created_of (sink_of job ∷ [])) × HasNewFault (r.faults Creating name) (t.faults Creating name))
-    → WorksOff (Work job) (Some (NoOpen name)) Nothing r t
-works_refused job name r t streams still cause =
-    works_by job (NoOpen name) Nothing r t cause (refl, (λ o one. source_still_left o r t (subst (λ (x : Object). IsSource x) (sym (only_one o (source_of job) one)) (is_source (file_of job))) streams still, λ o one. untouched_still o r t still))
+works_refused : (job : Job) (ask : Ask) (name : List ℕ) (r t : Seen) → HasStreams r → IsStill r t → HasFailed (Work job) Opening name r t ⊎ HasFailed (Work job) Creating name r t
+    → WorksFor ask (Work job) (Some (NoOpen name)) Nothing r t
+works_refused job ask name r t streams still cause =
+    works_by job ask (NoOpen name) Nothing r t cause tt (refl, (λ o one. source_still_left o r t (are_sources job.queries (source_of job) o (is_source (file_of job)) one) streams still, λ o one. untouched_still o r t still))
     (λ input is_input. record { run = no_run; ending = Faulted (NoOpen name); is_run = refl; is_ending = refl; takes = refl; reads_once = λ o one. tt; sinks = λ o one. untouched_still o r t still })
 
-pub works_unopened : (job : Job) (r t : Seen) → HasStreams r → source_of job ≡ OpenedFile (file_of job) → OnlyCounts r t → HasNewFault (r.faults Opening (file_of job)) (t.faults Opening (file_of job)) → WorksOff (Work job) (Some (NoOpen (file_of job))) Nothing r t
-works_unopened job r t streams is counts rose =
-    works_refused job (file_of job) r t streams (still_counts r t counts) (inl (subst (λ (o : Object). IsOneOf (file_of job) (opened_of (o ∷ []))) (sym is) (inl refl), rose))
+pub works_unopened : (job : Job) (ask : Ask) (r t : Seen) → HasStreams r → source_of job ≡ OpenedFile (file_of job) → OnlyCounts r t → HasNewFault (r.faults Opening (file_of job)) (t.faults Opening (file_of job)) → WorksFor ask (Work job) (Some (NoOpen (file_of job))) Nothing r t
+works_unopened job ask r t streams is counts rose =
+    works_refused job ask (file_of job) r t streams (still_counts r t counts) (inl (last_opened (query_files job.queries) (source_of job) (file_of job) (subst (λ (o : Object). IsOneOf (file_of job) (opened_of (o ∷ []))) (sym is) (inl refl)), rose))
 
-pub works_unmade : (job : Job) (source : ℕ) (r s t : Seen) → HasStreams r → sink_of job ≡ CreatedFile job.append (write_of job) → OnlyCounts s t → HasNewFault (s.faults Creating (write_of job)) (t.faults Creating (write_of job)) → SourceOpened (source_of job) source r s
-    → WorksOff (Work job) (Some (NoOpen (write_of job))) Nothing r t
-works_unmade job source r s t streams is counts rose opened =
+pub works_unmade : (job : Job) (ask : Ask) (source : ℕ) (r s t : Seen) → HasStreams r → sink_of job ≡ CreatedFile job.append (write_of job) → OnlyCounts s t → HasNewFault (s.faults Creating (write_of job)) (t.faults Creating (write_of job)) → SourceOpened (source_of job) source r s
+    → WorksFor ask (Work job) (Some (NoOpen (write_of job))) Nothing r t
+works_unmade job ask source r s t streams is counts rose opened =
     let touched = touches_opening (source_of job) source r s opened in
-    works_refused job (write_of job) r t streams (still_then r s t (still_opened (source_of job) source r s opened) (still_counts s t counts))
+    works_refused job ask (write_of job) r t streams (still_then r s t (still_opened (source_of job) source r s opened) (still_counts s t counts))
     (inr (subst (λ (o : Object). IsOneOf (write_of job) (created_of (o ∷ []))) (sym is) (inl refl), omega (arith, touched.counts.each Creating (write_of job), rose)))
 
-pub prefix_unmade : (job : Job) (source : ℕ) (r s t : Seen) → IsStill s t → SourceOpened (source_of job) source r s → WritesPrefix (Work job) r t
-prefix_unmade job source r s t still opened = prefix_still job r t (still_then r s t (still_opened (source_of job) source r s opened) still)
+pub prefix_unmade : (job : Job) (ask : Ask) (source : ℕ) (r s t : Seen) → IsStill s t → SourceOpened (source_of job) source r s → PrefixFor ask (Work job) r t
+prefix_unmade job ask source r s t still opened = prefix_still job ask r t (still_then r s t (still_opened (source_of job) source r s opened) still)
 
 pub still_none : (s : Seen) → IsStill s s
 still_none s = record { held = λ n. refl; lacks = λ n. refl; written = λ h. refl; left = λ h given. refl; given = λ h given. given }
@@ -230,40 +236,48 @@ still_none s = record { held = λ n. refl; lacks = λ n. refl; written = λ h. r
 pub prefix_none : (asked : Asked) (s : Seen) → WritesPrefix asked s s
 prefix_none asked s = λ input is_input o one. inl (untouched_none o s)
 
-pub prefix_at : (job : Job) (source : ℕ) (s t : Seen) → IsStill s t → (r : Seen) → HasStreams r → SourceOpened (source_of job) source r s → WritesPrefix (Work job) r t
-prefix_at job source s t still = λ r streams opened. prefix_unmade job source r s t still opened
+-- where nothing was written
+pub prefix_asked : (job : Job) (query : Query) (s t : Seen) → IsStill s t → (ask : Ask) → HoldsAsAsked query ask → PrefixFor ask (Work job) s t
+prefix_asked job query s t still = λ ask holds. prefix_still job ask s t still
+
+pub prefix_at : (job : Job) (query : Query) (source : ℕ) (s t : Seen) → IsStill s t
+    → (ask : Ask) (r : Seen) → HoldsAsAsked query ask → HasStreams r → SourceOpened (source_of job) source r s → PrefixFor ask (Work job) r t
+prefix_at job query source s t still = λ ask r holds streams opened. prefix_unmade job ask source r s t still opened
 
 -- what a step answered is what its caller answers
 
-pub headed_prefix : {T E : Type 0} (result : Result T E) (job : Job) (source sink : ℕ) (empty : Bool) (s t u : Seen) → Wrote sink (head_text job empty) s t
-    → OnErr result ((r : Seen) (e : Bool) → HasBegun job source sink e (head_text job e) r t → WritesPrefix (Work job) r u) → OnErr result ((r : Seen) → HasBegun job source sink empty [] r s → WritesPrefix (Work job) r u)
-headed_prefix (Ok x) job source sink empty s t u wrote p = p
-headed_prefix (Err e) job source sink empty s t u wrote p = λ r begun. p r empty (begun_more job source sink empty (head_text job empty) r s t begun wrote)
+pub headed_prefix : {T E : Type 0} (result : Result T E) (job : Job) (query : Query) (source sink : ℕ) (empty : Bool) (s t u : Seen) → Wrote sink (head_text job empty) s t
+    → OnErr result ((ask : Ask) (r : Seen) (e : Bool) → HoldsAsAsked query ask → HasBegun job source sink e (head_text job e) r t → PrefixFor ask (Work job) r u)
+    → OnErr result ((ask : Ask) (r : Seen) → HoldsAsAsked query ask → HasBegun job source sink empty [] r s → PrefixFor ask (Work job) r u)
+headed_prefix (Ok x) job query source sink empty s t u wrote p = p
+headed_prefix (Err e) job query source sink empty s t u wrote p = λ ask r holds begun. p ask r empty holds (begun_more job source sink empty (head_text job empty) r s t begun wrote)
 
-pub headed_works : {E : Type 0} (result : Result Ran E) (job : Job) (source sink : ℕ) (empty : Bool) (s t u : Seen) → Wrote sink (head_text job empty) s t
-    → IfOk result (λ ran. (r : Seen) (e : Bool) → HasBegun job source sink e (head_text job e) r t → WorksOff (Work job) ran.fault ran.run r u)
-    → IfOk result (λ ran. (r : Seen) → HasBegun job source sink empty [] r s → WorksOff (Work job) ran.fault ran.run r u)
-headed_works (Ok x) job source sink empty s t u wrote p = λ r begun. p r empty (begun_more job source sink empty (head_text job empty) r s t begun wrote)
-headed_works (Err e) job source sink empty s t u wrote p = p
+pub headed_works : {E : Type 0} (result : Result Ran E) (job : Job) (query : Query) (source sink : ℕ) (empty : Bool) (s t u : Seen) → Wrote sink (head_text job empty) s t
+    → IfOk result (λ ran. (ask : Ask) (r : Seen) (e : Bool) → HoldsAsAsked query ask → HasBegun job source sink e (head_text job e) r t → WorksFor ask (Work job) ran.fault ran.run r u)
+    → IfOk result (λ ran. (ask : Ask) (r : Seen) → HoldsAsAsked query ask → HasBegun job source sink empty [] r s → WorksFor ask (Work job) ran.fault ran.run r u)
+headed_works (Ok x) job query source sink empty s t u wrote p = λ ask r holds begun. p ask r empty holds (begun_more job source sink empty (head_text job empty) r s t begun wrote)
+headed_works (Err e) job query source sink empty s t u wrote p = p
 
-pub created_prefix : {T E : Type 0} (result : Result T E) (job : Job) (source sink : ℕ) (empty : Bool) (s t u : Seen) → HasStreams s → SinkCreated (sink_of job) sink empty s t
-    → OnErr result ((r : Seen) → HasBegun job source sink empty [] r t → WritesPrefix (Work job) r u)
-    → OnErr result ((r : Seen) → HasStreams r → SourceOpened (source_of job) source r s → WritesPrefix (Work job) r u)
-created_prefix (Ok x) job source sink empty s t u streams created p = p
-created_prefix (Err e) job source sink empty s t u streams created p = λ r streams_then opened. p r (has_begun job source sink empty r s t streams_then streams opened created)
+pub created_prefix : {T E : Type 0} (result : Result T E) (job : Job) (query : Query) (source sink : ℕ) (empty : Bool) (s t u : Seen) → HasStreams s → SinkCreated (sink_of job) sink empty s t
+    → OnErr result ((ask : Ask) (r : Seen) → HoldsAsAsked query ask → HasBegun job source sink empty [] r t → PrefixFor ask (Work job) r u)
+    → OnErr result ((ask : Ask) (r : Seen) → HoldsAsAsked query ask → HasStreams r → SourceOpened (source_of job) source r s → PrefixFor ask (Work job) r u)
+created_prefix (Ok x) job query source sink empty s t u streams created p = p
+created_prefix (Err e) job query source sink empty s t u streams created p = λ ask r holds streams_then opened. p ask r holds (has_begun job source sink empty r s t streams_then streams opened created)
 
-pub created_works : {E : Type 0} (result : Result Ran E) (job : Job) (source sink : ℕ) (empty : Bool) (s t u : Seen) → HasStreams s → SinkCreated (sink_of job) sink empty s t
-    → IfOk result (λ ran. (r : Seen) → HasBegun job source sink empty [] r t → WorksOff (Work job) ran.fault ran.run r u)
-    → IfOk result (λ ran. (r : Seen) → HasStreams r → SourceOpened (source_of job) source r s → WorksOff (Work job) ran.fault ran.run r u)
-created_works (Ok x) job source sink empty s t u streams created p = λ r streams_then opened. p r (has_begun job source sink empty r s t streams_then streams opened created)
-created_works (Err e) job source sink empty s t u streams created p = p
+pub created_works : {E : Type 0} (result : Result Ran E) (job : Job) (query : Query) (source sink : ℕ) (empty : Bool) (s t u : Seen) → HasStreams s → SinkCreated (sink_of job) sink empty s t
+    → IfOk result (λ ran. (ask : Ask) (r : Seen) → HoldsAsAsked query ask → HasBegun job source sink empty [] r t → WorksFor ask (Work job) ran.fault ran.run r u)
+    → IfOk result (λ ran. (ask : Ask) (r : Seen) → HoldsAsAsked query ask → HasStreams r → SourceOpened (source_of job) source r s → WorksFor ask (Work job) ran.fault ran.run r u)
+created_works (Ok x) job query source sink empty s t u streams created p = λ ask r holds streams_then opened. p ask r holds (has_begun job source sink empty r s t streams_then streams opened created)
+created_works (Err e) job query source sink empty s t u streams created p = p
 
-pub opened_prefix : {T E : Type 0} (result : Result T E) (job : Job) (source : ℕ) (s t u : Seen) → HasStreams s → SourceOpened (source_of job) source s t
-    → OnErr result ((r : Seen) → HasStreams r → SourceOpened (source_of job) source r t → WritesPrefix (Work job) r u) → OnErr result (WritesPrefix (Work job) s u)
-opened_prefix (Ok x) job source s t u streams opened p = p
-opened_prefix (Err e) job source s t u streams opened p = p s streams opened
+pub opened_prefix : {T E : Type 0} (result : Result T E) (job : Job) (query : Query) (source : ℕ) (s t u : Seen) → HasStreams s → SourceOpened (source_of job) source s t
+    → OnErr result ((ask : Ask) (r : Seen) → HoldsAsAsked query ask → HasStreams r → SourceOpened (source_of job) source r t → PrefixFor ask (Work job) r u)
+    → OnErr result ((ask : Ask) → HoldsAsAsked query ask → PrefixFor ask (Work job) s u)
+opened_prefix (Ok x) job query source s t u streams opened p = p
+opened_prefix (Err e) job query source s t u streams opened p = λ ask holds. p ask s holds streams opened
 
-pub opened_works : {E : Type 0} (result : Result Ran E) (job : Job) (source : ℕ) (s t u : Seen) → HasStreams s → SourceOpened (source_of job) source s t
-    → IfOk result (λ ran. (r : Seen) → HasStreams r → SourceOpened (source_of job) source r t → WorksOff (Work job) ran.fault ran.run r u) → IfOk result (λ ran. WorksOff (Work job) ran.fault ran.run s u)
-opened_works (Ok x) job source s t u streams opened p = p s streams opened
-opened_works (Err e) job source s t u streams opened p = p
+pub opened_works : {E : Type 0} (result : Result Ran E) (job : Job) (query : Query) (source : ℕ) (s t u : Seen) → HasStreams s → SourceOpened (source_of job) source s t
+    → IfOk result (λ ran. (ask : Ask) (r : Seen) → HoldsAsAsked query ask → HasStreams r → SourceOpened (source_of job) source r t → WorksFor ask (Work job) ran.fault ran.run r u)
+    → IfOk result (λ ran. (ask : Ask) → HoldsAsAsked query ask → WorksFor ask (Work job) ran.fault ran.run s u)
+opened_works (Ok x) job query source s t u streams opened p = λ ask holds. p ask s holds streams opened
+opened_works (Err e) job query source s t u streams opened p = p

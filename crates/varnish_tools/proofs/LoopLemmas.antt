@@ -9,6 +9,7 @@ use Rattle.vio.proofs.WholeLemmas.{NoCountFalls-then}
 use Rattle.vio.specs.Writes.{WroteOn}
 use Rattle.vio.specs.Touches.{Touches}
 use Rattle.vsl_record.specs.Unit.{LogUnit, Log}
+use Rattle.query_eval.specs.Meaning.{is_held}
 use Rattle.varnish_tools.specs.declared.layout.Layout.{Layout}
 use Rattle.varnish_tools.specs.declared.layout.Layout.TheVariants.{Lines, Units}
 use Rattle.varnish_tools.specs.declared.source.SourceFault.{SourceFault}
@@ -53,15 +54,15 @@ running_none IsGiven reads p s given new = record {
   units = [];
   given = given;
   count = refl;
-  same = record { options = refl; layout = refl; sink = refl; name = refl };
+  same = record { options = refl; layout = refl; query = refl; sink = refl; name = refl };
   represents = new;
   gains = subst (λ (text : List ℕ). Added p.sink text s s) (sym (laid_nil p.layout)) (added_none p.sink s);
   touches = touches_none reads (p.sink ∷ []) [] [] s;
 }
 
--- printers of one layout and grouping have the same text due
+-- printers of one layout, query and grouping have the same text due
 same_due : (p q : PrinterState) (us : Log) (b : Bool) → IsSamePrinter p q → due q us b ≡ due p us b
-same_due p q us b same = rw (same.layout, same.options) refl
+same_due p q us b same = rw (same.layout, same.query, same.options) refl
 
 -- what a printer wrote on to its text, since before that text
 added_on : (reads : List ℕ) (p q : PrinterState) (us vs : Log) (b : Bool) (IsSo : List ℕ → List ℕ → Type 0) (s t u v : Seen) → IsSamePrinter p q → s.given p.sink ≡ true → Touches reads (p.sink ∷ []) [] [] s t
@@ -97,7 +98,7 @@ running_more IsGiven IsNow reads p q r n u s t v w run given read stays same tak
       units = run.units ++ u ∷ [];
       given = stays wrote.added wrote.wrote;
       count = omega (arith, run.count, length-append run.units (u ∷ []));
-      same = record { options = same.options ∙ run.same.options; layout = same.layout ∙ run.same.layout; sink = same.sink ∙ run.same.sink; name = same.name ∙ run.same.name };
+      same = record { options = same.options ∙ run.same.options; layout = same.layout ∙ run.same.layout; query = same.query ∙ run.same.query; sink = same.sink ∙ run.same.sink; name = same.name ∙ run.same.name };
       represents = takes run.units run.represents;
       gains = subst (λ (text : List ℕ). Added p.sink text s w) gained.is.1 gained.added;
       touches = touches_printed reads p q _ _ s t v w run.same run.touches read wrote;
@@ -132,7 +133,7 @@ some_units p (u ∷ us) text left = omega arith
 left_at_end : (fault : PrintFault) (p : PrinterState) (us : Log) (text : List ℕ) → IsPrefix (due p us false) text → IsLeft fault (due p us true) text → IsLeftOf fault p us true text
 left_at_end (WriteFault name) p us text least left = record {
   some = some_units p us text left;
-  least = prefix_then (due_first p.layout p.table.options.grouping us (length us - 1) false) least;
+  least = prefix_then (due_first p.layout (is_held p.query) p.table.options.grouping us (length us - 1) false) least;
   left = left;
 }
 left_at_end NoMemory p us text least left = left

@@ -8,7 +8,8 @@ use Rattle.vio.specs.declared.world.TheConstants.{INPUT, OUTPUT, ERRORS}
 use Rattle.vio.specs.World.{Seen, Reading, Writing, Gains, HasStreams, NoCountFalls, Opened, FileCreated, OnlyCounts, begins_with}
 use Rattle.vio.specs.Touches.{IsOneOf, IsNewHandle, IsOtherSink, Touches}
 use Rattle.vio.proofs.TouchLemmas.{only_one, touches_in, touches_over, touches_opened, touches_created, touches_none, IsNewSink, new_sink, new_since, new_handle}
-use Rattle.varnish_tools.specs.Objects.{Object, OpenedFile, CreatedFile, Stream, name_of, opened_of, created_of, streams_of, source_named, sink_named, IsSourceHandle, IsSinkHandle, HoldsText, SinkGained, SinkUntouched, SourceUntouched, GivesAtMost}
+use Rattle.varnish_tools.specs.Objects.{Object, OpenedFile, CreatedFile, Stream, name_of, names_of, query_files, opened_of, created_of, streams_of, source_named, sink_named, IsSourceHandle, IsSinkHandle, HoldsText, SinkGained, SinkUntouched, SourceUntouched, GivesAtMost}
+use Rattle.tool_words.specs.declared.job.QueryText.{QueryText}
 use Rattle.varnish_tools.specs.Promise.{SourceHolds, SinkBegins, Took}
 use Rattle.varnish_tools.specs.inside.LogFile.{SourceOpened, SinkCreated}
 use Rattle.varnish_tools.specs.inside.Loop.{Added, AddedSome}
@@ -382,3 +383,27 @@ pub gives_making : (o : Object) (k : ℕ) (empty : Bool) (s t : Seen) → SinkCr
 gives_making (OpenedFile name) k empty s t p = absurd p
 gives_making (CreatedFile append name) k empty s t p = (k ∷ [], omega arith, λ i none given. one_new s t k i p.other_given none given)
 gives_making (Stream stream name) k empty s t p = ([], omega arith, λ i none given. let same = ap (λ (x : Seen). x.given i) p.2 in absurd cc)
+
+-- behind the files of queries
+
+-- the last of objects is called by its name
+pub last_name : (objects : List Object) (o : Object) → IsOneOf (name_of o) (names_of (objects ++ o ∷ []))
+last_name [] o = inl refl
+last_name (object ∷ objects) o = inr (last_name objects o)
+
+-- the last of objects is opened by its name
+pub last_opened : (objects : List Object) (o : Object) (name : List ℕ) → IsOneOf name (opened_of (o ∷ [])) → IsOneOf name (opened_of (objects ++ o ∷ []))
+last_opened [] o name one = one
+last_opened (OpenedFile first ∷ objects) o name one = inr (last_opened objects o name one)
+last_opened (CreatedFile append first ∷ objects) o name one = last_opened objects o name one
+last_opened (Stream stream first ∷ objects) o name one = last_opened objects o name one
+
+one_file_more : (b : Bool) (name : List ℕ) (objects : List Object) (o x : Object) → (IsOneOf x (objects ++ o ∷ []) → IsSource x) → IsOneOf x (cond b (OpenedFile name ∷ objects) objects ++ o ∷ []) → IsSource x
+one_file_more true name objects o x each (inl e) = subst (λ (y : Object). IsSource y) (sym e) tt
+one_file_more true name objects o x each (inr one) = each one
+one_file_more false name objects o x each one = each one
+
+-- the files of queries and a source are sources
+pub are_sources : (queries : List QueryText) (o x : Object) → IsSource o → IsOneOf x (query_files queries ++ o ∷ []) → IsSource x
+are_sources [] o x is one = subst (λ (y : Object). IsSource y) (sym (only_one x o one)) is
+are_sources (query ∷ queries) o x is one = one_file_more query.file query.text (query_files queries) o x (are_sources queries o x is) one

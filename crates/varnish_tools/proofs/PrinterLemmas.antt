@@ -2,6 +2,7 @@
 use Rattle.std.proofs.Common.{◌≡◌, ℕ, ◌+◌, ◌<◌, Bool, false, true, List, [], ◌∷◌, ◌++◌, length, get_or, take, drop, refl, sym, ap, subst, ◌∙◌}
 use Rattle.std.proofs.lemmas.List.{append-nil, take_more, take-append-drop}
 use Rattle.std.proofs.lemmas.List.Concat.{flat_map-append}
+use Rattle.std.proofs.lemmas.List.Elements.{filter-append}
 use Rattle.log_model.specs.Prefix.{IsPrefix}
 use Rattle.log_model.proofs.PrefixLemmas.{prefix_append, prefix_then, prefix_after, proper_after}
 use Rattle.vio.specs.World.{Seen, Wrote}
@@ -15,41 +16,57 @@ use Rattle.txn_rows.specs.declared.group.Group.{Group}
 use Rattle.txn_rows.specs.declared.group.GroupOptions.{GroupOptions}
 use Rattle.txn_rows.proofs.GroupingLemmas.{steps_append}
 use Rattle.vsl_select.proofs.RawLemmas.{raw_steps}
-use Rattle.txn_rows.specs.Grouping.{State, no_state, unit_step, unit_steps, flush}
+use Rattle.txn_rows.specs.Grouping.{State, no_state, unit_step, unit_steps, flush, groups_of}
 use Rattle.txn_rows.specs.Table.{TableStepped}
 use Rattle.txn_rows.specs.TableState.{TableState}
 use Rattle.vsl_select.specs.Lines.{group_text}
 use Rattle.vsl_select.specs.FileUnits.{file_units}
 use Rattle.vsl_file.specs.File.{unit_bytes, log_bytes}
-use Rattle.std.specs.List.{flat_map}
+use Rattle.std.specs.List.{flat_map, filter}
+use Rattle.query_parser.specs.declared.query.Query.{Query}
+use Rattle.query_eval.specs.Meaning.{is_held}
 use Rattle.varnish_tools.specs.declared.printer.PrintFault.{PrintFault}
 use Rattle.varnish_tools.specs.declared.printer.PrintFault.TheVariants.{WriteFault, NoMemory}
 use Rattle.varnish_tools.specs.declared.layout.Layout.{Layout}
 use Rattle.varnish_tools.specs.declared.layout.Layout.TheVariants.{Lines, Units}
 use Rattle.varnish_tools.specs.Output.{laid_out}
-use Rattle.varnish_tools.specs.Printer.{PrinterState, Represents, IsLeft, due, due_text}
+use Rattle.varnish_tools.specs.Printer.{PrinterState, Represents, IsLeft, due, due_text, held_groups}
 use Rattle.varnish_tools.specs.inside.Printing.{PutUnit}
 
 -- groups are written one after another
-pub laid_append : (l : Layout) (gs hs : List Group) → laid_out l (gs ++ hs) ≡ laid_out l gs ++ laid_out l hs
+laid_append : (l : Layout) (gs hs : List Group) → laid_out l (gs ++ hs) ≡ laid_out l gs ++ laid_out l hs
 laid_append Lines gs hs = flat_map-append (group_text false) gs hs
 laid_append Units gs hs = ap log_bytes (flat_map-append file_units gs hs) ∙ flat_map-append unit_bytes (flat_map file_units gs) (flat_map file_units hs)
 
+-- the text of those of groups that pass a test
+abbrev passed_text : Layout → (Group → Bool) → List Group → List ℕ
+passed_text l test groups = laid_out l (filter test groups)
+
+-- the text of those of the groups of units that pass a test, where the units have ended or not; with what a query holds for it is what is due
+abbrev pub tested_text : Layout → (Group → Bool) → Grouping → Log → Bool → List ℕ
+tested_text l test by units ended = passed_text l test (groups_of by units ended)
+
+passed_append : (l : Layout) (test : Group → Bool) (gs hs : List Group) → passed_text l test (gs ++ hs) ≡ passed_text l test gs ++ passed_text l test hs
+passed_append l test gs hs = ap (λ (all : List Group). laid_out l all) (filter-append test gs hs) ∙ laid_append l (filter test gs) (filter test hs)
+
 -- what is due for units and more units
-due_append : (l : Layout) (by : Grouping) (us vs : Log) → due_text l by (us ++ vs) false ≡ due_text l by us false ++ laid_out l (unit_steps by vs (unit_steps by us no_state).state).groups
-due_append l by us vs =
-    ap (λ (gs : List Group). laid_out l gs) (steps_append by us vs no_state).1 ∙ laid_append l (unit_steps by us no_state).groups (unit_steps by vs (unit_steps by us no_state).state).groups
+due_append : (l : Layout) (test : Group → Bool) (by : Grouping) (us vs : Log)
+    → tested_text l test by (us ++ vs) false ≡ tested_text l test by us false ++ passed_text l test (unit_steps by vs (unit_steps by us no_state).state).groups
+due_append l test by us vs =
+    ap (λ (gs : List Group). passed_text l test gs) (steps_append by us vs no_state).1 ∙ passed_append l test (unit_steps by us no_state).groups (unit_steps by vs (unit_steps by us no_state).state).groups
 
 -- what is due for one unit more
-due_more : (l : Layout) (by : Grouping) (us : Log) (u : LogUnit) → due_text l by (us ++ u ∷ []) false ≡ due_text l by us false ++ laid_out l (unit_step by u (unit_steps by us no_state).state).groups
-due_more l by us u = due_append l by us (u ∷ []) ∙ ap (λ (gs : List Group). due_text l by us false ++ laid_out l gs) (append-nil (unit_step by u (unit_steps by us no_state).state).groups)
+due_more : (l : Layout) (test : Group → Bool) (by : Grouping) (us : Log) (u : LogUnit)
+    → tested_text l test by (us ++ u ∷ []) false ≡ tested_text l test by us false ++ passed_text l test (unit_step by u (unit_steps by us no_state).state).groups
+due_more l test by us u =
+    due_append l test by us (u ∷ []) ∙ ap (λ (gs : List Group). tested_text l test by us false ++ passed_text l test gs) (append-nil (unit_step by u (unit_steps by us no_state).state).groups)
 
 -- what is due at the end
-pub due_end : (l : Layout) (by : Grouping) (us : Log) → due_text l by us true ≡ due_text l by us false ++ laid_out l (flush (unit_steps by us no_state).state).groups
-due_end l by us = laid_append l (unit_steps by us no_state).groups (flush (unit_steps by us no_state).state).groups
+pub due_end : (l : Layout) (test : Group → Bool) (by : Grouping) (us : Log) → tested_text l test by us true ≡ tested_text l test by us false ++ passed_text l test (flush (unit_steps by us no_state).state).groups
+due_end l test by us = passed_append l test (unit_steps by us no_state).groups (flush (unit_steps by us no_state).state).groups
 
 pub represents_more : (p q : PrinterState) (u : LogUnit) (units : Log) (a b : List ℕ) → q.table.options ≡ p.table.options
-    → PutUnit p.layout u p.table q.table a b → Represents p units → Represents q (units ++ u ∷ [])
+    → PutUnit p.layout p.query u p.table q.table a b → Represents p units → Represents q (units ++ u ∷ [])
 represents_more p q u units a b same put old = record {
   state = put.state ∙ ap (λ (s : State). (unit_step p.table.options.grouping u s).state) old.state ∙ sym (steps_append p.table.options.grouping units (u ∷ []) no_state).0
       ∙ ap (λ (o : GroupOptions). (unit_steps o.grouping (units ++ u ∷ []) no_state).state) (sym same);
@@ -57,27 +74,34 @@ represents_more p q u units a b same put old = record {
 }
 
 -- the text of what a step reported goes on from what was due
-step_text : (l : Layout) (p q : TableState) (u : LogUnit) (units : Log) (a b : List ℕ) → a ≡ [] → p.state ≡ (unit_steps p.options.grouping units no_state).state
-    → PutUnit l u p q a b → due_text l p.options.grouping (units ++ u ∷ []) false ≡ due_text l p.options.grouping units false ++ b
-step_text l p q u units a b e is put = due_more l p.options.grouping units u
-    ∙ ap (λ (s : State). due_text l p.options.grouping units false ++ laid_out l (unit_step p.options.grouping u s).groups) (sym is)
-    ∙ ap (λ (text : List ℕ). due_text l p.options.grouping units false ++ text) (sym (put.text ∙ ap (λ (x : List ℕ). x ++ laid_out l (unit_step p.options.grouping u p.state).groups) e))
+step_text : (l : Layout) (query : Query) (p q : TableState) (u : LogUnit) (units : Log) (a b : List ℕ) → a ≡ [] → p.state ≡ (unit_steps p.options.grouping units no_state).state
+    → PutUnit l query u p q a b → due_text l query p.options.grouping (units ++ u ∷ []) false ≡ due_text l query p.options.grouping units false ++ b
+step_text l query p q u units a b e is put = due_more l (is_held query) p.options.grouping units u
+    ∙ ap (λ (s : State). due_text l query p.options.grouping units false ++ laid_out l (held_groups query (unit_step p.options.grouping u s).groups)) (sym is)
+    ∙ ap (λ (text : List ℕ). due_text l query p.options.grouping units false ++ text) (sym (put.text ∙ ap (λ (x : List ℕ). x ++ laid_out l (held_groups query (unit_step p.options.grouping u p.state).groups)) e))
 
 raw_text : (u : LogUnit) (s : State) → laid_out Lines (unit_step Raw u s).groups ≡ raw_lines u
 raw_text u s = (raw_steps u.vxid u.records s).1
 
-pub put_raw : (u : LogUnit) (table : TableState) (a b : List ℕ) → table.options.grouping ≡ Raw → b ≡ a ++ raw_lines u → PutUnit Lines u table table a b
-put_raw u table a b raw e = record {
+-- a query that holds always holds for each group
+always_holds : (query : Query) → query.always ≡ true → (groups : List Group) → held_groups query groups ≡ groups
+always_holds query always [] = refl
+always_holds query always (group ∷ groups) = rw always (ap (λ (gs : List Group). group ∷ gs) (always_holds query always groups))
+
+pub put_raw : (query : Query) (u : LogUnit) (table : TableState) (a b : List ℕ) → query.always ≡ true → table.options.grouping ≡ Raw → b ≡ a ++ raw_lines u → PutUnit Lines query u table table a b
+put_raw query u table a b always raw e = record {
   state = sym (ap (λ (g : Grouping). (unit_step g u table.state).state) raw ∙ (raw_steps u.vxid u.records table.state).0);
   sound = λ sound. sound;
-  text = e ∙ ap (λ (x : List ℕ). a ++ x) (sym (ap (λ (g : Grouping). laid_out Lines (unit_step g u table.state).groups) raw ∙ raw_text u table.state));
+  text = e ∙ ap (λ (x : List ℕ). a ++ x) (sym (ap (λ (gs : List Group). laid_out Lines gs) (always_holds query always (unit_step table.options.grouping u table.state).groups)
+      ∙ ap (λ (g : Grouping). laid_out Lines (unit_step g u table.state).groups) raw ∙ raw_text u table.state));
 }
 
-pub put_grouped : (l : Layout) (u : LogUnit) (p q : TableState) (g h lent : List Group) (a b : List ℕ) → g ≡ [] → lent ≡ h → TableStepped (unit_step p.options.grouping u p.state) p q g h → b ≡ a ++ laid_out l lent → PutUnit l u p q a b
-put_grouped l u p q g h lent a b e lent_is step text = rw step.state (record {
+pub put_grouped : (l : Layout) (query : Query) (u : LogUnit) (p q : TableState) (g h lent : List Group) (a b : List ℕ) → g ≡ [] → lent ≡ h → TableStepped (unit_step p.options.grouping u p.state) p q g h
+    → b ≡ a ++ laid_out l (held_groups query lent) → PutUnit l query u p q a b
+put_grouped l query u p q g h lent a b e lent_is step text = rw step.state (record {
   state = refl;
   sound = λ sound. refl;
-  text = text ∙ ap (λ (gs : List Group). a ++ laid_out l gs) (lent_is ∙ step.groups ∙ ap (λ (gs : List Group). gs ++ (unit_step p.options.grouping u p.state).groups) e);
+  text = text ∙ ap (λ (gs : List Group). a ++ laid_out l (held_groups query gs)) (lent_is ∙ step.groups ∙ ap (λ (gs : List Group). gs ++ (unit_step p.options.grouping u p.state).groups) e);
 })
 
 -- what was due was written on to what is due
@@ -91,18 +115,19 @@ left_after NoMemory a more text p = prefix_after a p
 left_on : (f : PrintFault) (h : ℕ) (a whole more : List ℕ) (s t : Seen) → whole ≡ a ++ more → WroteOn h [] (IsLeft f more) s t → WroteOn h a (IsLeft f whole) s t
 left_on f h a whole more s t e p = record { added = p.added; is = subst (λ (x : List ℕ). IsLeft f x (a ++ p.added)) (sym e) (left_after f a more p.added p.is); wrote = p.wrote }
 
-pub unit_writes : (p q : PrinterState) (u : LogUnit) (units : Log) (a b : List ℕ) (s t : Seen) → a ≡ [] → PutUnit p.layout u p.table q.table a b → Wrote p.sink b s t
+pub unit_writes : (p q : PrinterState) (u : LogUnit) (units : Log) (a b : List ℕ) (s t : Seen) → a ≡ [] → PutUnit p.layout p.query u p.table q.table a b → Wrote p.sink b s t
     → Represents p units → WroteOn p.sink (due p units false) (λ text. text ≡ due p (units ++ u ∷ []) false) s t
-unit_writes p q u units a b s t e put w old = wrote_on p.sink (due p units false) (due p (units ++ u ∷ []) false) b s t (step_text p.layout p.table q.table u units a b e old.state put) w
+unit_writes p q u units a b s t e put w old = wrote_on p.sink (due p units false) (due p (units ++ u ∷ []) false) b s t (step_text p.layout p.query p.table q.table u units a b e old.state put) w
 
-pub unit_left : (f : PrintFault) (p q : PrinterState) (u : LogUnit) (units : Log) (a b : List ℕ) (s t : Seen) → a ≡ [] → PutUnit p.layout u p.table q.table a b → WroteOn p.sink [] (IsLeft f b) s t
+pub unit_left : (f : PrintFault) (p q : PrinterState) (u : LogUnit) (units : Log) (a b : List ℕ) (s t : Seen) → a ≡ [] → PutUnit p.layout p.query u p.table q.table a b → WroteOn p.sink [] (IsLeft f b) s t
     → Represents p units → WroteOn p.sink (due p units false) (IsLeft f (due p (units ++ u ∷ []) false)) s t
-unit_left f p q u units a b s t e put w old = left_on f p.sink (due p units false) (due p (units ++ u ∷ []) false) b s t (step_text p.layout p.table q.table u units a b e old.state put) w
+unit_left f p q u units a b s t e put w old = left_on f p.sink (due p units false) (due p (units ++ u ∷ []) false) b s t (step_text p.layout p.query p.table q.table u units a b e old.state put) w
 
-pub end_left : (f : PrintFault) (p : PrinterState) (units : Log) (gs : List Group) (s t : Seen) → Represents p units → gs ≡ (flush p.table.state).groups → WroteOn p.sink [] (IsLeft f (laid_out p.layout gs)) s t
+pub end_left : (f : PrintFault) (p : PrinterState) (units : Log) (gs : List Group) (s t : Seen) → Represents p units → gs ≡ (flush p.table.state).groups → WroteOn p.sink [] (IsLeft f (laid_out p.layout (held_groups p.query gs))) s t
     → WroteOn p.sink (due p units false) (IsLeft f (due p units true)) s t
-end_left f p units gs s t old e left = left_on f p.sink (due p units false) (due p units true) (laid_out p.layout gs) s t
-    (due_end p.layout p.table.options.grouping units ∙ ap (λ (r : State). due p units false ++ laid_out p.layout (flush r).groups) (sym old.state) ∙ ap (λ (hs : List Group). due p units false ++ laid_out p.layout hs) (sym e))
+end_left f p units gs s t old e left = left_on f p.sink (due p units false) (due p units true) (laid_out p.layout (held_groups p.query gs)) s t
+    (due_end p.layout (is_held p.query) p.table.options.grouping units ∙ ap (λ (r : State). due p units false ++ laid_out p.layout (held_groups p.query (flush r).groups)) (sym old.state)
+    ∙ ap (λ (hs : List Group). due p units false ++ laid_out p.layout (held_groups p.query hs)) (sym e))
     left
 
 -- nothing was written
@@ -110,23 +135,24 @@ pub none_left : (p : PrinterState) (u : LogUnit) (units : Log) (s : Seen) → Re
     → WroteOn p.sink (due p units false) (IsLeft NoMemory (due p (units ++ u ∷ []) false)) s s
 none_left p u units s old = record {
   added = [];
-  is = rw (append-nil (due p units false), due_more p.layout p.table.options.grouping units u) (prefix_append (due p units false) (laid_out p.layout (unit_step p.table.options.grouping u (unit_steps p.table.options.grouping units no_state).state).groups));
+  is = rw (append-nil (due p units false), due_more p.layout (is_held p.query) p.table.options.grouping units u)
+      (prefix_append (due p units false) (laid_out p.layout (held_groups p.query (unit_step p.table.options.grouping u (unit_steps p.table.options.grouping units no_state).state).groups)));
   wrote = Wrote-none p.sink s;
 }
 
-due_on : (l : Layout) (by : Grouping) (us vs : Log) → IsPrefix (due_text l by us false) (due_text l by (us ++ vs) false)
-due_on l by us vs = record { rest = laid_out l (unit_steps by vs (unit_steps by us no_state).state).groups; is = due_append l by us vs }
+due_on : (l : Layout) (test : Group → Bool) (by : Grouping) (us vs : Log) → IsPrefix (tested_text l test by us false) (tested_text l test by (us ++ vs) false)
+due_on l test by us vs = record { rest = passed_text l test (unit_steps by vs (unit_steps by us no_state).state).groups; is = due_append l test by us vs }
 
 -- the text of units goes on in that of units and more units, flushed or not
-due_prefix : (l : Layout) (by : Grouping) (us vs : Log) (b : Bool) → IsPrefix (due_text l by us false) (due_text l by (us ++ vs) b)
-due_prefix l by us vs false = due_on l by us vs
-due_prefix l by us vs true = prefix_then (due_on l by us vs) (record { rest = laid_out l (flush (unit_steps by (us ++ vs) no_state).state).groups; is = due_end l by (us ++ vs) })
+due_prefix : (l : Layout) (test : Group → Bool) (by : Grouping) (us vs : Log) (b : Bool) → IsPrefix (tested_text l test by us false) (tested_text l test by (us ++ vs) b)
+due_prefix l test by us vs false = due_on l test by us vs
+due_prefix l test by us vs true = prefix_then (due_on l test by us vs) (record { rest = passed_text l test (flush (unit_steps by (us ++ vs) no_state).state).groups; is = due_end l test by (us ++ vs) })
 
-pub due_first : (l : Layout) (by : Grouping) (units : Log) (n : ℕ) (b : Bool) → IsPrefix (due_text l by (take n units) false) (due_text l by units b)
-due_first l by units n b = subst (λ (us : Log). IsPrefix (due_text l by (take n units) false) (due_text l by us b)) (take-append-drop n units) (due_prefix l by (take n units) (drop n units) b)
+pub due_first : (l : Layout) (test : Group → Bool) (by : Grouping) (units : Log) (n : ℕ) (b : Bool) → IsPrefix (tested_text l test by (take n units) false) (tested_text l test by units b)
+due_first l test by units n b = subst (λ (us : Log). IsPrefix (tested_text l test by (take n units) false) (tested_text l test by us b)) (take-append-drop n units) (due_prefix l test by (take n units) (drop n units) b)
 
-pub due_flag : (l : Layout) (by : Grouping) (units : Log) (b : Bool) → IsPrefix (due_text l by units false) (due_text l by units b)
-due_flag l by units b = subst (λ (us : Log). IsPrefix (due_text l by units false) (due_text l by us b)) (append-nil units) (due_prefix l by units [] b)
+pub due_flag : (l : Layout) (test : Group → Bool) (by : Grouping) (units : Log) (b : Bool) → IsPrefix (tested_text l test by units false) (tested_text l test by units b)
+due_flag l test by units b = subst (λ (us : Log). IsPrefix (tested_text l test by units false) (tested_text l test by us b)) (append-nil units) (due_prefix l test by units [] b)
 
 -- the first units and one more
 take_one : (units : Log) (i : ℕ) (u : LogUnit) → i < length units → u ≡ get_or units i u → take (i + 1) units ≡ take i units ++ u ∷ []

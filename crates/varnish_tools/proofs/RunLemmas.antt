@@ -1,7 +1,8 @@
 -- What a run over a log comes to, by how it ended.
-use Rattle.std.proofs.Common.{◌≡◌, ◌≢◌, ℕ, ◌+◌, ◌-◌, ◌<◌, ◌≤◌, Bool, true, false, cond, eqb, eq-eqb, ◌&&◌, List, [], ◌∷◌, ◌++◌, length, length-append, take, Some, None, refl, sym, ap, subst, ◌∙◌, inl, append_assoc, arith}
+use Rattle.std.proofs.Common.{◌≡◌, ◌≢◌, ℕ, ◌+◌, ◌-◌, ◌<◌, ◌≤◌, Bool, true, false, cond, eqb, eq-eqb, ◌&&◌, List, [], ◌∷◌, ◌++◌, length, length-append, take, Some, None, refl, sym, ap, subst, ◌∙◌, inl, inr, append_assoc, arith}
 use Rattle.std.specs.List.{AllByRecursion}
 use Rattle.std.proofs.lemmas.List.{append-nil, take_all, take-append-le}
+use Rattle.std.proofs.lemmas.List.Elements.{filter_agree}
 use Rattle.log_model.specs.Faults.{HasNewFault}
 use Rattle.log_model.specs.Prefix.{IsPrefix, IsProperPrefix}
 use Rattle.log_model.proofs.PrefixLemmas.{prefix_same, prefix_after, proper_after, proper_then}
@@ -14,8 +15,10 @@ use Rattle.vsl_file.specs.File.{FileEnding, IsFile, file_header, log_bytes, most
 use Rattle.vsl_file.specs.File as file
 use Rattle.vsl_file.specs.ReaderState.{ReaderState, Represents, used}
 use Rattle.vsl_file.proofs.FileLemmas.{one_content_of, first_units}
+use Rattle.txn_rows.specs.declared.group.Group.{Group}
 use Rattle.txn_rows.specs.declared.group.Grouping.{Grouping}
 use Rattle.txn_rows.specs.Grouping.{groups_of}
+use Rattle.query_eval.specs.Meaning.{is_held}
 use Rattle.tool_words.specs.declared.job.Job.{Job}
 use Rattle.varnish_tools.specs.declared.fault.ToolFault.{ToolFault}
 use Rattle.varnish_tools.specs.declared.fault.ToolFault.TheVariants.{ReadFault, WriteFault, NotALog, Damaged, TooLarge}
@@ -29,16 +32,18 @@ use Rattle.varnish_tools.specs.declared.run.Stopped.TheVariants.{BySource, ByPri
 use Rattle.varnish_tools.specs.declared.log_source.LogFile.{LogFile}
 use Rattle.varnish_tools.specs.Asked.{Work, file_of, write_of}
 use Rattle.varnish_tools.specs.Faults.{FaultClass, BadInput, class_of}
-use Rattle.varnish_tools.specs.Objects.{Object, source_of, sink_of, SinkGained}
+use Rattle.varnish_tools.specs.Objects.{IsSourceHandle, Object, source_of, sink_of, query_files, calls_of, SinkGained}
+use Rattle.varnish_tools.specs.Queries.{Ask, chosen, is_asked}
 use Rattle.varnish_tools.specs.Run.{Ending, Whole, Faulted, run_of}
 use Rattle.varnish_tools.specs.Output.{head_text, laid_out, layout_of, is_flushed, sink_text}
 use Rattle.varnish_tools.specs.Printer.{PrinterState, due, due_text}
-use Rattle.varnish_tools.specs.Promise.{Input, SourceHolds, IsInput, HasCause, HasClassCause, LeavesUntil, TakesUntil, ReadsOnceUntil, IsDueUntil, IsDue, ReadsOnce, Took, WritesSinks, WorksOff, whole_text, whole_run, input_fault, is_whole, ending_begun}
+use Rattle.varnish_tools.specs.Promise.{Input, SourceHolds, IsInput, HasCause, HasClassCause, LeavesUntil, RunBegan, TakesUntil, ReadsOnceUntil, IsDueUntil, IsDue, ReadsOnce, Took, WritesFor, whole_text, whole_run, input_fault, is_whole, ending_begun}
 use Rattle.varnish_tools.specs.inside.LogFile.{HasBegun, IsJobPrinter, fault_as}
 use Rattle.varnish_tools.specs.inside.LogSource.{TookFrom, BeginsLog, GaveUnits, GaveFirst, EndsFile, FailedAfter, StoppedSo}
+use Rattle.varnish_tools.specs.inside.Works.{IsOfRun, WorksFor}
 use Rattle.varnish_tools.specs.inside.Loop.{AddedSome, RanToEnd, RanUntil}
 use Rattle.varnish_tools.proofs.LogSourceLemmas.{gave_as_first}
-use Rattle.varnish_tools.proofs.ObjectLemmas.{source_name, sink_name, source_still, gained_after}
+use Rattle.varnish_tools.proofs.ObjectLemmas.{source_name, sink_name, source_still, gained_after, last_name}
 use Rattle.varnish_tools.proofs.PrinterLemmas.{due_flag}
 
 -- the units that were given, and the input
@@ -70,6 +75,15 @@ took job source sink empty r s t taken input begun touched p is_input =
       parts = lost.1;
     }
 
+-- what is so of the only object is so of each
+pub each_one : (P : Object → Type 0) (o : Object) → P o → (x : Object) → IsOneOf x (o ∷ []) → P x
+each_one P o p x is = subst P (sym (only_one x o is)) p
+
+-- a run that was recorded began
+pub run_began : {head : List ℕ} (job : Job) (source sink : ℕ) (empty : Bool) (n : ℕ) (r s t : Seen) → HasBegun job source sink empty head r s → Touches (source ∷ []) (sink ∷ []) [] [] s t → RunBegan (Work job) (Counted n 1) r t
+run_began job source sink empty n r s t begun touched =
+    (tt, each_one (λ o. (handle : ℕ) × IsSourceHandle o handle r t) (source_of job) (source, source_still (source_of job) source (source ∷ []) (sink ∷ []) r s t begun.is_source begun.source_given touched))
+
 -- the units that were given are the first of the input
 pub given_first : (job : Job) (source sink : ℕ) (empty : Bool) (r s t : Seen) (units : Log) (input : Input) → HasBegun job source sink empty (head_text job empty) r s → GaveFirst source s t units → IsInput (Work job) r input
     → (length units ≤ length input.units) × (units ≡ take (length units) input.units)
@@ -99,35 +113,32 @@ given_ending job source sink empty r s units ending input begun ends is_input = 
 -- the text that is due
 
 -- the text that was due at the printer is that of the job
-due_is : (job : Job) (k : ℕ) (p : PrinterState) (units : Log) (b : Bool) → IsJobPrinter job k p → due p units b ≡ laid_out (layout_of job) (groups_of job.grouping units b)
-due_is job k p units b is = ap (λ (l : Layout). due_text l p.table.options.grouping units b) is.is_laid_out ∙ ap (λ (g : Grouping). due_text (layout_of job) g units b) is.is_grouped
+due_is : (job : Job) (ask : Ask) (k : ℕ) (p : PrinterState) (units : Log) (b : Bool) → IsJobPrinter job ask k p → due p units b ≡ laid_out (layout_of job) (chosen ask (groups_of job.grouping units b))
+due_is job ask k p units b is = ap (λ (l : Layout). due_text l p.query p.table.options.grouping units b) is.is_laid_out ∙ ap (λ (g : Grouping). due_text (layout_of job) p.query g units b) is.is_grouped
+    ∙ ap (λ (gs : List Group). laid_out (layout_of job) gs) (filter_agree (is_held p.query) (is_asked ask) is.asks.each (groups_of job.grouping units b))
 
 -- the text of a run of units
-sink_is : (job : Job) (k : ℕ) (p : PrinterState) (empty : Bool) (units : Log) (ending : Ending) → IsJobPrinter job k p → head_text job empty ++ due p units (is_flushed ending) ≡ sink_text (Work job) (run_of empty units) ending
-sink_is job k p empty units ending is = ap (λ (x : List ℕ). head_text job empty ++ x)
-    (due_is job k p units (is_flushed ending) is ∙ ap (λ (us : Log). laid_out (layout_of job) (groups_of job.grouping us (is_flushed ending))) (sym (append-nil units)))
+sink_is : (job : Job) (ask : Ask) (k : ℕ) (p : PrinterState) (empty : Bool) (units : Log) (ending : Ending) → IsJobPrinter job ask k p → head_text job empty ++ due p units (is_flushed ending) ≡ sink_text (Work job) ask (run_of empty units) ending
+sink_is job ask k p empty units ending is = ap (λ (x : List ℕ). head_text job empty ++ x)
+    (due_is job ask k p units (is_flushed ending) is ∙ ap (λ (us : Log). laid_out (layout_of job) (chosen ask (groups_of job.grouping us (is_flushed ending)))) (sym (append-nil units)))
 
-pub whole_is : (job : Job) (k : ℕ) (p : PrinterState) (empty : Bool) (input : Input) → IsJobPrinter job k p → input.sink_empty ≡ empty → head_text job empty ++ due p input.units (is_whole input.file_ending) ≡ whole_text (Work job) input
-whole_is job k p empty input is e = ap (λ (x : List ℕ). head_text job empty ++ x) (due_is job k p input.units (is_whole input.file_ending) is)
-    ∙ ap (λ (b : Bool). head_text job b ++ laid_out (layout_of job) (groups_of job.grouping input.units (is_whole input.file_ending))) (sym e)
+pub whole_is : (job : Job) (ask : Ask) (k : ℕ) (p : PrinterState) (empty : Bool) (input : Input) → IsJobPrinter job ask k p → input.sink_empty ≡ empty → head_text job empty ++ due p input.units (is_whole input.file_ending) ≡ whole_text (Work job) ask input
+whole_is job ask k p empty input is e = ap (λ (x : List ℕ). head_text job empty ++ x) (due_is job ask k p input.units (is_whole input.file_ending) is)
+    ∙ ap (λ (b : Bool). head_text job b ++ laid_out (layout_of job) (chosen ask (groups_of job.grouping input.units (is_whole input.file_ending)))) (sym e)
 
 -- what the sink gained since before the run
-pub sink_gained : {IsSo IsToo : List ℕ → Type 0} (job : Job) (source sink : ℕ) (empty : Bool) (p : PrinterState) (r s t : Seen) → HasBegun job source sink empty (head_text job empty) r s → IsJobPrinter job sink p → Touches (source ∷ []) (sink ∷ []) [] [] s t
+pub sink_gained : {IsSo IsToo : List ℕ → Type 0} (job : Job) (ask : Ask) (source sink : ℕ) (empty : Bool) (p : PrinterState) (r s t : Seen) → HasBegun job source sink empty (head_text job empty) r s → IsJobPrinter job ask sink p → Touches (source ∷ []) (sink ∷ []) [] [] s t
     → ((text : List ℕ) → IsSo text → IsToo (head_text job empty ++ text)) → AddedSome IsSo p.sink s t → SinkGained IsToo (sink_of job) r t
-sink_gained {IsSo = IsSo} job source sink empty p r s t begun is touched also added =
+sink_gained {IsSo = IsSo} job ask source sink empty p r s t begun is touched also added =
     gained_after (sink_of job) sink (head_text job empty) (source ∷ []) (sink ∷ []) r s t begun.is_sink begun.sink_given begun.gains begun.holds touched also
     (subst (λ (h : ℕ). AddedSome IsSo h s t) is.sink added)
 
--- what is so of the only object is so of each
-pub each_one : (P : Object → Type 0) (o : Object) → P o → (x : Object) → IsOneOf x (o ∷ []) → P x
-each_one P o p x is = subst P (sym (only_one x o is)) p
-
 -- a fault of a job with its cause
-pub works_by : (job : Job) (fault : ToolFault) (taken : RunRecord) (s t : Seen) → HasCause (Work job) fault s t → LeavesUntil (class_of fault) (Work job) taken s t
-    → ((input : Input) → IsInput (Work job) s input → WritesSinks (Work job) input (Some fault) taken s t) → WorksOff (Work job) (Some fault) taken s t
-works_by job fault taken s t cause leaves writes = record {
-  refused = λ f e. absurd cc;
+pub works_by : (job : Job) (ask : Ask) (fault : ToolFault) (taken : RunRecord) (s t : Seen) → HasCause (Work job) fault s t → IsOfRun (class_of fault) → LeavesUntil (class_of fault) (Work job) taken s t
+    → ((input : Input) → IsInput (Work job) s input → WritesFor ask (Work job) input (Some fault) taken s t) → WorksFor ask (Work job) (Some fault) taken s t
+works_by job ask fault taken s t cause of_run leaves writes = record {
   causes = λ f e. let same : fault ≡ f = cc in subst (λ (x : ToolFault). HasCause (Work job) x s t) same cause;
+  of_run = λ f e. let same : fault ≡ f = cc in subst (λ (x : ToolFault). IsOfRun (class_of x)) same of_run;
   leaves = leaves;
   writes = writes;
 }
@@ -139,17 +150,17 @@ all_taken n units all empty b count e same =
     let many : n ≡ length all = count ∙ ap length e in (omega arith, ap (λ (us : Log). run_of b us) (sym (take_all n all (omega arith))))
 
 -- the text of all units of the input
-text_of_all : (job : Job) (k : ℕ) (p : PrinterState) (empty : Bool) (units : Log) (input : Input) (ending : Ending) → IsJobPrinter job k p → units ≡ input.units → input.sink_empty ≡ empty
-    → head_text job empty ++ due p units (is_flushed ending) ≡ sink_text (Work job) (whole_run input) ending
-text_of_all job k p empty units input ending is same e = sink_is job k p empty units ending is ∙ ap (λ (b : Bool). sink_text (Work job) (run_of b units) ending) (sym e)
-    ∙ ap (λ (us : Log). sink_text (Work job) (run_of input.sink_empty us) ending) same
+text_of_all : (job : Job) (ask : Ask) (k : ℕ) (p : PrinterState) (empty : Bool) (units : Log) (input : Input) (ending : Ending) → IsJobPrinter job ask k p → units ≡ input.units → input.sink_empty ≡ empty
+    → head_text job empty ++ due p units (is_flushed ending) ≡ sink_text (Work job) ask (whole_run input) ending
+text_of_all job ask k p empty units input ending is same e = sink_is job ask k p empty units ending is ∙ ap (λ (b : Bool). sink_text (Work job) ask (run_of b units) ending) (sym e)
+    ∙ ap (λ (us : Log). sink_text (Work job) ask (run_of input.sink_empty us) ending) same
 
-pub works_whole : (job : Job) (source sink : ℕ) (empty : Bool) (start now : LogFile) (n : ℕ) (p : PrinterState) (r s t : Seen) → start.reader.handle ≡ source → IsJobPrinter job sink p
-    → Touches (source ∷ []) (sink ∷ []) [] [] s t → RanToEnd (GaveUnits start now s t) p n s t → HasBegun job source sink empty (head_text job empty) r s → WorksOff (Work job) None (Counted n 1) r t
-works_whole job source sink empty start now n p r s t handle is touched ran begun = record {
-  refused = λ f e. absurd cc;
+pub works_whole : (job : Job) (ask : Ask) (source sink : ℕ) (empty : Bool) (start now : LogFile) (n : ℕ) (p : PrinterState) (r s t : Seen) → start.reader.handle ≡ source → IsJobPrinter job ask sink p
+    → Touches (source ∷ []) (sink ∷ []) [] [] s t → RanToEnd (GaveUnits start now s t) p n s t → HasBegun job source sink empty (head_text job empty) r s → WorksFor ask (Work job) None (Counted n 1) r t
+works_whole job ask source sink empty start now n p r s t handle is touched ran begun = record {
   causes = λ f e. absurd cc;
-  leaves = tt;
+  of_run = λ f e. absurd cc;
+  leaves = run_began job source sink empty n r s t begun touched;
   writes = λ input is_input.
       let all = given_all job source sink empty start now r s t ran.units input handle begun ran.given is_input in
       let same = begun.begins input.sink_empty is_input.2 in
@@ -160,25 +171,26 @@ works_whole job source sink empty start now n p r s t handle is touched ran begu
         is_ending = refl;
         takes = (all.1, refl);
         reads_once = λ o one. tt;
-        sinks = each_one (λ o. SinkGained (IsDue (Work job) input (whole_run input) Whole) o r t) (sink_of job) (sink_gained job source sink empty p r s t begun is touched
-            (λ text so. ap (λ (x : List ℕ). head_text job empty ++ x) so ∙ text_of_all job sink p empty ran.units input Whole is all.0 same) ran.gains);
+        sinks = each_one (λ o. SinkGained (IsDue (Work job) ask input (whole_run input) Whole) o r t) (sink_of job) (sink_gained job ask source sink empty p r s t begun is touched
+            (λ text so. ap (λ (x : List ℕ). head_text job empty ++ x) so ∙ text_of_all job ask sink p empty ran.units input Whole is all.0 same) ran.gains);
       };
 }
 
 -- the log ended early
 
-pub works_ended : (job : Job) (source sink : ℕ) (empty : Bool) (n : ℕ) (p : PrinterState) (units : Log) (ending : FileEnding) (fault : ToolFault) (r s t : Seen) → IsJobPrinter job sink p → Touches (source ∷ []) (sink ∷ []) [] [] s t
+pub works_ended : (job : Job) (ask : Ask) (source sink : ℕ) (empty : Bool) (n : ℕ) (p : PrinterState) (units : Log) (ending : FileEnding) (fault : ToolFault) (r s t : Seen) → IsJobPrinter job ask sink p → Touches (source ∷ []) (sink ∷ []) [] [] s t
     → n ≡ length units → class_of fault ≡ BadInput (file_of job) → input_fault (file_of job) ending ≡ Some fault → HasBegun job source sink empty (head_text job empty) r s → EndsFile source s units ending
-    → AddedSome (λ text. text ≡ due p units false) p.sink s t → WorksOff (Work job) (Some fault) (Counted n 1) r t
-works_ended job source sink empty n p units ending fault r s t is touched count e blamed begun ends added =
-    works_by job fault (Counted n 1) r t
+    → AddedSome (λ text. text ≡ due p units false) p.sink s t → WorksFor ask (Work job) (Some fault) (Counted n 1) r t
+works_ended job ask source sink empty n p units ending fault r s t is touched count e blamed begun ends added =
+    works_by job ask fault (Counted n 1) r t
     (subst (λ (c : FaultClass). HasClassCause (Work job) fault c r t) (sym e) (
       source_of job,
       inl refl,
       sym (source_name (file_of job)),
       λ bytes us end holds is_file. ap (λ (x : FileEnding). input_fault (file_of job) x) (sym (ends_so job source sink empty r s units us ending end bytes begun ends holds is_file).1) ∙ blamed,
     ))
-    (subst (λ (c : FaultClass). LeavesUntil c (Work job) (Counted n 1) r t) (sym e) tt)
+    (subst (λ (c : FaultClass). IsOfRun c) (sym e) tt)
+    (subst (λ (c : FaultClass). LeavesUntil c (Work job) (Counted n 1) r t) (sym e) (run_began job source sink empty n r s t begun touched))
     (λ input is_input.
     let all = given_ending job source sink empty r s units ending input begun ends is_input in
     let same = begun.begins input.sink_empty is_input.2 in
@@ -189,9 +201,9 @@ works_ended job source sink empty n p units ending fault r s t is touched count 
       is_ending = refl;
       takes = subst (λ (c : FaultClass). TakesUntil c input (whole_run input)) (sym e) refl;
       reads_once = λ o one. subst (λ (c : FaultClass). ReadsOnceUntil c o input (whole_run input) r t) (sym e) tt;
-      sinks = each_one (λ o. SinkGained (IsDue (Work job) input (whole_run input) (Faulted fault)) o r t) (sink_of job) (sink_gained job source sink empty p r s t begun is touched
-          (λ text so. subst (λ (c : FaultClass). IsDueUntil c (Work job) input (whole_run input) (Faulted fault) (head_text job empty ++ text)) (sym e)
-          (ap (λ (x : List ℕ). head_text job empty ++ x) so ∙ text_of_all job sink p empty units input (Faulted fault) is all.0 same)) added);
+      sinks = each_one (λ o. SinkGained (IsDue (Work job) ask input (whole_run input) (Faulted fault)) o r t) (sink_of job) (sink_gained job ask source sink empty p r s t begun is touched
+          (λ text so. subst (λ (c : FaultClass). IsDueUntil c (Work job) ask input (whole_run input) (Faulted fault) (head_text job empty ++ text)) (sym e)
+          (ap (λ (x : List ℕ). head_text job empty ++ x) so ∙ text_of_all job ask sink p empty units input (Faulted fault) is all.0 same)) added);
     })
 
 -- the first units of the input, as many as were counted
@@ -199,18 +211,23 @@ first_taken : (n : ℕ) (units all : Log) (b : Bool) → n ≡ length units → 
 first_taken n units all b count first = (omega (arith, count, first.0), ap (λ (us : Log). run_of b us) (first.1 ∙ ap (λ (k : ℕ). take k all) (sym count)))
 
 -- the text of the first units
-text_of_first : (job : Job) (k : ℕ) (p : PrinterState) (empty b : Bool) (units : Log) (ending : Ending) → IsJobPrinter job k p → b ≡ empty → head_text job empty ++ due p units (is_flushed ending) ≡ sink_text (Work job) (run_of b units) ending
-text_of_first job k p empty b units ending is e = sink_is job k p empty units ending is ∙ ap (λ (x : Bool). sink_text (Work job) (run_of x units) ending) (sym e)
+text_of_first : (job : Job) (ask : Ask) (k : ℕ) (p : PrinterState) (empty b : Bool) (units : Log) (ending : Ending) → IsJobPrinter job ask k p → b ≡ empty → head_text job empty ++ due p units (is_flushed ending) ≡ sink_text (Work job) ask (run_of b units) ending
+text_of_first job ask k p empty b units ending is e = sink_is job ask k p empty units ending is ∙ ap (λ (x : Bool). sink_text (Work job) ask (run_of x units) ending) (sym e)
 
 -- a read failed
 
-pub works_unread : (job : Job) (source sink : ℕ) (empty : Bool) (n : ℕ) (p : PrinterState) (units : Log) (r s t : Seen) → IsJobPrinter job sink p → Touches (source ∷ []) (sink ∷ []) [] [] s t → n ≡ length units
+-- the log is read under its name
+source_called : (job : Job) → IsOneOf (file_of job) (calls_of (Work job) Reading)
+source_called job = subst (λ (name : List ℕ). IsOneOf name (calls_of (Work job) Reading)) (source_name (file_of job)) (last_name (query_files job.queries) (source_of job))
+
+pub works_unread : (job : Job) (ask : Ask) (source sink : ℕ) (empty : Bool) (n : ℕ) (p : PrinterState) (units : Log) (r s t : Seen) → IsJobPrinter job ask sink p → Touches (source ∷ []) (sink ∷ []) [] [] s t → n ≡ length units
     → HasBegun job source sink empty (head_text job empty) r s → FailedAfter source s t units → AddedSome (λ text. text ≡ due p units false) p.sink s t
-    → WorksOff (Work job) (Some (ReadFault (file_of job))) (Counted n 1) r t
-works_unread job source sink empty n p units r s t is touched count begun stop added =
-    works_by job (ReadFault (file_of job)) (Counted n 1) r t
-    (inl (sym (source_name (file_of job))), omega (arith, begun.counts.each Reading (file_of job), stop.rose.each (file_of job) begun.reads))
+    → WorksFor ask (Work job) (Some (ReadFault (file_of job))) (Counted n 1) r t
+works_unread job ask source sink empty n p units r s t is touched count begun stop added =
+    works_by job ask (ReadFault (file_of job)) (Counted n 1) r t
+    (source_called job, omega (arith, begun.counts.each Reading (file_of job), stop.rose.each (file_of job) begun.reads))
     tt
+    (inl (inl (sym (source_name (file_of job))), run_began job source sink empty n r s t begun touched))
     (λ input is_input.
     let same = begun.begins input.sink_empty is_input.2 in
     let first = first_taken n units input.units input.sink_empty count (given_first job source sink empty r s t units input begun stop.given is_input) in record {
@@ -218,32 +235,37 @@ works_unread job source sink empty n p units r s t is touched count begun stop a
       ending = Faulted (ReadFault (file_of job));
       is_run = (first.0, refl, first.1);
       is_ending = refl;
-      takes = (n, first.0, first.1);
+      takes = inr (n, first.0, first.1);
       reads_once = each_one (λ o. ReadsOnce (Faulted (ReadFault (file_of job))) o input (run_of input.sink_empty units) r t) (source_of job)
-          (stop.given.taken, stop.holds, took job source sink empty r s t stop.given.taken input begun touched stop.given.took is_input);
-      sinks = each_one (λ o. SinkGained (IsDue (Work job) input (run_of input.sink_empty units) (Faulted (ReadFault (file_of job)))) o r t) (sink_of job) (sink_gained job source sink empty p r s t begun is touched
-          (λ text so. ap (λ (x : List ℕ). head_text job empty ++ x) so ∙ text_of_first job sink p empty input.sink_empty units (Faulted (ReadFault (file_of job))) is same) added);
+          (inr (stop.given.taken, stop.holds, took job source sink empty r s t stop.given.taken input begun touched stop.given.took is_input));
+      sinks = each_one (λ o. SinkGained (IsDue (Work job) ask input (run_of input.sink_empty units) (Faulted (ReadFault (file_of job)))) o r t) (sink_of job) (sink_gained job ask source sink empty p r s t begun is touched
+          (λ text so. ap (λ (x : List ℕ). head_text job empty ++ x) so ∙ text_of_first job ask sink p empty input.sink_empty units (Faulted (ReadFault (file_of job))) is same) added);
     })
+
+-- a log that is too large is bad input
+large_class : (name : List ℕ) → class_of (TooLarge name most_bytes) ≡ BadInput name
+unfolding most_bytes
+large_class name = refl
 
 -- the source stopped, but for want of memory
 
-stopped_by : (job : Job) (source sink : ℕ) (empty : Bool) (fault : SourceFault) (n : ℕ) (p : PrinterState) (units : Log) (r s t : Seen) → IsJobPrinter job sink p → Touches (source ∷ []) (sink ∷ []) [] [] s t → fault ≢ source_faults.NoMemory
-    → n ≡ length units → StoppedSo source fault s t units → AddedSome (λ text. text ≡ due p units false) p.sink s t → HasBegun job source sink empty (head_text job empty) r s → WorksOff (Work job) (Some (fault_as (file_of job) fault)) (Counted n 1) r t
-stopped_by job source sink empty (source_faults.NotALog at) n p units r s t is touched some count stop added begun =
-    works_ended job source sink empty n p units (file.NotALog at) (NotALog (file_of job) at) r s t is touched count refl refl begun stop added
-stopped_by job source sink empty (source_faults.Damaged at) n p units r s t is touched some count stop added begun =
-    works_ended job source sink empty n p units (file.Damaged at) (Damaged (file_of job) at) r s t is touched count refl refl begun stop added
-stopped_by job source sink empty source_faults.TooLarge n p units r s t is touched some count stop added begun =
-    works_ended job source sink empty n p units file.TooLarge (TooLarge (file_of job) most_bytes) r s t is touched count refl refl begun stop added
-stopped_by job source sink empty source_faults.ReadFault n p units r s t is touched some count stop added begun = works_unread job source sink empty n p units r s t is touched count begun stop added
-stopped_by job source sink empty source_faults.NoMemory n p units r s t is touched some count stop added begun = absurd (some refl)
+stopped_by : (job : Job) (ask : Ask) (source sink : ℕ) (empty : Bool) (fault : SourceFault) (n : ℕ) (p : PrinterState) (units : Log) (r s t : Seen) → IsJobPrinter job ask sink p → Touches (source ∷ []) (sink ∷ []) [] [] s t → fault ≢ source_faults.NoMemory
+    → n ≡ length units → StoppedSo source fault s t units → AddedSome (λ text. text ≡ due p units false) p.sink s t → HasBegun job source sink empty (head_text job empty) r s → WorksFor ask (Work job) (Some (fault_as (file_of job) fault)) (Counted n 1) r t
+stopped_by job ask source sink empty (source_faults.NotALog at) n p units r s t is touched some count stop added begun =
+    works_ended job ask source sink empty n p units (file.NotALog at) (NotALog (file_of job) at) r s t is touched count refl refl begun stop added
+stopped_by job ask source sink empty (source_faults.Damaged at) n p units r s t is touched some count stop added begun =
+    works_ended job ask source sink empty n p units (file.Damaged at) (Damaged (file_of job) at) r s t is touched count refl refl begun stop added
+stopped_by job ask source sink empty source_faults.TooLarge n p units r s t is touched some count stop added begun =
+    works_ended job ask source sink empty n p units file.TooLarge (TooLarge (file_of job) most_bytes) r s t is touched count (large_class (file_of job)) refl begun stop added
+stopped_by job ask source sink empty source_faults.ReadFault n p units r s t is touched some count stop added begun = works_unread job ask source sink empty n p units r s t is touched count begun stop added
+stopped_by job ask source sink empty source_faults.NoMemory n p units r s t is touched some count stop added begun = absurd (some refl)
 
-pub works_stopped : (job : Job) (source sink : ℕ) (empty : Bool) (start now : LogFile) (fault : SourceFault) (name : List ℕ) (f : ToolFault) (n : ℕ) (p : PrinterState) (r s t : Seen) → start.reader.handle ≡ source → IsJobPrinter job sink p
+pub works_stopped : (job : Job) (ask : Ask) (source sink : ℕ) (empty : Bool) (start now : LogFile) (fault : SourceFault) (name : List ℕ) (f : ToolFault) (n : ℕ) (p : PrinterState) (r s t : Seen) → start.reader.handle ≡ source → IsJobPrinter job ask sink p
     → Touches (source ∷ []) (sink ∷ []) [] [] s t → name ≡ file_of job → f ≡ fault_as name fault → fault ≢ source_faults.NoMemory
-    → RanUntil (BySource fault n) (GaveUnits start now s t) (λ why units. StoppedSo start.reader.handle why s t units) p s t → HasBegun job source sink empty (head_text job empty) r s → WorksOff (Work job) (Some f) (Counted n 1) r t
-works_stopped job source sink empty start now fault name f n p r s t handle is touched named e some ran begun =
-    subst (λ (x : ToolFault). WorksOff (Work job) (Some x) (Counted n 1) r t) (sym (e ∙ ap (λ (x : List ℕ). fault_as x fault) named))
-    (stopped_by job source sink empty fault n p ran.units r s t is touched some ran.count (subst (λ (h : ℕ). StoppedSo h fault s t ran.units) handle ran.given) ran.gains begun)
+    → RanUntil (BySource fault n) (GaveUnits start now s t) (λ why units. StoppedSo start.reader.handle why s t units) p s t → HasBegun job source sink empty (head_text job empty) r s → WorksFor ask (Work job) (Some f) (Counted n 1) r t
+works_stopped job ask source sink empty start now fault name f n p r s t handle is touched named e some ran begun =
+    subst (λ (x : ToolFault). WorksFor ask (Work job) (Some x) (Counted n 1) r t) (sym (e ∙ ap (λ (x : List ℕ). fault_as x fault) named))
+    (stopped_by job ask source sink empty fault n p ran.units r s t is touched some ran.count (subst (λ (h : ℕ). StoppedSo h fault s t ran.units) handle ran.given) ran.gains begun)
 
 -- a write failed
 
@@ -258,7 +280,7 @@ ahead r taken units p = ahead_by r.begun taken r.rest units p.fresh p.parts p.sh
 -- the text with the last unit, flushed where the whole log was given, is a prefix of that of the run's ending
 begun_flag : (p : PrinterState) (units : Log) (all whole : Bool) (count : ℕ) → (all ≡ true → (length units ≡ count) × (whole ≡ true)) → IsPrefix (due p units all) (due p units (whole && eqb (length units) count))
 begun_flag p units true whole count given = let g = given refl in rw (g.1, g.0, eq-eqb count count refl) (prefix_same (due p units true))
-begun_flag p units false whole count given = due_flag p.layout p.table.options.grouping units (whole && eqb (length units) count)
+begun_flag p units false whole count given = due_flag p.layout (is_held p.query) p.table.options.grouping units (whole && eqb (length units) count)
 
 flushed_at : (b : Bool) (fault : ToolFault) → is_flushed (cond b Whole (Faulted fault)) ≡ b
 flushed_at true fault = refl
@@ -271,16 +293,17 @@ given_some job source sink empty true start now r s t units input handle begun g
     let whole = given_all job source sink empty start now r s t units input handle begun gave is_input in (ap length whole.0, ap is_whole whole.1)
 given_some job source sink empty false start now r s t units input handle begun gave is_input e = absurd cc
 
-pub works_unwritten : (job : Job) (source sink : ℕ) (empty : Bool) (start now : LogFile) (name : List ℕ) (n : ℕ) (p : PrinterState) (r s t : Seen) → start.reader.handle ≡ source → IsJobPrinter job sink p
+pub works_unwritten : (job : Job) (ask : Ask) (source sink : ℕ) (empty : Bool) (start now : LogFile) (name : List ℕ) (n : ℕ) (p : PrinterState) (r s t : Seen) → start.reader.handle ≡ source → IsJobPrinter job ask sink p
     → Touches (source ∷ []) (sink ∷ []) [] [] s t → RanUntil (ByPrinter (print_faults.WriteFault name) n) (GaveUnits start now s t) (λ fault units. StoppedSo start.reader.handle fault s t units) p s t
-    → HasBegun job source sink empty (head_text job empty) r s → WorksOff (Work job) (Some (WriteFault name)) (Counted n 1) r t
-works_unwritten job source sink empty start now name n p r s t handle is touched ran begun =
+    → HasBegun job source sink empty (head_text job empty) r s → WorksFor ask (Work job) (Some (WriteFault name)) (Counted n 1) r t
+works_unwritten job ask source sink empty start now name n p r s t handle is touched ran begun =
     let run = ran.1.1 in
     let fault = WriteFault name in
     let rose : HasNewFault (s.faults Writing name) (t.faults Writing name) = subst (λ (x : List ℕ). HasNewFault (s.faults Writing x) (t.faults Writing x)) (sym ran.0.0) ran.0.1 in
-    works_by job fault (Counted n 1) r t
+    works_by job ask fault (Counted n 1) r t
     (inl (ran.0.0 ∙ is.name ∙ sym (sink_name job.append (write_of job))), omega (arith, begun.counts.each Writing name, rose))
     tt
+    (run_began job source sink empty n r s t begun touched)
     (λ input is_input.
     let same = begun.begins input.sink_empty is_input.2 in
     let units = run.units in
@@ -295,11 +318,11 @@ works_unwritten job source sink empty start now name n p r s t handle is touched
       takes = (n, first.0, first.1);
       reads_once = each_one (λ o. ReadsOnce (Faulted fault) o input (run_of input.sink_empty units) r t) (source_of job)
           (run.given.taken, ahead now.reader run.given.taken units run.given.represents, took job source sink empty r s t run.given.taken input begun touched (subst (λ (h : ℕ). TookFrom h run.given.taken s t) handle run.given.took) is_input);
-      sinks = each_one (λ o. SinkGained (IsDue (Work job) input (run_of input.sink_empty units) (Faulted fault)) o r t) (sink_of job) (sink_gained job source sink empty p r s t begun is touched
+      sinks = each_one (λ o. SinkGained (IsDue (Work job) ask input (run_of input.sink_empty units) (Faulted fault)) o r t) (sink_of job) (sink_gained job ask source sink empty p r s t begun is touched
           (λ text so. (
-            λ some. subst (λ (x : List ℕ). IsPrefix x (head_text job empty ++ text)) (text_of_first job sink p empty input.sink_empty (take (length units - 1) units) (Faulted fault) is same) (prefix_after (head_text job empty) so.least),
+            λ some. subst (λ (x : List ℕ). IsPrefix x (head_text job empty ++ text)) (text_of_first job ask sink p empty input.sink_empty (take (length units - 1) units) (Faulted fault) is same) (prefix_after (head_text job empty) so.least),
             subst (λ (x : List ℕ). IsProperPrefix (head_text job empty ++ text) x)
-                (ap (λ (b : Bool). head_text job empty ++ due p units b) (sym (flushed_at ends fault)) ∙ text_of_first job sink p empty input.sink_empty units (ending_begun input (run_of input.sink_empty units) (Faulted fault)) is same)
+                (ap (λ (b : Bool). head_text job empty ++ due p units b) (sym (flushed_at ends fault)) ∙ text_of_first job ask sink p empty input.sink_empty units (ending_begun input (run_of input.sink_empty units) (Faulted fault)) is same)
                 (proper_then (proper_after (head_text job empty) so.left) (prefix_after (head_text job empty) (begun_flag p units ran.1.0 (is_whole input.file_ending) (length input.units)
                 (given_some job source sink empty ran.1.0 start now r s t units input handle begun run.given is_input)))),
           )) run.gains);

@@ -20,14 +20,17 @@ use Rattle.varnish_tools.specs.declared.outcome.RunRecord.{RunRecord}
 use Rattle.varnish_tools.specs.declared.outcome.RunRecord.TheVariants.{Nothing, Counted}
 use Rattle.varnish_tools.specs.declared.outcome.Outcome.{Outcome}
 use Rattle.varnish_tools.specs.Asked.{Asked, Refuse, Work, asked_of, file_of, write_of}
-use Rattle.varnish_tools.specs.Faults.{FaultClass, Refused, NotOpened, NotRead, NotWritten, BadInput, class_of, message, fault_message, status_of}
-use Rattle.varnish_tools.specs.Objects.{Object, source_of, sink_of, sources_of, sinks_of, streams_of, calls_of, SinkGained, SinkUntouched, SinksGained, SinksUntouched, NothingTouched, GivesAtMost, TouchesJob}
+use Rattle.varnish_tools.specs.Faults.{FaultClass, Refused, RefusedQuery, LongQuery, NotOpened, NotRead, NotWritten, BadInput, class_of, message, fault_message, status_of}
+use Rattle.varnish_tools.specs.Objects.{Object, source_of, sink_of, inputs_of, sources_of, sinks_of, streams_of, calls_of, SinkGained, SinkUntouched, SinksGained, SinksUntouched, NothingTouched, GivesAtMost, TouchesJob}
+use Rattle.varnish_tools.specs.Queries.{Ask, is_asked, chosen}
 use Rattle.varnish_tools.specs.Run.{Run, Ending, Whole, Kept, Faulted, no_run, run_of, fault_of}
 use Rattle.varnish_tools.specs.Output.{head_text, laid_out, layout_of, is_flushed, sink_text}
-use Rattle.varnish_tools.specs.Promise.{Input, SourceHolds, IsInput, IsGood, HasFailed, HasClassCause, HasCause, IsRunOf, TakesUntil, Takes, TookSome, ReadsOnceUntil, ReadsOnce, IsDueUntil, IsDue, LeavesUntil, LeavesSinks, SinksLeft, WritesError, WorksOff, WritesPrefix, IsFaithful, IsComplete, IsCutShort, NoFaultOf, whole_run, whole_text, is_whole}
+use Rattle.varnish_tools.specs.Promise.{Input, SourceHolds, IsInput, Asks, AreGood, IsStoppedByQuery, TakesQueries, IsCounted, LeavesAll, WritesFor, IsGood, HasFailed, HasClassCause, HasCause, IsRunOf, TakesUntil, Takes, TookSome, ReadsOnceUntil, ReadsOnce, IsDueUntil, IsDue, LeavesUntil, LeavesSinks, SinksLeft, WritesError, WorksOff, WritesPrefix, IsFaithful, IsComplete, IsCutShort, NoFaultOf, whole_run, whole_text, is_whole}
 use Rattle.varnish_tools.specs.inside.Report.{ReportsPart}
-use Rattle.varnish_tools.proofs.ObjectLemmas.{IsSink, is_sink, IsSource, is_source, untouched_until, gained_until, gained_so, took_until, error_no_sink, source_until, gives_still, gives_none}
+use Rattle.varnish_tools.proofs.ObjectLemmas.{IsSink, is_sink, IsSource, is_source, are_sources, untouched_until, gained_until, gained_so, took_until, error_no_sink, source_until, gives_still, gives_none}
 use Rattle.varnish_tools.proofs.PrinterLemmas.{due_first}
+use Rattle.varnish_tools.proofs.QueryLemmas.{taken_then}
+use Rattle.varnish_tools.proofs.TakenLemmas.{began_then, stopped_then, none_stopped}
 
 -- the words are refused
 pub works_refused : (f : ToolFault) (s : Seen) → class_of f ≡ Refused → WorksOff (Refuse f) (Some f) Nothing s s
@@ -35,29 +38,26 @@ works_refused f s e = record {
   refused = λ x is. let same : f ≡ x = cc in ap Some same;
   causes = λ x is. let same : f ≡ x = cc in subst (λ (y : ToolFault). HasCause (Refuse f) y s s) same (subst (λ (c : FaultClass). HasClassCause (Refuse f) f c s s) (sym e) refl);
   leaves = subst (λ (c : FaultClass). LeavesUntil c (Refuse f) Nothing s s) (sym e) (refl, (λ o one. absurd one, λ o one. absurd one));
-  writes = λ input is_input. record {
-    run = no_run;
-    ending = Faulted f;
-    is_run = refl;
-    is_ending = refl;
-    takes = subst (λ (c : FaultClass). TakesUntil c input no_run) (sym e) refl;
-    reads_once = λ o one. absurd one;
-    sinks = λ o one. absurd one;
-  };
+  queries = λ job is. absurd cc;
+  writes = λ input is_input. (
+    None,
+    λ counted. absurd counted,
+    record {
+      run = no_run;
+      ending = Faulted f;
+      is_run = refl;
+      is_ending = refl;
+      takes = subst (λ (c : FaultClass). TakesUntil c input no_run) (sym e) refl;
+      reads_once = λ o one. absurd one;
+      sinks = λ o one. absurd one;
+    },
+  );
 }
 
 -- the message changes nothing of what was worked off
 
 failed_until : (asked : Asked) (kind : CallKind) (name : List ℕ) (s t u : Seen) → NoCountFalls t u → HasFailed asked kind name s t → HasFailed asked kind name s u
 failed_until asked kind name s t u n p = (p.0, let rose : HasNewFault (s.faults kind name) (t.faults kind name) = p.1 in omega (arith, n.each kind name, rose))
-
-cause_until : (asked : Asked) (f : ToolFault) (c : FaultClass) (s t u : Seen) → NoCountFalls t u → HasClassCause asked f c s t → HasClassCause asked f c s u
-cause_until asked f Refused s t u n p = p
-cause_until asked f (NotOpened name) s t u n (inl p) = inl (failed_until asked Opening name s t u n p)
-cause_until asked f (NotOpened name) s t u n (inr p) = inr (failed_until asked Creating name s t u n p)
-cause_until asked f (NotRead name) s t u n p = failed_until asked Reading name s t u n p
-cause_until asked f (NotWritten name) s t u n p = failed_until asked Writing name s t u n p
-cause_until asked f (BadInput name) s t u n p = p
 
 -- what a job's run touched
 abbrev TouchedBy : Asked → Seen → Seen → Type 0
@@ -67,13 +67,31 @@ TouchedBy asked s t = Touches (streams_of (sources_of asked)) (streams_of (sinks
 abbrev Told : Seen → Seen → Type 0
 Told t u = Touches [] (ERRORS ∷ []) [] [] t u
 
+stopped_until : (asked : Asked) (f : ToolFault) (s t u : Seen) → Told t u → IsStoppedByQuery asked f s t → IsStoppedByQuery asked f s u
+stopped_until (Refuse x) f s t u told p = p
+stopped_until (Work job) f s t u told p = stopped_then job f s t u told p
+
+cause_until : (asked : Asked) (f : ToolFault) (c : FaultClass) (s t u : Seen) → Told t u → HasClassCause asked f c s t → HasClassCause asked f c s u
+cause_until asked f Refused s t u told p = p
+cause_until asked f RefusedQuery s t u told p = stopped_until asked f s t u told p
+cause_until asked f LongQuery s t u told p = stopped_until asked f s t u told p
+cause_until asked f (NotOpened name) s t u told (inl p) = inl (failed_until asked Opening name s t u told.counts p)
+cause_until asked f (NotOpened name) s t u told (inr p) = inr (failed_until asked Creating name s t u told.counts p)
+cause_until asked f (NotRead name) s t u told p = failed_until asked Reading name s t u told.counts p
+cause_until asked f (NotWritten name) s t u told p = failed_until asked Writing name s t u told.counts p
+cause_until asked f (BadInput name) s t u told p = p
+
 sink_of_job : (asked : Asked) (o : Object) → IsOneOf o (sinks_of asked) → IsSink o
 sink_of_job (Refuse f) o one = absurd one
 sink_of_job (Work job) o one = subst (λ (x : Object). IsSink x) (sym (only_one o (sink_of job) one)) (is_sink job.append (write_of job))
 
 source_of_job : (asked : Asked) (o : Object) → IsOneOf o (sources_of asked) → IsSource o
 source_of_job (Refuse f) o one = absurd one
-source_of_job (Work job) o one = subst (λ (x : Object). IsSource x) (sym (only_one o (source_of job) one)) (is_source (file_of job))
+source_of_job (Work job) o one = are_sources job.queries (source_of job) o (is_source (file_of job)) one
+
+input_of_job : (asked : Asked) (o : Object) → IsOneOf o (inputs_of asked) → IsSource o
+input_of_job (Refuse f) o one = absurd one
+input_of_job (Work job) o one = subst (λ (x : Object). IsSource x) (sym (only_one o (source_of job) one)) (is_source (file_of job))
 
 sinks_untouched : (asked : Asked) (s t u : Seen) → HasStreams s → TouchedBy asked s t → Told t u → SinksUntouched asked s t → SinksUntouched asked s u
 sinks_untouched asked s t u streams touched told p = λ o one. untouched_until o s t u (sink_of_job asked o one) streams touched told (p o one)
@@ -86,69 +104,87 @@ sinks_left : (recorded : RunRecord) (IsSo : List ℕ → Type 0) (asked : Asked)
 sinks_left Nothing IsSo asked s t u streams touched told p = sinks_untouched asked s t u streams touched told p
 sinks_left (Counted units items) IsSo asked s t u streams touched told p = λ o one. gained_until o s t u (sink_of_job asked o one) streams touched told (p o one)
 
+all_left : (asked : Asked) (recorded : RunRecord) (s t u : Seen) → HasStreams s → TouchedBy asked s t → Told t u → LeavesAll asked recorded s t → LeavesAll asked recorded s u
+all_left asked recorded s t u streams touched told p = (p.0, nothing_touched asked s t u streams touched told p.1)
+
 leaves_until : (c : FaultClass) (asked : Asked) (recorded : RunRecord) (s t u : Seen) → HasStreams s → TouchedBy asked s t → Told t u → LeavesUntil c asked recorded s t → LeavesUntil c asked recorded s u
-leaves_until Refused asked recorded s t u streams touched told p = (p.0, nothing_touched asked s t u streams touched told p.1)
-leaves_until (NotOpened name) asked recorded s t u streams touched told p = (p.0, nothing_touched asked s t u streams touched told p.1)
-leaves_until (NotRead name) asked recorded s t u streams touched told p = p
-leaves_until (NotWritten name) asked recorded s t u streams touched told p = p
-leaves_until (BadInput name) asked recorded s t u streams touched told p = p
+leaves_until Refused asked recorded s t u streams touched told p = all_left asked recorded s t u streams touched told p
+leaves_until RefusedQuery asked recorded s t u streams touched told p = all_left asked recorded s t u streams touched told p
+leaves_until LongQuery asked recorded s t u streams touched told p = all_left asked recorded s t u streams touched told p
+leaves_until (NotOpened name) asked recorded s t u streams touched told p = all_left asked recorded s t u streams touched told p
+leaves_until (NotRead name) asked recorded s t u streams touched told (inl p) = inl (p.0, began_then asked recorded s t u told p.1)
+leaves_until (NotRead name) asked recorded s t u streams touched told (inr p) = inr (p.0, all_left asked recorded s t u streams touched told p.1)
+leaves_until (NotWritten name) asked recorded s t u streams touched told p = began_then asked recorded s t u told p
+leaves_until (BadInput name) asked recorded s t u streams touched told p = began_then asked recorded s t u told p
 
 leaves_so : (fault : Option ToolFault) (asked : Asked) (recorded : RunRecord) (s t u : Seen) → HasStreams s → TouchedBy asked s t → Told t u → LeavesSinks fault asked recorded s t → LeavesSinks fault asked recorded s u
-leaves_so None asked recorded s t u streams touched told p = p
+leaves_so None asked recorded s t u streams touched told p = began_then asked recorded s t u told p
 leaves_so (Some f) asked recorded s t u streams touched told p = leaves_until (class_of f) asked recorded s t u streams touched told p
 
-some_until : (IsSo : List ℕ → Type 0) (asked : Asked) (o : Object) (input : Input) (s t u : Seen) → IsOneOf o (sources_of asked) → HasStreams s → TouchedBy asked s t → Told t u → TookSome IsSo o input s t → TookSome IsSo o input s u
-some_until IsSo asked o input s t u one streams touched told p = (p.0, p.1, took_until o input.bytes p.0 s t u (source_of_job asked o one) streams touched told p.2)
+some_until : (IsSo : List ℕ → Type 0) (asked : Asked) (o : Object) (input : Input) (s t u : Seen) → IsOneOf o (inputs_of asked) → HasStreams s → TouchedBy asked s t → Told t u → TookSome IsSo o input s t → TookSome IsSo o input s u
+some_until IsSo asked o input s t u one streams touched told p = (p.0, p.1, took_until o input.bytes p.0 s t u (input_of_job asked o one) streams touched told p.2)
 
-once_class : (c : FaultClass) (asked : Asked) (o : Object) (input : Input) (run : Run) (s t u : Seen) → IsOneOf o (sources_of asked) → HasStreams s → TouchedBy asked s t → Told t u → ReadsOnceUntil c o input run s t
+once_class : (c : FaultClass) (asked : Asked) (o : Object) (input : Input) (run : Run) (s t u : Seen) → IsOneOf o (inputs_of asked) → HasStreams s → TouchedBy asked s t → Told t u → ReadsOnceUntil c o input run s t
     → ReadsOnceUntil c o input run s u
 once_class Refused asked o input run s t u one streams touched told p = tt
+once_class RefusedQuery asked o input run s t u one streams touched told p = tt
+once_class LongQuery asked o input run s t u one streams touched told p = tt
 once_class (NotOpened name) asked o input run s t u one streams touched told p = tt
-once_class (NotRead name) asked o input run s t u one streams touched told p = some_until _ asked o input s t u one streams touched told p
+once_class (NotRead name) asked o input run s t u one streams touched told (inl p) = inl p
+once_class (NotRead name) asked o input run s t u one streams touched told (inr p) = inr (some_until _ asked o input s t u one streams touched told p)
 once_class (NotWritten name) asked o input run s t u one streams touched told p = some_until _ asked o input s t u one streams touched told p
 once_class (BadInput name) asked o input run s t u one streams touched told p = tt
 
-once_until : (ending : Ending) (asked : Asked) (o : Object) (input : Input) (run : Run) (s t u : Seen) → IsOneOf o (sources_of asked) → HasStreams s → TouchedBy asked s t → Told t u → ReadsOnce ending o input run s t → ReadsOnce ending o input run s u
+once_until : (ending : Ending) (asked : Asked) (o : Object) (input : Input) (run : Run) (s t u : Seen) → IsOneOf o (inputs_of asked) → HasStreams s → TouchedBy asked s t → Told t u → ReadsOnce ending o input run s t → ReadsOnce ending o input run s u
 once_until Whole asked o input run s t u one streams touched told p = tt
 once_until Kept asked o input run s t u one streams touched told p = absurd p
 once_until (Faulted f) asked o input run s t u one streams touched told p = once_class (class_of f) asked o input run s t u one streams touched told p
 
+queries_until : (job : Job) (fault : Option ToolFault) (recorded : RunRecord) (s t u : Seen) → HasStreams s → TouchedBy (Work job) s t → Told t u → TakesQueries job fault recorded s t → TakesQueries job fault recorded s u
+queries_until job fault recorded s t u streams touched told (inl taken) = inl (taken_then job.caseless 0 job.queries s t u told taken)
+queries_until job fault recorded s t u streams touched told (inr p) = inr (p.0, p.1, stopped_then job p.0 s t u told p.2, all_left (Work job) recorded s t u streams touched told p.3)
+
+writes_until : (asked : Asked) (ask : Ask) (input : Input) (fault : Option ToolFault) (recorded : RunRecord) (s t u : Seen) → HasStreams s → TouchedBy asked s t → Told t u → WritesFor ask asked input fault recorded s t
+    → WritesFor ask asked input fault recorded s u
+writes_until asked ask input fault recorded s t u streams touched told w = record {
+  run = w.run;
+  ending = w.ending;
+  is_run = w.is_run;
+  is_ending = w.is_ending;
+  takes = w.takes;
+  reads_once = λ o one. once_until w.ending asked o input w.run s t u one streams touched told (w.reads_once o one);
+  sinks = sinks_left recorded (IsDue asked ask input w.run w.ending) asked s t u streams touched told w.sinks;
+}
+
 works_until : (asked : Asked) (fault : Option ToolFault) (recorded : RunRecord) (s t u : Seen) → HasStreams s → TouchedBy asked s t → Told t u → WorksOff asked fault recorded s t → WorksOff asked fault recorded s u
 works_until asked fault recorded s t u streams touched told p = record {
   refused = p.refused;
-  causes = λ f e. cause_until asked f (class_of f) s t u told.counts (p.causes f e);
+  causes = λ f e. cause_until asked f (class_of f) s t u told (p.causes f e);
   leaves = leaves_so fault asked recorded s t u streams touched told p.leaves;
-  writes = λ input is_input.
-      let w = p.writes input is_input in record {
-        run = w.run;
-        ending = w.ending;
-        is_run = w.is_run;
-        is_ending = w.is_ending;
-        takes = w.takes;
-        reads_once = λ o one. once_until w.ending asked o input w.run s t u one streams touched told (w.reads_once o one);
-        sinks = sinks_left recorded (IsDue asked input w.run w.ending) asked s t u streams touched told w.sinks;
-      };
+  queries = λ job is. queries_until job fault recorded s t u streams (subst (λ (x : Asked). TouchedBy x s t) is touched) told (p.queries job is);
+  writes = λ input is_input. let w = p.writes input is_input in (w.0, w.1, writes_until asked w.0 input fault recorded s t u streams touched told w.2);
 }
 
 pub prefix_until : (asked : Asked) (s t u : Seen) → HasStreams s → TouchedBy asked s t → Told t u → WritesPrefix asked s t → WritesPrefix asked s u
 prefix_until asked s t u streams touched told p = λ input is_input o one. elim (p input is_input o one) [
   | inl same ↦ inl (untouched_until o s t u (sink_of_job asked o one) streams touched told same)
-  | inr gained ↦ inr (gained_until o s t u (sink_of_job asked o one) streams touched told gained)
+  | inr gained ↦ inr (gained.0, gained.1, gained_until o s t u (sink_of_job asked o one) streams touched told gained.2)
 ]
 
 -- what was worked off wrote a prefix of the input's text
 
 -- the text of a run of units without what follows it
-run_text : (job : Job) (empty : Bool) (units : Log) (ending : Ending) → sink_text (Work job) (run_of empty units) ending ≡ head_text job empty ++ laid_out (layout_of job) (groups_of job.grouping units (is_flushed ending))
-run_text job empty units ending = ap (λ (us : Log). head_text job empty ++ laid_out (layout_of job) (groups_of job.grouping us (is_flushed ending))) (append-nil units)
+run_text : (job : Job) (ask : Ask) (empty : Bool) (units : Log) (ending : Ending)
+    → sink_text (Work job) ask (run_of empty units) ending ≡ head_text job empty ++ laid_out (layout_of job) (chosen ask (groups_of job.grouping units (is_flushed ending)))
+run_text job ask empty units ending = ap (λ (us : Log). head_text job empty ++ laid_out (layout_of job) (chosen ask (groups_of job.grouping us (is_flushed ending)))) (append-nil units)
 
 -- the text of the first units is a prefix
-first_prefix : (job : Job) (input : Input) (run : Run) (n : ℕ) (f : ToolFault) → run ≡ run_of input.sink_empty (take n input.units) → IsPrefix (sink_text (Work job) run (Faulted f)) (whole_text (Work job) input)
-first_prefix job input run n f e = rw (e, run_text job input.sink_empty (take n input.units) (Faulted f))
-    (prefix_after (head_text job input.sink_empty) (due_first (layout_of job) job.grouping input.units n (is_whole input.file_ending)))
+first_prefix : (job : Job) (ask : Ask) (input : Input) (run : Run) (n : ℕ) (f : ToolFault) → run ≡ run_of input.sink_empty (take n input.units) → IsPrefix (sink_text (Work job) ask run (Faulted f)) (whole_text (Work job) ask input)
+first_prefix job ask input run n f e = rw (e, run_text job ask input.sink_empty (take n input.units) (Faulted f))
+    (prefix_after (head_text job input.sink_empty) (due_first (layout_of job) (is_asked ask) job.grouping input.units n (is_whole input.file_ending)))
 
-whole_prefix : (job : Job) (input : Input) (run : Run) → is_whole input.file_ending ≡ true → run ≡ whole_run input → IsPrefix (sink_text (Work job) run Whole) (whole_text (Work job) input)
-whole_prefix job input run whole e = rw (e, run_text job input.sink_empty input.units Whole, whole) (prefix_same (head_text job input.sink_empty ++ laid_out (layout_of job) (groups_of job.grouping input.units true)))
+whole_prefix : (job : Job) (ask : Ask) (input : Input) (run : Run) → is_whole input.file_ending ≡ true → run ≡ whole_run input → IsPrefix (sink_text (Work job) ask run Whole) (whole_text (Work job) ask input)
+whole_prefix job ask input run whole e = rw (e, run_text job ask input.sink_empty input.units Whole, whole) (prefix_same (head_text job input.sink_empty ++ laid_out (layout_of job) (chosen ask (groups_of job.grouping input.units true))))
 
 both : (a b : Bool) → (a && b) ≡ true → (a ≡ true) × (b ≡ true)
 both true b e = (refl, e)
@@ -161,35 +197,39 @@ all_first input run n e same =
     let enough : length input.units ≤ n = omega (arith, long, length-take n input.units) in
     e ∙ ap (λ (us : Log). run_of input.sink_empty us) (take_all n input.units enough)
 
-begun_prefix : (job : Job) (input : Input) (run : Run) (n : ℕ) (f : ToolFault) (ends : Bool) → (ends ≡ true → (is_whole input.file_ending && eqb (length run.log) (length input.units)) ≡ true) → run ≡ run_of input.sink_empty (take n input.units)
-    → IsPrefix (sink_text (Work job) run (cond ends Whole (Faulted f))) (whole_text (Work job) input)
-begun_prefix job input run n f true is e = let tests = both _ _ (is refl) in whole_prefix job input run tests.0 (all_first input run n e (eqb-true _ _ tests.1))
-begun_prefix job input run n f false is e = first_prefix job input run n f e
+begun_prefix : (job : Job) (ask : Ask) (input : Input) (run : Run) (n : ℕ) (f : ToolFault) (ends : Bool) → (ends ≡ true → (is_whole input.file_ending && eqb (length run.log) (length input.units)) ≡ true) → run ≡ run_of input.sink_empty (take n input.units)
+    → IsPrefix (sink_text (Work job) ask run (cond ends Whole (Faulted f))) (whole_text (Work job) ask input)
+begun_prefix job ask input run n f true is e = let tests = both _ _ (is refl) in whole_prefix job ask input run tests.0 (all_first input run n e (eqb-true _ _ tests.1))
+begun_prefix job ask input run n f false is e = first_prefix job ask input run n f e
 
-class_prefix : (c : FaultClass) (job : Job) (input : Input) (run : Run) (f : ToolFault) (n items : ℕ) (s t : Seen) (text : List ℕ) → LeavesUntil c (Work job) (Counted n items) s t → IsRunOf (Counted n items) input run
-    → IsDueUntil c (Work job) input run (Faulted f) text → IsPrefix text (whole_text (Work job) input)
-class_prefix Refused job input run f n items s t text left is due = let none = left.0 in absurd cc
-class_prefix (NotOpened name) job input run f n items s t text left is due = let none = left.0 in absurd cc
-class_prefix (NotRead name) job input run f n items s t text left is due = rw due (first_prefix job input run n f is.2)
-class_prefix (NotWritten name) job input run f n items s t text left is due = prefix_then due.1.prefix (begun_prefix job input run n f (is_whole input.file_ending && eqb (length run.log) (length input.units)) (λ e. e) is.2)
-class_prefix (BadInput name) job input run f n items s t text left is due = rw due (first_prefix job input run n f is.2)
+class_prefix : (c : FaultClass) (job : Job) (ask : Ask) (input : Input) (run : Run) (f : ToolFault) (n items : ℕ) (s t : Seen) (text : List ℕ) → LeavesUntil c (Work job) (Counted n items) s t → IsRunOf (Counted n items) input run
+    → IsDueUntil c (Work job) ask input run (Faulted f) text → IsPrefix text (whole_text (Work job) ask input)
+class_prefix Refused job ask input run f n items s t text left is due = let none = left.0 in absurd cc
+class_prefix RefusedQuery job ask input run f n items s t text left is due = let none = left.0 in absurd cc
+class_prefix LongQuery job ask input run f n items s t text left is due = let none = left.0 in absurd cc
+class_prefix (NotOpened name) job ask input run f n items s t text left is due = let none = left.0 in absurd cc
+class_prefix (NotRead name) job ask input run f n items s t text left is due = rw due (first_prefix job ask input run n f is.2)
+class_prefix (NotWritten name) job ask input run f n items s t text left is due =
+    prefix_then due.1.prefix (begun_prefix job ask input run n f (is_whole input.file_ending && eqb (length run.log) (length input.units)) (λ e. e) is.2)
+class_prefix (BadInput name) job ask input run f n items s t text left is due = rw due (first_prefix job ask input run n f is.2)
 
-due_is_prefix : (fault : Option ToolFault) (job : Job) (input : Input) (run : Run) (ending : Ending) (n items : ℕ) (s t : Seen) (text : List ℕ) → fault_of ending ≡ fault → LeavesSinks fault (Work job) (Counted n items) s t
-    → IsRunOf (Counted n items) input run → Takes input run ending → IsDue (Work job) input run ending text → IsPrefix text (whole_text (Work job) input)
-due_is_prefix fault job input run Whole n items s t text e left is takes due = rw due (whole_prefix job input run (ap is_whole takes.0) takes.1)
-due_is_prefix fault job input run Kept n items s t text e left is takes due = absurd takes
-due_is_prefix fault job input run (Faulted f) n items s t text e left is takes due =
-    class_prefix (class_of f) job input run f n items s t text (subst (λ (x : Option ToolFault). LeavesSinks x (Work job) (Counted n items) s t) (sym e) left) is due
+due_is_prefix : (fault : Option ToolFault) (job : Job) (ask : Ask) (input : Input) (run : Run) (ending : Ending) (n items : ℕ) (s t : Seen) (text : List ℕ) → fault_of ending ≡ fault → LeavesSinks fault (Work job) (Counted n items) s t
+    → IsRunOf (Counted n items) input run → Takes input run ending → IsDue (Work job) ask input run ending text → IsPrefix text (whole_text (Work job) ask input)
+due_is_prefix fault job ask input run Whole n items s t text e left is takes due = rw due (whole_prefix job ask input run (ap is_whole takes.0) takes.1)
+due_is_prefix fault job ask input run Kept n items s t text e left is takes due = absurd takes
+due_is_prefix fault job ask input run (Faulted f) n items s t text e left is takes due =
+    class_prefix (class_of f) job ask input run f n items s t text (subst (λ (x : Option ToolFault). LeavesSinks x (Work job) (Counted n items) s t) (sym e) left) is due
 
-left_prefix : (recorded : RunRecord) (fault : Option ToolFault) (job : Job) (input : Input) (run : Run) (ending : Ending) (s t : Seen) (o : Object) → fault_of ending ≡ fault → LeavesSinks fault (Work job) recorded s t → IsRunOf recorded input run
-    → Takes input run ending → SinksLeft recorded (IsDue (Work job) input run ending) (Work job) s t → IsOneOf o (sinks_of (Work job)) → SinkUntouched o s t ⊎ SinkGained (λ text. IsPrefix text (whole_text (Work job) input)) o s t
-left_prefix Nothing fault job input run ending s t o e left is takes sinks one = inl (sinks o one)
-left_prefix (Counted n items) fault job input run ending s t o e left is takes sinks one = inr (gained_so (λ text so. due_is_prefix fault job input run ending n items s t text e left is takes so) (sinks o one))
+left_prefix : (recorded : RunRecord) (fault : Option ToolFault) (job : Job) (ask : Ask) (input : Input) (s t : Seen) (o : Object) → LeavesSinks fault (Work job) recorded s t → (IsCounted recorded → Asks (Work job) input ask)
+    → WritesFor ask (Work job) input fault recorded s t → IsOneOf o (sinks_of (Work job)) → SinkUntouched o s t ⊎ ((a : Ask) × Asks (Work job) input a × SinkGained (λ text. IsPrefix text (whole_text (Work job) a input)) o s t)
+left_prefix Nothing fault job ask input s t o left asks w one = inl (w.sinks o one)
+left_prefix (Counted n items) fault job ask input s t o left asks w one =
+    inr (ask, asks tt, gained_so (λ text so. due_is_prefix fault job ask input w.run w.ending n items s t text w.is_ending left w.is_run w.takes so) (w.sinks o one))
 
 pub prefix_of_works : (asked : Asked) (fault : Option ToolFault) (recorded : RunRecord) (s t : Seen) → WorksOff asked fault recorded s t → WritesPrefix asked s t
 prefix_of_works (Refuse f) fault recorded s t p = λ input is_input o one. absurd one
 prefix_of_works (Work job) fault recorded s t p = λ input is_input o one.
-    let w = p.writes input is_input in left_prefix recorded fault job input w.run w.ending s t o w.is_ending p.leaves w.is_run w.takes w.sinks one
+    let w = p.writes input is_input in left_prefix recorded fault job w.0 input s t o p.leaves w.1 w.2 one
 
 -- the job, and then standard error
 
@@ -232,44 +272,47 @@ is_faithful words status fault recorded s t u e streams touched works told messa
   works = works_until (asked_of words) fault recorded s t u streams touched told works;
 }
 
--- where no call of the job failed and its input is good, no fault has a cause
-no_cause : (job : Job) (input : Input) (f : ToolFault) (c : FaultClass) (s u : Seen) → IsInput (Work job) s input → IsGood input → NoFaultOf (Work job) s u → ¬ (HasClassCause (Work job) f c s u)
-no_cause job input f Refused s u is_input good none p = absurd cc
-no_cause job input f (NotOpened name) s u is_input good none (inl p) = none Opening name p.0 p.1
-no_cause job input f (NotOpened name) s u is_input good none (inr p) = none Creating name p.0 p.1
-no_cause job input f (NotRead name) s u is_input good none p = none Reading name p.0 p.1
-no_cause job input f (NotWritten name) s u is_input good none p = none Writing name p.0 p.1
-no_cause job input f (BadInput name) s u is_input good none p =
+-- where no call of the job failed and its input and its queries are good, no fault has a cause
+no_cause : (job : Job) (input : Input) (f : ToolFault) (c : FaultClass) (s u : Seen) → IsInput (Work job) s input → AreGood job input → IsGood input → NoFaultOf (Work job) s u → ¬ (HasClassCause (Work job) f c s u)
+no_cause job input f Refused s u is_input clean good none p = absurd cc
+no_cause job input f RefusedQuery s u is_input clean good none p = none_stopped job input f s u is_input clean none p
+no_cause job input f LongQuery s u is_input clean good none p = none_stopped job input f s u is_input clean none p
+no_cause job input f (NotOpened name) s u is_input clean good none (inl p) = none Opening name p.0 p.1
+no_cause job input f (NotOpened name) s u is_input clean good none (inr p) = none Creating name p.0 p.1
+no_cause job input f (NotRead name) s u is_input clean good none p = none Reading name p.0 p.1
+no_cause job input f (NotWritten name) s u is_input clean good none p = none Writing name p.0 p.1
+no_cause job input f (BadInput name) s u is_input clean good none p =
     let holds : SourceHolds p.0 s input.bytes = subst (λ (o : Object). SourceHolds o s input.bytes) (sym (only_one p.0 (source_of job) p.1)) is_input.0 in
     let blamed = p.3 input.bytes input.units input.file_ending holds is_input.1 in absurd cc
 
-no_fault : (job : Job) (input : Input) (fault : Option ToolFault) (s u : Seen) → IsInput (Work job) s input → IsGood input → NoFaultOf (Work job) s u
+no_fault : (job : Job) (input : Input) (fault : Option ToolFault) (s u : Seen) → IsInput (Work job) s input → AreGood job input → IsGood input → NoFaultOf (Work job) s u
     → ((f : ToolFault) → fault ≡ Some f → HasCause (Work job) f s u) → fault ≡ None
-no_fault job input None s u is_input good none causes = refl
-no_fault job input (Some f) s u is_input good none causes = absurd (no_cause job input f (class_of f) s u is_input good none (causes f refl))
+no_fault job input None s u is_input clean good none causes = refl
+no_fault job input (Some f) s u is_input clean good none causes = absurd (no_cause job input f (class_of f) s u is_input clean good none (causes f refl))
 
 -- without a fault the text of the whole input was written
-whole_written : (recorded : RunRecord) (job : Job) (input : Input) (run : Run) (ending : Ending) (s u : Seen) → fault_of ending ≡ None → LeavesSinks None (Work job) recorded s u → Takes input run ending
-    → SinksLeft recorded (IsDue (Work job) input run ending) (Work job) s u → SinksGained (λ text. text ≡ sink_text (Work job) (whole_run input) Whole) (Work job) s u
-whole_written Nothing job input run ending s u e left takes p = absurd left
-whole_written (Counted n items) job input run Whole s u e left takes p = λ o one. gained_so (λ text so. so ∙ ap (λ (r : Run). sink_text (Work job) r Whole) takes.1) (p o one)
-whole_written (Counted n items) job input run Kept s u e left takes p = absurd takes
-whole_written (Counted n items) job input run (Faulted f) s u e left takes p = absurd cc
+whole_written : (recorded : RunRecord) (job : Job) (ask : Ask) (input : Input) (run : Run) (ending : Ending) (s u : Seen) → fault_of ending ≡ None → LeavesSinks None (Work job) recorded s u → Takes input run ending
+    → SinksLeft recorded (IsDue (Work job) ask input run ending) (Work job) s u → SinksGained (λ text. text ≡ sink_text (Work job) ask (whole_run input) Whole) (Work job) s u
+whole_written Nothing job ask input run ending s u e left takes p = absurd left.0
+whole_written (Counted n items) job ask input run Whole s u e left takes p = λ o one. gained_so (λ text so. so ∙ ap (λ (r : Run). sink_text (Work job) ask r Whole) takes.1) (p o one)
+whole_written (Counted n items) job ask input run Kept s u e left takes p = absurd takes
+whole_written (Counted n items) job ask input run (Faulted f) s u e left takes p = absurd cc
 
 pub is_complete : (words : List (List ℕ)) (outcome : Outcome) (s u : Seen) → IsFaithful words outcome s u → IsComplete words outcome s u
-is_complete words outcome s u p job input e is_input good none =
+is_complete words outcome s u p job input e is_input clean good none =
     let works : WorksOff (Work job) outcome.fault outcome.run s u = subst (λ (x : Asked). WorksOff x outcome.fault outcome.run s u) e p.works in
-    let clean = no_fault job input outcome.fault s u is_input good none works.causes in
+    let faultless = no_fault job input outcome.fault s u is_input clean good none works.causes in
     let written = works.writes input is_input in
-    let left : LeavesSinks None (Work job) outcome.run s u = subst (λ (x : Option ToolFault). LeavesSinks x (Work job) outcome.run s u) clean works.leaves in
-    (clean, p.status ∙ ap status_of clean, whole_written outcome.run job input written.run written.ending s u (written.is_ending ∙ clean) left written.takes written.sinks)
+    let w = written.2 in
+    let left : LeavesSinks None (Work job) outcome.run s u = subst (λ (x : Option ToolFault). LeavesSinks x (Work job) outcome.run s u) faultless works.leaves in
+    (faultless, p.status ∙ ap status_of faultless, (written.0, written.1 left.0, whole_written outcome.run job written.0 input w.run w.ending s u (w.is_ending ∙ faultless) left w.takes w.sinks))
 
 -- stopped for want of memory in the message, which is that of a fault with a cause
 pub cut_in_message : (words : List (List ℕ)) (fault : Option ToolFault) (recorded : RunRecord) (s t u : Seen) → HasStreams s → TouchedBy (asked_of words) s t
     → WorksOff (asked_of words) fault recorded s t → Told t u → ReportsPart words fault t u → IsCutShort words s u
 cut_in_message words None recorded s t u streams touched works told q = absurd (q.some refl)
 cut_in_message words (Some f) recorded s t u streams touched works told q =
-    inr (f, cause_until (asked_of words) f (class_of f) s t u told.counts (works.causes f refl), some_since _ _ _ _ (error_written (asked_of words) s t streams touched) q.gains)
+    inr (f, cause_until (asked_of words) f (class_of f) s t u told (works.causes f refl), some_since _ _ _ _ (error_written (asked_of words) s t streams touched) q.gains)
 
 -- stopped for want of memory before any message
 pub cut_before : (words : List (List ℕ)) (s t : Seen) → HasStreams s → TouchedBy (asked_of words) s t → IsCutShort words s t

@@ -30,7 +30,7 @@ abbrev pub is_empty_list : {A : Type 0} → List A → Bool
 is_empty_list [] = true
 is_empty_list (x ∷ xs) = false
 
--- whether a job asks for nothing that isn't built: a log, the default limit and timeout, no number of groups, nothing hidden, no verbose lines, no query
+-- whether a job asks for nothing that isn't built: a log, the default limit and timeout, no number of groups, nothing hidden, no verbose lines
 abbrev pub is_built : Job → Bool
 is_built job =
     is_built_tool job.tool
@@ -40,6 +40,5 @@ is_built job =
     && is_none job.keep
     && shows_all job.sides
     && not job.verbose
-    && is_empty_list job.queries
     && is_empty_list job.rules
     && is_built_grouping job.grouping

@@ -1,14 +1,21 @@
 -- The faults of the tools: a class, a message and a status for each (messages and statuses are this project's choice).
-use Rattle.std.specs.Prelude.{ℕ, List, [], ◌++◌, Option, Some, None, unwrap_or, slice_get, codes, decimal}
+use Rattle.std.specs.Prelude.{ℕ, List, [], ◌++◌, Option, Some, None, unwrap_or, slice_get, codes, decimal, ◌==◌, if◌then◌else◌}
 use Rattle.tool_words.specs.declared.fault.UsageFault.{UsageFault}
 use Rattle.tool_words.specs.declared.fault.UsageFault.TheVariants.{UnknownTool, UnknownOption, NoValue, BadValue, NotHere, NoTool, NoOnce, NoLog, TwoLogs}
+use Rattle.query_parser.specs.declared.fault.QueryFault.{QueryFault}
+use Rattle.query_parser.specs.declared.fault.QueryFault.TheVariants.{Syntax, UnknownTag, Number, Pattern, Deep, NoMemory}
 use Rattle.varnish_tools.specs.declared.fault.ToolFault.{ToolFault}
-use Rattle.varnish_tools.specs.declared.fault.ToolFault.TheVariants.{Usage, NotBuilt, NoOpen, ReadFault, WriteFault, NotALog, Damaged, TooLarge}
+use Rattle.varnish_tools.specs.declared.fault.ToolFault.TheVariants.{Usage, NotBuilt, BadQuery, NoOpen, ReadFault, WriteFault, NotALog, Damaged, TooLarge}
+use Rattle.varnish_tools.specs.Queries.{most_query_bytes}
 
 -- the classes of faults; causes, what is taken and statuses are stated by class
 pub data FaultClass : Type 0 where
-  -- the words, or the texts that they name, were refused
+  -- the words were refused
   Refused : FaultClass
+  -- a query's text was refused
+  RefusedQuery : FaultClass
+  -- the file of a query is too long
+  LongQuery : FaultClass
   -- a file of this name could not be opened, or not created
   NotOpened : List ℕ → FaultClass
   -- a read of the object of this name failed
@@ -18,16 +25,17 @@ pub data FaultClass : Type 0 where
   -- the input under this name is not good
   BadInput : List ℕ → FaultClass
 
--- the class of a fault
+-- the class of a fault; of a file that is too large the limit tells whether it is that of a query
 abbrev pub class_of : ToolFault → FaultClass
 class_of (Usage fault) = Refused
 class_of NotBuilt = Refused
+class_of (BadQuery query fault) = RefusedQuery
 class_of (NoOpen name) = NotOpened name
 class_of (ReadFault name) = NotRead name
 class_of (WriteFault name) = NotWritten name
 class_of (NotALog name at) = BadInput name
 class_of (Damaged name at) = BadInput name
-class_of (TooLarge name limit) = BadInput name
+class_of (TooLarge name limit) = if limit == most_query_bytes then LongQuery else BadInput name
 
 -- the word at a place, counted from 0
 abbrev pub word_at : List (List ℕ) → ℕ → List ℕ
@@ -53,10 +61,20 @@ usage_message words NoOnce = told (codes "give -1 to run once")
 usage_message words NoLog = told (codes "no log")
 usage_message words TwoLogs = told (codes "two logs")
 
+-- what is wrong with a query's text, and the byte
+abbrev pub query_message : QueryFault → List ℕ
+query_message (Syntax at) = numbered (codes "syntax at ") at []
+query_message (UnknownTag at) = numbered (codes "unknown tag at ") at []
+query_message (Number at) = numbered (codes "number at ") at []
+query_message (Pattern at) = numbered (codes "pattern at ") at []
+query_message (Deep at) = numbered (codes "too deep at ") at []
+query_message NoMemory = codes "out of memory"
+
 -- the message of a fault of these words, for standard error: one line, where names and words have no line feed
 abbrev pub message : List (List ℕ) → ToolFault → List ℕ
 message words (Usage fault) = usage_message words fault
 message words NotBuilt = told (codes "not built yet")
+message words (BadQuery query fault) = told (numbered (codes "query ") query (codes ": ") ++ query_message fault)
 message words (NoOpen name) = told (name ++ codes ": cannot open")
 message words (ReadFault name) = told (name ++ codes ": read failed")
 message words (WriteFault name) = told (name ++ codes ": write failed")
@@ -69,9 +87,11 @@ abbrev pub fault_message : List (List ℕ) → Option ToolFault → List ℕ
 fault_message words None = []
 fault_message words (Some fault) = message words fault
 
--- the status of a class of faults: 2 where the words were refused, 1 where the input or the outside failed
+-- the status of a class of faults: 2 where the words or a query were refused, 1 where the input or the outside failed
 abbrev pub class_status : FaultClass → ℕ
 class_status Refused = 2
+class_status RefusedQuery = 2
+class_status LongQuery = 1
 class_status (NotOpened name) = 1
 class_status (NotRead name) = 1
 class_status (NotWritten name) = 1

@@ -1,6 +1,8 @@
 pub mod Built
+pub mod Queries
 pub mod Asked
 pub mod Objects
+pub mod QueryFiles
 pub mod Faults
 pub mod Run
 pub mod Output

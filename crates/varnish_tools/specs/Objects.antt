@@ -6,6 +6,7 @@ use Rattle.vio.specs.World.{Seen, CallKind, Opening, Creating, Reading, Writing,
 use Rattle.vio.specs.Touches.{IsOneOf, Touches}
 use Rattle.varnish_tools.specs.Asked.{Asked, Refuse, Work, file_of, write_of}
 use Rattle.tool_words.specs.declared.job.Job.{Job}
+use Rattle.tool_words.specs.declared.job.QueryText.{QueryText}
 
 -- an object outside, by its name
 pub data Object : Type 0 where
@@ -32,10 +33,20 @@ source_of job = source_named (file_of job)
 abbrev pub sink_of : Job → Object
 sink_of job = sink_named job.append (write_of job)
 
--- what is read; for refused words nothing
+-- the files of queries, in order
+abbrev pub query_files : List QueryText → List Object
+query_files [] = []
+query_files (query ∷ queries) = if query.file then OpenedFile query.text ∷ query_files queries else query_files queries
+
+-- what a run takes its units from; for refused words nothing
+abbrev pub inputs_of : Asked → List Object
+inputs_of (Refuse fault) = []
+inputs_of (Work job) = source_of job ∷ []
+
+-- what is read: the files of queries, and what a run takes its units from; for refused words nothing
 abbrev pub sources_of : Asked → List Object
 sources_of (Refuse fault) = []
-sources_of (Work job) = source_of job ∷ []
+sources_of (Work job) = query_files job.queries ++ source_of job ∷ []
 
 -- what is written to, but for messages; for refused words nothing
 abbrev pub sinks_of : Asked → List Object
@@ -138,7 +149,7 @@ NothingTouched asked before now = ((source : Object) → IsOneOf source (sources
 abbrev pub GivesAtMost : ℕ → Seen → Seen → Type 0
 GivesAtMost most before now = (new : List ℕ) × (length new ≤ most) × ((h : ℕ) → before.given h ≡ false → now.given h ≡ true → IsOneOf h new)
 
--- of handles, names and files only the sources, the sinks and standard error were touched, and no file was opened or created twice
+-- of handles, names and files only the sources, the sinks and standard error were touched, and no more files were opened or created than they name
 abbrev pub TouchesJob : Asked → Seen → Seen → Type 0
 TouchesJob asked before now =
     Touches (streams_of (sources_of asked)) (ERRORS ∷ streams_of (sinks_of asked)) (calls_of asked Opening) (calls_of asked Creating) before now

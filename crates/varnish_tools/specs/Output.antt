@@ -10,6 +10,7 @@ use Rattle.tool_words.specs.declared.job.Job.{Job}
 use Rattle.varnish_tools.specs.declared.layout.Layout.{Layout}
 use Rattle.varnish_tools.specs.declared.layout.Layout.TheVariants.{Lines, Units}
 use Rattle.varnish_tools.specs.Asked.{Asked, Refuse, Work}
+use Rattle.varnish_tools.specs.Queries.{Ask, chosen}
 use Rattle.varnish_tools.specs.Run.{Run, Ending, Whole, Kept, Faulted, taken_units}
 
 -- what groups are written as, one after another: their lines, or the units of a log file
@@ -35,8 +36,9 @@ is_flushed Whole = true
 is_flushed Kept = false
 is_flushed (Faulted fault) = false
 
--- the text for the sink: the header where one is due, and the groups of the units that were taken, in the order in which they are complete; refused words
--- have none
-abbrev pub sink_text : Asked → Run → Ending → List ℕ
-sink_text (Refuse fault) run ending = []
-sink_text (Work job) run ending = head_text job run.sink_empty ++ laid_out (layout_of job) (groups_of job.grouping (taken_units run.history) (is_flushed ending))
+-- the text for the sink: the header where one is due, and of the groups of the units that were taken those that are asked for, in the order in which they are
+-- complete; refused words have none
+abbrev pub sink_text : Asked → Ask → Run → Ending → List ℕ
+sink_text (Refuse fault) ask run ending = []
+sink_text (Work job) ask run ending =
+    head_text job run.sink_empty ++ laid_out (layout_of job) (chosen ask (groups_of job.grouping (taken_units run.history) (is_flushed ending)))

@@ -1,41 +1,55 @@
 -- What a printer represents: the units that it was given, whose text is due at its sink (this project's choice).
-use Rattle.std.specs.Prelude.{◌≡◌, ℕ, Bool, false, List}
+use Rattle.std.specs.Prelude.{◌≡◌, ℕ, Bool, false, List, filter}
 use Rattle.log_model.specs.Faults.{HasNewFault}
 use Rattle.log_model.specs.Prefix.{IsPrefix, IsProperPrefix}
 use Rattle.vio.specs.World.{Seen, Writing}
 use Rattle.vsl_record.specs.Unit.{Log}
+use Rattle.txn_rows.specs.declared.group.Group.{Group}
 use Rattle.txn_rows.specs.declared.group.Grouping.{Grouping}
 use Rattle.txn_rows.specs.Grouping.{no_state, unit_steps, groups_of}
 use Rattle.txn_rows.specs.TableState.{TableState}
+use Rattle.query_parser.specs.declared.query.Query.{Query}
+use Rattle.query_eval.specs.Meaning.{is_held}
 use Rattle.varnish_tools.specs.declared.printer.PrintFault.{PrintFault}
+use Rattle.varnish_tools.specs.declared.printer.Printer.{Printer}
 use Rattle.varnish_tools.specs.declared.printer.PrintFault.TheVariants.{WriteFault, NoMemory}
 use Rattle.varnish_tools.specs.declared.layout.Layout.{Layout}
 use Rattle.varnish_tools.specs.Output.{laid_out}
 
--- what a printer tells: the table of what is pending, how groups are written, and the handle of its sink and the name that faults give it
+-- what a printer tells: the table of what is pending, how groups are written, the query that they are asked, and the handle of its sink and the name that faults give it
 pub record PrinterState : Type 0 where
   pub table : TableState
   pub layout : Layout
+  pub query : Query
   pub sink : ℕ
   pub name : List ℕ
+
+-- what a printer tells
+abbrev pub printer_state : Printer → PrinterState
+printer_state p = record { table = p.table; layout = p.style.layout; query = p.style.query; sink = p.sink.handle; name = p.sink.name }
 
 -- the printer was given these units, and no call was refused
 pub record Represents (p : PrinterState) (units : Log) : Type 0 where
   pub state : p.table.state ≡ (unit_steps p.table.options.grouping units no_state).state
   pub sound : p.table.failed ≡ false
 
--- the text that is due for these units, where they have ended or not
-abbrev pub due_text : Layout → Grouping → Log → Bool → List ℕ
-due_text layout grouping units ended = laid_out layout (groups_of grouping units ended)
+-- the groups for which a query holds, in their order
+abbrev pub held_groups : Query → List Group → List Group
+held_groups query groups = filter (is_held query) groups
+
+-- the text that is due for these units, where they have ended or not: that of the groups for which the query holds
+abbrev pub due_text : Layout → Query → Grouping → Log → Bool → List ℕ
+due_text layout query grouping units ended = laid_out layout (held_groups query (groups_of grouping units ended))
 
 -- the text that is due at a printer's sink for these units, where they have ended or not
 abbrev pub due : PrinterState → Log → Bool → List ℕ
-due p units ended = due_text p.layout p.table.options.grouping units ended
+due p units ended = due_text p.layout p.query p.table.options.grouping units ended
 
--- a call keeps options, layout and sink
+-- a call keeps options, layout, query and sink
 pub record IsSamePrinter (old new : PrinterState) : Type 0 where
   pub options : new.table.options ≡ old.table.options
   pub layout : new.layout ≡ old.layout
+  pub query : new.query ≡ old.query
   pub sink : new.sink ≡ old.sink
   pub name : new.name ≡ old.name
 

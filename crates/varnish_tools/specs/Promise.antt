@@ -17,13 +17,17 @@ use Rattle.varnish_tools.specs.declared.outcome.RunRecord.TheVariants.{Nothing, 
 use Rattle.varnish_tools.specs.declared.outcome.Outcome.{Outcome}
 use Rattle.tool_words.specs.declared.job.Job.{Job}
 use Rattle.varnish_tools.specs.Asked.{Asked, Refuse, Work, asked_of}
-use Rattle.varnish_tools.specs.Faults.{FaultClass, Refused, NotOpened, NotRead, NotWritten, BadInput, class_of, message, fault_message, status_of}
-use Rattle.varnish_tools.specs.Objects.{Object, OpenedFile, CreatedFile, Stream, source_of, sink_of, sources_of, calls_of, IsSourceHandle, SinkGained, SinkUntouched, SinksGained, SinksUntouched, NothingTouched, name_of, sinks_of}
+use Rattle.varnish_tools.specs.Faults.{FaultClass, Refused, RefusedQuery, LongQuery, NotOpened, NotRead, NotWritten, BadInput, class_of, message, fault_message, status_of}
+use Rattle.varnish_tools.specs.Objects.{Object, OpenedFile, CreatedFile, Stream, source_of, sink_of, calls_of, IsSourceHandle, SinkGained, SinkUntouched, SinksGained, SinksUntouched, NothingTouched, name_of, names_of, sinks_of, inputs_of, query_files}
+use Rattle.varnish_tools.specs.Queries.{Ask, AreAsked, chosen, TextsHold, texts_fault}
+use Rattle.varnish_tools.specs.QueryFiles.{AreTaken, StoppedByQuery}
 use Rattle.varnish_tools.specs.Run.{Run, Ending, Whole, Kept, Faulted, fault_of, no_run, run_of}
 use Rattle.varnish_tools.specs.Output.{head_text, laid_out, layout_of, sink_text}
 
 -- what the sources of a job hold, and whether its sink has no bytes when it is created
 pub record Input : Type 0 where
+  -- the texts of the queries, in order
+  pub texts : List (List ℕ)
   -- the bytes of the log, its units and how it ends
   pub bytes : List ℕ
   pub units : Log
@@ -48,6 +52,16 @@ abbrev pub IsInput : Asked → Seen → Input → Type 0
 IsInput (Refuse fault) before input = Unit {0}
 IsInput (Work job) before input =
     SourceHolds (source_of job) before input.bytes × IsFile input.bytes input.units input.file_ending × SinkBegins (sink_of job) before input.sink_empty
+    × TextsHold before job.queries input.texts
+
+-- nothing is wrong with the texts of the queries
+abbrev pub AreGood : Job → Input → Type 0
+AreGood job input = texts_fault job.caseless 0 job.queries input.texts ≡ None
+
+-- nothing is wrong with the texts of the queries, and they ask this; of refused words nothing is said
+abbrev pub Asks : Asked → Input → Ask → Type 0
+Asks (Refuse fault) input ask = Unit {0}
+Asks (Work job) input ask = AreGood job input × AreAsked job.caseless None input.texts ask
 
 -- the input is a whole log
 abbrev pub IsGood : Input → Type 0
@@ -71,15 +85,22 @@ input_fault name file.TooLarge = Some (faults.TooLarge name most_bytes)
 abbrev pub HasFailed : Asked → CallKind → List ℕ → Seen → Seen → Type 0
 HasFailed asked kind name before now = IsOneOf name (calls_of asked kind) × HasNewFault (before.faults kind name) (now.faults kind name)
 
--- why a fault of a class may be answered: the words are refused with it; the count of failed calls rose for the very name; the source of this name ends so,
+-- a query of the job has this fault, and it is the first that has one
+abbrev pub IsStoppedByQuery : Asked → ToolFault → Seen → Seen → Type 0
+IsStoppedByQuery (Refuse f) fault before now = ⊥
+IsStoppedByQuery (Work job) fault before now = StoppedByQuery job fault before now
+
+-- why a fault of a class may be answered: the words are refused with it; a query has it; the count of failed calls rose for the very name; the source of this name ends so,
 -- as far as the world tells it
 abbrev pub HasClassCause : Asked → ToolFault → FaultClass → Seen → Seen → Type 0
 HasClassCause asked fault Refused before now = asked ≡ Refuse fault
+HasClassCause asked fault RefusedQuery before now = IsStoppedByQuery asked fault before now
+HasClassCause asked fault LongQuery before now = IsStoppedByQuery asked fault before now
 HasClassCause asked fault (NotOpened name) before now = HasFailed asked Opening name before now ⊎ HasFailed asked Creating name before now
 HasClassCause asked fault (NotRead name) before now = HasFailed asked Reading name before now
 HasClassCause asked fault (NotWritten name) before now = HasFailed asked Writing name before now
 HasClassCause asked fault (BadInput name) before now =
-    (source : Object) × IsOneOf source (sources_of asked) × (name ≡ name_of source)
+    (source : Object) × IsOneOf source (inputs_of asked) × (name ≡ name_of source)
     × ((bytes : List ℕ) (units : Log) (ending : FileEnding) → SourceHolds source before bytes → IsFile bytes units ending → input_fault name ending ≡ Some fault)
 
 -- why a fault may be answered: by its class
@@ -91,9 +112,10 @@ abbrev pub whole_run : Input → Run
 whole_run input = run_of input.sink_empty input.units
 
 -- the text that an input defines where no fault of the world comes
-abbrev pub whole_text : Asked → Input → List ℕ
-whole_text (Refuse fault) input = []
-whole_text (Work job) input = head_text job input.sink_empty ++ laid_out (layout_of job) (groups_of job.grouping input.units (is_whole input.file_ending))
+abbrev pub whole_text : Asked → Ask → Input → List ℕ
+whole_text (Refuse fault) ask input = []
+whole_text (Work job) ask input =
+    head_text job input.sink_empty ++ laid_out (layout_of job) (chosen ask (groups_of job.grouping input.units (is_whole input.file_ending)))
 
 -- the record of a run over an input: it takes so many units, from the first on, without a gap; or nothing
 abbrev pub IsRunOf : RunRecord → Input → Run → Type 0
@@ -104,11 +126,13 @@ IsRunOf (Counted units items) input run = (units ≤ length input.units) × (ite
 abbrev pub TakesFirst : Input → Run → Type 0
 TakesFirst input run = (n : ℕ) × (n ≤ length input.units) × (run ≡ run_of input.sink_empty (take n input.units))
 
--- what a run takes of its input until a fault of a class
+-- what a run takes of its input until a fault of a class; a read may have failed before the run began
 abbrev pub TakesUntil : FaultClass → Input → Run → Type 0
 TakesUntil Refused input run = run ≡ no_run
+TakesUntil RefusedQuery input run = run ≡ no_run
+TakesUntil LongQuery input run = run ≡ no_run
 TakesUntil (NotOpened name) input run = run ≡ no_run
-TakesUntil (NotRead name) input run = TakesFirst input run
+TakesUntil (NotRead name) input run = (run ≡ no_run) ⊎ TakesFirst input run
 TakesUntil (NotWritten name) input run = TakesFirst input run
 TakesUntil (BadInput name) input run = run ≡ whole_run input
 
@@ -130,12 +154,14 @@ pub record Took (source : Object) (bytes taken : List ℕ) (before now : Seen) :
 abbrev pub TookSome : (List ℕ → Type 0) → Object → Input → Seen → Seen → Type 0
 TookSome IsSo source input before now = (taken : List ℕ) × IsSo taken × Took source input.bytes taken before now
 
--- one pass, until a fault of a class: after a failed read, the units that were taken are all that lie whole in the bytes that were taken; after a failed
--- write, these are fewer than 65,536 past the end of the last unit that was taken, or past the header
+-- one pass, until a fault of a class: after a failed read of a run, the units that were taken are all that lie whole in the bytes that were taken; after a
+-- failed write, these are fewer than 65,536 past the end of the last unit that was taken, or past the header
 abbrev pub ReadsOnceUntil : FaultClass → Object → Input → Run → Seen → Seen → Type 0
 ReadsOnceUntil Refused source input run before now = Unit {0}
+ReadsOnceUntil RefusedQuery source input run before now = Unit {0}
+ReadsOnceUntil LongQuery source input run before now = Unit {0}
 ReadsOnceUntil (NotOpened name) source input run before now = Unit {0}
-ReadsOnceUntil (NotRead name) source input run before now = TookSome (λ taken. HoldsWhole taken run.log) source input before now
+ReadsOnceUntil (NotRead name) source input run before now = (run ≡ no_run) ⊎ TookSome (λ taken. HoldsWhole taken run.log) source input before now
 ReadsOnceUntil (NotWritten name) source input run before now =
     TookSome (λ taken. length taken < length (file_header ++ log_bytes run.log) + 65536) source input before now
 ReadsOnceUntil (BadInput name) source input run before now = Unit {0}
@@ -155,36 +181,55 @@ abbrev pub ending_begun : Input → Run → Ending → Ending
 ending_begun input run ending = if is_whole input.file_ending && (length run.log == length input.units) then Whole else ending
 
 -- what a sink may gain until a fault of a class: its text; after a failed write not all of it, and where a unit was taken at least the text without the last
-abbrev pub IsDueUntil : FaultClass → Asked → Input → Run → Ending → List ℕ → Type 0
-IsDueUntil Refused asked input run ending text = text ≡ sink_text asked run ending
-IsDueUntil (NotOpened name) asked input run ending text = text ≡ sink_text asked run ending
-IsDueUntil (NotRead name) asked input run ending text = text ≡ sink_text asked run ending
-IsDueUntil (NotWritten name) asked input run ending text =
-    (0 < length run.log → IsPrefix (sink_text asked (without_last run) ending) text) × IsProperPrefix text (sink_text asked run (ending_begun input run ending))
-IsDueUntil (BadInput name) asked input run ending text = text ≡ sink_text asked run ending
+abbrev pub IsDueUntil : FaultClass → Asked → Ask → Input → Run → Ending → List ℕ → Type 0
+IsDueUntil Refused asked ask input run ending text = text ≡ sink_text asked ask run ending
+IsDueUntil RefusedQuery asked ask input run ending text = text ≡ sink_text asked ask run ending
+IsDueUntil LongQuery asked ask input run ending text = text ≡ sink_text asked ask run ending
+IsDueUntil (NotOpened name) asked ask input run ending text = text ≡ sink_text asked ask run ending
+IsDueUntil (NotRead name) asked ask input run ending text = text ≡ sink_text asked ask run ending
+IsDueUntil (NotWritten name) asked ask input run ending text =
+    (0 < length run.log → IsPrefix (sink_text asked ask (without_last run) ending) text) × IsProperPrefix text (sink_text asked ask run (ending_begun input run ending))
+IsDueUntil (BadInput name) asked ask input run ending text = text ≡ sink_text asked ask run ending
 
 -- what a sink may gain, by how the run ends
-abbrev pub IsDue : Asked → Input → Run → Ending → List ℕ → Type 0
-IsDue asked input run Whole text = text ≡ sink_text asked run Whole
-IsDue asked input run Kept text = text ≡ sink_text asked run Kept
-IsDue asked input run (Faulted fault) text = IsDueUntil (class_of fault) asked input run (Faulted fault) text
+abbrev pub IsDue : Asked → Ask → Input → Run → Ending → List ℕ → Type 0
+IsDue asked ask input run Whole text = text ≡ sink_text asked ask run Whole
+IsDue asked ask input run Kept text = text ≡ sink_text asked ask run Kept
+IsDue asked ask input run (Faulted fault) text = IsDueUntil (class_of fault) asked ask input run (Faulted fault) text
 
--- whether a run began is recorded
+-- a run is recorded
 abbrev pub IsCounted : RunRecord → Type 0
 IsCounted Nothing = ⊥
 IsCounted (Counted units items) = Unit {0}
 
--- where the words are refused, or an object can't be opened or created, nothing is recorded, taken of a stream, or written; else a run began
+-- a run began: it is recorded, and what it takes its units from has a handle
+abbrev pub RunBegan : Asked → RunRecord → Seen → Seen → Type 0
+RunBegan asked recorded before now =
+    IsCounted recorded × ((source : Object) → IsOneOf source (inputs_of asked) → (handle : ℕ) × IsSourceHandle source handle before now)
+
+-- a run didn't begin: nothing is recorded, taken of a stream, or written
+abbrev pub LeavesAll : Asked → RunRecord → Seen → Seen → Type 0
+LeavesAll asked recorded before now = (recorded ≡ Nothing) × NothingTouched asked before now
+
+-- this is the name of a query's file
+abbrev pub IsQueryFile : Asked → List ℕ → Type 0
+IsQueryFile (Refuse fault) name = ⊥
+IsQueryFile (Work job) name = IsOneOf name (names_of (query_files job.queries))
+
+-- where the words or a query are refused, or an object can't be opened or created, or a query's file can't be read, no run began; else one did
 abbrev pub LeavesUntil : FaultClass → Asked → RunRecord → Seen → Seen → Type 0
-LeavesUntil Refused asked recorded before now = (recorded ≡ Nothing) × NothingTouched asked before now
-LeavesUntil (NotOpened name) asked recorded before now = (recorded ≡ Nothing) × NothingTouched asked before now
-LeavesUntil (NotRead name) asked recorded before now = IsCounted recorded
-LeavesUntil (NotWritten name) asked recorded before now = IsCounted recorded
-LeavesUntil (BadInput name) asked recorded before now = IsCounted recorded
+LeavesUntil Refused asked recorded before now = LeavesAll asked recorded before now
+LeavesUntil RefusedQuery asked recorded before now = LeavesAll asked recorded before now
+LeavesUntil LongQuery asked recorded before now = LeavesAll asked recorded before now
+LeavesUntil (NotOpened name) asked recorded before now = LeavesAll asked recorded before now
+LeavesUntil (NotRead name) asked recorded before now =
+    (IsOneOf name (names_of (inputs_of asked)) × RunBegan asked recorded before now) ⊎ (IsQueryFile asked name × LeavesAll asked recorded before now)
+LeavesUntil (NotWritten name) asked recorded before now = RunBegan asked recorded before now
+LeavesUntil (BadInput name) asked recorded before now = RunBegan asked recorded before now
 
 -- what is left on every world, by the fault
 abbrev pub LeavesSinks : Option ToolFault → Asked → RunRecord → Seen → Seen → Type 0
-LeavesSinks None asked recorded before now = IsCounted recorded
+LeavesSinks None asked recorded before now = RunBegan asked recorded before now
 LeavesSinks (Some fault) asked recorded before now = LeavesUntil (class_of fault) asked recorded before now
 
 -- each sink gained a text that is so, where a run began; else it is as it was
@@ -192,15 +237,25 @@ abbrev pub SinksLeft : RunRecord → (List ℕ → Type 0) → Asked → Seen �
 SinksLeft Nothing IsSo asked before now = SinksUntouched asked before now
 SinksLeft (Counted units items) IsSo asked before now = SinksGained IsSo asked before now
 
--- for this input, a run was taken, it ended, and the sinks gained what is due
-pub record WritesSinks (asked : Asked) (input : Input) (fault : Option ToolFault) (recorded : RunRecord) (before now : Seen) : Type 0 where
+-- for this input and what is asked, a run was taken, it ended, and the sinks gained what is due
+pub record WritesFor (ask : Ask) (asked : Asked) (input : Input) (fault : Option ToolFault) (recorded : RunRecord) (before now : Seen) : Type 0 where
   pub run : Run
   pub ending : Ending
   pub is_run : IsRunOf recorded input run
   pub is_ending : fault_of ending ≡ fault
   pub takes : Takes input run ending
-  pub reads_once : (source : Object) → IsOneOf source (sources_of asked) → ReadsOnce ending source input run before now
-  pub sinks : SinksLeft recorded (IsDue asked input run ending) asked before now
+  pub reads_once : (source : Object) → IsOneOf source (inputs_of asked) → ReadsOnce ending source input run before now
+  pub sinks : SinksLeft recorded (IsDue asked ask input run ending) asked before now
+
+-- for this input, what the queries ask was written, where a run began
+abbrev pub WritesSinks : Asked → Input → Option ToolFault → RunRecord → Seen → Seen → Type 0
+WritesSinks asked input fault recorded before now = (ask : Ask) × (IsCounted recorded → Asks asked input ask) × WritesFor ask asked input fault recorded before now
+
+-- the queries of a job were taken, or the first that has a fault stops it before a run begins
+abbrev pub TakesQueries : Job → Option ToolFault → RunRecord → Seen → Seen → Type 0
+TakesQueries job fault recorded before now =
+    AreTaken job.caseless 0 job.queries before now
+    ⊎ ((f : ToolFault) × (fault ≡ Some f) × StoppedByQuery job f before now × LeavesAll (Work job) recorded before now)
 
 -- the words were worked off, but for the message
 pub record WorksOff (asked : Asked) (fault : Option ToolFault) (recorded : RunRecord) (before now : Seen) : Type 0 where
@@ -208,6 +263,7 @@ pub record WorksOff (asked : Asked) (fault : Option ToolFault) (recorded : RunRe
   pub refused : (f : ToolFault) → asked ≡ Refuse f → fault ≡ Some f
   pub causes : (f : ToolFault) → fault ≡ Some f → HasCause asked f before now
   pub leaves : LeavesSinks fault asked recorded before now
+  pub queries : (job : Job) → asked ≡ Work job → TakesQueries job fault recorded before now
   -- where the world tells what the sources and sinks hold
   pub writes : (input : Input) → IsInput asked before input → WritesSinks asked input fault recorded before now
 
@@ -226,17 +282,18 @@ pub record IsFaithful (words : List (List ℕ)) (outcome : Outcome) (before now 
 -- for every answer, a sink is as it was or gained a prefix of the text that the input defines
 abbrev pub WritesPrefix : Asked → Seen → Seen → Type 0
 WritesPrefix asked before now = (input : Input) → IsInput asked before input → (sink : Object) → IsOneOf sink (sinks_of asked) →
-    SinkUntouched sink before now ⊎ SinkGained (λ text. IsPrefix text (whole_text asked input)) sink before now
+    SinkUntouched sink before now ⊎ ((ask : Ask) × Asks asked input ask × SinkGained (λ text. IsPrefix text (whole_text asked ask input)) sink before now)
 
 -- no call of the objects of a command line failed
 abbrev pub NoFaultOf : Asked → Seen → Seen → Type 0
 NoFaultOf asked before now = (kind : CallKind) (name : List ℕ) → IsOneOf name (calls_of asked kind) → ¬ (HasNewFault (before.faults kind name) (now.faults kind name))
 
--- a good input of a job is worked off without a fault where no call of the job failed
+-- a good input of a job, with good queries, is worked off without a fault where no call of the job failed
 abbrev pub IsComplete : List (List ℕ) → Outcome → Seen → Seen → Type 0
 IsComplete words outcome before now =
-    (job : Job) (input : Input) → asked_of words ≡ Work job → IsInput (Work job) before input → IsGood input → NoFaultOf (Work job) before now →
-    (outcome.fault ≡ None) × (outcome.status ≡ 0) × SinksGained (λ text. text ≡ sink_text (Work job) (whole_run input) Whole) (Work job) before now
+    (job : Job) (input : Input) → asked_of words ≡ Work job → IsInput (Work job) before input → AreGood job input → IsGood input → NoFaultOf (Work job) before now →
+    (outcome.fault ≡ None) × (outcome.status ≡ 0)
+    × ((ask : Ask) × Asks (Work job) input ask × SinksGained (λ text. text ≡ sink_text (Work job) ask (whole_run input) Whole) (Work job) before now)
 
 -- where the call answers want of memory: of a fault's message nothing or a prefix was written
 abbrev pub IsCutShort : List (List ℕ) → Seen → Seen → Type 0

@@ -5,4 +5,6 @@ pub mod Source
 pub mod Loop
 pub mod LogSource
 pub mod LogFile
+pub mod Works
+pub mod QueryFiles
 pub mod Report

@@ -55,7 +55,6 @@ fn is_built_job(job: &Job) -> bool
         && job.keep.is_none()
         && is_all(job.sides)
         && !job.verbose
-        && job.queries.as_slice().is_empty()
         && job.rules.as_slice().is_empty()
         && has_grouping(job.grouping)
 }

@@ -1,5 +1,6 @@
 //! Why a tool stops early.
 
+use query_parser::QueryFault;
 use tool_words::UsageFault;
 use vsl_select::Text;
 
@@ -11,6 +12,13 @@ pub enum ToolFault {
     Usage(UsageFault),
     /// The words state a job that isn't built.
     NotBuilt,
+    /// A query's text is refused.
+    BadQuery {
+        /// Which query it is, in the order of the words, from 0.
+        query: u32,
+        /// Why it is refused, and the byte.
+        fault: QueryFault,
+    },
     /// The file could not be opened, or not created.
     NoOpen {
         /// The file's name.
@@ -40,9 +48,9 @@ pub enum ToolFault {
         /// The byte where the unit begins, from 0.
         at: u64,
     },
-    /// The log has more bytes than are read.
+    /// The log, or the file of a query, has more bytes than are read.
     TooLarge {
-        /// The log's name.
+        /// The file's name.
         name: Text,
         /// How many bytes are read of it.
         limit: u64,

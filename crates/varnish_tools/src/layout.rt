@@ -1,10 +1,14 @@
 //! How groups are written: as lines, or as the units of a log file.
 
-ghost use Rattle.std.specs.Prelude.{◌≡◌, ◌++◌, OnOk};
+ghost use Rattle.std.specs.Prelude.{◌≡◌, ◌++◌, ◌∷◌, [], OnOk};
 ghost use Rattle.vsl_file.specs.File.{log_bytes};
 ghost use Rattle.vsl_select.specs.FileUnits.{file_units, units_of};
 ghost use Rattle.varnish_tools.specs.Output.{laid_out};
+ghost use Rattle.varnish_tools.specs.Printer.{held_groups};
 
+use query_eval::holds;
+use query_parser::Query;
+use std::alloc::Global;
 use txn_rows::{Group, Member};
 use vio::NoMemory;
 use vsl_file::put_records;
@@ -17,16 +21,6 @@ pub enum Layout {
     Lines,
     /// As the units of a log file.
     Units,
-}
-
-/// Adds the lines of groups.
-fn put_lines(out: &mut Vec<u8>, groups: &[Group], selection: &Selection) -> Result<(), NoMemory>
-    ensures { OnOk result (out.new.items ≡ out.old.items ++ laid_out Layout.Lines groups.now) }
-{
-    for group in groups {
-        group_text(group, selection, false, out)?;
-    }
-    Ok(())
 }
 
 /// Adds a transaction as the units of a log file.
@@ -52,27 +46,43 @@ fn put_group_units(out: &mut Vec<u8>, group: &Group) -> Result<(), NoMemory>
     Ok(())
 }
 
-/// Adds groups as the units of a log file.
-fn put_units(out: &mut Vec<u8>, groups: &[Group]) -> Result<(), NoMemory>
-    ensures { OnOk result (out.new.items ≡ out.old.items ++ laid_out Layout.Units groups.now) }
-{
-    for group in groups {
-        put_group_units(out, group)?;
-    }
-    Ok(())
-}
-
-/// Adds groups as the layout says.
-pub fn put_groups(
+/// Adds a group as the layout says.
+fn put_group(
     out: &mut Vec<u8>,
     layout: Layout,
-    groups: &[Group],
+    group: &Group,
     selection: &Selection,
 ) -> Result<(), NoMemory>
-    ensures { OnOk result (out.new.items ≡ out.old.items ++ laid_out layout groups.now) }
+    ensures { OnOk result (out.new.items ≡ out.old.items ++ laid_out layout (group.now ∷ [])) }
 {
     match layout {
-        Layout::Lines => put_lines(out, groups, selection),
-        Layout::Units => put_units(out, groups),
+        Layout::Lines => group_text(group, selection, false, out),
+        Layout::Units => put_group_units(out, group),
     }
+}
+
+/// What is shown of groups, and how they are written.
+#[derive(Drop)]
+pub(crate) struct Style {
+    pub layout: Layout,
+    pub selection: Selection,
+    /// What groups are asked: the others are not written.
+    pub query: Query,
+}
+
+/// Adds the groups for which the query holds.
+pub(crate) fn put_groups(
+    out: &mut Vec<u8>,
+    alloc: Global,
+    groups: &[Group],
+    style: &Style,
+) -> Result<(), NoMemory>
+    ensures { OnOk result (out.new.items ≡ out.old.items ++ laid_out style.now.layout (held_groups style.now.query groups.now)) }
+{
+    for group in groups {
+        if holds(alloc, &style.query, group)? {
+            put_group(out, style.layout, group, &style.selection)?;
+        }
+    }
+    Ok(())
 }

@@ -1,10 +1,11 @@
 //! The tools, as one call: words in, a world of files and streams, and out comes what the tool wrote.
 //!
-//! `run_tools` reads the words, opens the log that they name, creates what they write, reads the log in one pass,
-//! writes the defined text and the defined message, and answers the status. Its contract is
-//! the main theorem of this project, `IsFaithful` in `specs/Promise.antt`.
+//! `run_tools` reads the words, takes the queries that they give, opens the log that they name, creates what they write,
+//! reads the log in one pass, writes the text of the groups for which a query holds, all where there is none, and the
+//! message of a fault, and answers the status. Its contract is the main theorem of this project, `IsFaithful` in
+//! `specs/Promise.antt`.
 //!
-//! Start with `specs/Asked.antt`, `specs/Faults.antt` and `specs/Promise.antt`.
+//! Start with `specs/Asked.antt`, `specs/Queries.antt`, `specs/Faults.antt` and `specs/Promise.antt`.
 //! Source: varnishlog(1); messages and statuses are this project's choice.
 #![tactic(auto)]
 
@@ -17,6 +18,7 @@ mod message;
 mod objects;
 mod outcome;
 mod printer;
+mod queries;
 mod run;
 mod source;
 mod tools;

@@ -7,8 +7,10 @@ ghost use Rattle.varnish_tools.specs.Asked.{Work, file_of, write_of};
 ghost use Rattle.varnish_tools.specs.Built.{is_built};
 ghost use Rattle.varnish_tools.specs.Objects.{GivesAtMost, created_of, opened_of, source_of, streams_of, sink_of};
 ghost use Rattle.varnish_tools.specs.Output.{head_text, layout_of, writes_log};
-ghost use Rattle.varnish_tools.specs.Promise.{WorksOff, WritesPrefix};
-ghost use Rattle.varnish_tools.specs.inside.LogFile.{HasBegun, IsJobPrinter, SourceOpened, fault_as};
+ghost use Rattle.varnish_tools.specs.Printer.{IsSink, Represents, printer_state};
+ghost use Rattle.varnish_tools.specs.Queries.{Ask};
+ghost use Rattle.varnish_tools.specs.inside.Works.{WorksFor, PrefixFor};
+ghost use Rattle.varnish_tools.specs.inside.LogFile.{HasBegun, HoldsAsAsked, IsJobPrinter, SourceOpened, fault_as};
 
 use crate::asked::{file_name, written_name};
 use crate::fault::ToolFault;
@@ -19,6 +21,7 @@ use crate::outcome::{Ran, counted, refused};
 use crate::printer::{PrintFault, Printer};
 use crate::run::{Stopped, print_source};
 use crate::source::SourceFault;
+use query_parser::Query;
 use std::alloc::Global;
 use tool_words::Job;
 use txn_rows::GroupOptions;
@@ -59,9 +62,11 @@ fn head_of(alloc: Global, job: &Job, empty: bool) -> Result<Vec<u8>, NoMemory>
 }
 
 /// The printer of a job to this handle.
-fn job_printer(alloc: Global, job: &Job, sink: u32) -> Result<Printer, NoMemory>
+fn job_printer(alloc: Global, job: &Job, query: Query, sink: u32) -> Result<Printer, NoMemory>
     requires { is_built job.now ≡ true }
-    ensures { IfOk result (λ p. IsJobPrinter job.now sink p) }
+    ensures sink { IfOk result (λ p. IsSink sink (write_of job.now) (printer_state p).sink (printer_state p).name) }
+    ensures none { IfOk result (λ p. Represents (printer_state p) []) }
+    ensures asked { IfOk result (λ p. (ask : Ask) → HoldsAsAsked query ask → IsJobPrinter job.now ask sink (printer_state p)) }
 {
     let options = GroupOptions {
         grouping: job.grouping,
@@ -69,7 +74,7 @@ fn job_printer(alloc: Global, job: &Job, sink: u32) -> Result<Printer, NoMemory>
         timeout: job.timeout,
     };
     let name = Text::new(alloc, written_name(job))?;
-    Printer::new(alloc, options, layout_of(job), sink, name)
+    Printer::new(alloc, options, layout_of(job), query, sink, name)
 }
 
 /// The fault of a log of this name that stopped so; want of memory is none.
@@ -95,6 +100,7 @@ fn tool_fault(name: Text, fault: SourceFault) -> Result<ToolFault, NoMemory>
 fn print_log<W: World>(
     alloc: Global,
     job: &Job,
+    query: Query,
     source: u32,
     sink: u32,
     world: &mut W,
@@ -103,11 +109,11 @@ fn print_log<W: World>(
     requires named { IsTrue ((W.seen world.old).names Writing sink (write_of job.now)) }
     requires given { (W.seen world.old).given sink ≡ true }
     ensures touches { Touches (source ∷ []) (sink ∷ []) [] [] (W.seen world.old) (W.seen world.new) }
-    ensures prefix { OnErr result ((before : Seen) (empty : Bool) → HasBegun job.now source sink empty (head_text job.now empty) before (W.seen world.old) → WritesPrefix (Work job.now) before (W.seen world.new)) }
-    ensures works { IfOk result (λ r. (before : Seen) (empty : Bool) → HasBegun job.now source sink empty (head_text job.now empty) before (W.seen world.old) → WorksOff (Work job.now) r.fault r.run before (W.seen world.new)) }
+    ensures prefix { OnErr result ((ask : Ask) (before : Seen) (empty : Bool) → HoldsAsAsked query ask → HasBegun job.now source sink empty (head_text job.now empty) before (W.seen world.old) → PrefixFor ask (Work job.now) before (W.seen world.new)) }
+    ensures works { IfOk result (λ r. (ask : Ask) (before : Seen) (empty : Bool) → HoldsAsAsked query ask → HasBegun job.now source sink empty (head_text job.now empty) before (W.seen world.old) → WorksFor ask (Work job.now) r.fault r.run before (W.seen world.new)) }
 {
     let name = Text::new(alloc, file_name(job))?;
-    let mut printer = job_printer(alloc, job, sink)?;
+    let mut printer = job_printer(alloc, job, query, sink)?;
     let mut log = LogFile::new(alloc, source)?;
     match print_source(world, &mut log, &mut printer) {
         Ok(units) => Ok(counted(None, units)),
@@ -128,6 +134,7 @@ fn print_log<W: World>(
 fn print_created<W: World>(
     alloc: Global,
     job: &Job,
+    query: Query,
     source: u32,
     sink: Created,
     world: &mut W,
@@ -136,13 +143,13 @@ fn print_created<W: World>(
     requires named { IsTrue ((W.seen world.old).names Writing sink.handle (write_of job.now)) }
     requires given { (W.seen world.old).given sink.handle ≡ true }
     ensures touches { Touches (source ∷ []) (sink.handle ∷ []) [] [] (W.seen world.old) (W.seen world.new) }
-    ensures prefix { OnErr result ((before : Seen) → HasBegun job.now source sink.handle sink.empty [] before (W.seen world.old) → WritesPrefix (Work job.now) before (W.seen world.new)) }
-    ensures works { IfOk result (λ r. (before : Seen) → HasBegun job.now source sink.handle sink.empty [] before (W.seen world.old) → WorksOff (Work job.now) r.fault r.run before (W.seen world.new)) }
+    ensures prefix { OnErr result ((ask : Ask) (before : Seen) → HoldsAsAsked query ask → HasBegun job.now source sink.handle sink.empty [] before (W.seen world.old) → PrefixFor ask (Work job.now) before (W.seen world.new)) }
+    ensures works { IfOk result (λ r. (ask : Ask) (before : Seen) → HoldsAsAsked query ask → HasBegun job.now source sink.handle sink.empty [] before (W.seen world.old) → WorksFor ask (Work job.now) r.fault r.run before (W.seen world.new)) }
 {
     let head = head_of(alloc, job, sink.empty)?;
     let name = Text::new(alloc, written_name(job))?;
     match write_all(world, sink.handle, &head) {
-        Ok(()) => print_log(alloc, job, source, sink.handle, world),
+        Ok(()) => print_log(alloc, job, query, source, sink.handle, world),
         Err(WorldFault::Failed) => Ok(counted(Some(ToolFault::WriteFault { name }), 0)),
         Err(WorldFault::NoMemory) => Err(NoMemory),
     }
@@ -152,34 +159,40 @@ fn print_created<W: World>(
 fn print_opened<W: World>(
     alloc: Global,
     job: &Job,
+    query: Query,
     source: u32,
     world: &mut W,
 ) -> Result<Ran, NoMemory>
     requires built { is_built job.now ≡ true }
     ensures touches { Touches (source ∷ []) (streams_of (sink_of job.now ∷ [])) [] (created_of (sink_of job.now ∷ [])) (W.seen world.old) (W.seen world.new) }
     ensures handles { GivesAtMost (length (created_of (sink_of job.now ∷ []))) (W.seen world.old) (W.seen world.new) }
-    ensures prefix { OnErr result ((before : Seen) → HasStreams before → SourceOpened (source_of job.now) source before (W.seen world.old) → WritesPrefix (Work job.now) before (W.seen world.new)) }
-    ensures works { IfOk result (λ r. (before : Seen) → HasStreams before → SourceOpened (source_of job.now) source before (W.seen world.old) → WorksOff (Work job.now) r.fault r.run before (W.seen world.new)) }
+    ensures prefix { OnErr result ((ask : Ask) (before : Seen) → HoldsAsAsked query ask → HasStreams before → SourceOpened (source_of job.now) source before (W.seen world.old) → PrefixFor ask (Work job.now) before (W.seen world.new)) }
+    ensures works { IfOk result (λ r. (ask : Ask) (before : Seen) → HoldsAsAsked query ask → HasStreams before → SourceOpened (source_of job.now) source before (W.seen world.old) → WorksFor ask (Work job.now) r.fault r.run before (W.seen world.new)) }
 {
     let name = Text::new(alloc, written_name(job))?;
     match create_sink(written_name(job), job.append, world) {
-        Ok(sink) => print_created(alloc, job, source, sink, world),
+        Ok(sink) => print_created(alloc, job, query, source, sink, world),
         Err(WorldFault::Failed) => Ok(refused(ToolFault::NoOpen { name })),
         Err(WorldFault::NoMemory) => Err(NoMemory),
     }
 }
 
 /// Works off a job: reads its log, and writes its groups.
-pub fn run_job<W: World>(alloc: Global, job: &Job, world: &mut W) -> Result<Ran, NoMemory>
+pub fn run_job<W: World>(
+    alloc: Global,
+    job: &Job,
+    query: Query,
+    world: &mut W,
+) -> Result<Ran, NoMemory>
     requires built { is_built job.now ≡ true }
     ensures touches { Touches (streams_of (source_of job.now ∷ [])) (streams_of (sink_of job.now ∷ [])) (opened_of (source_of job.now ∷ [])) (created_of (sink_of job.now ∷ [])) (W.seen world.old) (W.seen world.new) }
     ensures handles { GivesAtMost (length (opened_of (source_of job.now ∷ []) ++ created_of (sink_of job.now ∷ []))) (W.seen world.old) (W.seen world.new) }
-    ensures prefix { OnErr result (WritesPrefix (Work job.now) (W.seen world.old) (W.seen world.new)) }
-    ensures works { IfOk result (λ r. WorksOff (Work job.now) r.fault r.run (W.seen world.old) (W.seen world.new)) }
+    ensures prefix { OnErr result ((ask : Ask) → HoldsAsAsked query ask → PrefixFor ask (Work job.now) (W.seen world.old) (W.seen world.new)) }
+    ensures works { IfOk result (λ r. (ask : Ask) → HoldsAsAsked query ask → WorksFor ask (Work job.now) r.fault r.run (W.seen world.old) (W.seen world.new)) }
 {
     let name = Text::new(alloc, file_name(job))?;
     match open_source(file_name(job), world) {
-        Ok(source) => print_opened(alloc, job, source, world),
+        Ok(source) => print_opened(alloc, job, query, source, world),
         Err(WorldFault::Failed) => Ok(refused(ToolFault::NoOpen { name })),
         Err(WorldFault::NoMemory) => Err(NoMemory),
     }

@@ -2,23 +2,31 @@
 
 ghost use Rattle.std.specs.Prelude.{◌≡◌, ◌++◌, map, IfOk};
 ghost use Rattle.std.specs.String.{string_bytes};
-ghost use Rattle.varnish_tools.specs.Faults.{message, numbered, status_of, told, usage_message, word_at};
+ghost use Rattle.varnish_tools.specs.Faults.{message, numbered, query_message, status_of, told, usage_message, word_at};
 
 use crate::fault::ToolFault;
 use itoa::Buffer;
+use query_parser::QueryFault;
 use std::alloc::{AllocError, Global};
 use tool_words::UsageFault;
 use vsl_select::Text;
 
 /// A line of two texts, after the program's name.
-fn tell_bytes(alloc: Global, first: &str, second: &[u8]) -> Result<Vec<u8>, AllocError>
+fn tell_both(alloc: Global, first: &[u8], second: &[u8]) -> Result<Vec<u8>, AllocError>
     ensures { IfOk result (λ v. v.items ≡ told (first.now ++ second.now)) }
 {
     let mut text = Vec::from_slice(alloc, b"vtools: ")?;
-    text.extend_from_slice(first.as_bytes())?;
+    text.extend_from_slice(first)?;
     text.extend_from_slice(second)?;
     text.push(b'\n')?;
     Ok(text)
+}
+
+/// A line of two texts, after the program's name.
+fn tell_bytes(alloc: Global, first: &str, second: &[u8]) -> Result<Vec<u8>, AllocError>
+    ensures { IfOk result (λ v. v.items ≡ told (first.now ++ second.now)) }
+{
+    tell_both(alloc, first.as_bytes(), second)
 }
 
 /// A line of two texts, after the program's name.
@@ -86,6 +94,20 @@ fn usage_message(alloc: Global, words: &[String], fault: UsageFault) -> Result<V
     }
 }
 
+/// What is wrong with a query's text, and the byte.
+fn query_message(alloc: Global, fault: QueryFault) -> Result<Vec<u8>, AllocError>
+    ensures { IfOk result (λ v. v.items ≡ query_message fault) }
+{
+    match fault {
+        QueryFault::Syntax { at } => numbered(alloc, "syntax at ", at, ""),
+        QueryFault::UnknownTag { at } => numbered(alloc, "unknown tag at ", at, ""),
+        QueryFault::Number { at } => numbered(alloc, "number at ", at, ""),
+        QueryFault::Pattern { at } => numbered(alloc, "pattern at ", at, ""),
+        QueryFault::Deep { at } => numbered(alloc, "too deep at ", at, ""),
+        QueryFault::NoMemory => Vec::from_slice(alloc, b"out of memory"),
+    }
+}
+
 /// The message of a fault of these words, a line for standard error.
 pub fn message_of(alloc: Global, words: &[String], fault: &ToolFault) -> Result<Vec<u8>, AllocError>
     ensures { IfOk result (λ v. v.items ≡ message (map string_bytes words.now) fault.now) }
@@ -93,6 +115,10 @@ pub fn message_of(alloc: Global, words: &[String], fault: &ToolFault) -> Result<
     match fault {
         ToolFault::Usage(fault) => usage_message(alloc, words, *fault),
         ToolFault::NotBuilt => tell(alloc, "not built yet", ""),
+        ToolFault::BadQuery { query, fault } => {
+            let number = numbered(alloc, "query ", u64::from(*query), ": ")?;
+            tell_both(alloc, &number, &query_message(alloc, *fault)?)
+        }
         ToolFault::NoOpen { name } => tell(alloc, name.as_str(), ": cannot open"),
         ToolFault::ReadFault { name } => tell(alloc, name.as_str(), ": read failed"),
         ToolFault::WriteFault { name } => tell(alloc, name.as_str(), ": write failed"),
@@ -104,7 +130,7 @@ pub fn message_of(alloc: Global, words: &[String], fault: &ToolFault) -> Result<
     }
 }
 
-/// The exit status: 0 without a fault, 2 where the words were refused, else 1.
+/// The exit status: 0 without a fault, 2 where the words or the text of a query was refused, else 1.
 pub fn status_of(fault: &Option<ToolFault>) -> u8
     ensures { result ≡ status_of fault.now }
 {
@@ -112,6 +138,7 @@ pub fn status_of(fault: &Option<ToolFault>) -> u8
         None => 0,
         Some(ToolFault::Usage(_)) => 2,
         Some(ToolFault::NotBuilt) => 2,
+        Some(ToolFault::BadQuery { .. }) => 2,
         Some(_) => 1,
     }
 }

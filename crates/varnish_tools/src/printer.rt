@@ -1,4 +1,4 @@
-//! The printer: units in, and out comes the text of the groups that they complete.
+//! The printer: units in, and out comes the text of the groups that they complete and for which the query holds.
 
 ghost use Rattle.std.specs.Prelude.{◌≡◌, ◌⊎◌, ◌<◌, [], ◌∷◌, ◌++◌, false, true, IsTrue, IfOk, IfErr, OnOk, OnErr};
 ghost use Rattle.log_model.specs.Prefix.{IsPrefix};
@@ -6,12 +6,12 @@ ghost use Rattle.vio.specs.World.{Writing, Wrote};
 ghost use Rattle.vio.specs.Writes.{WroteOn};
 ghost use Rattle.vsl_record.specs.Unit.{Log};
 ghost use Rattle.varnish_tools.specs.Output.{laid_out};
-ghost use Rattle.varnish_tools.specs.Printer.{Represents, IsSamePrinter, HasPrintCause, IsLeft, due, IsSink};
+ghost use Rattle.varnish_tools.specs.Printer.{held_groups, printer_state, Represents, IsSamePrinter, HasPrintCause, IsLeft, due, IsSink};
 ghost use Rattle.varnish_tools.specs.inside.Printing.{PutUnit};
 
-use crate::layout::{Layout, put_groups};
+use crate::layout::{Layout, Style, put_groups};
+use query_parser::Query;
 use std::alloc::Global;
-use std::marker::Model;
 use txn_rows::{Group, GroupOptions, Grouping, Table};
 use vio::{NoMemory, World, WorldFault, write_all};
 use vsl_record::Unit;
@@ -48,36 +48,38 @@ struct Sink {
     text: Vec<u8>,
 }
 
-/// Takes a unit, and adds the groups that it completed.
+/// Takes a unit, and adds the groups that it completed and for which the query holds.
 fn put_grouped(
     out: &mut Vec<u8>,
+    alloc: Global,
     table: &mut Table,
     groups: &mut Vec<Group>,
     style: &Style,
     unit: &Unit,
 ) -> Result<(), NoMemory>
-    ensures ok { OnOk result (PutUnit style.now.layout unit.now table.old table.new out.old.items out.new.items) }
+    ensures ok { OnOk result (PutUnit style.now.layout style.now.query unit.now table.old table.new out.old.items out.new.items) }
     ensures options { table.new.options ≡ table.old.options }
 {
     groups.clear();
     table.step(unit, groups)?;
-    put_groups(out, style.layout, groups, &style.selection)
+    put_groups(out, alloc, groups, style)
 }
 
-/// Takes a unit, and adds the groups that it completed. For raw lines no group is made.
+/// Takes a unit, and adds the groups that it completed and for which the query holds. For raw lines without a query no group is made.
 fn put_unit(
     out: &mut Vec<u8>,
+    alloc: Global,
     table: &mut Table,
     groups: &mut Vec<Group>,
     style: &Style,
     unit: &Unit,
 ) -> Result<(), NoMemory>
-    ensures ok { OnOk result (PutUnit style.now.layout unit.now table.old table.new out.old.items out.new.items) }
+    ensures ok { OnOk result (PutUnit style.now.layout style.now.query unit.now table.old table.new out.old.items out.new.items) }
     ensures options { table.new.options ≡ table.old.options }
 {
-    match (table.grouping(), style.layout) {
-        (Grouping::Raw, Layout::Lines) => raw_lines(unit, out),
-        _ => put_grouped(out, table, groups, style, unit),
+    match (table.grouping(), style.layout, style.query.always) {
+        (Grouping::Raw, Layout::Lines, true) => raw_lines(unit, out),
+        _ => put_grouped(out, alloc, table, groups, style, unit),
     }
 }
 
@@ -99,7 +101,7 @@ fn print_text<W: World>(world: &mut W, sink: &mut Sink) -> Result<(), PrintFault
     }
 }
 
-/// Writes groups.
+/// Writes the groups for which the query holds.
 fn print_groups<W: World>(
     world: &mut W,
     sink: &mut Sink,
@@ -108,24 +110,37 @@ fn print_groups<W: World>(
 ) -> Result<(), PrintFault>
     requires named { IsTrue ((W.seen world.old).names Writing sink.old.handle sink.old.name) }
     ensures same { IsSink sink.old.handle sink.old.name sink.new.handle sink.new.name }
-    ensures ok { OnOk result (Wrote sink.old.handle (laid_out style.now.layout groups.now) (W.seen world.old) (W.seen world.new)) }
-    ensures refused { IfErr result (λ f. WroteOn sink.old.handle [] (IsLeft f (laid_out style.now.layout groups.now)) (W.seen world.old) (W.seen world.new)) }
+    ensures ok { OnOk result (Wrote sink.old.handle (laid_out style.now.layout (held_groups style.now.query groups.now)) (W.seen world.old) (W.seen world.new)) }
+    ensures refused { IfErr result (λ f. WroteOn sink.old.handle [] (IsLeft f (laid_out style.now.layout (held_groups style.now.query groups.now))) (W.seen world.old) (W.seen world.new)) }
     ensures cause { IfErr result (λ f. HasPrintCause f sink.old.name (W.seen world.old) (W.seen world.new)) }
 {
     sink.text.clear();
-    put_groups(&mut sink.text, style.layout, groups, &style.selection)?;
+    put_groups(&mut sink.text, sink.alloc, groups, style)?;
     print_text(world, sink)
 }
 
-/// What is shown of groups, and how they are written.
-#[derive(Drop)]
-struct Style {
-    layout: Layout,
-    selection: Selection,
+/// The style of this layout and query that shows all.
+fn style_of(alloc: Global, layout: Layout, query: Query) -> Result<Style, NoMemory>
+    ensures layout { IfOk result (λ style. style.layout ≡ layout) }
+    ensures query { IfOk result (λ style. style.query ≡ query) }
+{
+    let sides = Sides {
+        backend: false,
+        client: false,
+        esi: false,
+    };
+    let Ok(selection) = Selection::new(alloc, sides, Vec::new(alloc), false) else {
+        return Err(NoMemory);
+    };
+    Ok(Style {
+        layout,
+        selection,
+        query,
+    })
 }
 
-/// Groups units, and writes the text of each group when it is complete. Contracts see the table of what
-/// is pending, the layout and the sink; every list of units that it represents has a text that is due.
+/// Groups units, and writes the text of each group for which the query holds when it is complete. Contracts see the table
+/// of what is pending, the layout, the query and the sink; every list of units that it represents has a text that is due.
 #[derive(Drop)]
 pub struct Printer {
     table: Table,
@@ -134,42 +149,27 @@ pub struct Printer {
     sink: Sink,
 }
 
-impl Model for Printer {
-    ghost use Rattle.varnish_tools.specs.Printer.{PrinterState};
-
-    ghost Value = { PrinterState };
-
-    ghost view = { λ p. record { table = p.table; layout = p.style.layout; sink = p.sink.handle; name = p.sink.name } };
-}
-
 impl Printer {
     /// A printer that was given no unit. It writes to the handle `sink`, whose name is `name`.
     pub fn new(
         alloc: Global,
         options: GroupOptions,
         layout: Layout,
+        query: Query,
         sink: u32,
         name: Text,
     ) -> Result<Printer, NoMemory>
         requires grouping { (options.grouping ≡ Grouping.Raw) ⊎ (options.grouping ≡ Grouping.Vxid) }
         requires limit { 0 < options.limit }
-        ensures options { IfOk result (λ p. p.table.options ≡ options) }
-        ensures layout { IfOk result (λ p. p.layout ≡ layout) }
-        ensures sink { IfOk result (λ p. IsSink sink name p.sink p.name) }
-        ensures none { IfOk result (λ p. Represents p []) }
+        ensures options { IfOk result (λ p. (printer_state p).table.options ≡ options) }
+        ensures layout { IfOk result (λ p. (printer_state p).layout ≡ layout) }
+        ensures query { IfOk result (λ p. (printer_state p).query ≡ query) }
+        ensures sink { IfOk result (λ p. IsSink sink name (printer_state p).sink (printer_state p).name) }
+        ensures none { IfOk result (λ p. Represents (printer_state p) []) }
     {
-        let sides = Sides {
-            backend: false,
-            client: false,
-            esi: false,
-        };
-        let table = Table::new(alloc, options)?;
-        let Ok(selection) = Selection::new(alloc, sides, Vec::new(alloc), false) else {
-            return Err(NoMemory);
-        };
         Ok(Printer {
-            table,
-            style: Style { layout, selection },
+            table: Table::new(alloc, options)?,
+            style: style_of(alloc, layout, query)?,
             groups: Vec::new(alloc),
             sink: Sink {
                 alloc,
@@ -180,20 +180,21 @@ impl Printer {
         })
     }
 
-    /// Takes a unit, and writes the text of the groups that it completed.
+    /// Takes a unit, and writes the text of the groups that it completed and for which the query holds.
     pub fn unit<W: World>(&mut self, world: &mut W, unit: &Unit) -> Result<(), PrintFault>
-        requires named { IsTrue ((W.seen world.old).names Writing self.old.sink self.old.name) }
-        ensures same { IsSamePrinter self.old self.new }
-        ensures takes { OnOk result ((units : Log) → Represents self.old units → Represents self.new (units ++ unit.now ∷ [])) }
-        ensures writes { OnOk result ((units : Log) → Represents self.old units →
-            WroteOn self.old.sink (due self.old units false) (λ text. text ≡ due self.old (units ++ unit.now ∷ []) false) (W.seen world.old) (W.seen world.new)) }
-        ensures refused { IfErr result (λ f. (units : Log) → Represents self.old units →
-            WroteOn self.old.sink (due self.old units false) (IsLeft f (due self.old (units ++ unit.now ∷ []) false)) (W.seen world.old) (W.seen world.new)) }
-        ensures cause { IfErr result (λ f. HasPrintCause f self.old.name (W.seen world.old) (W.seen world.new)) }
+        requires named { IsTrue ((W.seen world.old).names Writing (printer_state self.old).sink (printer_state self.old).name) }
+        ensures same { IsSamePrinter (printer_state self.old) (printer_state self.new) }
+        ensures takes { OnOk result ((units : Log) → Represents (printer_state self.old) units → Represents (printer_state self.new) (units ++ unit.now ∷ [])) }
+        ensures writes { OnOk result ((units : Log) → Represents (printer_state self.old) units →
+            WroteOn (printer_state self.old).sink (due (printer_state self.old) units false) (λ text. text ≡ due (printer_state self.old) (units ++ unit.now ∷ []) false) (W.seen world.old) (W.seen world.new)) }
+        ensures refused { IfErr result (λ f. (units : Log) → Represents (printer_state self.old) units →
+            WroteOn (printer_state self.old).sink (due (printer_state self.old) units false) (IsLeft f (due (printer_state self.old) (units ++ unit.now ∷ []) false)) (W.seen world.old) (W.seen world.new)) }
+        ensures cause { IfErr result (λ f. HasPrintCause f (printer_state self.old).name (W.seen world.old) (W.seen world.new)) }
     {
         self.sink.text.clear();
         if let Err(NoMemory) = put_unit(
             &mut self.sink.text,
+            self.sink.alloc,
             &mut self.table,
             &mut self.groups,
             &self.style,
@@ -204,15 +205,15 @@ impl Printer {
         print_text(world, &mut self.sink)
     }
 
-    /// The units have ended: completes what is pending, and writes its text.
+    /// The units have ended: completes what is pending, and writes the text of the groups for which the query holds.
     pub fn end<W: World>(&mut self, world: &mut W) -> Result<(), PrintFault>
-        requires named { IsTrue ((W.seen world.old).names Writing self.old.sink self.old.name) }
-        ensures same { IsSamePrinter self.old self.new }
-        ensures writes { OnOk result ((units : Log) → Represents self.old units →
-            WroteOn self.old.sink (due self.old units false) (λ text. text ≡ due self.old units true) (W.seen world.old) (W.seen world.new)) }
-        ensures refused { IfErr result (λ f. (units : Log) → Represents self.old units →
-            WroteOn self.old.sink (due self.old units false) (IsLeft f (due self.old units true)) (W.seen world.old) (W.seen world.new)) }
-        ensures cause { IfErr result (λ f. HasPrintCause f self.old.name (W.seen world.old) (W.seen world.new)) }
+        requires named { IsTrue ((W.seen world.old).names Writing (printer_state self.old).sink (printer_state self.old).name) }
+        ensures same { IsSamePrinter (printer_state self.old) (printer_state self.new) }
+        ensures writes { OnOk result ((units : Log) → Represents (printer_state self.old) units →
+            WroteOn (printer_state self.old).sink (due (printer_state self.old) units false) (λ text. text ≡ due (printer_state self.old) units true) (W.seen world.old) (W.seen world.new)) }
+        ensures refused { IfErr result (λ f. (units : Log) → Represents (printer_state self.old) units →
+            WroteOn (printer_state self.old).sink (due (printer_state self.old) units false) (IsLeft f (due (printer_state self.old) units true)) (W.seen world.old) (W.seen world.new)) }
+        ensures cause { IfErr result (λ f. HasPrintCause f (printer_state self.old).name (W.seen world.old) (W.seen world.new)) }
     {
         self.groups.clear();
         self.table.flush(&mut self.groups)?;

@@ -3,7 +3,7 @@
 ghost use Rattle.std.specs.Prelude.{◌≡◌, ◌<◌, ◌^◌, [], ◌∷◌, true, false, IsTrue, IfOk, IfErr};
 ghost use Rattle.vio.specs.World.{Writing};
 ghost use Rattle.vio.specs.Touches.{Touches};
-ghost use Rattle.varnish_tools.specs.Printer.{Represents};
+ghost use Rattle.varnish_tools.specs.Printer.{Represents, printer_state};
 ghost use Rattle.varnish_tools.specs.inside.Loop.{RanToEnd, RanUntil};
 
 use crate::printer::{PrintFault, Printer};
@@ -25,15 +25,15 @@ pub fn print_source<W: World, S: Source>(
     source: &mut S,
     printer: &mut Printer,
 ) -> Result<u64, Stopped>
-    requires named { IsTrue ((W.seen world.old).names Writing printer.old.sink printer.old.name) }
-    requires given { (W.seen world.old).given printer.old.sink ≡ true }
-    requires new { Represents printer.old [] }
+    requires named { IsTrue ((W.seen world.old).names Writing (printer_state printer.old).sink (printer_state printer.old).name) }
+    requires given { (W.seen world.old).given (printer_state printer.old).sink ≡ true }
+    requires new { Represents (printer_state printer.old) [] }
     requires fresh { S.gave source.old source.old (W.seen world.old) (W.seen world.old) [] false }
     requires few { S.most source.old < 2 ^ 64 }
-    ensures touches { Touches (S.reads source.old) (printer.old.sink ∷ []) [] [] (W.seen world.old) (W.seen world.new) }
-    ensures ran { IfOk result (λ n. RanToEnd (S.gave source.old source.new (W.seen world.old) (W.seen world.new)) printer.old n (W.seen world.old) (W.seen world.new)) }
+    ensures touches { Touches (S.reads source.old) ((printer_state printer.old).sink ∷ []) [] [] (W.seen world.old) (W.seen world.new) }
+    ensures ran { IfOk result (λ n. RanToEnd (S.gave source.old source.new (W.seen world.old) (W.seen world.new)) (printer_state printer.old) n (W.seen world.old) (W.seen world.new)) }
     ensures stopped { IfErr result (λ s. RanUntil s (S.gave source.old source.new (W.seen world.old) (W.seen world.new))
-        (λ fault units. S.stopped source.old source.new fault (W.seen world.old) (W.seen world.new) units) printer.old (W.seen world.old) (W.seen world.new)) }
+        (λ fault units. S.stopped source.old source.new fault (W.seen world.old) (W.seen world.new) units) (printer_state printer.old) (W.seen world.old) (W.seen world.new)) }
 {
     let mut units = 0;
     loop {

@@ -150,3 +150,7 @@ one_value text a b (n, is, parts, value_is) (m, js, more, other_is) =
 pub if_none : {T P : Type 0} → (o : Option T) → P → IfNone o P
 if_none None p = p
 if_none (Some x) p = tt
+
+-- there is a value, or none
+pub some_none : {T P : Type 0} → (x : T) → None ≡ Some x → P
+some_none x e = absurd (cc)

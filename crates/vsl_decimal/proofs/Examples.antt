@@ -5,8 +5,8 @@ use Rattle.std.proofs.Math.Seq.{get_or-append_seam}
 use Rattle.std.proofs.lemmas.List.{length-map}
 use Rattle.std.specs.Char.{to_ascii_lowercase}
 use Rattle.std.specs.Str.Parse.{AllDigits}
-use Rattle.vsl_decimal.specs.Decimal.{IsDigits, Spells, print_fraction, integral_part}
-use Rattle.vsl_decimal.specs.Prefix.{FollowsPrefix, IsValueAfter}
+use Rattle.vsl_decimal.specs.Decimal.{IsDigits, Spells, print_fraction, integral_part, decimal_of}
+use Rattle.vsl_decimal.specs.Prefix.{FollowsPrefix, IsValueAfter, value_after, trimmed}
 use Rattle.vsl_decimal.specs.inside.Digits.{NoDigitFirst, BeginsWithDigits, SpellsFraction, SpellsSize}
 use Rattle.vsl_decimal.proofs.DecimalLemmas.{no_number, no_number_minus, no_size, one_run, no_digit_fraction}
 
@@ -27,6 +27,18 @@ minus_two_and_half_integral = refl
 
 nothing : Spells (codes "0") (pos 0)
 nothing = (record { negative = false; whole = codes "0"; fraction = None }, search rules, refl, refl)
+
+decimal_of_status : decimal_of (codes "200.9") ≡ Some (pos 200900000000000000000)
+decimal_of_status = refl
+
+decimal_of_minus_half : decimal_of (codes "-0.5") ≡ Some (neg_ℤ (pos 500000000000000000))
+decimal_of_minus_half = refl
+
+decimal_of_two_periods : decimal_of (codes "1.2.3") ≡ None
+decimal_of_two_periods = refl
+
+decimal_of_exponent : decimal_of (codes "1e3") ≡ None
+decimal_of_exponent = refl
 
 minus_nothing : Spells (codes "-0") (pos 0)
 minus_nothing = (record { negative = true; whole = codes "0"; fraction = None }, search rules, refl, refl)
@@ -87,6 +99,18 @@ bare_minus = no_number_minus (codes "-") [] refl (not_digits [] [] [] tt tt refl
 
 host : IsValueAfter (codes "host") (codes "Host: a") (codes "a")
 host = (codes " a", (codes "Host", refl, refl), (codes " ", search rules, refl, refl))
+
+value_after_host : value_after (codes "host") (codes "Host:  a b ") ≡ Some (codes "a b ")
+value_after_host = refl
+
+no_value_after_host : value_after (codes "host") (codes "Hosts: a") ≡ None
+no_value_after_host = refl
+
+trimmed_number : trimmed (codes " 200.9  ") ≡ codes "200.9"
+trimmed_number = refl
+
+trimmed_blanks : trimmed (codes "  ") ≡ []
+trimmed_blanks = refl
 
 host_of_nothing : IsValueAfter (codes "host") (codes "Host:") []
 host_of_nothing = ([], (codes "Host", refl, refl), ([], search rules, tt, refl))

@@ -1,4 +1,6 @@
 mod Examples
+pub mod DecimalFunctions
 mod DecimalLemmas
 mod FieldLemmas
+pub mod PrefixFunctions
 mod PrefixLemmas

@@ -11,11 +11,13 @@ ghost use Rattle.std.specs.Prelude.{◌≡◌, ◌≢◌, ◌∷◌, ℕ, List, 
 ghost use Rattle.std.specs.Option.{option_copied};
 ghost use Rattle.vsl_decimal.specs.Field.{field_of, is_space};
 
+mod blanks;
 mod laws;
 mod number;
 mod prefix;
 
-pub use laws::one_value;
+pub use blanks::trim;
+pub use laws::{decimals_are_spelled, one_value, values_follow_prefixes};
 pub use number::{Decimal, compare, integral, read_decimal};
 pub use prefix::after_prefix;
 

@@ -1,8 +1,8 @@
 //! Numbers: how they are read, compared and cut.
 
-ghost use Rattle.std.specs.Prelude.{◌≡◌, ◌≢◌, ◌≤◌, ◌<◌, ◌^◌, ◌++◌, List, ℕ, ℤ, pos, neg_ℤ, if◌then◌else◌, IfSome, IfNone, Some};
+ghost use Rattle.std.specs.Prelude.{◌≡◌, ◌≢◌, ◌≤◌, ◌<◌, ◌^◌, ◌++◌, List, ℕ, ℤ, pos, neg_ℤ, if◌then◌else◌, IfSome, IfNone, Some, option_map};
 ghost use Rattle.std.specs.Ordering.{int_cmp};
-ghost use Rattle.vsl_decimal.specs.Decimal.{IsDigits, Spells, scaled_fraction, integral_part};
+ghost use Rattle.vsl_decimal.specs.Decimal.{IsDigits, Spells, decimal_of, scaled_fraction, integral_part};
 ghost use Rattle.vsl_decimal.specs.inside.Digits.{BeginsWithDigits, NoDigitFirst, SpellsFraction, SpellsSize};
 
 use crate::after_byte;
@@ -39,6 +39,7 @@ struct Digits<'a> {
 pub fn read_decimal(text: &[u8]) -> Option<Decimal>
     ensures read { IfSome result (λ d. Spells text.now d.scaled) }
     ensures refused { IfNone result ((value : ℤ) → ¬ (Spells text.now value)) }
+    ensures value { option_map (λ d. d.scaled) result ≡ decimal_of text.now }
 {
     match after_byte(text, b'-') {
         Some(size) => Some(with_sign(true, read_size(size)?)),

@@ -1,9 +1,11 @@
 //! Prefixes: what follows `Header:`.
 
 ghost use Rattle.std.specs.Prelude.{◌≡◌, List, ℕ, IfSome, IfNone};
-ghost use Rattle.vsl_decimal.specs.Prefix.{FollowsPrefix, WithoutBlanks, IsValueAfter};
+ghost use Rattle.std.specs.Option.{option_copied};
+ghost use Rattle.vsl_decimal.specs.Prefix.{FollowsPrefix, IsValueAfter, value_after};
 
-use crate::{after_byte, is_white};
+use crate::after_byte;
+use crate::blanks::without_blanks;
 
 /// What follows the prefix and a colon, without leading white space, as `a` for `Host: a` and `host`. The case of
 /// ASCII letters doesn't count. There is nothing where the text doesn't begin with the prefix and a colon.
@@ -12,24 +14,11 @@ use crate::{after_byte, is_white};
 pub fn after_prefix<'a>(text: &'a [u8], prefix: &[u8]) -> Option<&'a [u8]>
     ensures found { IfSome result (λ value. IsValueAfter prefix.now text.now value.now) }
     ensures refused { IfNone result ((behind : List ℕ) → ¬ (FollowsPrefix prefix.now text.now behind)) }
+    ensures value { option_copied result ≡ value_after prefix.now text.now }
 {
     let (name, after) = text.split_at_checked(prefix.len())?;
     if !name.eq_ignore_ascii_case(prefix) {
         return None;
     }
     Some(without_blanks(after_byte(after, b':')?))
-}
-
-/// The text without its leading white space.
-fn without_blanks(text: &[u8]) -> &[u8]
-    ensures { WithoutBlanks text.now result.now }
-{
-    let mut rest = text;
-    while let Some((b, after)) = rest.split_first() {
-        if !is_white(*b) {
-            return rest;
-        }
-        rest = after;
-    }
-    rest
 }

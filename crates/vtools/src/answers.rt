@@ -17,7 +17,8 @@ const VERSION: &str = "vtools 0.1 (unreleased)\n";
 const HELP: &str = "\
 vtools: Varnish's logging tools as one program
 
-usage: vtools [OPTIONS] varnishlog [-g GROUPING] [-w FILE [-a] [-A]] -r FILE
+usage: vtools [OPTIONS] varnishlog [-g GROUPING] [-q TEXT] [-Q FILE] [-C]
+              [-w FILE [-a] [-A]] -r FILE
 
 Prints the records of a log file, a group of them when it is complete, or
 writes them as a log file.
@@ -25,15 +26,19 @@ writes them as a log file.
   -r FILE           reads the log file FILE; - is standard input
   -g vxid           groups records by transaction; this is the default
   -g raw            takes each record by itself, in the order of the file
+  -q TEXT           takes only groups for which the query TEXT holds, as in
+                    -q 'RespStatus >= 500'; of several queries one must hold
+  -Q FILE           reads queries from FILE, one a line
+  -C                asks texts and patterns of queries without regard to case
   -w FILE           writes a log file, in place of lines on standard output;
                     - is standard output
   -A                writes lines to the file of -w, and no log file
   -a                appends to the file of -w, which is emptied otherwise
 
-Taken too, and of no effect: -C and -d; -L 1000 and -T 120, which are the
-defaults; before the tool --ring N, --reclen N, --turns N and --feed-first.
-Options stand in any order, letters may share a word, and of -g, -r and -w
-the last counts.
+Taken too, and of no effect: -d; -L 1000 and -T 120, which are the defaults;
+before the tool --ring N, --reclen N, --turns N and --feed-first. Options
+stand in any order, letters may share a word, and of -g, -r and -w the last
+counts.
 
 The words of varnishncsa, varnishtop and varnishstat are read, but these tools
 are not built yet.
@@ -41,8 +46,8 @@ are not built yet.
   vtools --help     prints this text
   vtools --version  prints the version
 
-Exit status: 0 done, 1 the input or the outside failed, 2 the command line was
-refused, 3 out of memory.
+Exit status: 0 done, 1 the input or the outside failed, 2 the command line or
+a query was refused, 3 out of memory.
 
 All options, and which are built: docs/FORMATS.md. Manual: docs/man/vtools.1.
 ";

@@ -5,6 +5,10 @@ use Rattle.varnish_tools.specs.declared.fault.ToolFault.{ToolFault}
 use Rattle.varnish_tools.specs.declared.fault.ToolFault.TheVariants.{ReadFault, NotALog, Damaged, TooLarge}
 use Rattle.varnish_tools.specs.declared.source.SourceFault.{SourceFault}
 use Rattle.varnish_tools.specs.declared.source.SourceFault.TheVariants as source_faults
+use Rattle.txn_rows.specs.declared.group.Group.{Group}
+use Rattle.query_parser.specs.declared.query.Query.{Query}
+use Rattle.query_eval.specs.Meaning.{is_held}
+use Rattle.varnish_tools.specs.Queries.{Ask, is_asked}
 use Rattle.vio.specs.World.{Seen, Reading, Writing, Gains, NoCountFalls, Opened, FileCreated}
 use Rattle.tool_words.specs.declared.job.Job.{Job}
 use Rattle.varnish_tools.specs.Asked.{file_of, write_of}
@@ -39,8 +43,13 @@ pub record HasBegun (job : Job) (source sink : ℕ) (empty : Bool) (head : List 
   pub gains : Gains (before.written sink) (now.written sink) head
   pub holds : HoldsText (sink_of job) head before now
 
--- a new printer of a job to this handle
-pub record IsJobPrinter (job : Job) (handle : ℕ) (p : PrinterState) : Type 0 where
+-- a query holds for the groups that are asked for
+pub record HoldsAsAsked (query : Query) (ask : Ask) : Type 0 where
+  pub each : (group : Group) → is_held query group ≡ is_asked ask group
+
+-- a new printer of a job and of what is asked to this handle
+pub record IsJobPrinter (job : Job) (ask : Ask) (handle : ℕ) (p : PrinterState) : Type 0 where
+  pub asks : HoldsAsAsked p.query ask
   pub is_grouped : p.table.options.grouping ≡ job.grouping
   pub is_laid_out : p.layout ≡ layout_of job
   pub sink : p.sink ≡ handle

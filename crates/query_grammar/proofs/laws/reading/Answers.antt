@@ -28,9 +28,9 @@ pub returns-clause-rules : goal.returns-clause-rules
 returns-clause-rules c = are_rules
 
 pub returns-clause-fine : goal.returns-clause-fine
-returns-clause-fine c = λ is_tag is_decimal most line q is f. fine_read is_tag is_decimal most line q 0 is f
+returns-clause-fine c = λ is_tag is_decimal is_pattern most line q is f. fine_read is_tag is_decimal is_pattern most line q 0 is f
 
 pub returns-clause-only_fine : goal.returns-clause-only_fine
-returns-clause-only_fine c = λ is_tag is_decimal most line out e.
-    let h = fine_back is_tag is_decimal most line out 0 e in
+returns-clause-only_fine c = λ is_tag is_decimal is_pattern most line out e.
+    let h = fine_back is_tag is_decimal is_pattern most line out 0 e in
     (h.query, h.whole, h.fine, h.steps)

@@ -12,17 +12,17 @@ use Rattle.query_grammar.proofs.TextFaults.{faultless, fault_is, fault_read}
 use Rattle.query_grammar.proofs.laws.text_faults.Goals as goal
 
 pub returns-clause-none : goal.returns-clause-none
-returns-clause-none c = λ is_tag is_decimal most text e.
-    let clean = faultless is_tag is_decimal most text e in
-    let h = lines_found (rules_of is_tag is_decimal most) (IsFineQuery is_tag is_decimal most) (fine_lines_found is_tag is_decimal most) (lines_of text) 0 None clean.read.steps clean.read.read in
+returns-clause-none c = λ is_tag is_decimal is_pattern most text e.
+    let clean = faultless is_tag is_decimal is_pattern most text e in
+    let h = lines_found (rules_of is_tag is_decimal is_pattern most) (IsFineQuery is_tag is_decimal is_pattern most) (fine_lines_found is_tag is_decimal is_pattern most) (lines_of text) 0 None clean.read.steps clean.read.read in
     (clean.utf8, h.query, h.are)
 
 pub returns-clause-only_none : goal.returns-clause-only_none
-returns-clause-only_none c = λ is_tag is_decimal most text q u is.
-    fault_is is_tag is_decimal most text u
-    ∙ ap result_err (lines_read (rules_of is_tag is_decimal most) (IsFineQuery is_tag is_decimal most) (fine_lines_read is_tag is_decimal most) (lines_of text) 0 None q is)
+returns-clause-only_none c = λ is_tag is_decimal is_pattern most text q u is.
+    fault_is is_tag is_decimal is_pattern most text u
+    ∙ ap result_err (lines_read (rules_of is_tag is_decimal is_pattern most) (IsFineQuery is_tag is_decimal is_pattern most) (fine_lines_read is_tag is_decimal is_pattern most) (lines_of text) 0 None q is)
 
 pub returns-clause-syntax : goal.returns-clause-syntax
-returns-clause-syntax c = λ is_tag is_decimal most text at u e.
-    let stopped = fault_read _ _ (sym (fault_is is_tag is_decimal most text u) ∙ e) in
-    text_stops_at text at ((lines_looser (rules_of is_tag is_decimal most) (lines_of text) 0 None (are_rules is_tag is_decimal most)).same_stop at stopped)
+returns-clause-syntax c = λ is_tag is_decimal is_pattern most text at u e.
+    let stopped = fault_read _ _ (sym (fault_is is_tag is_decimal is_pattern most text u) ∙ e) in
+    text_stops_at text at ((lines_looser (rules_of is_tag is_decimal is_pattern most) (lines_of text) 0 None (are_rules is_tag is_decimal is_pattern most)).same_stop at stopped)

@@ -26,9 +26,9 @@ pub returns-clause-one_tree : goal.returns-clause-one_tree
 returns-clause-one_tree c = λ text p q is_p is_q. one_tree p q (ok_is (steps_of p) (steps_of q) (sym (queries_read (lines_of text) 0 None p is_p) ∙ queries_read (lines_of text) 0 None q is_q))
 
 pub returns-clause-fine : goal.returns-clause-fine
-returns-clause-fine c = λ is_tag is_decimal most text q is. lines_read (rules_of is_tag is_decimal most) (IsFineQuery is_tag is_decimal most) (fine_lines_read is_tag is_decimal most) (lines_of text) 0 None q is
+returns-clause-fine c = λ is_tag is_decimal is_pattern most text q is. lines_read (rules_of is_tag is_decimal is_pattern most) (IsFineQuery is_tag is_decimal is_pattern most) (fine_lines_read is_tag is_decimal is_pattern most) (lines_of text) 0 None q is
 
 pub returns-clause-only_fine : goal.returns-clause-only_fine
-returns-clause-only_fine c = λ is_tag is_decimal most text out e.
-    let h = lines_found (rules_of is_tag is_decimal most) (IsFineQuery is_tag is_decimal most) (fine_lines_found is_tag is_decimal most) (lines_of text) 0 None out e in
+returns-clause-only_fine c = λ is_tag is_decimal is_pattern most text out e.
+    let h = lines_found (rules_of is_tag is_decimal is_pattern most) (IsFineQuery is_tag is_decimal is_pattern most) (fine_lines_found is_tag is_decimal is_pattern most) (lines_of text) 0 None out e in
     (h.query, h.are, h.steps)

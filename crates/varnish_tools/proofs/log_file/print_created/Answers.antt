@@ -10,20 +10,20 @@ returns-in-Ok-clause-touches g c = touches_then (touches_wrote _ _ _ _ _ c.in-Ok
 pub returns-in-Ok-clause-prefix : goal.returns-in-Ok-clause-prefix
 returns-in-Ok-clause-prefix g c =
     let wrote = rw (c.deref.ensures.value, c.in_ok-head.ensures) at c.in-Ok.ensures.ok in
-    headed_prefix _ _ _ _ c.args.sink.empty _ _ _ wrote c.print_log.ensures.prefix
+    headed_prefix _ c.args.job.now c.args.query _ _ c.args.sink.empty _ _ _ wrote c.print_log.ensures.prefix
 
 pub returns-in-Ok-clause-works : goal.returns-in-Ok-clause-works
 returns-in-Ok-clause-works g c =
     let wrote = rw (c.deref.ensures.value, c.in_ok-head.ensures) at c.in-Ok.ensures.ok in
-    headed_works _ _ _ _ c.args.sink.empty _ _ _ wrote c.print_log.ensures.works
+    headed_works _ c.args.job.now c.args.query _ _ c.args.sink.empty _ _ _ wrote c.print_log.ensures.works
 
 pub returns-in-Err-Failed-clause-works : goal.returns-in-Err-Failed-clause-works
-returns-in-Err-Failed-clause-works g c = λ before begun.
+returns-in-Err-Failed-clause-works g c = λ ask before holds begun.
     let left = rw (c.deref.ensures.value, c.in_ok-head.ensures) at c.in-Err-Failed.ensures.err in
     rw (c.counted.ensures.fault, c.counted.ensures.run, c.in_ok-name.ensures, c.written_name.ensures)
-    (works_headless _ _ _ _ before _ _ begun left (c.in-Err-Failed.ensures.failed (ap Err c.in-Err-Failed.field-0-is)))
+    (works_headless _ ask _ _ _ before _ _ begun left (c.in-Err-Failed.ensures.failed (ap Err c.in-Err-Failed.field-0-is)))
 
 pub returns-clause-prefix : goal.returns-clause-prefix
-returns-clause-prefix g c = λ before begun.
+returns-clause-prefix g c = λ ask before holds begun.
     let left = rw (c.deref.ensures.value, c.in_ok-head.ensures) at c.in-Err-NoMemory.ensures.err in
-    prefix_headless _ _ _ _ before _ _ left begun
+    prefix_headless _ ask _ _ _ before _ _ left begun

@@ -4,6 +4,6 @@ use Rattle.std.proofs.lemmas.Result.{on_ok_weaker}
 use Rattle.varnish_tools.proofs.PrinterLemmas.{put_raw}
 use Rattle.varnish_tools.proofs.printer.put_unit.Goals as goal
 
-pub returns-in-Raw-Lines-clause-ok : goal.returns-in-Raw-Lines-clause-ok
-returns-in-Raw-Lines-clause-ok c = rw c.in-Raw-Lines.is-1
-    (on_ok_weaker c.raw_lines.result (λ text. put_raw c.args.unit.now c.args.table.now c.args.out.now.items _ (sym c.grouping.ensures ∙ c.in-Raw-Lines.is-0) text) c.raw_lines.ensures.ok)
+pub returns-in-Raw-Lines-true-clause-ok : goal.returns-in-Raw-Lines-true-clause-ok
+returns-in-Raw-Lines-true-clause-ok c = rw c.in-Raw-Lines-true.is-1
+    (on_ok_weaker c.raw_lines.result (λ text. put_raw c.args.style.now.query c.args.unit.now c.args.table.now c.args.out.now.items _ c.in-Raw-Lines-true.is-2 (sym c.grouping.ensures ∙ c.in-Raw-Lines-true.is-0) text) c.raw_lines.ensures.ok)

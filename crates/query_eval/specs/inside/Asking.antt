@@ -1,0 +1,19 @@
+-- What asks a pattern.
+use Rattle.std.specs.Prelude.{◌≡◌, Option, None, IfSome}
+use Rattle.query_parser.specs.declared.pattern.Pattern.{Pattern}
+use Rattle.query_parser.specs.declared.pattern.Matching.{Matching}
+use Rattle.query_parser.specs.declared.test.Check.{Check}
+use Rattle.query_parser.specs.declared.test.Check.TheVariants as checks
+use Rattle.query_parser.specs.Patterns.{pattern_text, pattern_caseless, matching_text, matching_caseless}
+
+-- it asks this pattern
+pub record IsMatchingOf (pattern : Pattern) (matching : Matching) : Type 0 where
+  pub text : matching_text matching ≡ pattern_text pattern
+  pub caseless : matching_caseless matching ≡ pattern_caseless pattern
+
+-- what asks a pattern, where it was made, asks that of the check; a check of another kind has none
+abbrev pub IsReady : Check → Option Matching → Type 0
+IsReady checks.Selected matching = matching ≡ None
+IsReady (checks.Number comparison operand whole) matching = matching ≡ None
+IsReady (checks.Text equal caseless operand) matching = matching ≡ None
+IsReady (checks.Pattern matches pattern) matching = IfSome matching (IsMatchingOf pattern)

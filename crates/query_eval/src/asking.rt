@@ -1,0 +1,68 @@
+//! Asking a test of a group.
+
+ghost use Rattle.std.specs.Prelude.{◌≡◌, ℕ, true, IfOk};
+ghost use Rattle.query_eval.specs.Meaning.{group_satisfies, meets_level, member_satisfies, record_satisfies};
+ghost use Rattle.query_eval.specs.inside.Asking.{IsReady};
+
+use crate::check::satisfies;
+use crate::selection::{meets_level, subject};
+use query_parser::{Matching, Test};
+use std::alloc::{AllocError, Global};
+use txn_rows::{Group, Member};
+use vsl_record::Record;
+
+/// Whether some record of some member of the group satisfies the test. Only a test with a pattern takes memory, once a
+/// record with what is asked is there.
+pub(crate) fn group_satisfies(alloc: Global, test: &Test, group: &Group) -> Result<bool, AllocError>
+    ensures { IfOk result (λ b. b ≡ group_satisfies group.now test.now) }
+{
+    let mut matching = None;
+    for member in group.members.as_slice() {
+        if member_satisfies(alloc, test, &mut matching, member)? {
+            return Ok(true);
+        }
+    }
+    Ok(false)
+}
+
+/// Whether some record of the member satisfies the test.
+fn member_satisfies<'t>(
+    alloc: Global,
+    test: &'t Test,
+    matching: &mut Option<Matching<'t>>,
+    member: &Member,
+) -> Result<bool, AllocError>
+    requires ready { IsReady test.now.check matching.old }
+    ensures answer { IfOk result (λ b. b ≡ member_satisfies test.now member.now) }
+    ensures ready { IsReady test.now.check matching.new }
+{
+    if !meets_level(test.criterion.level, member.level) {
+        return Ok(false);
+    }
+    for rec in member.records.as_slice() {
+        if record_satisfies(alloc, test, matching, rec)? {
+            return Ok(true);
+        }
+    }
+    Ok(false)
+}
+
+/// Whether the record of a member whose level is met is selected, and satisfies what is asked.
+fn record_satisfies<'t>(
+    alloc: Global,
+    test: &'t Test,
+    matching: &mut Option<Matching<'t>>,
+    rec: &Record,
+) -> Result<bool, AllocError>
+    requires ready { IsReady test.now.check matching.old }
+    ensures answer { IfOk result (λ b. (level : ℕ) → meets_level test.now.criterion.level level ≡ true → b ≡ record_satisfies test.now level rec.now) }
+    ensures ready { IsReady test.now.check matching.new }
+{
+    if !test.criterion.tags.has(rec.tag) {
+        return Ok(false);
+    }
+    match subject(&test.criterion, rec.payload.as_slice()) {
+        Some(text) => satisfies(alloc, &test.check, matching, text),
+        None => Ok(false),
+    }
+}

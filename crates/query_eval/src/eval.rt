@@ -1,0 +1,61 @@
+//! Asking a query of a group.
+
+ghost use Rattle.std.specs.Prelude.{◌≡◌, IfOk, OnOk};
+ghost use Rattle.query_grammar.specs.Tree.{truths_after};
+ghost use Rattle.query_eval.specs.Meaning.{group_satisfies, is_held};
+
+use crate::asking::group_satisfies;
+use crate::truths::Truths;
+use query_grammar::StepOver;
+use query_parser::{Query, Test};
+use std::alloc::{AllocError, Global};
+use txn_rows::Group;
+
+/// Whether the query holds for the group. It takes memory for the truths of its tests, and for a pattern where a record is
+/// asked; the query that holds for every group takes none.
+///
+/// Source: vsl-query(7), "Query Expressions".
+pub fn holds(alloc: Global, query: &Query, group: &Group) -> Result<bool, AllocError>
+    ensures { IfOk result (λ b. b ≡ is_held query.now group.now) }
+{
+    if query.always {
+        return Ok(true);
+    }
+    let mut truths = Truths::new(alloc);
+    for step in &query.steps {
+        take_step(alloc, step, group, &mut truths)?;
+    }
+    Ok(truths.last())
+}
+
+/// Asks a test, or joins the truths of an operator's operands.
+fn take_step(
+    alloc: Global,
+    step: &StepOver<Test>,
+    group: &Group,
+    truths: &mut Truths,
+) -> Result<(), AllocError>
+    ensures { OnOk result (truths.new ≡ truths_after (group_satisfies group.now) step.now truths.old) }
+{
+    match step {
+        StepOver::Test(test) => truths.push(group_satisfies(alloc, test, group)?),
+        StepOver::Not => {
+            let Some(truth) = truths.pop() else {
+                return Ok(());
+            };
+            truths.push(!truth)
+        }
+        StepOver::And => {
+            let Some((first, last)) = truths.pop_two() else {
+                return Ok(());
+            };
+            truths.push(first && last)
+        }
+        StepOver::Or => {
+            let Some((first, last)) = truths.pop_two() else {
+                return Ok(());
+            };
+            truths.push(first || last)
+        }
+    }
+}

@@ -1,0 +1,9 @@
+use Rattle.std.proofs.Common.{ap, ◌∙◌}
+use Rattle.std.specs.List.{list_any}
+use Rattle.query_grammar.specs.Scanner.{can_close}
+use Rattle.query_parser.specs.inside.Stages.{is_mark}
+use Rattle.query_parser.proofs.Stacks.{close_is}
+use Rattle.query_parser.proofs.stack.Stack.can_close.Goals as goal
+
+pub returns : goal.returns
+returns c = c.has_parenthesis.ensures ∙ ap (list_any is_mark) c.deref.ensures.value ∙ close_is c.self.inside.marks.items ∙ ap can_close c.self.view_is

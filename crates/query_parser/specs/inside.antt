@@ -1,0 +1,5 @@
+pub mod Options
+pub mod Pieces
+pub mod Follows
+pub mod Stages
+pub mod Reading

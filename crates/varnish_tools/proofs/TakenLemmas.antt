@@ -1,0 +1,171 @@
+-- Queries that were taken, and one that stops a job: what stays so over later calls, and what it says of the job.
+use Rattle.std.proofs.Common.{◌≡◌, ℕ, ◌+◌, Bool, true, false, cond, List, [], ◌∷◌, ◌++◌, length, Option, Some, None, refl, sym, subst, ◌∙◌, inl, inr, arith}
+use Rattle.std.specs.Option.{option_or}
+use Rattle.vio.specs.declared.world.TheConstants.{ERRORS}
+use Rattle.vio.specs.World.{Seen, Opening, Reading}
+use Rattle.vio.specs.Touches.{IsOneOf, Touches}
+use Rattle.vio.proofs.TouchLemmas.{touches_in, touches_then}
+use Rattle.tool_words.specs.declared.job.Job.{Job}
+use Rattle.tool_words.specs.declared.job.QueryText.{QueryText}
+use Rattle.varnish_tools.specs.declared.fault.ToolFault.{ToolFault}
+use Rattle.varnish_tools.specs.declared.fault.ToolFault.TheVariants.{Usage, NotBuilt, BadQuery, NoOpen, ReadFault, WriteFault, NotALog, Damaged, TooLarge}
+use Rattle.varnish_tools.specs.declared.outcome.RunRecord.{RunRecord}
+use Rattle.varnish_tools.specs.Asked.{Asked, Work}
+use Rattle.varnish_tools.specs.Faults.{FaultClass, Refused, RefusedQuery, LongQuery, NotOpened, NotRead, NotWritten, BadInput, class_of}
+use Rattle.varnish_tools.specs.Objects.{Object, OpenedFile, CreatedFile, Stream, source_of, query_files, names_of, opened_of, calls_of, IsSourceHandle}
+use Rattle.varnish_tools.specs.Queries.{TextHolds, TextsHold, text_fault, texts_fault, most_query_bytes}
+use Rattle.varnish_tools.specs.QueryFiles.{HasFault, StopsAt, StoppedByQuery}
+use Rattle.varnish_tools.specs.Promise.{Input, IsInput, AreGood, HasClassCause, HasCause, RunBegan, IsQueryFile, NoFaultOf}
+use Rattle.varnish_tools.proofs.ObjectLemmas.{gives_still, gives_none}
+use Rattle.varnish_tools.proofs.QueryLemmas.{opened_append, one_of_left, opened_then, taken_then}
+
+-- what later calls leave
+
+handle_then : {reads writes : List ℕ} {opened created : List (List ℕ)} (o : Object) (h : ℕ) (s t u : Seen) → Touches reads writes opened created t u → IsSourceHandle o h s t → IsSourceHandle o h s u
+handle_then (OpenedFile name) h s t u touched p = (p.0, touched.given h p.1, touched.names Reading h name p.1 ∙ p.2)
+handle_then (CreatedFile append name) h s t u touched p = p
+handle_then (Stream stream name) h s t u touched p = p
+
+pub began_then : {reads writes : List ℕ} {opened created : List (List ℕ)} (asked : Asked) (recorded : RunRecord) (s t u : Seen) → Touches reads writes opened created t u → RunBegan asked recorded s t → RunBegan asked recorded s u
+began_then asked recorded s t u touched p = (p.0, λ o one. let found = p.1 o one in (found.0, handle_then o found.0 s t u touched found.1))
+
+stops_then : {reads writes : List ℕ} {opened created : List (List ℕ)} (caseless : Bool) (n : ℕ) (query : QueryText) (fault : ToolFault) (s t u : Seen) → Touches reads writes opened created t u → StopsAt caseless n query fault s t
+    → StopsAt caseless n query fault s u
+stops_then caseless n query (Usage why) s t u touched p = absurd p
+stops_then caseless n query NotBuilt s t u touched p = absurd p
+stops_then caseless n query (BadQuery number why) s t u touched p = (p.0, p.1, opened_then query s t u touched p.2, p.3)
+stops_then caseless n query (NoOpen name) s t u touched p = (p.0, p.1, omega (arith, touched.counts.each Opening name, p.2))
+stops_then caseless n query (ReadFault name) s t u touched p = (p.0, p.1, opened_then query s t u touched p.2, omega (arith, touched.counts.each Reading name, p.3))
+stops_then caseless n query (WriteFault name) s t u touched p = absurd p
+stops_then caseless n query (NotALog name at) s t u touched p = absurd p
+stops_then caseless n query (Damaged name at) s t u touched p = absurd p
+stops_then caseless n query (TooLarge name limit) s t u touched p = (p.0, p.1, p.2, opened_then query s t u touched p.3, p.4)
+
+-- the message leaves a query that stopped a job
+pub stopped_then : (job : Job) (fault : ToolFault) (s t u : Seen) → Touches [] (ERRORS ∷ []) [] [] t u → StoppedByQuery job fault s t → StoppedByQuery job fault s u
+stopped_then job fault s t u told p = record {
+  earlier = p.earlier;
+  query = p.query;
+  later = p.later;
+  parts = p.parts;
+  taken = taken_then job.caseless 0 p.earlier s t u told p.taken;
+  stops = stops_then job.caseless (length p.earlier) p.query fault s t u told p.stops;
+  touches = touches_then p.touches (touches_in [] [] (ERRORS ∷ []) (ERRORS ∷ []) [] _ [] [] t u (λ h one. one) (λ h one. one) (λ name one. absurd one) (λ name one. one) told);
+  handles = gives_still _ s t u p.handles (gives_none t u told);
+}
+
+-- the file of a query is one of the job's
+
+pub opened_first : (job : Job) (name : List ℕ) → IsOneOf name (opened_of (query_files job.queries)) → IsOneOf name (calls_of (Work job) Opening)
+opened_first job name one = subst (λ (names : List (List ℕ)). IsOneOf name names) (sym (opened_append (query_files job.queries) (source_of job ∷ []))) (one_of_left name _ _ one)
+
+opened_is_named : (objects : List Object) (name : List ℕ) → IsOneOf name (opened_of objects) → IsOneOf name (names_of objects)
+opened_is_named [] name one = one
+opened_is_named (OpenedFile first ∷ objects) name (inl e) = inl e
+opened_is_named (OpenedFile first ∷ objects) name (inr one) = inr (opened_is_named objects name one)
+opened_is_named (CreatedFile append first ∷ objects) name one = inr (opened_is_named objects name one)
+opened_is_named (Stream stream first ∷ objects) name one = inr (opened_is_named objects name one)
+
+file_here : (b : Bool) (name : List ℕ) (files : List Object) → b ≡ true → IsOneOf name (opened_of (cond b (OpenedFile name ∷ files) files))
+file_here true name files e = inl refl
+file_here false name files e = absurd cc
+
+file_behind : (b : Bool) (first name : List ℕ) (files : List Object) → IsOneOf name (opened_of files) → IsOneOf name (opened_of (cond b (OpenedFile first ∷ files) files))
+file_behind true first name files one = inr one
+file_behind false first name files one = one
+
+file_among : (earlier : List QueryText) (query : QueryText) (later : List QueryText) → query.file ≡ true → IsOneOf query.text (opened_of (query_files (earlier ++ query ∷ later)))
+file_among [] query later file = file_here query.file query.text (query_files later) file
+file_among (first ∷ earlier) query later file = file_behind first.file first.text query.text (query_files (earlier ++ query ∷ later)) (file_among earlier query later file)
+
+-- the name of the file of the query that stopped a job
+stopped_file : (job : Job) (fault : ToolFault) (name : List ℕ) (s t : Seen) (p : StoppedByQuery job fault s t) → p.query.file ≡ true → name ≡ p.query.text → IsOneOf name (opened_of (query_files job.queries))
+stopped_file job fault name s t p file e =
+    subst (λ (queries : List QueryText). IsOneOf name (opened_of (query_files queries))) (sym p.parts)
+    (subst (λ (x : List ℕ). IsOneOf x (opened_of (query_files (p.earlier ++ p.query ∷ p.later)))) (sym e) (file_among p.earlier p.query p.later file))
+
+stopped_opening : (job : Job) (fault : ToolFault) (name : List ℕ) (s t : Seen) (p : StoppedByQuery job fault s t) → p.query.file ≡ true → name ≡ p.query.text → IsOneOf name (calls_of (Work job) Opening)
+stopped_opening job fault name s t p file e = opened_first job name (stopped_file job fault name s t p file e)
+
+stopped_reading : (job : Job) (fault : ToolFault) (name : List ℕ) (s t : Seen) (p : StoppedByQuery job fault s t) → p.query.file ≡ true → name ≡ p.query.text → IsOneOf name (calls_of (Work job) Reading)
+stopped_reading job fault name s t p file e = opened_is_named (query_files job.queries ++ source_of job ∷ []) name (stopped_opening job fault name s t p file e)
+
+-- a query that stops a job is a cause
+
+long_class : (name : List ℕ) (limit : ℕ) → limit ≡ most_query_bytes → class_of (TooLarge name limit) ≡ LongQuery
+long_class name limit e = subst (λ (k : ℕ). class_of (TooLarge name k) ≡ LongQuery) (sym e) refl
+
+pub stopped_cause : (job : Job) (fault : ToolFault) (s t : Seen) → StoppedByQuery job fault s t → HasCause (Work job) fault s t
+stopped_cause job (Usage why) s t p = absurd p.stops
+stopped_cause job NotBuilt s t p = absurd p.stops
+stopped_cause job (BadQuery number why) s t p = p
+stopped_cause job (NoOpen name) s t p = let stops = p.stops in inl (stopped_opening job (NoOpen name) name s t p stops.0 stops.1, stops.2)
+stopped_cause job (ReadFault name) s t p = let stops = p.stops in (stopped_reading job (ReadFault name) name s t p stops.0 stops.1, stops.3)
+stopped_cause job (WriteFault name) s t p = absurd p.stops
+stopped_cause job (NotALog name at) s t p = absurd p.stops
+stopped_cause job (Damaged name at) s t p = absurd p.stops
+stopped_cause job (TooLarge name limit) s t p = let stops = p.stops in subst (λ (c : FaultClass). HasClassCause (Work job) (TooLarge name limit) c s t) (sym (long_class name limit stops.2)) p
+
+-- a class of faults before a run begins: a query was refused, or its file can't be opened or read
+abbrev pub IsEarly : Job → FaultClass → Type 0
+IsEarly job Refused = ⊥
+IsEarly job RefusedQuery = Unit {0}
+IsEarly job LongQuery = Unit {0}
+IsEarly job (NotOpened name) = Unit {0}
+IsEarly job (NotRead name) = IsQueryFile (Work job) name
+IsEarly job (NotWritten name) = ⊥
+IsEarly job (BadInput name) = ⊥
+
+pub stopped_early : (job : Job) (fault : ToolFault) (s t : Seen) → StoppedByQuery job fault s t → IsEarly job (class_of fault)
+stopped_early job (Usage why) s t p = absurd p.stops
+stopped_early job NotBuilt s t p = absurd p.stops
+stopped_early job (BadQuery number why) s t p = tt
+stopped_early job (NoOpen name) s t p = tt
+stopped_early job (ReadFault name) s t p = let stops = p.stops in opened_is_named (query_files job.queries) name (stopped_file job (ReadFault name) name s t p stops.0 stops.1)
+stopped_early job (WriteFault name) s t p = absurd p.stops
+stopped_early job (NotALog name at) s t p = absurd p.stops
+stopped_early job (Damaged name at) s t p = absurd p.stops
+stopped_early job (TooLarge name limit) s t p = let stops = p.stops in subst (λ (c : FaultClass). IsEarly job c) (sym (long_class name limit stops.2)) tt
+
+-- where nothing is wrong with the queries and no call failed, none stops a job
+
+or_none : {A : Type 0} (x y : Option A) → option_or x y ≡ None → (x ≡ None) × (y ≡ None)
+or_none None y e = (refl, e)
+or_none (Some x) y e = absurd cc
+
+-- the text of a query, which has no fault
+record FaultlessText (caseless : Bool) (n : ℕ) (query : QueryText) (s : Seen) : Type 0 where
+  text : List ℕ
+  holds : TextHolds s query text
+  none : text_fault caseless n query text ≡ None
+
+faultless_text : (caseless : Bool) (n : ℕ) (s : Seen) (earlier : List QueryText) (query : QueryText) (later : List QueryText) (texts : List (List ℕ)) → TextsHold s (earlier ++ query ∷ later) texts
+    → texts_fault caseless n (earlier ++ query ∷ later) texts ≡ None → FaultlessText caseless (n + length earlier) query s
+faultless_text caseless n s [] query later [] holds none = absurd holds
+faultless_text caseless n s [] query later (text ∷ texts) holds none =
+    let here : n ≡ n + 0 = omega arith in
+    subst (λ (k : ℕ). FaultlessText caseless k query s) here (record { text = text; holds = holds.0; none = (or_none (text_fault caseless n query text) (texts_fault caseless (n + 1) later texts) none).0 })
+faultless_text caseless n s (first ∷ earlier) query later [] holds none = absurd holds
+faultless_text caseless n s (first ∷ earlier) query later (text ∷ texts) holds none =
+    let here : n + 1 + length earlier ≡ n + length (first ∷ earlier) = omega arith in
+    subst (λ (k : ℕ). FaultlessText caseless k query s) here
+    (faultless_text caseless (n + 1) s earlier query later texts holds.1 (or_none (text_fault caseless n first text) (texts_fault caseless (n + 1) (earlier ++ query ∷ later) texts) none).1)
+
+none_faulty : (job : Job) (input : Input) (fault f : ToolFault) (s u : Seen) → IsInput (Work job) s input → AreGood job input → (p : StoppedByQuery job fault s u) → ¬ (HasFault job.caseless (length p.earlier) p.query f s)
+none_faulty job input fault f s u is_input clean p has =
+    let holds = subst (λ (queries : List QueryText). TextsHold s queries input.texts) p.parts is_input.3 in
+    let none = subst (λ (queries : List QueryText). texts_fault job.caseless 0 queries input.texts ≡ None) p.parts clean in
+    let start : 0 + length p.earlier ≡ length p.earlier = omega arith in
+    let found = subst (λ (k : ℕ). FaultlessText job.caseless k p.query s) start (faultless_text job.caseless 0 s p.earlier p.query p.later input.texts holds none) in
+    let wrong = has found.text found.holds in let right = found.none in absurd cc
+
+pub none_stopped : (job : Job) (input : Input) (fault : ToolFault) (s u : Seen) → IsInput (Work job) s input → AreGood job input → NoFaultOf (Work job) s u → ¬ (StoppedByQuery job fault s u)
+none_stopped job input (Usage why) s u is_input clean none p = p.stops
+none_stopped job input NotBuilt s u is_input clean none p = p.stops
+none_stopped job input (BadQuery number why) s u is_input clean none p = none_faulty job input (BadQuery number why) (BadQuery number why) s u is_input clean p (p.stops).3
+none_stopped job input (NoOpen name) s u is_input clean none p = let stops = p.stops in none Opening name (stopped_opening job (NoOpen name) name s u p stops.0 stops.1) stops.2
+none_stopped job input (ReadFault name) s u is_input clean none p = let stops = p.stops in none Reading name (stopped_reading job (ReadFault name) name s u p stops.0 stops.1) stops.3
+none_stopped job input (WriteFault name) s u is_input clean none p = p.stops
+none_stopped job input (NotALog name at) s u is_input clean none p = p.stops
+none_stopped job input (Damaged name at) s u is_input clean none p = p.stops
+none_stopped job input (TooLarge name limit) s u is_input clean none p = none_faulty job input (TooLarge name limit) (TooLarge name limit) s u is_input clean p (p.stops).4

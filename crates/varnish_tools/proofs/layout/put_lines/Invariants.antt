@@ -1,7 +1,0 @@
-use Rattle.std.proofs.Common.{◌≡◌, ◌++◌, take}
-use Rattle.varnish_tools.specs.declared.layout.Layout.TheVariants.{Lines}
-use Rattle.varnish_tools.specs.Output.{laid_out}
-use Rattle.varnish_tools.proofs.layout.put_lines.Given as goal
-
-abbrev pub invariant-loop-group : goal.invariant-loop-group
-invariant-loop-group l = l.out.items ≡ l.initial.out.items ++ laid_out Lines (take l.group-index l.groups)
