@@ -1,6 +1,7 @@
 //! Asking a query of a group.
 
-ghost use Rattle.std.specs.Prelude.{◌≡◌, IfOk, OnOk};
+ghost use Rattle.std.specs.Prelude.{◌≡◌, ◌∷◌, [], IfOk, IfSome, OnOk};
+ghost use Rattle.query_grammar.specs.declared.step.StepOver.TheVariants as kinds;
 ghost use Rattle.query_grammar.specs.Tree.{truths_after};
 ghost use Rattle.query_eval.specs.Meaning.{group_satisfies, is_held};
 
@@ -11,8 +12,8 @@ use query_parser::{Query, Test};
 use std::alloc::{AllocError, Global};
 use txn_rows::Group;
 
-/// Whether the query holds for the group. It takes memory for the truths of its tests, and for a pattern where a record is
-/// asked; the query that holds for every group takes none.
+/// Whether the query holds for the group. It takes memory for the truths of several tests, and for a pattern where a
+/// record is asked; the query that holds for every group, and one test without a pattern, take none.
 ///
 /// Source: vsl-query(7), "Query Expressions".
 pub fn holds(alloc: Global, query: &Query, group: &Group) -> Result<bool, AllocError>
@@ -21,11 +22,24 @@ pub fn holds(alloc: Global, query: &Query, group: &Group) -> Result<bool, AllocE
     if query.always {
         return Ok(true);
     }
+    if let Some(test) = only_test(&query.steps) {
+        return group_satisfies(alloc, test, group);
+    }
     let mut truths = Truths::new(alloc);
     for step in &query.steps {
         take_step(alloc, step, group, &mut truths)?;
     }
     Ok(truths.last())
+}
+
+/// The test of a query that is one test.
+fn only_test(steps: &[StepOver<Test>]) -> Option<&Test>
+    ensures { IfSome result (λ test. steps.now ≡ kinds.Test test.now ∷ []) }
+{
+    match steps {
+        [StepOver::Test(test)] => Some(test),
+        _ => None,
+    }
 }
 
 /// Asks a test, or joins the truths of an operator's operands.

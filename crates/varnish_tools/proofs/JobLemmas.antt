@@ -19,13 +19,13 @@ use Rattle.varnish_tools.specs.Objects.{Object, OpenedFile, CreatedFile, Stream,
 use Rattle.varnish_tools.specs.Queries.{Ask}
 use Rattle.varnish_tools.specs.QueryFiles.{AreTaken, StoppedByQuery}
 use Rattle.varnish_tools.specs.Run.{Run, Ending, Whole, Kept, Faulted, no_run}
-use Rattle.varnish_tools.specs.Promise.{Input, SourceHolds, IsInput, HasFailed, HasClassCause, HasCause, TakesQueries, RunBegan, LeavesAll, LeavesUntil, LeavesSinks, TakesUntil, TookSome, ReadsOnceUntil, ReadsOnce, IsDue, SinksLeft, WritesFor, WorksOff, WritesPrefix}
+use Rattle.varnish_tools.specs.Promise.{Input, SourceHolds, IsInput, HasFailed, HasFailedInput, HasClassCause, HasCause, TakesQueries, RunBegan, LeavesAll, LeavesUntil, LeavesSinks, TakesUntil, TookSome, ReadsOnceUntil, ReadsOnce, IsDue, SinksLeft, WritesFor, WorksOff, WritesPrefix}
 use Rattle.varnish_tools.specs.inside.LogFile.{HoldsAsAsked}
 use Rattle.varnish_tools.specs.inside.QueryFiles.{OnlyReads, QueriesRead}
-use Rattle.varnish_tools.specs.inside.Works.{IsOfRun, WorksFor, PrefixFor}
+use Rattle.varnish_tools.specs.inside.Works.{HasRunCause, RunLeavesUntil, RunLeaves, WorksFor, PrefixFor}
 use Rattle.varnish_tools.proofs.ObjectLemmas.{IsStill, IsSource, is_source, are_sources, last_opened, untouched_still, source_still_left, sink_before, begins_before, holds_before, gives_then, gives_more}
 use Rattle.varnish_tools.proofs.QueryLemmas.{taken_then, opened_append, texts_still}
-use Rattle.varnish_tools.proofs.TakenLemmas.{IsEarly, opened_first, stopped_cause, stopped_early}
+use Rattle.varnish_tools.proofs.TakenLemmas.{opened_first, stopped_class}
 
 -- what reading the queries leaves as it is
 pub still_read : {opened : List (List ℕ)} (r s : Seen) → OnlyReads r s → Touches [] [] opened [] r s → IsStill r s
@@ -53,15 +53,18 @@ input_since job input r s streams quiet still is =
 failed_since : (job : Job) (kind : CallKind) (name : List ℕ) (r s t : Seen) → NoCountFalls r s → HasFailed (Work job) kind name s t → HasFailed (Work job) kind name r t
 failed_since job kind name r s t n p = (p.0, let rose : HasNewFault (s.faults kind name) (t.faults kind name) = p.1 in omega (arith, n.each kind name, rose))
 
-cause_since : (job : Job) (f : ToolFault) (c : FaultClass) (r s t : Seen) → HasStreams r → NoCountFalls r s → IsStill r s → IsOfRun c → HasClassCause (Work job) f c s t → HasClassCause (Work job) f c r t
-cause_since job f Refused r s t streams n still of_run p = p
-cause_since job f RefusedQuery r s t streams n still of_run p = absurd of_run
-cause_since job f LongQuery r s t streams n still of_run p = absurd of_run
-cause_since job f (NotOpened name) r s t streams n still of_run (inl p) = inl (failed_since job Opening name r s t n p)
-cause_since job f (NotOpened name) r s t streams n still of_run (inr p) = inr (failed_since job Creating name r s t n p)
-cause_since job f (NotRead name) r s t streams n still of_run p = failed_since job Reading name r s t n p
-cause_since job f (NotWritten name) r s t streams n still of_run p = failed_since job Writing name r s t n p
-cause_since job f (BadInput name) r s t streams n still of_run p =
+input_failed_since : (job : Job) (kind : CallKind) (name : List ℕ) (r s t : Seen) → NoCountFalls r s → HasFailedInput (Work job) kind name s t → HasFailedInput (Work job) kind name r t
+input_failed_since job kind name r s t n p = (p.0, let rose : HasNewFault (s.faults kind name) (t.faults kind name) = p.1 in omega (arith, n.each kind name, rose))
+
+cause_since : (job : Job) (f : ToolFault) (c : FaultClass) (r s t : Seen) → HasStreams r → NoCountFalls r s → IsStill r s → HasRunCause (Work job) f c s t → HasClassCause (Work job) f c r t
+cause_since job f Refused r s t streams n still p = p
+cause_since job f RefusedQuery r s t streams n still p = absurd p
+cause_since job f LongQuery r s t streams n still p = absurd p
+cause_since job f (NotOpened name) r s t streams n still (inl p) = inl (input_failed_since job Opening name r s t n p)
+cause_since job f (NotOpened name) r s t streams n still (inr p) = inr (inl (failed_since job Creating name r s t n p))
+cause_since job f (NotRead name) r s t streams n still p = inl (input_failed_since job Reading name r s t n p)
+cause_since job f (NotWritten name) r s t streams n still p = failed_since job Writing name r s t n p
+cause_since job f (BadInput name) r s t streams n still p =
     let source = subst (λ (o : Object). IsSource o) (sym (only_one p.0 (source_of job) p.1)) (is_source (file_of job)) in
     (p.0, p.1, p.2, λ bytes units ending holds is_file. p.3 bytes units ending (source_since p.0 bytes r s source streams still holds) is_file)
 
@@ -100,17 +103,16 @@ handle_since (Stream stream name) h r s t touched is = is
 began_since : {opened : List (List ℕ)} (job : Job) (recorded : RunRecord) (r s t : Seen) → Touches [] [] opened [] r s → RunBegan (Work job) recorded s t → RunBegan (Work job) recorded r t
 began_since job recorded r s t touched p = (p.0, λ o one. let found = p.1 o one in (found.0, handle_since o found.0 r s t touched found.1))
 
-leaves_since : {opened : List (List ℕ)} (c : FaultClass) (job : Job) (recorded : RunRecord) (r s t : Seen) → HasStreams r → Touches [] [] opened [] r s → IsStill r s → LeavesUntil c (Work job) recorded s t → LeavesUntil c (Work job) recorded r t
-leaves_since Refused job recorded r s t streams touched still p = all_since job recorded r s t streams touched still p
-leaves_since RefusedQuery job recorded r s t streams touched still p = all_since job recorded r s t streams touched still p
-leaves_since LongQuery job recorded r s t streams touched still p = all_since job recorded r s t streams touched still p
+leaves_since : {opened : List (List ℕ)} (c : FaultClass) (job : Job) (recorded : RunRecord) (r s t : Seen) → HasStreams r → Touches [] [] opened [] r s → IsStill r s → RunLeavesUntil c (Work job) recorded s t → LeavesUntil c (Work job) recorded r t
+leaves_since Refused job recorded r s t streams touched still p = absurd p
+leaves_since RefusedQuery job recorded r s t streams touched still p = absurd p
+leaves_since LongQuery job recorded r s t streams touched still p = absurd p
 leaves_since (NotOpened name) job recorded r s t streams touched still p = all_since job recorded r s t streams touched still p
-leaves_since (NotRead name) job recorded r s t streams touched still (inl p) = inl (p.0, began_since job recorded r s t touched p.1)
-leaves_since (NotRead name) job recorded r s t streams touched still (inr p) = inr (p.0, all_since job recorded r s t streams touched still p.1)
+leaves_since (NotRead name) job recorded r s t streams touched still p = inl (p.0, began_since job recorded r s t touched p.1)
 leaves_since (NotWritten name) job recorded r s t streams touched still p = began_since job recorded r s t touched p
 leaves_since (BadInput name) job recorded r s t streams touched still p = began_since job recorded r s t touched p
 
-sinks_since : {opened : List (List ℕ)} (fault : Option ToolFault) (job : Job) (recorded : RunRecord) (r s t : Seen) → HasStreams r → Touches [] [] opened [] r s → IsStill r s → LeavesSinks fault (Work job) recorded s t → LeavesSinks fault (Work job) recorded r t
+sinks_since : {opened : List (List ℕ)} (fault : Option ToolFault) (job : Job) (recorded : RunRecord) (r s t : Seen) → HasStreams r → Touches [] [] opened [] r s → IsStill r s → RunLeaves fault (Work job) recorded s t → LeavesSinks fault (Work job) recorded r t
 sinks_since None job recorded r s t streams touched still p = began_since job recorded r s t touched p
 sinks_since (Some f) job recorded r s t streams touched still p = leaves_since (class_of f) job recorded r s t streams touched still p
 
@@ -169,7 +171,7 @@ works_since job query fault recorded r s t streams quiet touched read ran p =
     let still = still_read r s quiet touched in
     let works = p read.ask read.holds in record {
       refused = λ f e. absurd cc;
-      causes = λ f e. cause_since job f (class_of f) r s t streams touched.counts still (works.of_run f e) (works.causes f e);
+      causes = λ f e. cause_since job f (class_of f) r s t streams touched.counts still (works.causes f e);
       leaves = sinks_since fault job recorded r s t streams touched still works.leaves;
       queries = λ other e. inl (taken_since job other query r s t ran read e);
       writes = λ input is_input.
@@ -187,33 +189,6 @@ prefix_since job query r s t streams quiet touched read p = λ input is_input o 
 
 -- the queries were not read
 
-early_leaves : (c : FaultClass) (job : Job) (r s : Seen) → IsEarly job c → LeavesAll (Work job) Nothing r s → LeavesUntil c (Work job) Nothing r s
-early_leaves Refused job r s early p = absurd early
-early_leaves RefusedQuery job r s early p = p
-early_leaves LongQuery job r s early p = p
-early_leaves (NotOpened name) job r s early p = p
-early_leaves (NotRead name) job r s early p = inr (early, p)
-early_leaves (NotWritten name) job r s early p = absurd early
-early_leaves (BadInput name) job r s early p = absurd early
-
-early_takes : (c : FaultClass) (job : Job) (input : Input) → IsEarly job c → TakesUntil c input no_run
-early_takes Refused job input early = refl
-early_takes RefusedQuery job input early = refl
-early_takes LongQuery job input early = refl
-early_takes (NotOpened name) job input early = refl
-early_takes (NotRead name) job input early = inl refl
-early_takes (NotWritten name) job input early = absurd early
-early_takes (BadInput name) job input early = absurd early
-
-early_once : (c : FaultClass) (job : Job) (o : Object) (input : Input) (r s : Seen) → IsEarly job c → ReadsOnceUntil c o input no_run r s
-early_once Refused job o input r s early = tt
-early_once RefusedQuery job o input r s early = tt
-early_once LongQuery job o input r s early = tt
-early_once (NotOpened name) job o input r s early = tt
-early_once (NotRead name) job o input r s early = inl refl
-early_once (NotWritten name) job o input r s early = absurd early
-early_once (BadInput name) job o input r s early = tt
-
 stopped_of : (job other : Job) (fault : ToolFault) (r s : Seen) → StoppedByQuery job fault r s → LeavesAll (Work job) Nothing r s → Work job ≡ Work other → TakesQueries other (Some fault) Nothing r s
 stopped_of job other fault r s p left e =
     let same : job ≡ other = cc in inr (fault, refl, subst (λ (j : Job). StoppedByQuery j fault r s) same p, subst (λ (j : Job). LeavesAll (Work j) Nothing r s) same left)
@@ -221,12 +196,12 @@ stopped_of job other fault r s p left e =
 pub works_early : (job : Job) (fault : ToolFault) (r s : Seen) → HasStreams r → OnlyReads r s → Touches [] [] (opened_of (query_files job.queries)) [] r s → StoppedByQuery job fault r s → WorksOff (Work job) (Some fault) Nothing r s
 works_early job fault r s streams quiet touched p =
     let still = still_read r s quiet touched in
-    let early = stopped_early job fault r s p in
     let left : LeavesAll (Work job) Nothing r s =
     (refl, (λ o one. source_still_left o r s (are_sources job.queries (source_of job) o (is_source (file_of job)) one) streams still, λ o one. untouched_still o r s still)) in record {
       refused = λ f e. absurd cc;
-      causes = λ f e. let same : fault ≡ f = cc in subst (λ (x : ToolFault). HasCause (Work job) x r s) same (stopped_cause job fault r s p);
-      leaves = early_leaves (class_of fault) job r s early left;
+      causes = λ f e. let same : fault ≡ f = cc in subst (λ (x : ToolFault). HasCause (Work job) x r s) same
+          (stopped_class (λ c. HasClassCause (Work job) fault c r s) job fault r s p p p (λ name. inr (inr p)) (λ name read. inr p));
+      leaves = stopped_class (λ c. LeavesUntil c (Work job) Nothing r s) job fault r s p left left (λ name. left) (λ name read. inr (read, left));
       queries = λ other e. stopped_of job other fault r s p left e;
       writes = λ input is_input. (
         None,
@@ -236,8 +211,8 @@ works_early job fault r s streams quiet touched p =
           ending = Faulted fault;
           is_run = refl;
           is_ending = refl;
-          takes = early_takes (class_of fault) job input early;
-          reads_once = λ o one. early_once (class_of fault) job o input r s early;
+          takes = stopped_class (λ c. TakesUntil c input no_run) job fault r s p refl refl (λ name. refl) (λ name read. inl refl);
+          reads_once = λ o one. stopped_class (λ c. ReadsOnceUntil c o input no_run r s) job fault r s p tt tt (λ name. tt) (λ name read. inl refl);
           sinks = λ o one. untouched_still o r s still;
         },
       );

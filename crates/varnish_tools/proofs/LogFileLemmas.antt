@@ -27,19 +27,19 @@ use Rattle.varnish_tools.specs.declared.log_source.LogFile.{LogFile}
 use Rattle.varnish_tools.specs.declared.source.SourceFault.{SourceFault}
 use Rattle.varnish_tools.specs.declared.source.SourceFault.TheVariants as source_faults
 use Rattle.varnish_tools.specs.Asked.{Asked, Work, file_of, write_of}
-use Rattle.varnish_tools.specs.Objects.{GivesAtMost, Object, OpenedFile, CreatedFile, source_of, sink_of, query_files, opened_of, created_of, SinkGained}
+use Rattle.varnish_tools.specs.Objects.{GivesAtMost, Object, OpenedFile, CreatedFile, source_of, sink_of, opened_of, created_of, SinkGained}
 use Rattle.varnish_tools.specs.Queries.{Ask, chosen}
 use Rattle.varnish_tools.specs.Run.{Ending, Faulted, no_run, run_of}
 use Rattle.varnish_tools.specs.Output.{head_text, laid_out, layout_of, is_flushed, sink_text}
 use Rattle.varnish_tools.specs.Printer.{PrinterState, due}
-use Rattle.varnish_tools.specs.Promise.{Input, IsInput, IsDue, ReadsOnce, HasFailed, WritesPrefix, whole_text, is_whole, ending_begun}
+use Rattle.varnish_tools.specs.Promise.{Input, IsInput, IsDue, ReadsOnce, HasFailed, HasFailedInput, WritesPrefix, whole_text, is_whole, ending_begun}
 use Rattle.varnish_tools.specs.inside.LogFile.{HasBegun, HoldsAsAsked, IsJobPrinter, SourceOpened, SinkCreated}
 use Rattle.varnish_tools.specs.inside.LogSource.{GaveUnits, GaveFirst, StoppedSo}
 use Rattle.varnish_tools.specs.inside.Works.{WorksFor, PrefixFor}
 use Rattle.varnish_tools.specs.inside.Loop.{Added, AddedSome, RanUntil}
 use Rattle.varnish_tools.proofs.LogSourceLemmas.{gave_as_first}
 use Rattle.varnish_tools.proofs.LoopLemmas.{laid_nil}
-use Rattle.varnish_tools.proofs.ObjectLemmas.{source_name, sink_name, source_still, sink_still, holds_more, IsStill, untouched_none, untouched_still, still_counts, still_then, still_opened, is_open, is_made, sink_before, begins_before, holds_before, touches_opening, touches_making, is_source, are_sources, last_opened, source_still_left, gives_then, gives_still, gives_none, gives_more, gives_opening, gives_making}
+use Rattle.varnish_tools.proofs.ObjectLemmas.{source_name, sink_name, source_still, sink_still, holds_more, IsStill, untouched_none, untouched_still, still_counts, still_then, still_opened, is_open, is_made, sink_before, begins_before, holds_before, touches_opening, touches_making, is_source, are_sources, source_still_left, gives_then, gives_still, gives_none, gives_more, gives_opening, gives_making}
 use Rattle.varnish_tools.proofs.PrinterLemmas.{due_first}
 use Rattle.varnish_tools.proofs.RunLemmas.{each_one, run_began, works_by, sink_gained, given_first, given_all, whole_is}
 
@@ -154,7 +154,6 @@ works_headless job ask source sink empty r s t begun left rose =
     let fault = WriteFault (write_of job) in
     works_by job ask fault (Counted 0 1) r t
     (inl (sym (sink_name job.append (write_of job))), omega (arith, begun.counts.each Writing (write_of job), rose.each (write_of job) begun.writes))
-    tt
     (run_began job source sink empty 0 r s t begun (touches_wrote (source ∷ []) sink left.added s t left.wrote))
     (λ input is_input.
     let run = run_of input.sink_empty [] in
@@ -209,15 +208,15 @@ pub created_handles : (job : Job) (source sink : ℕ) (empty : Bool) (s t u : Se
 created_handles job source sink empty s t u created touched = gives_still _ s t u (gives_making (sink_of job) sink empty s t created) (gives_none t u touched)
 
 -- a job whose object could not be opened or created
-works_refused : (job : Job) (ask : Ask) (name : List ℕ) (r t : Seen) → HasStreams r → IsStill r t → HasFailed (Work job) Opening name r t ⊎ HasFailed (Work job) Creating name r t
+works_refused : (job : Job) (ask : Ask) (name : List ℕ) (r t : Seen) → HasStreams r → IsStill r t → HasFailedInput (Work job) Opening name r t ⊎ HasFailed (Work job) Creating name r t
     → WorksFor ask (Work job) (Some (NoOpen name)) Nothing r t
 works_refused job ask name r t streams still cause =
-    works_by job ask (NoOpen name) Nothing r t cause tt (refl, (λ o one. source_still_left o r t (are_sources job.queries (source_of job) o (is_source (file_of job)) one) streams still, λ o one. untouched_still o r t still))
+    works_by job ask (NoOpen name) Nothing r t cause (refl, (λ o one. source_still_left o r t (are_sources job.queries (source_of job) o (is_source (file_of job)) one) streams still, λ o one. untouched_still o r t still))
     (λ input is_input. record { run = no_run; ending = Faulted (NoOpen name); is_run = refl; is_ending = refl; takes = refl; reads_once = λ o one. tt; sinks = λ o one. untouched_still o r t still })
 
 pub works_unopened : (job : Job) (ask : Ask) (r t : Seen) → HasStreams r → source_of job ≡ OpenedFile (file_of job) → OnlyCounts r t → HasNewFault (r.faults Opening (file_of job)) (t.faults Opening (file_of job)) → WorksFor ask (Work job) (Some (NoOpen (file_of job))) Nothing r t
 works_unopened job ask r t streams is counts rose =
-    works_refused job ask (file_of job) r t streams (still_counts r t counts) (inl (last_opened (query_files job.queries) (source_of job) (file_of job) (subst (λ (o : Object). IsOneOf (file_of job) (opened_of (o ∷ []))) (sym is) (inl refl)), rose))
+    works_refused job ask (file_of job) r t streams (still_counts r t counts) (inl (subst (λ (o : Object). IsOneOf (file_of job) (opened_of (o ∷ []))) (sym is) (inl refl), rose))
 
 pub works_unmade : (job : Job) (ask : Ask) (source : ℕ) (r s t : Seen) → HasStreams r → sink_of job ≡ CreatedFile job.append (write_of job) → OnlyCounts s t → HasNewFault (s.faults Creating (write_of job)) (t.faults Creating (write_of job)) → SourceOpened (source_of job) source r s
     → WorksFor ask (Work job) (Some (NoOpen (write_of job))) Nothing r t

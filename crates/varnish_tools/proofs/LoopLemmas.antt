@@ -15,12 +15,12 @@ use Rattle.varnish_tools.specs.declared.layout.Layout.TheVariants.{Lines, Units}
 use Rattle.varnish_tools.specs.declared.source.SourceFault.{SourceFault}
 use Rattle.varnish_tools.specs.declared.printer.PrintFault.{PrintFault}
 use Rattle.varnish_tools.specs.declared.printer.PrintFault.TheVariants.{WriteFault, NoMemory}
-use Rattle.varnish_tools.specs.declared.run.Stopped.TheVariants.{BySource, ByPrinter}
+use Rattle.varnish_tools.specs.declared.run.Stopped.TheVariants.{ByPrinter}
 use Rattle.varnish_tools.specs.Output.{laid_out}
 use Rattle.varnish_tools.specs.Printer.{PrinterState, Represents, IsSamePrinter, HasPrintCause, IsLeft, due}
 use Rattle.varnish_tools.specs.inside.Loop.{Added, AddedSome, Running, IsLeftOf, RanToEnd, RanUntil}
 use Rattle.varnish_tools.proofs.PrinterLemmas.{due_first}
-use Rattle.vio.proofs.TouchLemmas.{touches_none, touches_wrote, touches_then, touches_read}
+use Rattle.vio.proofs.TouchLemmas.{touches_wrote, touches_then, touches_read}
 
 -- no group, no text
 pub laid_nil : (l : Layout) → laid_out l [] ≡ []
@@ -47,18 +47,6 @@ added_more h a b s t u p names w = record {
 
 pub added_so : {IsSo IsToo : List ℕ → Type 0} {h : ℕ} {s t : Seen} → ((text : List ℕ) → IsSo text → IsToo text) → AddedSome IsSo h s t → AddedSome IsToo h s t
 added_so also p = record { text = p.text; is = also p.text p.is; added = p.added }
-
--- before the first unit
-pub running_none : (IsGiven : Log → Type 0) (reads : List ℕ) (p : PrinterState) (s : Seen) → IsGiven [] → Represents p [] → Running IsGiven reads p p 0 s s
-running_none IsGiven reads p s given new = record {
-  units = [];
-  given = given;
-  count = refl;
-  same = record { options = refl; layout = refl; query = refl; sink = refl; name = refl };
-  represents = new;
-  gains = subst (λ (text : List ℕ). Added p.sink text s s) (sym (laid_nil p.layout)) (added_none p.sink s);
-  touches = touches_none reads (p.sink ∷ []) [] [] s;
-}
 
 -- printers of one layout, query and grouping have the same text due
 same_due : (p q : PrinterState) (us : Log) (b : Bool) → IsSamePrinter p q → due q us b ≡ due p us b
@@ -103,16 +91,6 @@ running_more IsGiven IsNow reads p q r n u s t v w run given read stays same tak
       gains = subst (λ (text : List ℕ). Added p.sink text s w) gained.is.1 gained.added;
       touches = touches_printed reads p q _ _ s t v w run.same run.touches read wrote;
     }
-
--- the source stopped
-pub source_stopped : (IsGiven : Log → Type 0) (reads : List ℕ) (gave : Log → Bool → Type 0) (stopped : SourceFault → Log → Type 0) (fault : SourceFault) (p q : PrinterState) (n : ℕ) (s t u : Seen)
-    → (run : Running IsGiven reads p q n s t) → s.given p.sink ≡ true → Touches reads [] [] [] t u → stopped fault run.units → RanUntil (BySource fault n) gave stopped p s u
-source_stopped IsGiven reads gave stopped fault p q n s t u run given read stop = record {
-  units = run.units;
-  given = stop;
-  count = run.count;
-  gains = record { text = due p run.units false; is = refl; added = added_still p.sink (due p run.units false) reads s t u run.gains (run.touches.given p.sink given) read };
-}
 
 -- the text of units without their last one
 without_last : (us : Log) (u : LogUnit) → take (length (us ++ u ∷ []) - 1) (us ++ u ∷ []) ≡ us
@@ -198,12 +176,6 @@ ran_to_end IsGiven reads gave p q n s t v w run given read stays writes =
       count = run.count;
       gains = added_so (λ text so. so.1) (added_on reads p q run.units run.units true (λ whole text. text ≡ whole) s t v w run.same given run.touches run.gains read wrote);
     }
-
--- what the run touched, where the printer wrote last
-pub touches_last : (IsGiven : Log → Type 0) (reads : List ℕ) (p q : PrinterState) (n : ℕ) (h : ℕ) (bytes : List ℕ) (s t v w : Seen) → Running IsGiven reads p q n s t → Touches reads [] [] [] t v
-    → h ≡ q.sink → Wrote h bytes v w → Touches reads (p.sink ∷ []) [] [] s w
-touches_last IsGiven reads p q n h bytes s t v w run read is wrote =
-    touches_then (touches_then run.touches (touches_read reads p.sink t v read)) (subst (λ (k : ℕ). Touches reads (k ∷ []) [] [] v w) (is ∙ run.same.sink) (touches_wrote reads h bytes v w wrote))
 
 -- the sink keeps its name
 pub named_still : (IsGiven : Log → Type 0) (reads : List ℕ) (p q : PrinterState) (n : ℕ) (s t u : Seen) → Running IsGiven reads p q n s t → Touches reads [] [] [] t u → s.given p.sink ≡ true

@@ -1,6 +1,6 @@
 -- What a printer's text comes to, unit by unit.
-use Rattle.std.proofs.Common.{◌≡◌, ℕ, ◌+◌, ◌<◌, Bool, false, true, List, [], ◌∷◌, ◌++◌, length, get_or, take, drop, refl, sym, ap, subst, ◌∙◌}
-use Rattle.std.proofs.lemmas.List.{append-nil, take_more, take-append-drop}
+use Rattle.std.proofs.Common.{◌≡◌, ℕ, Bool, false, true, List, [], ◌∷◌, ◌++◌, take, drop, refl, sym, ap, subst, ◌∙◌}
+use Rattle.std.proofs.lemmas.List.{append-nil, take-append-drop}
 use Rattle.std.proofs.lemmas.List.Concat.{flat_map-append}
 use Rattle.std.proofs.lemmas.List.Elements.{filter-append}
 use Rattle.log_model.specs.Prefix.{IsPrefix}
@@ -153,7 +153,3 @@ due_first l test by units n b = subst (λ (us : Log). IsPrefix (tested_text l te
 
 pub due_flag : (l : Layout) (test : Group → Bool) (by : Grouping) (units : Log) (b : Bool) → IsPrefix (tested_text l test by units false) (tested_text l test by units b)
 due_flag l test by units b = subst (λ (us : Log). IsPrefix (tested_text l test by units false) (tested_text l test by us b)) (append-nil units) (due_prefix l test by units [] b)
-
--- the first units and one more
-take_one : (units : Log) (i : ℕ) (u : LogUnit) → i < length units → u ≡ get_or units i u → take (i + 1) units ≡ take i units ++ u ∷ []
-take_one units i u lt is = take_more units i u lt ∙ ap (λ (x : LogUnit). take i units ++ x ∷ []) (sym is)

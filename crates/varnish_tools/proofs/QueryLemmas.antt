@@ -35,7 +35,7 @@ use Rattle.varnish_tools.specs.declared.fault.ToolFault.{ToolFault}
 use Rattle.varnish_tools.specs.declared.fault.ToolFault.TheVariants.{Usage, NotBuilt, BadQuery, NoOpen, ReadFault, WriteFault, NotALog, Damaged, TooLarge}
 use Rattle.varnish_tools.specs.Objects.{Object, OpenedFile, CreatedFile, Stream, GivesAtMost, opened_of, query_files}
 use Rattle.varnish_tools.specs.Queries.{Ask, AreAsked, TextHolds, TextsHold, answered, joined, text_fault, texts_fault, most_query_bytes}
-use Rattle.varnish_tools.specs.QueryFiles.{WasOpened, AreTaken, StopsAt, StoppedByQuery}
+use Rattle.varnish_tools.specs.QueryFiles.{WasOpened, AreTaken, IsQueryFault, StoppedByQuery}
 use Rattle.varnish_tools.specs.inside.LogFile.{HoldsAsAsked}
 use Rattle.varnish_tools.specs.inside.QueryFiles.{CallFailed, FileRead, HasAsk, IsLong, OnlyReads, QueriesRead, QueryRead, ReadSoFar}
 use Rattle.varnish_tools.proofs.ObjectLemmas.{gives_then, gives_still, gives_none, gives_opening}
@@ -116,29 +116,29 @@ text_refused n None fault e = absurd cc
 text_refused n (Some why) fault e = (answered why, cc, answered_so why)
 
 text_stops : (caseless : Bool) (n : ℕ) (query : QueryText) (text : List ℕ) (fault : ToolFault) (s t : Seen) → WasOpened query s t → (query.file ≡ true → length text ≤ most_query_bytes) → ((x : List ℕ) → TextHolds s query x → text ≡ x)
-    → option_map (λ why. BadQuery n (answered why)) (first_fault caseless text) ≡ Some fault → StopsAt caseless n query fault s t
+    → option_map (λ why. BadQuery n (answered why)) (first_fault caseless text) ≡ Some fault → IsQueryFault caseless n query fault s t
 text_stops caseless n query text fault s t opened short same e =
     let refused = text_refused n (first_fault caseless text) fault e in
     let has : text_fault caseless n query text ≡ Some (BadQuery n refused.0) = cond-false _ _ _ (not_long query.file (length text) short) ∙ e ∙ ap Some refused.1 in
-    subst (λ (f : ToolFault). StopsAt caseless n query f s t) (sym refused.1)
+    subst (λ (f : ToolFault). IsQueryFault caseless n query f s t) (sym refused.1)
     (refl, refused.2, opened, λ x holds. subst (λ (y : List ℕ). text_fault caseless n query y ≡ Some (BadQuery n refused.0)) (same x holds) has)
 
-pub word_stops : (caseless : Bool) (n : ℕ) (query : QueryText) (fault : ToolFault) (s t : Seen) → query.file ≡ false → option_map (λ why. BadQuery n (answered why)) (first_fault caseless query.text) ≡ Some fault → StopsAt caseless n query fault s t
+pub word_stops : (caseless : Bool) (n : ℕ) (query : QueryText) (fault : ToolFault) (s t : Seen) → query.file ≡ false → option_map (λ why. BadQuery n (answered why)) (first_fault caseless query.text) ≡ Some fault → IsQueryFault caseless n query fault s t
 word_stops caseless n query fault s t word e = text_stops caseless n query query.text fault s t (λ file. absurd cc) (λ file. absurd cc) (λ x holds. sym (MatchBool-at_false _ _ word holds)) e
 
 pub file_stops : (caseless : Bool) (n : ℕ) (query : QueryText) (bytes : List ℕ) (fault : ToolFault) (s t : Seen) → query.file ≡ true → FileRead query.text bytes s t → option_map (λ why. BadQuery n (answered why)) (first_fault caseless bytes) ≡ Some fault
-    → StopsAt caseless n query fault s t
+    → IsQueryFault caseless n query fault s t
 file_stops caseless n query bytes fault s t file read e = text_stops caseless n query bytes fault s t (λ is. read.opened) (λ is. read.within) (λ x holds. read.told x (MatchBool-at_true _ _ file holds)) e
 
 too_long : (b : Bool) (n : ℕ) → b ≡ true → most_query_bytes < n → (b && nat_lt most_query_bytes n) ≡ true
 too_long true n e p = lt-ltb most_query_bytes n p
 too_long false n e p = absurd cc
 
-pub call_stops : (caseless : Bool) (n : ℕ) (query : QueryText) (fault : ToolFault) (s t : Seen) → query.file ≡ true → CallFailed query.text fault s t ⊎ IsLong query.text fault s t → StopsAt caseless n query fault s t
-call_stops caseless n query fault s t file (inl (inl p)) = subst (λ (f : ToolFault). StopsAt caseless n query f s t) (sym p.0) (file, refl, p.1)
-call_stops caseless n query fault s t file (inl (inr p)) = subst (λ (f : ToolFault). StopsAt caseless n query f s t) (sym p.0) (file, refl, λ is. p.1, p.2)
+pub call_stops : (caseless : Bool) (n : ℕ) (query : QueryText) (fault : ToolFault) (s t : Seen) → query.file ≡ true → CallFailed query.text fault s t ⊎ IsLong query.text fault s t → IsQueryFault caseless n query fault s t
+call_stops caseless n query fault s t file (inl (inl p)) = subst (λ (f : ToolFault). IsQueryFault caseless n query f s t) (sym p.0) (file, refl, p.1)
+call_stops caseless n query fault s t file (inl (inr p)) = subst (λ (f : ToolFault). IsQueryFault caseless n query f s t) (sym p.0) (file, refl, λ is. p.1, p.2)
 call_stops caseless n query fault s t file (inr p) =
-    subst (λ (f : ToolFault). StopsAt caseless n query f s t) (sym p.is)
+    subst (λ (f : ToolFault). IsQueryFault caseless n query f s t) (sym p.is)
     (file, refl, refl, λ is. p.opened, λ text holds. cond-true _ _ _ (too_long query.file (length text) file (p.long text (MatchBool-at_true _ _ file holds))))
 
 -- the world still tells the text of a query
@@ -257,8 +257,8 @@ read_more caseless n earlier query found next all r s t place quiet so first tou
 }
 
 -- a query that stops, told of the world as it was before any query was taken
-stops_since : {reads writes : List ℕ} {opened created : List (List ℕ)} (caseless : Bool) (n : ℕ) (query : QueryText) (fault : ToolFault) (r s t : Seen) → Touches reads writes opened created r s → OnlyReads r s → StopsAt caseless n query fault s t
-    → StopsAt caseless n query fault r t
+stops_since : {reads writes : List ℕ} {opened created : List (List ℕ)} (caseless : Bool) (n : ℕ) (query : QueryText) (fault : ToolFault) (r s t : Seen) → Touches reads writes opened created r s → OnlyReads r s → IsQueryFault caseless n query fault s t
+    → IsQueryFault caseless n query fault r t
 stops_since caseless n query (Usage fault) r s t q quiet p = absurd p
 stops_since caseless n query NotBuilt r s t q quiet p = absurd p
 stops_since caseless n query (BadQuery number fault) r s t q quiet p = (p.0, p.1, opened_since query r s t q p.2, λ text holds. p.3 text (text_still query text r s quiet holds))
@@ -384,7 +384,7 @@ until_more job n found query next all r s t within is p touches handles quiet re
 
 -- a query stops those that are behind it
 pub stopped_until : (job : Job) (n : ℕ) (found : Option Query) (query : QueryText) (fault : ToolFault) (r s t : Seen) → n < length job.queries → query ≡ get_or job.queries n query → ReadUntil job n found r s
-    → Touches [] [] (opened_of (query_files (query ∷ []))) [] s t → GivesAtMost (length (opened_of (query_files (query ∷ [])))) s t → StopsAt job.caseless n query fault s t → StoppedByQuery job fault r t
+    → Touches [] [] (opened_of (query_files (query ∷ []))) [] s t → GivesAtMost (length (opened_of (query_files (query ∷ [])))) s t → IsQueryFault job.caseless n query fault s t → StoppedByQuery job fault r t
 stopped_until job n found query fault r s t within is p touches handles stops =
     let opens = opens_one job n found query r s t p touches handles in record {
       earlier = take n job.queries;
@@ -392,7 +392,7 @@ stopped_until job n found query fault r s t within is p touches handles stops =
       later = drop (n + 1) job.queries;
       parts = at_place job.queries n query within is;
       taken = taken_then job.caseless 0 (take n job.queries) r s t touches p.so.taken;
-      stops = subst (λ (k : ℕ). StopsAt job.caseless k query fault r t) (place_is job.queries n within) (stops_since job.caseless n query fault r s t p.opens.touches p.quiet stops);
+      stops = subst (λ (k : ℕ). IsQueryFault job.caseless k query fault r t) (place_is job.queries n within) (stops_since job.caseless n query fault r s t p.opens.touches p.quiet stops);
       touches = touches_in [] [] [] (ERRORS ∷ []) _ _ [] [] r t (λ h one. one) (λ h one. absurd one) (λ name one. one) (λ name one. one) opens.touches;
       handles = opens.handles;
     }

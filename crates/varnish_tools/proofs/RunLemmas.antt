@@ -32,18 +32,18 @@ use Rattle.varnish_tools.specs.declared.run.Stopped.TheVariants.{BySource, ByPri
 use Rattle.varnish_tools.specs.declared.log_source.LogFile.{LogFile}
 use Rattle.varnish_tools.specs.Asked.{Work, file_of, write_of}
 use Rattle.varnish_tools.specs.Faults.{FaultClass, BadInput, class_of}
-use Rattle.varnish_tools.specs.Objects.{IsSourceHandle, Object, source_of, sink_of, query_files, calls_of, SinkGained}
+use Rattle.varnish_tools.specs.Objects.{IsSourceHandle, Object, source_of, sink_of, SinkGained}
 use Rattle.varnish_tools.specs.Queries.{Ask, chosen, is_asked}
 use Rattle.varnish_tools.specs.Run.{Ending, Whole, Faulted, run_of}
 use Rattle.varnish_tools.specs.Output.{head_text, laid_out, layout_of, is_flushed, sink_text}
 use Rattle.varnish_tools.specs.Printer.{PrinterState, due, due_text}
-use Rattle.varnish_tools.specs.Promise.{Input, SourceHolds, IsInput, HasCause, HasClassCause, LeavesUntil, RunBegan, TakesUntil, ReadsOnceUntil, IsDueUntil, IsDue, ReadsOnce, Took, WritesFor, whole_text, whole_run, input_fault, is_whole, ending_begun}
+use Rattle.varnish_tools.specs.Promise.{Input, SourceHolds, IsInput, RunBegan, TakesUntil, ReadsOnceUntil, IsDueUntil, IsDue, ReadsOnce, Took, WritesFor, whole_text, whole_run, input_fault, is_whole, ending_begun}
 use Rattle.varnish_tools.specs.inside.LogFile.{HasBegun, IsJobPrinter, fault_as}
 use Rattle.varnish_tools.specs.inside.LogSource.{TookFrom, BeginsLog, GaveUnits, GaveFirst, EndsFile, FailedAfter, StoppedSo}
-use Rattle.varnish_tools.specs.inside.Works.{IsOfRun, WorksFor}
+use Rattle.varnish_tools.specs.inside.Works.{HasRunCause, RunLeavesUntil, WorksFor}
 use Rattle.varnish_tools.specs.inside.Loop.{AddedSome, RanToEnd, RanUntil}
 use Rattle.varnish_tools.proofs.LogSourceLemmas.{gave_as_first}
-use Rattle.varnish_tools.proofs.ObjectLemmas.{source_name, sink_name, source_still, gained_after, last_name}
+use Rattle.varnish_tools.proofs.ObjectLemmas.{source_name, sink_name, source_still, gained_after}
 use Rattle.varnish_tools.proofs.PrinterLemmas.{due_flag}
 
 -- the units that were given, and the input
@@ -134,11 +134,10 @@ sink_gained {IsSo = IsSo} job ask source sink empty p r s t begun is touched als
     (subst (λ (h : ℕ). AddedSome IsSo h s t) is.sink added)
 
 -- a fault of a job with its cause
-pub works_by : (job : Job) (ask : Ask) (fault : ToolFault) (taken : RunRecord) (s t : Seen) → HasCause (Work job) fault s t → IsOfRun (class_of fault) → LeavesUntil (class_of fault) (Work job) taken s t
+pub works_by : (job : Job) (ask : Ask) (fault : ToolFault) (taken : RunRecord) (s t : Seen) → HasRunCause (Work job) fault (class_of fault) s t → RunLeavesUntil (class_of fault) (Work job) taken s t
     → ((input : Input) → IsInput (Work job) s input → WritesFor ask (Work job) input (Some fault) taken s t) → WorksFor ask (Work job) (Some fault) taken s t
-works_by job ask fault taken s t cause of_run leaves writes = record {
-  causes = λ f e. let same : fault ≡ f = cc in subst (λ (x : ToolFault). HasCause (Work job) x s t) same cause;
-  of_run = λ f e. let same : fault ≡ f = cc in subst (λ (x : ToolFault). IsOfRun (class_of x)) same of_run;
+works_by job ask fault taken s t cause leaves writes = record {
+  causes = λ f e. let same : fault ≡ f = cc in subst (λ (x : ToolFault). HasRunCause (Work job) x (class_of x) s t) same cause;
   leaves = leaves;
   writes = writes;
 }
@@ -159,7 +158,6 @@ pub works_whole : (job : Job) (ask : Ask) (source sink : ℕ) (empty : Bool) (st
     → Touches (source ∷ []) (sink ∷ []) [] [] s t → RanToEnd (GaveUnits start now s t) p n s t → HasBegun job source sink empty (head_text job empty) r s → WorksFor ask (Work job) None (Counted n 1) r t
 works_whole job ask source sink empty start now n p r s t handle is touched ran begun = record {
   causes = λ f e. absurd cc;
-  of_run = λ f e. absurd cc;
   leaves = run_began job source sink empty n r s t begun touched;
   writes = λ input is_input.
       let all = given_all job source sink empty start now r s t ran.units input handle begun ran.given is_input in
@@ -183,14 +181,13 @@ pub works_ended : (job : Job) (ask : Ask) (source sink : ℕ) (empty : Bool) (n 
     → AddedSome (λ text. text ≡ due p units false) p.sink s t → WorksFor ask (Work job) (Some fault) (Counted n 1) r t
 works_ended job ask source sink empty n p units ending fault r s t is touched count e blamed begun ends added =
     works_by job ask fault (Counted n 1) r t
-    (subst (λ (c : FaultClass). HasClassCause (Work job) fault c r t) (sym e) (
+    (subst (λ (c : FaultClass). HasRunCause (Work job) fault c r t) (sym e) (
       source_of job,
       inl refl,
       sym (source_name (file_of job)),
       λ bytes us end holds is_file. ap (λ (x : FileEnding). input_fault (file_of job) x) (sym (ends_so job source sink empty r s units us ending end bytes begun ends holds is_file).1) ∙ blamed,
     ))
-    (subst (λ (c : FaultClass). IsOfRun c) (sym e) tt)
-    (subst (λ (c : FaultClass). LeavesUntil c (Work job) (Counted n 1) r t) (sym e) (run_began job source sink empty n r s t begun touched))
+    (subst (λ (c : FaultClass). RunLeavesUntil c (Work job) (Counted n 1) r t) (sym e) (run_began job source sink empty n r s t begun touched))
     (λ input is_input.
     let all = given_ending job source sink empty r s units ending input begun ends is_input in
     let same = begun.begins input.sink_empty is_input.2 in
@@ -216,18 +213,13 @@ text_of_first job ask k p empty b units ending is e = sink_is job ask k p empty 
 
 -- a read failed
 
--- the log is read under its name
-source_called : (job : Job) → IsOneOf (file_of job) (calls_of (Work job) Reading)
-source_called job = subst (λ (name : List ℕ). IsOneOf name (calls_of (Work job) Reading)) (source_name (file_of job)) (last_name (query_files job.queries) (source_of job))
-
 pub works_unread : (job : Job) (ask : Ask) (source sink : ℕ) (empty : Bool) (n : ℕ) (p : PrinterState) (units : Log) (r s t : Seen) → IsJobPrinter job ask sink p → Touches (source ∷ []) (sink ∷ []) [] [] s t → n ≡ length units
     → HasBegun job source sink empty (head_text job empty) r s → FailedAfter source s t units → AddedSome (λ text. text ≡ due p units false) p.sink s t
     → WorksFor ask (Work job) (Some (ReadFault (file_of job))) (Counted n 1) r t
 works_unread job ask source sink empty n p units r s t is touched count begun stop added =
     works_by job ask (ReadFault (file_of job)) (Counted n 1) r t
-    (source_called job, omega (arith, begun.counts.each Reading (file_of job), stop.rose.each (file_of job) begun.reads))
-    tt
-    (inl (inl (sym (source_name (file_of job))), run_began job source sink empty n r s t begun touched))
+    (inl (sym (source_name (file_of job))), omega (arith, begun.counts.each Reading (file_of job), stop.rose.each (file_of job) begun.reads))
+    (inl (sym (source_name (file_of job))), run_began job source sink empty n r s t begun touched)
     (λ input is_input.
     let same = begun.begins input.sink_empty is_input.2 in
     let first = first_taken n units input.units input.sink_empty count (given_first job source sink empty r s t units input begun stop.given is_input) in record {
@@ -302,7 +294,6 @@ works_unwritten job ask source sink empty start now name n p r s t handle is tou
     let rose : HasNewFault (s.faults Writing name) (t.faults Writing name) = subst (λ (x : List ℕ). HasNewFault (s.faults Writing x) (t.faults Writing x)) (sym ran.0.0) ran.0.1 in
     works_by job ask fault (Counted n 1) r t
     (inl (ran.0.0 ∙ is.name ∙ sym (sink_name job.append (write_of job))), omega (arith, begun.counts.each Writing name, rose))
-    tt
     (run_began job source sink empty n r s t begun touched)
     (λ input is_input.
     let same = begun.begins input.sink_empty is_input.2 in

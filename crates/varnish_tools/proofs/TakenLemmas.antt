@@ -11,11 +11,11 @@ use Rattle.varnish_tools.specs.declared.fault.ToolFault.{ToolFault}
 use Rattle.varnish_tools.specs.declared.fault.ToolFault.TheVariants.{Usage, NotBuilt, BadQuery, NoOpen, ReadFault, WriteFault, NotALog, Damaged, TooLarge}
 use Rattle.varnish_tools.specs.declared.outcome.RunRecord.{RunRecord}
 use Rattle.varnish_tools.specs.Asked.{Asked, Work}
-use Rattle.varnish_tools.specs.Faults.{FaultClass, Refused, RefusedQuery, LongQuery, NotOpened, NotRead, NotWritten, BadInput, class_of}
+use Rattle.varnish_tools.specs.Faults.{FaultClass, RefusedQuery, LongQuery, NotOpened, NotRead, class_of}
 use Rattle.varnish_tools.specs.Objects.{Object, OpenedFile, CreatedFile, Stream, source_of, query_files, names_of, opened_of, calls_of, IsSourceHandle}
 use Rattle.varnish_tools.specs.Queries.{TextHolds, TextsHold, text_fault, texts_fault, most_query_bytes}
-use Rattle.varnish_tools.specs.QueryFiles.{HasFault, StopsAt, StoppedByQuery}
-use Rattle.varnish_tools.specs.Promise.{Input, IsInput, AreGood, HasClassCause, HasCause, RunBegan, IsQueryFile, NoFaultOf}
+use Rattle.varnish_tools.specs.QueryFiles.{HasFault, IsQueryFault, StoppedByQuery}
+use Rattle.varnish_tools.specs.Promise.{Input, IsInput, AreGood, RunBegan, NoFaultOf}
 use Rattle.varnish_tools.proofs.ObjectLemmas.{gives_still, gives_none}
 use Rattle.varnish_tools.proofs.QueryLemmas.{opened_append, one_of_left, opened_then, taken_then}
 
@@ -29,8 +29,8 @@ handle_then (Stream stream name) h s t u touched p = p
 pub began_then : {reads writes : List ℕ} {opened created : List (List ℕ)} (asked : Asked) (recorded : RunRecord) (s t u : Seen) → Touches reads writes opened created t u → RunBegan asked recorded s t → RunBegan asked recorded s u
 began_then asked recorded s t u touched p = (p.0, λ o one. let found = p.1 o one in (found.0, handle_then o found.0 s t u touched found.1))
 
-stops_then : {reads writes : List ℕ} {opened created : List (List ℕ)} (caseless : Bool) (n : ℕ) (query : QueryText) (fault : ToolFault) (s t u : Seen) → Touches reads writes opened created t u → StopsAt caseless n query fault s t
-    → StopsAt caseless n query fault s u
+stops_then : {reads writes : List ℕ} {opened created : List (List ℕ)} (caseless : Bool) (n : ℕ) (query : QueryText) (fault : ToolFault) (s t u : Seen) → Touches reads writes opened created t u → IsQueryFault caseless n query fault s t
+    → IsQueryFault caseless n query fault s u
 stops_then caseless n query (Usage why) s t u touched p = absurd p
 stops_then caseless n query NotBuilt s t u touched p = absurd p
 stops_then caseless n query (BadQuery number why) s t u touched p = (p.0, p.1, opened_then query s t u touched p.2, p.3)
@@ -90,42 +90,23 @@ stopped_opening job fault name s t p file e = opened_first job name (stopped_fil
 stopped_reading : (job : Job) (fault : ToolFault) (name : List ℕ) (s t : Seen) (p : StoppedByQuery job fault s t) → p.query.file ≡ true → name ≡ p.query.text → IsOneOf name (calls_of (Work job) Reading)
 stopped_reading job fault name s t p file e = opened_is_named (query_files job.queries ++ source_of job ∷ []) name (stopped_opening job fault name s t p file e)
 
--- a query that stops a job is a cause
+-- the class of the fault of the query that stopped a job
 
 long_class : (name : List ℕ) (limit : ℕ) → limit ≡ most_query_bytes → class_of (TooLarge name limit) ≡ LongQuery
 long_class name limit e = subst (λ (k : ℕ). class_of (TooLarge name k) ≡ LongQuery) (sym e) refl
 
-pub stopped_cause : (job : Job) (fault : ToolFault) (s t : Seen) → StoppedByQuery job fault s t → HasCause (Work job) fault s t
-stopped_cause job (Usage why) s t p = absurd p.stops
-stopped_cause job NotBuilt s t p = absurd p.stops
-stopped_cause job (BadQuery number why) s t p = p
-stopped_cause job (NoOpen name) s t p = let stops = p.stops in inl (stopped_opening job (NoOpen name) name s t p stops.0 stops.1, stops.2)
-stopped_cause job (ReadFault name) s t p = let stops = p.stops in (stopped_reading job (ReadFault name) name s t p stops.0 stops.1, stops.3)
-stopped_cause job (WriteFault name) s t p = absurd p.stops
-stopped_cause job (NotALog name at) s t p = absurd p.stops
-stopped_cause job (Damaged name at) s t p = absurd p.stops
-stopped_cause job (TooLarge name limit) s t p = let stops = p.stops in subst (λ (c : FaultClass). HasClassCause (Work job) (TooLarge name limit) c s t) (sym (long_class name limit stops.2)) p
-
--- a class of faults before a run begins: a query was refused, or its file can't be opened or read
-abbrev pub IsEarly : Job → FaultClass → Type 0
-IsEarly job Refused = ⊥
-IsEarly job RefusedQuery = Unit {0}
-IsEarly job LongQuery = Unit {0}
-IsEarly job (NotOpened name) = Unit {0}
-IsEarly job (NotRead name) = IsQueryFile (Work job) name
-IsEarly job (NotWritten name) = ⊥
-IsEarly job (BadInput name) = ⊥
-
-pub stopped_early : (job : Job) (fault : ToolFault) (s t : Seen) → StoppedByQuery job fault s t → IsEarly job (class_of fault)
-stopped_early job (Usage why) s t p = absurd p.stops
-stopped_early job NotBuilt s t p = absurd p.stops
-stopped_early job (BadQuery number why) s t p = tt
-stopped_early job (NoOpen name) s t p = tt
-stopped_early job (ReadFault name) s t p = let stops = p.stops in opened_is_named (query_files job.queries) name (stopped_file job (ReadFault name) name s t p stops.0 stops.1)
-stopped_early job (WriteFault name) s t p = absurd p.stops
-stopped_early job (NotALog name at) s t p = absurd p.stops
-stopped_early job (Damaged name at) s t p = absurd p.stops
-stopped_early job (TooLarge name limit) s t p = let stops = p.stops in subst (λ (c : FaultClass). IsEarly job c) (sym (long_class name limit stops.2)) tt
+-- what is so of the class of each fault of a query
+pub stopped_class : (IsSo : FaultClass → Type 0) (job : Job) (fault : ToolFault) (s t : Seen) → StoppedByQuery job fault s t → IsSo RefusedQuery → IsSo LongQuery → ((name : List ℕ) → IsSo (NotOpened name))
+    → ((name : List ℕ) → StoppedByQuery job (ReadFault name) s t → IsSo (NotRead name)) → IsSo (class_of fault)
+stopped_class IsSo job (Usage why) s t p refused long unopened unread = absurd p.stops
+stopped_class IsSo job NotBuilt s t p refused long unopened unread = absurd p.stops
+stopped_class IsSo job (BadQuery number why) s t p refused long unopened unread = refused
+stopped_class IsSo job (NoOpen name) s t p refused long unopened unread = unopened name
+stopped_class IsSo job (ReadFault name) s t p refused long unopened unread = unread name p
+stopped_class IsSo job (WriteFault name) s t p refused long unopened unread = absurd p.stops
+stopped_class IsSo job (NotALog name at) s t p refused long unopened unread = absurd p.stops
+stopped_class IsSo job (Damaged name at) s t p refused long unopened unread = absurd p.stops
+stopped_class IsSo job (TooLarge name limit) s t p refused long unopened unread = let stops = p.stops in subst IsSo (sym (long_class name limit stops.2)) long
 
 -- where nothing is wrong with the queries and no call failed, none stops a job
 

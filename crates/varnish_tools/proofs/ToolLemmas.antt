@@ -16,18 +16,19 @@ use Rattle.vsl_record.specs.Unit.{Log}
 use Rattle.tool_words.specs.declared.job.Job.{Job}
 use Rattle.txn_rows.specs.Grouping.{groups_of}
 use Rattle.varnish_tools.specs.declared.fault.ToolFault.{ToolFault}
+use Rattle.varnish_tools.specs.declared.fault.ToolFault.TheVariants.{ReadFault}
 use Rattle.varnish_tools.specs.declared.outcome.RunRecord.{RunRecord}
 use Rattle.varnish_tools.specs.declared.outcome.RunRecord.TheVariants.{Nothing, Counted}
 use Rattle.varnish_tools.specs.declared.outcome.Outcome.{Outcome}
 use Rattle.varnish_tools.specs.Asked.{Asked, Refuse, Work, asked_of, file_of, write_of}
 use Rattle.varnish_tools.specs.Faults.{FaultClass, Refused, RefusedQuery, LongQuery, NotOpened, NotRead, NotWritten, BadInput, class_of, message, fault_message, status_of}
-use Rattle.varnish_tools.specs.Objects.{Object, source_of, sink_of, inputs_of, sources_of, sinks_of, streams_of, calls_of, SinkGained, SinkUntouched, SinksGained, SinksUntouched, NothingTouched, GivesAtMost, TouchesJob}
+use Rattle.varnish_tools.specs.Objects.{Object, source_of, sink_of, inputs_of, sources_of, sinks_of, streams_of, query_files, name_of, calls_of, SinkGained, SinkUntouched, SinksGained, SinksUntouched, NothingTouched, GivesAtMost, TouchesJob}
 use Rattle.varnish_tools.specs.Queries.{Ask, is_asked, chosen}
 use Rattle.varnish_tools.specs.Run.{Run, Ending, Whole, Kept, Faulted, no_run, run_of, fault_of}
 use Rattle.varnish_tools.specs.Output.{head_text, laid_out, layout_of, is_flushed, sink_text}
-use Rattle.varnish_tools.specs.Promise.{Input, SourceHolds, IsInput, Asks, AreGood, IsStoppedByQuery, TakesQueries, IsCounted, LeavesAll, WritesFor, IsGood, HasFailed, HasClassCause, HasCause, IsRunOf, TakesUntil, Takes, TookSome, ReadsOnceUntil, ReadsOnce, IsDueUntil, IsDue, LeavesUntil, LeavesSinks, SinksLeft, WritesError, WorksOff, WritesPrefix, IsFaithful, IsComplete, IsCutShort, NoFaultOf, whole_run, whole_text, is_whole}
+use Rattle.varnish_tools.specs.Promise.{Input, SourceHolds, IsInput, Asks, AreGood, IsStoppedByQuery, TakesQueries, IsCounted, LeavesAll, WritesFor, IsGood, HasFailed, HasFailedInput, HasClassCause, HasCause, IsRunOf, TakesUntil, Takes, TookSome, ReadsOnceUntil, ReadsOnce, IsDueUntil, IsDue, LeavesUntil, LeavesSinks, SinksLeft, WritesError, WorksOff, WritesPrefix, IsFaithful, IsComplete, IsCutShort, NoFaultOf, whole_run, whole_text, is_whole}
 use Rattle.varnish_tools.specs.inside.Report.{ReportsPart}
-use Rattle.varnish_tools.proofs.ObjectLemmas.{IsSink, is_sink, IsSource, is_source, are_sources, untouched_until, gained_until, gained_so, took_until, error_no_sink, source_until, gives_still, gives_none}
+use Rattle.varnish_tools.proofs.ObjectLemmas.{last_name, last_opened, IsSink, is_sink, IsSource, is_source, are_sources, untouched_until, gained_until, gained_so, took_until, error_no_sink, source_until, gives_still, gives_none}
 use Rattle.varnish_tools.proofs.PrinterLemmas.{due_first}
 use Rattle.varnish_tools.proofs.QueryLemmas.{taken_then}
 use Rattle.varnish_tools.proofs.TakenLemmas.{began_then, stopped_then, none_stopped}
@@ -59,6 +60,9 @@ works_refused f s e = record {
 failed_until : (asked : Asked) (kind : CallKind) (name : List ℕ) (s t u : Seen) → NoCountFalls t u → HasFailed asked kind name s t → HasFailed asked kind name s u
 failed_until asked kind name s t u n p = (p.0, let rose : HasNewFault (s.faults kind name) (t.faults kind name) = p.1 in omega (arith, n.each kind name, rose))
 
+input_failed_until : (asked : Asked) (kind : CallKind) (name : List ℕ) (s t u : Seen) → NoCountFalls t u → HasFailedInput asked kind name s t → HasFailedInput asked kind name s u
+input_failed_until asked kind name s t u n p = (p.0, let rose : HasNewFault (s.faults kind name) (t.faults kind name) = p.1 in omega (arith, n.each kind name, rose))
+
 -- what a job's run touched
 abbrev TouchedBy : Asked → Seen → Seen → Type 0
 TouchedBy asked s t = Touches (streams_of (sources_of asked)) (streams_of (sinks_of asked)) (calls_of asked Opening) (calls_of asked Creating) s t
@@ -75,9 +79,11 @@ cause_until : (asked : Asked) (f : ToolFault) (c : FaultClass) (s t u : Seen) �
 cause_until asked f Refused s t u told p = p
 cause_until asked f RefusedQuery s t u told p = stopped_until asked f s t u told p
 cause_until asked f LongQuery s t u told p = stopped_until asked f s t u told p
-cause_until asked f (NotOpened name) s t u told (inl p) = inl (failed_until asked Opening name s t u told.counts p)
-cause_until asked f (NotOpened name) s t u told (inr p) = inr (failed_until asked Creating name s t u told.counts p)
-cause_until asked f (NotRead name) s t u told p = failed_until asked Reading name s t u told.counts p
+cause_until asked f (NotOpened name) s t u told (inl p) = inl (input_failed_until asked Opening name s t u told.counts p)
+cause_until asked f (NotOpened name) s t u told (inr (inl p)) = inr (inl (failed_until asked Creating name s t u told.counts p))
+cause_until asked f (NotOpened name) s t u told (inr (inr p)) = inr (inr (stopped_until asked f s t u told p))
+cause_until asked f (NotRead name) s t u told (inl p) = inl (input_failed_until asked Reading name s t u told.counts p)
+cause_until asked f (NotRead name) s t u told (inr p) = inr (stopped_until asked f s t u told p)
 cause_until asked f (NotWritten name) s t u told p = failed_until asked Writing name s t u told.counts p
 cause_until asked f (BadInput name) s t u told p = p
 
@@ -113,7 +119,7 @@ leaves_until RefusedQuery asked recorded s t u streams touched told p = all_left
 leaves_until LongQuery asked recorded s t u streams touched told p = all_left asked recorded s t u streams touched told p
 leaves_until (NotOpened name) asked recorded s t u streams touched told p = all_left asked recorded s t u streams touched told p
 leaves_until (NotRead name) asked recorded s t u streams touched told (inl p) = inl (p.0, began_then asked recorded s t u told p.1)
-leaves_until (NotRead name) asked recorded s t u streams touched told (inr p) = inr (p.0, all_left asked recorded s t u streams touched told p.1)
+leaves_until (NotRead name) asked recorded s t u streams touched told (inr p) = inr (stopped_until asked (ReadFault name) s t u told p.0, all_left asked recorded s t u streams touched told p.1)
 leaves_until (NotWritten name) asked recorded s t u streams touched told p = began_then asked recorded s t u told p
 leaves_until (BadInput name) asked recorded s t u streams touched told p = began_then asked recorded s t u told p
 
@@ -272,14 +278,20 @@ is_faithful words status fault recorded s t u e streams touched works told messa
   works = works_until (asked_of words) fault recorded s t u streams touched told works;
 }
 
+-- what a run takes its units from is read under its name
+input_read : (job : Job) (name : List ℕ) → IsOneOf name (name_of (source_of job) ∷ []) → IsOneOf name (calls_of (Work job) Reading)
+input_read job name one = subst (λ (x : List ℕ). IsOneOf x (calls_of (Work job) Reading)) (sym (only_one name (name_of (source_of job)) one)) (last_name (query_files job.queries) (source_of job))
+
 -- where no call of the job failed and its input and its queries are good, no fault has a cause
 no_cause : (job : Job) (input : Input) (f : ToolFault) (c : FaultClass) (s u : Seen) → IsInput (Work job) s input → AreGood job input → IsGood input → NoFaultOf (Work job) s u → ¬ (HasClassCause (Work job) f c s u)
 no_cause job input f Refused s u is_input clean good none p = absurd cc
 no_cause job input f RefusedQuery s u is_input clean good none p = none_stopped job input f s u is_input clean none p
 no_cause job input f LongQuery s u is_input clean good none p = none_stopped job input f s u is_input clean none p
-no_cause job input f (NotOpened name) s u is_input clean good none (inl p) = none Opening name p.0 p.1
-no_cause job input f (NotOpened name) s u is_input clean good none (inr p) = none Creating name p.0 p.1
-no_cause job input f (NotRead name) s u is_input clean good none p = none Reading name p.0 p.1
+no_cause job input f (NotOpened name) s u is_input clean good none (inl p) = none Opening name (last_opened (query_files job.queries) (source_of job) name p.0) p.1
+no_cause job input f (NotOpened name) s u is_input clean good none (inr (inl p)) = none Creating name p.0 p.1
+no_cause job input f (NotOpened name) s u is_input clean good none (inr (inr p)) = none_stopped job input f s u is_input clean none p
+no_cause job input f (NotRead name) s u is_input clean good none (inl p) = none Reading name (input_read job name p.0) p.1
+no_cause job input f (NotRead name) s u is_input clean good none (inr p) = none_stopped job input f s u is_input clean none p
 no_cause job input f (NotWritten name) s u is_input clean good none p = none Writing name p.0 p.1
 no_cause job input f (BadInput name) s u is_input clean good none p =
     let holds : SourceHolds p.0 s input.bytes = subst (λ (o : Object). SourceHolds o s input.bytes) (sym (only_one p.0 (source_of job) p.1)) is_input.0 in
@@ -307,13 +319,9 @@ is_complete words outcome s u p job input e is_input clean good none =
     let left : LeavesSinks None (Work job) outcome.run s u = subst (λ (x : Option ToolFault). LeavesSinks x (Work job) outcome.run s u) faultless works.leaves in
     (faultless, p.status ∙ ap status_of faultless, (written.0, written.1 left.0, whole_written outcome.run job written.0 input w.run w.ending s u (w.is_ending ∙ faultless) left w.takes w.sinks))
 
--- stopped for want of memory in the message, which is that of a fault with a cause
+-- stopped for want of memory in the message of a fault with which the words were worked off
 pub cut_in_message : (words : List (List ℕ)) (fault : Option ToolFault) (recorded : RunRecord) (s t u : Seen) → HasStreams s → TouchedBy (asked_of words) s t
     → WorksOff (asked_of words) fault recorded s t → Told t u → ReportsPart words fault t u → IsCutShort words s u
 cut_in_message words None recorded s t u streams touched works told q = absurd (q.some refl)
 cut_in_message words (Some f) recorded s t u streams touched works told q =
-    inr (f, cause_until (asked_of words) f (class_of f) s t u told (works.causes f refl), some_since _ _ _ _ (error_written (asked_of words) s t streams touched) q.gains)
-
--- stopped for want of memory before any message
-pub cut_before : (words : List (List ℕ)) (s t : Seen) → HasStreams s → TouchedBy (asked_of words) s t → IsCutShort words s t
-cut_before words s t streams touched = inl (λ a told. error_written (asked_of words) s t streams touched ∙ told ∙ ap Some (sym (append-nil a)))
+    inr (f, (recorded, works_until (asked_of words) (Some f) recorded s t u streams touched told works), some_since _ _ _ _ (error_written (asked_of words) s t streams touched) q.gains)

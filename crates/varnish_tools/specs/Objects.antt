@@ -92,6 +92,13 @@ calls_of asked Creating = created_of (sinks_of asked)
 calls_of asked Reading = names_of (sources_of asked)
 calls_of asked Writing = names_of (sinks_of asked)
 
+-- the names for which calls of a kind are made on what a run takes its units from
+abbrev pub input_calls : Asked → CallKind → List (List ℕ)
+input_calls asked Opening = opened_of (inputs_of asked)
+input_calls asked Creating = []
+input_calls asked Reading = names_of (inputs_of asked)
+input_calls asked Writing = []
+
 -- the handle is the one by which a source is read: a stream's own, or a new one
 abbrev pub IsSourceHandle : Object → ℕ → Seen → Seen → Type 0
 IsSourceHandle (OpenedFile name) handle before now = (before.given handle ≡ false) × (now.given handle ≡ true) × (now.names Reading handle name ≡ true)

@@ -18,7 +18,7 @@ use Rattle.varnish_tools.specs.declared.outcome.Outcome.{Outcome}
 use Rattle.tool_words.specs.declared.job.Job.{Job}
 use Rattle.varnish_tools.specs.Asked.{Asked, Refuse, Work, asked_of}
 use Rattle.varnish_tools.specs.Faults.{FaultClass, Refused, RefusedQuery, LongQuery, NotOpened, NotRead, NotWritten, BadInput, class_of, message, fault_message, status_of}
-use Rattle.varnish_tools.specs.Objects.{Object, OpenedFile, CreatedFile, Stream, source_of, sink_of, calls_of, IsSourceHandle, SinkGained, SinkUntouched, SinksGained, SinksUntouched, NothingTouched, name_of, names_of, sinks_of, inputs_of, query_files}
+use Rattle.varnish_tools.specs.Objects.{Object, OpenedFile, CreatedFile, Stream, source_of, sink_of, calls_of, IsSourceHandle, SinkGained, SinkUntouched, SinksGained, SinksUntouched, NothingTouched, name_of, names_of, sinks_of, inputs_of, input_calls}
 use Rattle.varnish_tools.specs.Queries.{Ask, AreAsked, chosen, TextsHold, texts_fault}
 use Rattle.varnish_tools.specs.QueryFiles.{AreTaken, StoppedByQuery}
 use Rattle.varnish_tools.specs.Run.{Run, Ending, Whole, Kept, Faulted, fault_of, no_run, run_of}
@@ -85,6 +85,10 @@ input_fault name file.TooLarge = Some (faults.TooLarge name most_bytes)
 abbrev pub HasFailed : Asked → CallKind → List ℕ → Seen → Seen → Type 0
 HasFailed asked kind name before now = IsOneOf name (calls_of asked kind) × HasNewFault (before.faults kind name) (now.faults kind name)
 
+-- the same for what a run takes its units from
+abbrev pub HasFailedInput : Asked → CallKind → List ℕ → Seen → Seen → Type 0
+HasFailedInput asked kind name before now = IsOneOf name (input_calls asked kind) × HasNewFault (before.faults kind name) (now.faults kind name)
+
 -- a query of the job has this fault, and it is the first that has one
 abbrev pub IsStoppedByQuery : Asked → ToolFault → Seen → Seen → Type 0
 IsStoppedByQuery (Refuse f) fault before now = ⊥
@@ -96,8 +100,8 @@ abbrev pub HasClassCause : Asked → ToolFault → FaultClass → Seen → Seen 
 HasClassCause asked fault Refused before now = asked ≡ Refuse fault
 HasClassCause asked fault RefusedQuery before now = IsStoppedByQuery asked fault before now
 HasClassCause asked fault LongQuery before now = IsStoppedByQuery asked fault before now
-HasClassCause asked fault (NotOpened name) before now = HasFailed asked Opening name before now ⊎ HasFailed asked Creating name before now
-HasClassCause asked fault (NotRead name) before now = HasFailed asked Reading name before now
+HasClassCause asked fault (NotOpened name) before now = HasFailedInput asked Opening name before now ⊎ (HasFailed asked Creating name before now ⊎ IsStoppedByQuery asked fault before now)
+HasClassCause asked fault (NotRead name) before now = HasFailedInput asked Reading name before now ⊎ IsStoppedByQuery asked fault before now
 HasClassCause asked fault (NotWritten name) before now = HasFailed asked Writing name before now
 HasClassCause asked fault (BadInput name) before now =
     (source : Object) × IsOneOf source (inputs_of asked) × (name ≡ name_of source)
@@ -211,11 +215,6 @@ RunBegan asked recorded before now =
 abbrev pub LeavesAll : Asked → RunRecord → Seen → Seen → Type 0
 LeavesAll asked recorded before now = (recorded ≡ Nothing) × NothingTouched asked before now
 
--- this is the name of a query's file
-abbrev pub IsQueryFile : Asked → List ℕ → Type 0
-IsQueryFile (Refuse fault) name = ⊥
-IsQueryFile (Work job) name = IsOneOf name (names_of (query_files job.queries))
-
 -- where the words or a query are refused, or an object can't be opened or created, or a query's file can't be read, no run began; else one did
 abbrev pub LeavesUntil : FaultClass → Asked → RunRecord → Seen → Seen → Type 0
 LeavesUntil Refused asked recorded before now = LeavesAll asked recorded before now
@@ -223,7 +222,7 @@ LeavesUntil RefusedQuery asked recorded before now = LeavesAll asked recorded be
 LeavesUntil LongQuery asked recorded before now = LeavesAll asked recorded before now
 LeavesUntil (NotOpened name) asked recorded before now = LeavesAll asked recorded before now
 LeavesUntil (NotRead name) asked recorded before now =
-    (IsOneOf name (names_of (inputs_of asked)) × RunBegan asked recorded before now) ⊎ (IsQueryFile asked name × LeavesAll asked recorded before now)
+    (IsOneOf name (names_of (inputs_of asked)) × RunBegan asked recorded before now) ⊎ (IsStoppedByQuery asked (faults.ReadFault name) before now × LeavesAll asked recorded before now)
 LeavesUntil (NotWritten name) asked recorded before now = RunBegan asked recorded before now
 LeavesUntil (BadInput name) asked recorded before now = RunBegan asked recorded before now
 
@@ -295,7 +294,7 @@ IsComplete words outcome before now =
     (outcome.fault ≡ None) × (outcome.status ≡ 0)
     × ((ask : Ask) × Asks (Work job) input ask × SinksGained (λ text. text ≡ sink_text (Work job) ask (whole_run input) Whole) (Work job) before now)
 
--- where the call answers want of memory: of a fault's message nothing or a prefix was written
+-- where the call answers want of memory: nothing was written of a message, or a prefix of that of a fault with which the words were worked off
 abbrev pub IsCutShort : List (List ℕ) → Seen → Seen → Type 0
 IsCutShort words before now = Gains (before.written ERRORS) (now.written ERRORS) []
-    ⊎ ((fault : ToolFault) × HasCause (asked_of words) fault before now × GainsSome (λ part. IsPrefix part (message words fault)) (before.written ERRORS) (now.written ERRORS))
+    ⊎ ((fault : ToolFault) × ((recorded : RunRecord) × WorksOff (asked_of words) (Some fault) recorded before now) × GainsSome (λ part. IsPrefix part (message words fault)) (before.written ERRORS) (now.written ERRORS))

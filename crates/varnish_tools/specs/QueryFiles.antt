@@ -28,14 +28,14 @@ abbrev pub HasFault : Bool → ℕ → QueryText → ToolFault → Seen → Type
 HasFault caseless n query fault before = (text : List ℕ) → TextHolds before query text → text_fault caseless n query text ≡ Some fault
 
 -- a query, the n-th, has this fault: its text is refused, or its file is too long, can't be opened or can't be read
-abbrev pub StopsAt : Bool → ℕ → QueryText → ToolFault → Seen → Seen → Type 0
-StopsAt caseless n query (BadQuery number fault) before now = (number ≡ n) × (fault ≢ NoMemory) × WasOpened query before now × HasFault caseless n query (BadQuery number fault) before
-StopsAt caseless n query (TooLarge name limit) before now =
+abbrev pub IsQueryFault : Bool → ℕ → QueryText → ToolFault → Seen → Seen → Type 0
+IsQueryFault caseless n query (BadQuery number fault) before now = (number ≡ n) × (fault ≢ NoMemory) × WasOpened query before now × HasFault caseless n query (BadQuery number fault) before
+IsQueryFault caseless n query (TooLarge name limit) before now =
     (query.file ≡ true) × (name ≡ query.text) × (limit ≡ most_query_bytes) × WasOpened query before now × HasFault caseless n query (TooLarge name limit) before
-StopsAt caseless n query (NoOpen name) before now = (query.file ≡ true) × (name ≡ query.text) × HasNewFault (before.faults Opening name) (now.faults Opening name)
-StopsAt caseless n query (ReadFault name) before now =
+IsQueryFault caseless n query (NoOpen name) before now = (query.file ≡ true) × (name ≡ query.text) × HasNewFault (before.faults Opening name) (now.faults Opening name)
+IsQueryFault caseless n query (ReadFault name) before now =
     (query.file ≡ true) × (name ≡ query.text) × WasOpened query before now × HasNewFault (before.faults Reading name) (now.faults Reading name)
-StopsAt caseless n query fault before now = ⊥
+IsQueryFault caseless n query fault before now = ⊥
 
 -- a query has this fault, and those before it were taken; no other file was opened but theirs and that of this query
 pub record StoppedByQuery (job : Job) (fault : ToolFault) (before now : Seen) : Type 0 where
@@ -44,6 +44,6 @@ pub record StoppedByQuery (job : Job) (fault : ToolFault) (before now : Seen) : 
   pub later : List QueryText
   pub parts : job.queries ≡ earlier ++ query ∷ later
   pub taken : AreTaken job.caseless 0 earlier before now
-  pub stops : StopsAt job.caseless (length earlier) query fault before now
+  pub stops : IsQueryFault job.caseless (length earlier) query fault before now
   pub touches : Touches [] (ERRORS ∷ []) (opened_of (query_files (earlier ++ query ∷ []))) [] before now
   pub handles : GivesAtMost (length (opened_of (query_files (earlier ++ query ∷ [])))) before now

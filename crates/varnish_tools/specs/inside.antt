@@ -1,5 +1,4 @@
 -- What private steps say of one another; no public contract cites these definitions.
-pub mod Jobs
 pub mod Printing
 pub mod Source
 pub mod Loop

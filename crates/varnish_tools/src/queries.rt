@@ -9,7 +9,7 @@ ghost use Rattle.query_parser.specs.declared.test.Test.{Test};
 ghost use Rattle.query_parser.specs.Parsed.{HasTree, IsParsed, first_fault};
 ghost use Rattle.varnish_tools.specs.Objects.{GivesAtMost, opened_of, query_files};
 ghost use Rattle.varnish_tools.specs.Queries.{Ask, answered, joined};
-ghost use Rattle.varnish_tools.specs.QueryFiles.{StopsAt, StoppedByQuery};
+ghost use Rattle.varnish_tools.specs.QueryFiles.{IsQueryFault, StoppedByQuery};
 ghost use Rattle.varnish_tools.specs.inside.QueryFiles.{CallFailed, FileRead, HasAsk, IsLong, OnlyReads, QueriesRead, QueryRead};
 
 use crate::fault::ToolFault;
@@ -97,7 +97,7 @@ fn read_query<W: World>(
     ensures handles { GivesAtMost (length (opened_of (query_files (query.now ∷ [])))) (W.seen world.old) (W.seen world.new) }
     ensures quiet { OnlyReads (W.seen world.old) (W.seen world.new) }
     ensures read { IfOk result (λ r. IfOk r (λ found. QueryRead caseless index query.now found (W.seen world.old) (W.seen world.new))) }
-    ensures refused { IfOk result (λ r. IfErr r (λ fault. StopsAt caseless index query.now fault (W.seen world.old) (W.seen world.new))) }
+    ensures refused { IfOk result (λ r. IfErr r (λ fault. IsQueryFault caseless index query.now fault (W.seen world.old) (W.seen world.new))) }
 {
     if !query.file {
         return parse_text(alloc, query.text.as_bytes(), caseless, index);
