@@ -1,3 +1,4 @@
+mod AskerLemmas
 mod Examples
 mod LevelLemmas
 mod StepLemmas

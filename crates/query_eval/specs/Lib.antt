@@ -1,2 +1,3 @@
+pub mod Asker
 pub mod Meaning
 pub mod inside

@@ -12,13 +12,19 @@ use txn_rows::{Group, Member};
 use vsl_record::Record;
 
 /// Whether some record of some member of the group satisfies the test. Only a test with a pattern takes memory, once a
-/// record with what is asked is there.
-pub(crate) fn group_satisfies(alloc: Global, test: &Test, group: &Group) -> Result<bool, AllocError>
-    ensures { IfOk result (λ b. b ≡ group_satisfies group.now test.now) }
+/// record with what is asked is there, and where nothing that asks it was made before.
+pub(crate) fn group_satisfies<'t>(
+    alloc: Global,
+    test: &'t Test,
+    matching: &mut Option<Matching<'t>>,
+    group: &Group,
+) -> Result<bool, AllocError>
+    requires ready { IsReady test.now.check matching.old }
+    ensures answer { IfOk result (λ b. b ≡ group_satisfies group.now test.now) }
+    ensures ready { IsReady test.now.check matching.new }
 {
-    let mut matching = None;
     for member in group.members.as_slice() {
-        if member_satisfies(alloc, test, &mut matching, member)? {
+        if member_satisfies(alloc, test, matching, member)? {
             return Ok(true);
         }
     }

@@ -4,11 +4,12 @@ ghost use Rattle.std.specs.Prelude.{◌≡◌, ◌∷◌, [], IfOk, IfSome, OnOk
 ghost use Rattle.query_grammar.specs.declared.step.StepOver.TheVariants as kinds;
 ghost use Rattle.query_grammar.specs.Tree.{truths_after};
 ghost use Rattle.query_eval.specs.Meaning.{group_satisfies, is_held};
+ghost use Rattle.query_eval.specs.inside.Asking.{IsStepReady};
 
 use crate::asking::group_satisfies;
 use crate::truths::Truths;
 use query_grammar::StepOver;
-use query_parser::{Query, Test};
+use query_parser::{Matching, Query, Test};
 use std::alloc::{AllocError, Global};
 use txn_rows::Group;
 
@@ -23,11 +24,13 @@ pub fn holds(alloc: Global, query: &Query, group: &Group) -> Result<bool, AllocE
         return Ok(true);
     }
     if let Some(test) = only_test(&query.steps) {
-        return group_satisfies(alloc, test, group);
+        let mut matching = None;
+        return group_satisfies(alloc, test, &mut matching, group);
     }
     let mut truths = Truths::new(alloc);
     for step in &query.steps {
-        take_step(alloc, step, group, &mut truths)?;
+        let mut matching = None;
+        take_step(alloc, step, &mut matching, group, &mut truths)?;
     }
     Ok(truths.last())
 }
@@ -43,16 +46,19 @@ fn only_test(steps: &[StepOver<Test>]) -> Option<&Test>
 }
 
 /// Asks a test, or joins the truths of an operator's operands.
-fn take_step(
+pub(crate) fn take_step<'t>(
     alloc: Global,
-    step: &StepOver<Test>,
+    step: &'t StepOver<Test>,
+    matching: &mut Option<Matching<'t>>,
     group: &Group,
     truths: &mut Truths,
 ) -> Result<(), AllocError>
-    ensures { OnOk result (truths.new ≡ truths_after (group_satisfies group.now) step.now truths.old) }
+    requires ready { IsStepReady step.now matching.old }
+    ensures ready { IsStepReady step.now matching.new }
+    ensures truths { OnOk result (truths.new ≡ truths_after (group_satisfies group.now) step.now truths.old) }
 {
     match step {
-        StepOver::Test(test) => truths.push(group_satisfies(alloc, test, group)?),
+        StepOver::Test(test) => truths.push(group_satisfies(alloc, test, matching, group)?),
         StepOver::Not => {
             let Some(truth) = truths.pop() else {
                 return Ok(());

@@ -31,6 +31,13 @@ impl Truths {
         }
     }
 
+    /// Drops the truths, and keeps their memory.
+    pub(crate) fn clear(&mut self)
+        ensures { self.new ≡ [] }
+    {
+        self.items.clear();
+    }
+
     /// Adds a truth behind the others.
     pub(crate) fn push(&mut self, truth: bool) -> Result<(), AllocError>
         ensures { OnOk result (self.new ≡ truth ∷ self.old) }
@@ -56,9 +63,9 @@ impl Truths {
         Some((first, last))
     }
 
-    /// The last truth that came, and false where there is none.
-    pub(crate) fn last(mut self) -> bool
-        ensures { result ≡ last_truth self }
+    /// Takes the last truth that came, and false where there is none.
+    pub(crate) fn last(&mut self) -> bool
+        ensures { result ≡ last_truth self.old }
     {
         self.pop().unwrap_or(false)
     }

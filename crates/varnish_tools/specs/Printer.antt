@@ -9,6 +9,7 @@ use Rattle.txn_rows.specs.declared.group.Grouping.{Grouping}
 use Rattle.txn_rows.specs.Grouping.{no_state, unit_steps, groups_of}
 use Rattle.txn_rows.specs.TableState.{TableState}
 use Rattle.query_parser.specs.declared.query.Query.{Query}
+use Rattle.query_eval.specs.Asker.{asker_query}
 use Rattle.query_eval.specs.Meaning.{is_held}
 use Rattle.varnish_tools.specs.declared.printer.PrintFault.{PrintFault}
 use Rattle.varnish_tools.specs.declared.printer.Printer.{Printer}
@@ -26,7 +27,7 @@ pub record PrinterState : Type 0 where
 
 -- what a printer tells
 abbrev pub printer_state : Printer → PrinterState
-printer_state p = record { table = p.table; layout = p.style.layout; query = p.style.query; sink = p.sink.handle; name = p.sink.name }
+printer_state p = record { table = p.table; layout = p.style.layout; query = asker_query p.style.asker; sink = p.sink.handle; name = p.sink.name }
 
 -- the printer was given these units, and no call was refused
 pub record Represents (p : PrinterState) (units : Log) : Type 0 where

@@ -1,5 +1,4 @@
--- Taking the queries of a job in the order of the words: the file of each is opened and read, and its text judged, before the next one's (this project's
--- choice).
+-- Taking the queries of a job, and the first that has a fault (their order is this project's choice).
 use Rattle.std.specs.Prelude.{◌≡◌, ◌≢◌, ℕ, ◌+◌, Bool, true, List, [], ◌∷◌, ◌++◌, length, Some, None}
 use Rattle.log_model.specs.Faults.{HasNewFault}
 use Rattle.vio.specs.declared.world.TheConstants.{ERRORS}
@@ -37,7 +36,7 @@ IsQueryFault caseless n query (ReadFault name) before now =
     (query.file ≡ true) × (name ≡ query.text) × WasOpened query before now × HasNewFault (before.faults Reading name) (now.faults Reading name)
 IsQueryFault caseless n query fault before now = ⊥
 
--- a query has this fault, and those before it were taken; no other file was opened but theirs and that of this query
+-- a query has this fault, and those before it were taken; no file was opened under another name than theirs and its own, nor more than these are
 pub record StoppedByQuery (job : Job) (fault : ToolFault) (before now : Seen) : Type 0 where
   pub earlier : List QueryText
   pub query : QueryText

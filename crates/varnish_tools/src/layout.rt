@@ -3,12 +3,11 @@
 ghost use Rattle.std.specs.Prelude.{◌≡◌, ◌++◌, ◌∷◌, [], OnOk};
 ghost use Rattle.vsl_file.specs.File.{log_bytes};
 ghost use Rattle.vsl_select.specs.FileUnits.{file_units, units_of};
+ghost use Rattle.query_eval.specs.Asker.{asker_query};
 ghost use Rattle.varnish_tools.specs.Output.{laid_out};
 ghost use Rattle.varnish_tools.specs.Printer.{held_groups};
 
-use query_eval::holds;
-use query_parser::Query;
-use std::alloc::Global;
+use query_eval::Asker;
 use txn_rows::{Group, Member};
 use vio::NoMemory;
 use vsl_file::put_records;
@@ -63,24 +62,25 @@ fn put_group(
 
 /// What is shown of groups, and how they are written.
 #[derive(Drop)]
-pub(crate) struct Style {
+pub(crate) struct Style<'q> {
     pub layout: Layout,
     pub selection: Selection,
-    /// What groups are asked: the others are not written.
-    pub query: Query,
+    /// What asks groups the query: the others are not written.
+    pub asker: Asker<'q>,
 }
 
 /// Adds the groups for which the query holds.
 pub(crate) fn put_groups(
     out: &mut Vec<u8>,
-    alloc: Global,
     groups: &[Group],
-    style: &Style,
+    style: &mut Style<'_>,
 ) -> Result<(), NoMemory>
-    ensures { OnOk result (out.new.items ≡ out.old.items ++ laid_out style.now.layout (held_groups style.now.query groups.now)) }
+    ensures layout { style.new.layout ≡ style.old.layout }
+    ensures query { asker_query style.new.asker ≡ asker_query style.old.asker }
+    ensures ok { OnOk result (out.new.items ≡ out.old.items ++ laid_out style.old.layout (held_groups (asker_query style.old.asker) groups.now)) }
 {
     for group in groups {
-        if holds(alloc, &style.query, group)? {
+        if style.asker.holds(group)? {
             put_group(out, style.layout, group, &style.selection)?;
         }
     }

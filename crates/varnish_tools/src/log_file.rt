@@ -62,11 +62,16 @@ fn head_of(alloc: Global, job: &Job, empty: bool) -> Result<Vec<u8>, NoMemory>
 }
 
 /// The printer of a job to this handle.
-fn job_printer(alloc: Global, job: &Job, query: Query, sink: u32) -> Result<Printer, NoMemory>
+fn job_printer<'q>(
+    alloc: Global,
+    job: &Job,
+    query: &'q Query,
+    sink: u32,
+) -> Result<Printer<'q>, NoMemory>
     requires { is_built job.now ≡ true }
     ensures sink { IfOk result (λ p. IsSink sink (write_of job.now) (printer_state p).sink (printer_state p).name) }
     ensures none { IfOk result (λ p. Represents (printer_state p) []) }
-    ensures asked { IfOk result (λ p. (ask : Ask) → HoldsAsAsked query ask → IsJobPrinter job.now ask sink (printer_state p)) }
+    ensures asked { IfOk result (λ p. (ask : Ask) → HoldsAsAsked query.now ask → IsJobPrinter job.now ask sink (printer_state p)) }
 {
     let options = GroupOptions {
         grouping: job.grouping,
@@ -100,7 +105,7 @@ fn tool_fault(name: Text, fault: SourceFault) -> Result<ToolFault, NoMemory>
 fn print_log<W: World>(
     alloc: Global,
     job: &Job,
-    query: Query,
+    query: &Query,
     source: u32,
     sink: u32,
     world: &mut W,
@@ -109,8 +114,8 @@ fn print_log<W: World>(
     requires named { IsTrue ((W.seen world.old).names Writing sink (write_of job.now)) }
     requires given { (W.seen world.old).given sink ≡ true }
     ensures touches { Touches (source ∷ []) (sink ∷ []) [] [] (W.seen world.old) (W.seen world.new) }
-    ensures prefix { OnErr result ((ask : Ask) (before : Seen) (empty : Bool) → HoldsAsAsked query ask → HasBegun job.now source sink empty (head_text job.now empty) before (W.seen world.old) → PrefixFor ask (Work job.now) before (W.seen world.new)) }
-    ensures works { IfOk result (λ r. (ask : Ask) (before : Seen) (empty : Bool) → HoldsAsAsked query ask → HasBegun job.now source sink empty (head_text job.now empty) before (W.seen world.old) → WorksFor ask (Work job.now) r.fault r.run before (W.seen world.new)) }
+    ensures prefix { OnErr result ((ask : Ask) (before : Seen) (empty : Bool) → HoldsAsAsked query.now ask → HasBegun job.now source sink empty (head_text job.now empty) before (W.seen world.old) → PrefixFor ask (Work job.now) before (W.seen world.new)) }
+    ensures works { IfOk result (λ r. (ask : Ask) (before : Seen) (empty : Bool) → HoldsAsAsked query.now ask → HasBegun job.now source sink empty (head_text job.now empty) before (W.seen world.old) → WorksFor ask (Work job.now) r.fault r.run before (W.seen world.new)) }
 {
     let name = Text::new(alloc, file_name(job))?;
     let mut printer = job_printer(alloc, job, query, sink)?;
@@ -134,7 +139,7 @@ fn print_log<W: World>(
 fn print_created<W: World>(
     alloc: Global,
     job: &Job,
-    query: Query,
+    query: &Query,
     source: u32,
     sink: Created,
     world: &mut W,
@@ -143,8 +148,8 @@ fn print_created<W: World>(
     requires named { IsTrue ((W.seen world.old).names Writing sink.handle (write_of job.now)) }
     requires given { (W.seen world.old).given sink.handle ≡ true }
     ensures touches { Touches (source ∷ []) (sink.handle ∷ []) [] [] (W.seen world.old) (W.seen world.new) }
-    ensures prefix { OnErr result ((ask : Ask) (before : Seen) → HoldsAsAsked query ask → HasBegun job.now source sink.handle sink.empty [] before (W.seen world.old) → PrefixFor ask (Work job.now) before (W.seen world.new)) }
-    ensures works { IfOk result (λ r. (ask : Ask) (before : Seen) → HoldsAsAsked query ask → HasBegun job.now source sink.handle sink.empty [] before (W.seen world.old) → WorksFor ask (Work job.now) r.fault r.run before (W.seen world.new)) }
+    ensures prefix { OnErr result ((ask : Ask) (before : Seen) → HoldsAsAsked query.now ask → HasBegun job.now source sink.handle sink.empty [] before (W.seen world.old) → PrefixFor ask (Work job.now) before (W.seen world.new)) }
+    ensures works { IfOk result (λ r. (ask : Ask) (before : Seen) → HoldsAsAsked query.now ask → HasBegun job.now source sink.handle sink.empty [] before (W.seen world.old) → WorksFor ask (Work job.now) r.fault r.run before (W.seen world.new)) }
 {
     let head = head_of(alloc, job, sink.empty)?;
     let name = Text::new(alloc, written_name(job))?;
@@ -159,15 +164,15 @@ fn print_created<W: World>(
 fn print_opened<W: World>(
     alloc: Global,
     job: &Job,
-    query: Query,
+    query: &Query,
     source: u32,
     world: &mut W,
 ) -> Result<Ran, NoMemory>
     requires built { is_built job.now ≡ true }
     ensures touches { Touches (source ∷ []) (streams_of (sink_of job.now ∷ [])) [] (created_of (sink_of job.now ∷ [])) (W.seen world.old) (W.seen world.new) }
     ensures handles { GivesAtMost (length (created_of (sink_of job.now ∷ []))) (W.seen world.old) (W.seen world.new) }
-    ensures prefix { OnErr result ((ask : Ask) (before : Seen) → HoldsAsAsked query ask → HasStreams before → SourceOpened (source_of job.now) source before (W.seen world.old) → PrefixFor ask (Work job.now) before (W.seen world.new)) }
-    ensures works { IfOk result (λ r. (ask : Ask) (before : Seen) → HoldsAsAsked query ask → HasStreams before → SourceOpened (source_of job.now) source before (W.seen world.old) → WorksFor ask (Work job.now) r.fault r.run before (W.seen world.new)) }
+    ensures prefix { OnErr result ((ask : Ask) (before : Seen) → HoldsAsAsked query.now ask → HasStreams before → SourceOpened (source_of job.now) source before (W.seen world.old) → PrefixFor ask (Work job.now) before (W.seen world.new)) }
+    ensures works { IfOk result (λ r. (ask : Ask) (before : Seen) → HoldsAsAsked query.now ask → HasStreams before → SourceOpened (source_of job.now) source before (W.seen world.old) → WorksFor ask (Work job.now) r.fault r.run before (W.seen world.new)) }
 {
     let name = Text::new(alloc, written_name(job))?;
     match create_sink(written_name(job), job.append, world) {
@@ -181,14 +186,14 @@ fn print_opened<W: World>(
 pub fn run_job<W: World>(
     alloc: Global,
     job: &Job,
-    query: Query,
+    query: &Query,
     world: &mut W,
 ) -> Result<Ran, NoMemory>
     requires built { is_built job.now ≡ true }
     ensures touches { Touches (streams_of (source_of job.now ∷ [])) (streams_of (sink_of job.now ∷ [])) (opened_of (source_of job.now ∷ [])) (created_of (sink_of job.now ∷ [])) (W.seen world.old) (W.seen world.new) }
     ensures handles { GivesAtMost (length (opened_of (source_of job.now ∷ []) ++ created_of (sink_of job.now ∷ []))) (W.seen world.old) (W.seen world.new) }
-    ensures prefix { OnErr result ((ask : Ask) → HoldsAsAsked query ask → PrefixFor ask (Work job.now) (W.seen world.old) (W.seen world.new)) }
-    ensures works { IfOk result (λ r. (ask : Ask) → HoldsAsAsked query ask → WorksFor ask (Work job.now) r.fault r.run (W.seen world.old) (W.seen world.new)) }
+    ensures prefix { OnErr result ((ask : Ask) → HoldsAsAsked query.now ask → PrefixFor ask (Work job.now) (W.seen world.old) (W.seen world.new)) }
+    ensures works { IfOk result (λ r. (ask : Ask) → HoldsAsAsked query.now ask → WorksFor ask (Work job.now) r.fault r.run (W.seen world.old) (W.seen world.new)) }
 {
     let name = Text::new(alloc, file_name(job))?;
     match open_source(file_name(job), world) {

@@ -5,11 +5,13 @@ ghost use Rattle.log_model.specs.Prefix.{IsPrefix};
 ghost use Rattle.vio.specs.World.{Writing, Wrote};
 ghost use Rattle.vio.specs.Writes.{WroteOn};
 ghost use Rattle.vsl_record.specs.Unit.{Log};
+ghost use Rattle.query_eval.specs.Asker.{asker_query};
 ghost use Rattle.varnish_tools.specs.Output.{laid_out};
 ghost use Rattle.varnish_tools.specs.Printer.{held_groups, printer_state, Represents, IsSamePrinter, HasPrintCause, IsLeft, due, IsSink};
 ghost use Rattle.varnish_tools.specs.inside.Printing.{PutUnit};
 
 use crate::layout::{Layout, Style, put_groups};
+use query_eval::Asker;
 use query_parser::Query;
 use std::alloc::Global;
 use txn_rows::{Group, GroupOptions, Grouping, Table};
@@ -51,35 +53,37 @@ struct Sink {
 /// Takes a unit, and adds the groups that it completed and for which the query holds.
 fn put_grouped(
     out: &mut Vec<u8>,
-    alloc: Global,
     table: &mut Table,
     groups: &mut Vec<Group>,
-    style: &Style,
+    style: &mut Style<'_>,
     unit: &Unit,
 ) -> Result<(), NoMemory>
-    ensures ok { OnOk result (PutUnit style.now.layout style.now.query unit.now table.old table.new out.old.items out.new.items) }
+    ensures ok { OnOk result (PutUnit style.old.layout (asker_query style.old.asker) unit.now table.old table.new out.old.items out.new.items) }
     ensures options { table.new.options ≡ table.old.options }
+    ensures layout { style.new.layout ≡ style.old.layout }
+    ensures query { asker_query style.new.asker ≡ asker_query style.old.asker }
 {
     groups.clear();
     table.step(unit, groups)?;
-    put_groups(out, alloc, groups, style)
+    put_groups(out, groups, style)
 }
 
 /// Takes a unit, and adds the groups that it completed and for which the query holds. For raw lines without a query no group is made.
 fn put_unit(
     out: &mut Vec<u8>,
-    alloc: Global,
     table: &mut Table,
     groups: &mut Vec<Group>,
-    style: &Style,
+    style: &mut Style<'_>,
     unit: &Unit,
 ) -> Result<(), NoMemory>
-    ensures ok { OnOk result (PutUnit style.now.layout style.now.query unit.now table.old table.new out.old.items out.new.items) }
+    ensures ok { OnOk result (PutUnit style.old.layout (asker_query style.old.asker) unit.now table.old table.new out.old.items out.new.items) }
     ensures options { table.new.options ≡ table.old.options }
+    ensures layout { style.new.layout ≡ style.old.layout }
+    ensures query { asker_query style.new.asker ≡ asker_query style.old.asker }
 {
-    match (table.grouping(), style.layout, style.query.always) {
+    match (table.grouping(), style.layout, style.asker.always()) {
         (Grouping::Raw, Layout::Lines, true) => raw_lines(unit, out),
-        _ => put_grouped(out, alloc, table, groups, style, unit),
+        _ => put_grouped(out, table, groups, style, unit),
     }
 }
 
@@ -106,23 +110,25 @@ fn print_groups<W: World>(
     world: &mut W,
     sink: &mut Sink,
     groups: &[Group],
-    style: &Style,
+    style: &mut Style<'_>,
 ) -> Result<(), PrintFault>
     requires named { IsTrue ((W.seen world.old).names Writing sink.old.handle sink.old.name) }
     ensures same { IsSink sink.old.handle sink.old.name sink.new.handle sink.new.name }
-    ensures ok { OnOk result (Wrote sink.old.handle (laid_out style.now.layout (held_groups style.now.query groups.now)) (W.seen world.old) (W.seen world.new)) }
-    ensures refused { IfErr result (λ f. WroteOn sink.old.handle [] (IsLeft f (laid_out style.now.layout (held_groups style.now.query groups.now))) (W.seen world.old) (W.seen world.new)) }
+    ensures layout { style.new.layout ≡ style.old.layout }
+    ensures query { asker_query style.new.asker ≡ asker_query style.old.asker }
+    ensures ok { OnOk result (Wrote sink.old.handle (laid_out style.old.layout (held_groups (asker_query style.old.asker) groups.now)) (W.seen world.old) (W.seen world.new)) }
+    ensures refused { IfErr result (λ f. WroteOn sink.old.handle [] (IsLeft f (laid_out style.old.layout (held_groups (asker_query style.old.asker) groups.now))) (W.seen world.old) (W.seen world.new)) }
     ensures cause { IfErr result (λ f. HasPrintCause f sink.old.name (W.seen world.old) (W.seen world.new)) }
 {
     sink.text.clear();
-    put_groups(&mut sink.text, sink.alloc, groups, style)?;
+    put_groups(&mut sink.text, groups, style)?;
     print_text(world, sink)
 }
 
 /// The style of this layout and query that shows all.
-fn style_of(alloc: Global, layout: Layout, query: Query) -> Result<Style, NoMemory>
+fn style_of<'q>(alloc: Global, layout: Layout, query: &'q Query) -> Result<Style<'q>, NoMemory>
     ensures layout { IfOk result (λ style. style.layout ≡ layout) }
-    ensures query { IfOk result (λ style. style.query ≡ query) }
+    ensures query { IfOk result (λ style. asker_query style.asker ≡ query.now) }
 {
     let sides = Sides {
         backend: false,
@@ -135,35 +141,36 @@ fn style_of(alloc: Global, layout: Layout, query: Query) -> Result<Style, NoMemo
     Ok(Style {
         layout,
         selection,
-        query,
+        asker: Asker::new(alloc, query)?,
     })
 }
 
 /// Groups units, and writes the text of each group for which the query holds when it is complete. Contracts see the table
-/// of what is pending, the layout, the query and the sink; every list of units that it represents has a text that is due.
+/// of what is pending, the layout, the query, which it borrows, and the sink; every list of units that it represents has a
+/// text that is due.
 #[derive(Drop)]
-pub struct Printer {
+pub struct Printer<'q> {
     table: Table,
-    style: Style,
+    style: Style<'q>,
     groups: Vec<Group>,
     sink: Sink,
 }
 
-impl Printer {
+impl<'q> Printer<'q> {
     /// A printer that was given no unit. It writes to the handle `sink`, whose name is `name`.
     pub fn new(
         alloc: Global,
         options: GroupOptions,
         layout: Layout,
-        query: Query,
+        query: &'q Query,
         sink: u32,
         name: Text,
-    ) -> Result<Printer, NoMemory>
+    ) -> Result<Printer<'q>, NoMemory>
         requires grouping { (options.grouping ≡ Grouping.Raw) ⊎ (options.grouping ≡ Grouping.Vxid) }
         requires limit { 0 < options.limit }
         ensures options { IfOk result (λ p. (printer_state p).table.options ≡ options) }
         ensures layout { IfOk result (λ p. (printer_state p).layout ≡ layout) }
-        ensures query { IfOk result (λ p. (printer_state p).query ≡ query) }
+        ensures query { IfOk result (λ p. (printer_state p).query ≡ query.now) }
         ensures sink { IfOk result (λ p. IsSink sink name (printer_state p).sink (printer_state p).name) }
         ensures none { IfOk result (λ p. Represents (printer_state p) []) }
     {
@@ -194,10 +201,9 @@ impl Printer {
         self.sink.text.clear();
         if let Err(NoMemory) = put_unit(
             &mut self.sink.text,
-            self.sink.alloc,
             &mut self.table,
             &mut self.groups,
-            &self.style,
+            &mut self.style,
             unit,
         ) {
             return Err(PrintFault::NoMemory);
@@ -217,6 +223,6 @@ impl Printer {
     {
         self.groups.clear();
         self.table.flush(&mut self.groups)?;
-        print_groups(world, &mut self.sink, &self.groups, &self.style)
+        print_groups(world, &mut self.sink, &self.groups, &mut self.style)
     }
 }

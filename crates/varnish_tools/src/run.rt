@@ -23,7 +23,7 @@ pub enum Stopped {
 pub fn print_source<W: World, S: Source>(
     world: &mut W,
     source: &mut S,
-    printer: &mut Printer,
+    printer: &mut Printer<'_>,
 ) -> Result<u64, Stopped>
     requires named { IsTrue ((W.seen world.old).names Writing (printer_state printer.old).sink (printer_state printer.old).name) }
     requires given { (W.seen world.old).given (printer_state printer.old).sink ≡ true }

@@ -53,7 +53,7 @@ fn run_words<W: World>(alloc: Global, words: &[String], world: &mut W) -> Result
 {
     match read_job(alloc, words)? {
         Ok(job) => match read_queries(alloc, &job, world)? {
-            Ok(query) => run_job(alloc, &job, query, world),
+            Ok(query) => run_job(alloc, &job, &query, world),
             Err(fault) => Ok(refused(fault)),
         },
         Err(fault) => Ok(refused(fault)),

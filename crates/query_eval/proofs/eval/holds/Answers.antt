@@ -15,4 +15,4 @@ returns c = search (rules, no_step)
 pub returns-in-Some : goal.returns-in-Some
 returns-in-Some c =
     let one = rw c.deref.ensures.value at c.in-Some.ensures in
-    subst (λ (x : Bool). IfOk c.group_satisfies.result (λ b. b ≡ x)) (one_test c.args.query.now c.args.group.now c.in-Some.test.now c.if-query.false one) c.group_satisfies.ensures
+    subst (λ (x : Bool). IfOk c.group_satisfies.result (λ b. b ≡ x)) (one_test c.args.query.now c.args.group.now c.in-Some.test.now c.if-query.false one) c.group_satisfies.ensures.answer

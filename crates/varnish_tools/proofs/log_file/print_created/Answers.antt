@@ -10,12 +10,12 @@ returns-in-Ok-clause-touches g c = touches_then (touches_wrote _ _ _ _ _ c.in-Ok
 pub returns-in-Ok-clause-prefix : goal.returns-in-Ok-clause-prefix
 returns-in-Ok-clause-prefix g c =
     let wrote = rw (c.deref.ensures.value, c.in_ok-head.ensures) at c.in-Ok.ensures.ok in
-    headed_prefix _ c.args.job.now c.args.query _ _ c.args.sink.empty _ _ _ wrote c.print_log.ensures.prefix
+    headed_prefix _ c.args.job.now c.args.query.now _ _ c.args.sink.empty _ _ _ wrote c.print_log.ensures.prefix
 
 pub returns-in-Ok-clause-works : goal.returns-in-Ok-clause-works
 returns-in-Ok-clause-works g c =
     let wrote = rw (c.deref.ensures.value, c.in_ok-head.ensures) at c.in-Ok.ensures.ok in
-    headed_works _ c.args.job.now c.args.query _ _ c.args.sink.empty _ _ _ wrote c.print_log.ensures.works
+    headed_works _ c.args.job.now c.args.query.now _ _ c.args.sink.empty _ _ _ wrote c.print_log.ensures.works
 
 pub returns-in-Err-Failed-clause-works : goal.returns-in-Err-Failed-clause-works
 returns-in-Err-Failed-clause-works g c = λ ask before holds begun.

@@ -18,7 +18,7 @@ returns-in-Ok-clause-works g c = λ ask before empty holds begun.
 pub returns-in_err-fault-in-Err-BySource-clause-prefix : goal.returns-in_err-fault-in-Err-BySource-clause-prefix
 returns-in_err-fault-in-Err-BySource-clause-prefix g c =
     let touched = rw c.in_ok-log.ensures.handle at c.print_source.ensures.touches in
-    OnErr-always _ (prefix_stopped c.args.job.now c.args.query c.args.source c.args.sink c.in_ok-log.log c.print_source.new.source c.in-Err-BySource.fault c.in-Err-BySource.units _ _ _ c.in_ok-log.ensures.handle c.in_ok-printer.ensures.asked touched
+    OnErr-always _ (prefix_stopped c.args.job.now c.args.query.now c.args.source c.args.sink c.in_ok-log.log c.print_source.new.source c.in-Err-BySource.fault c.in-Err-BySource.units _ _ _ c.in_ok-log.ensures.handle c.in_ok-printer.ensures.asked touched
     c.in_err-fault-in-Err-BySource.ensures.memory (rw c.in-Err-BySource.field-0-is at c.in-Err-BySource.ensures.stopped))
 
 pub returns-in-Err-BySource-clause-works : goal.returns-in-Err-BySource-clause-works
