@@ -1,22 +1,34 @@
 #!/usr/bin/env bash
-# Times grouping by transaction beside raw lines of the same files: 2,000 and 4,000 transactions that are open
-# at once, and 25,000 and 50,000 one after another. The least of five runs each. It tests nothing.
+# Times each grouping: 2,000 and 4,000 transactions that are open at once, 25,000 and 50,000 one after another, and the
+# real log again and again up to 20 MB. All of the first four name one session. Where Varnish's own varnishlog is
+# installed, it is timed on the same records beside the program, in a log file of its own layout, and the ratio is
+# printed, of which at most 0.6 is wanted. The least of five runs each. It tests nothing.
 # Usage: bench/transactions.sh [PROGRAM], after `make build`; PROGRAM is bin/vtools if left out.
 set -euo pipefail
 cd "$(dirname "${BASH_SOURCE[0]}")/.."
 
-python3 - "${1:-bin/vtools}" <<'PYTHON'
+python3 - "${1:-bin/vtools}" examples/real-1.vslog <<'PYTHON'
+import ctypes
+import ctypes.util
 import os
+import shutil
 import struct
 import subprocess
 import sys
 import tempfile
 import time
 
+sys.dont_write_bytecode = True
+sys.path.insert(0, "tools")
+import group_listing
+
 RUNS = 5
 HEADER = b"VSLOG-1\n"
 CLIENT = 1 << 30
 BEGIN, END, DEBUG = 42, 44, 1
+GROUPINGS = ["vxid", "request", "session", "raw"]
+VARNISH_HEADER = b"VSL\0"
+VARNISH_MARKS = {"-": 0, "c": 1 << 30, "b": 1 << 31}
 
 
 def record(vxid, tag, payload):
@@ -36,15 +48,33 @@ def open_at_once(count):
     begins = b"".join(unit(v, [(BEGIN, b"req 1 rxreq")]) for v in range(1, count + 1))
     middles = b"".join(unit(v, [(DEBUG, b"in the middle")]) for v in range(1, count + 1))
     ends = b"".join(unit(v, [(END, b"")]) for v in range(1, count + 1))
-    return HEADER + begins + middles + ends
+    return begins + middles + ends
 
 
 def one_after_another(count):
     """Each transaction begins and ends before the next."""
-    return HEADER + b"".join(
+    return b"".join(
         unit(v, [(BEGIN, b"req 1 rxreq"), (DEBUG, b"in the middle"), (END, b"")])
         for v in range(1, count + 1)
     )
+
+
+def varnish_records(path):
+    """The records of a log file as Varnish 7 writes them: its own tag numbers, and a zero byte behind each payload."""
+    library = ctypes.CDLL(ctypes.util.find_library("varnishapi") or "libvarnishapi.so.3")
+    names = (ctypes.c_char_p * 256).in_dll(library, "VSL_tags")
+    numbers = {name.decode(): number for number, name in enumerate(names) if name}
+    words = []
+    for vxid, mark, records in group_listing.read_units(path):
+        for tag, payload in records:
+            head = struct.pack("<II", numbers[tag] << 24 | len(payload) + 1, vxid | VARNISH_MARKS[mark])
+            words.append(head + payload + b"\0" * (4 - len(payload) % 4))
+    return b"".join(words)
+
+
+def write(path, *parts):
+    with open(path, "wb") as file:
+        file.writelines(parts)
 
 
 def least(words):
@@ -58,20 +88,36 @@ def least(words):
     return best
 
 
-program = sys.argv[1]
+def times_of(words, path):
+    """The least seconds under each grouping."""
+    return [least([*words, "-g", grouping, "-r", path]) for grouping in GROUPINGS]
+
+
+program, example = sys.argv[1:]
+varnishlog = shutil.which("varnishlog")
+with open(example, "rb") as source:
+    real = source.read()[len(HEADER) :]
 cases = [
-    ("2,000 open at once", open_at_once(2000)),
-    ("4,000 open at once", open_at_once(4000)),
-    ("25,000 one after another", one_after_another(25000)),
-    ("50,000 one after another", one_after_another(50000)),
+    ("2,000 open at once", open_at_once(2000), 1),
+    ("4,000 open at once", open_at_once(4000), 1),
+    ("25,000 one after another", one_after_another(25000), 1),
+    ("50,000 one after another", one_after_another(50000), 1),
+    ("real log, repeated", real, 20_000_000 // len(real)),
 ]
-print(f"{'':26}{'bytes':>10}{'-g vxid':>12}{'-g raw':>12}")
+limit = ["-L", "4000"]
+print(f"{' '.join(limit)}, seconds; least of {RUNS} runs")
+print(f"{'':26}{'bytes':>10}" + "".join(f"{'-g ' + grouping:>12}" for grouping in GROUPINGS))
 with tempfile.TemporaryDirectory() as folder:
-    path = os.path.join(folder, "log")
-    for what, log in cases:
-        with open(path, "wb") as file:
-            file.write(log)
-        by_transaction = least([program, "varnishlog", "-r", path])
-        raw = least([program, "varnishlog", "-g", "raw", "-r", path])
-        print(f"{what:26}{len(log):10}{by_transaction:10.4f} s{raw:10.4f} s")
+    path, own = os.path.join(folder, "log"), os.path.join(folder, "own")
+    for what, units, copies in cases:
+        write(path, HEADER, units)
+        records = varnish_records(path) if varnishlog else b""
+        write(path, HEADER, units * copies)
+        ours = times_of([program, "varnishlog", *limit], path)
+        print(f"{what:26}{os.path.getsize(path):10}" + "".join(f"{seconds:12.4f}" for seconds in ours))
+        if varnishlog:
+            write(own, VARNISH_HEADER, records * copies)
+            theirs = times_of([varnishlog, *limit], own)
+            print(f"{'  Varnish':26}{os.path.getsize(own):10}" + "".join(f"{seconds:12.4f}" for seconds in theirs))
+            print(f"{'  ratio':36}" + "".join(f"{a / b:12.2f}" for a, b in zip(ours, theirs)))
 PYTHON

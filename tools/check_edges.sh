@@ -91,7 +91,7 @@ messages() {
 messages "a whole log" 0 "$text" varnishlog -g raw -r one.log
 messages "a cut log" 1 "" varnishlog -g raw -r cut.log
 messages "a missing file" 1 "" varnishlog -g raw -r missing
-messages "a job that isn't built" 2 "" varnishlog -g session -r one.log
+messages "a job that isn't built" 2 "" varnishncsa -r one.log
 messages "words that are refused" 2 "" varnishlog -g raw -r one.log -k0
 messages "a word that is not UTF-8" 2 "" $'\xff'
 cmp -s cut.log <(head -c -1 "$one") || fail "closed errors: the log was written to"
@@ -103,7 +103,7 @@ run varnishlog -r header.log <&- >&- 2>&-
 expect "no stream and nothing to write" 0 ""
 run --help <&- >&- 2>&-
 expect "no stream for --help" 1 ""
-run varnishlog -g session -r one.log <&- >&- 2>&-
+run varnishncsa -r one.log <&- >&- 2>&-
 expect "no stream for a job that isn't built" 2 ""
 run varnishlog -g raw -r one.log <&- >out 2>err
 expect "no input" 0 "" "$text"
@@ -118,7 +118,7 @@ cmp -s one.log "$one" || fail "no stream: the log was written to"
 run varnishlog -g raw -r pipe >out 2>err </dev/null
 wait
 expect "FILE a pipe" 0 "" "$text"
-run varnishlog -g session -r pipe >out 2>err </dev/null
+run varnishncsa -r pipe >out 2>err </dev/null
 expect "a job that isn't built opens no pipe" 2 "vtools: not built yet"
 run varnishlog -g raw -r pipe -k0 >out 2>err </dev/null
 expect "words that are refused open no pipe" 2 "vtools: bad value: -k0"

@@ -23,6 +23,8 @@ mod queries;
 #[cfg(test)]
 mod support;
 #[cfg(test)]
+mod tables;
+#[cfg(test)]
 mod units;
 #[cfg(test)]
 mod words;

@@ -1,5 +1,23 @@
 mod ClaimLemmas
-pub mod RowLemmas
-mod StepLemmas
-mod TakenLemmas
 pub mod GroupingLemmas
+mod Examples
+pub mod LineLemmas
+mod KeepLemmas
+pub mod TreeLemmas
+pub mod JoinLemmas
+mod LeaveLemmas
+mod SortLemmas
+pub mod StandLemmas
+pub mod ForceLemmas
+pub mod RunLemmas
+mod ForceAllLemmas
+mod LimitLemmas
+mod EndLemmas
+mod PendingLemmas
+mod TakeLemmas
+mod TakenLemmas
+mod StepLemmas
+mod TableLemmas
+mod OrderLemmas
+mod NumberLemmas
+mod WalkLemmas

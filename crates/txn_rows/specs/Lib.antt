@@ -1,7 +1,11 @@
 pub mod Claim
+pub mod Time
 pub mod Transaction
+pub mod Links
 pub mod Grouping
 pub mod TableState
 pub mod Table
 pub mod Taken
+pub mod Walk
+pub mod Ends
 pub mod inside

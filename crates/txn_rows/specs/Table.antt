@@ -2,14 +2,14 @@
 use Rattle.std.specs.Prelude.{◌≡◌, true, false, List, ◌++◌}
 use Rattle.log_model.specs.Prefix.{IsPrefix}
 use Rattle.txn_rows.specs.declared.group.Group.{Group}
-use Rattle.txn_rows.specs.Grouping.{Report}
+use Rattle.txn_rows.specs.Grouping.{Leaving, reported}
 use Rattle.txn_rows.specs.TableState.{TableState}
 
--- the table went to the reported state, and the reported groups were added to the list
-pub record TableStepped (report : Report) (before now : TableState) (out_before out_now : List Group) : Type 0 where
+-- the table went to this state, and of the groups that left on the way those that are reported were added to the list
+pub record TableStepped (leaving : Leaving) (before now : TableState) (out_before out_now : List Group) : Type 0 where
   pub was_sound : before.failed ≡ false
-  pub state : now ≡ record { options = before.options; state = report.state; failed = false }
-  pub groups : out_now ≡ out_before ++ report.groups
+  pub state : now ≡ record { options = before.options; state = leaving.state; failed = false }
+  pub groups : out_now ≡ out_before ++ reported before.options.grouping leaving.groups
 
 -- a prefix of the groups was added to the list
 pub record GainsPrefix (groups out_before out_now : List Group) : Type 0 where
@@ -17,8 +17,8 @@ pub record GainsPrefix (groups out_before out_now : List Group) : Type 0 where
   pub is : IsPrefix added groups
   pub gained : out_now ≡ out_before ++ added
 
--- the table failed, and a prefix of the reported groups was added to the list
-pub record TableFailed (report : Report) (before now : TableState) (out_before out_now : List Group) : Type 0 where
+-- the table failed, and a prefix of the groups that are reported was added to the list
+pub record TableFailed (leaving : Leaving) (before now : TableState) (out_before out_now : List Group) : Type 0 where
   pub options : now.options ≡ before.options
   pub failed : now.failed ≡ true
-  pub gains : GainsPrefix report.groups out_before out_now
+  pub gains : GainsPrefix (reported before.options.grouping leaving.groups) out_before out_now

@@ -1,28 +1,37 @@
-//! Rows: the pending transactions of a table, oldest first.
+//! Rows: the pending transactions of a table, in the order in which they began.
 
-ghost use Rattle.std.specs.Prelude.{◌≡◌, ◌<◌, length, false, true, map, [], ◌∷◌, IfOk, OnOk, IfSome, IfNone};
-ghost use Rattle.txn_rows.specs.Transaction.{is_pending, with_transaction, claimed_kind};
-ghost use Rattle.txn_rows.specs.Grouping.{group_of};
-ghost use Rattle.txn_rows.specs.inside.Rows.{transaction_of, IsNewestRow, grown_by};
+ghost use Rattle.std.specs.Prelude.{◌≡◌, ◌<◌, length, false, true, map, [], ◌∷◌, IfOk, OnOk, IfSome, IfNone, None};
+ghost use Rattle.txn_rows.specs.Transaction.{is_pending, claimed_kind};
+ghost use Rattle.txn_rows.specs.inside.Rows.{transaction_of, IsNewestRow, with_one, row_timed};
 
 use crate::claim::{Claim, read_claim};
-use crate::group::{Group, Kind, Member, Members, Reason};
+use crate::group::{Kind, ParentLink, Reason};
+use crate::path::Path;
 use log_model::NoMemory;
 use std::alloc::Global;
 use vsl_record::{Record, Records, Vxid};
 use vsl_tags::Tag;
 
-/// A pending transaction; none of these has ended.
+/// A pending transaction, and where it stands in its tree.
 #[derive(Drop)]
 pub(crate) struct Row {
+    pub(crate) serial: u64,
     pub(crate) vxid: Vxid,
     pub(crate) kind: Kind,
     pub(crate) reason: Reason,
     pub(crate) records: Records,
+    pub(crate) parent: Option<ParentLink>,
+    pub(crate) ended: bool,
+    /// The log time when it began, in units of 10^-18 seconds.
+    pub(crate) time: Option<u128>,
+    /// The serial number of the row at the top of its tree.
+    pub(crate) root: u64,
+    /// Which child it is, from the top down.
+    pub(crate) path: Path,
 }
 
 /// The place of the newest row of a VXID.
-fn newest_row(rows: &[Row], vxid: Vxid) -> Option<usize>
+pub(crate) fn newest_row(rows: &[Row], vxid: Vxid) -> Option<usize>
     ensures some { IfSome result (λ at. IsNewestRow vxid at rows.now) }
     ensures none { IfNone result (is_pending vxid (map transaction_of rows.now) ≡ false) }
 {
@@ -36,34 +45,29 @@ fn newest_row(rows: &[Row], vxid: Vxid) -> Option<usize>
     None
 }
 
-/// The place of the newest row of a VXID; where there is none, a new one begins.
-pub(crate) fn open_row(alloc: Global, rows: &mut Vec<Row>, vxid: Vxid) -> Result<usize, NoMemory>
-    ensures newest { IfOk result (λ at. IsNewestRow vxid at rows.new.items) }
-    ensures pending { OnOk result (map transaction_of rows.new.items ≡ with_transaction vxid (map transaction_of rows.old.items)) }
-{
-    if let Some(at) = newest_row(rows, vxid) {
-        return Ok(at);
-    }
-    let at = rows.len();
-    rows.push(empty_row(alloc, vxid))?;
-    Ok(at)
-}
-
 /// A row of which no record was seen.
-fn empty_row(alloc: Global, vxid: Vxid) -> Row
-    ensures { result ≡ record { vxid = vxid; kind = Kind.Unknown; reason = Reason.Other; records = [] } }
+pub(crate) fn empty_row(alloc: Global, serial: u64, vxid: Vxid, time: Option<u128>) -> Row
+    ensures { result ≡ record { serial = serial; vxid = vxid; kind = Kind.Unknown; reason = Reason.Other; records = []; parent = None; ended = false; time = time; root = serial; path = [] } }
 {
     Row {
+        serial,
         vxid,
         kind: Kind::Unknown,
         reason: Reason::Other,
         records: Records::new(alloc),
+        parent: None,
+        ended: false,
+        time,
+        root: serial,
+        path: Path::new(alloc),
     }
 }
 
 /// Adds a copy of a record to a row; a Begin may tell the row's kind.
 pub(crate) fn add_record(alloc: Global, row: &mut Row, rec: &Record) -> Result<(), NoMemory>
-    ensures { OnOk result (transaction_of row.new ≡ grown_by rec.now (transaction_of row.old)) }
+    ensures told { OnOk result (transaction_of row.new ≡ with_one rec.now (transaction_of row.old)) }
+    ensures root { OnOk result (row.new.root ≡ row.old.root) }
+    ensures path { OnOk result (row.new.path ≡ row.old.path) }
 {
     let copy = rec.to_owned(alloc)?;
     row.records.push(copy)?;
@@ -75,7 +79,9 @@ pub(crate) fn add_record(alloc: Global, row: &mut Row, rec: &Record) -> Result<(
 
 /// Gives a row of unknown kind what a claim says.
 fn take_claim(row: &mut Row, claim: Option<Claim>)
-    ensures { transaction_of row.new ≡ claimed_kind claim (transaction_of row.old) }
+    ensures told { transaction_of row.new ≡ claimed_kind claim (transaction_of row.old) }
+    ensures root { row.new.root ≡ row.old.root }
+    ensures path { row.new.path ≡ row.old.path }
 {
     let Some(claim) = claim else {
         return;
@@ -86,34 +92,20 @@ fn take_claim(row: &mut Row, claim: Option<Claim>)
     }
 }
 
-/// A row as a group.
-pub(crate) fn group_of_row(alloc: Global, row: Row) -> Result<Group, NoMemory>
-    ensures { IfOk result (λ group. group ≡ group_of (transaction_of row)) }
+/// Gives a row without a time one.
+fn time_row(row: &mut Row, now: Option<u128>)
+    ensures { row.new ≡ row_timed now row.old }
 {
-    let Row {
-        vxid,
-        kind,
-        reason,
-        records,
-    } = row;
-    group_alone(
-        alloc,
-        Member {
-            vxid,
-            kind,
-            reason,
-            level: 1,
-            parent: 0,
-            records,
-        },
-    )
+    if row.time.is_none() {
+        row.time = now;
+    }
 }
 
-/// A group of one member.
-pub(crate) fn group_alone(alloc: Global, member: Member) -> Result<Group, NoMemory>
-    ensures { IfOk result (λ group. group ≡ record { members = member ∷ [] }) }
+/// Gives rows without a time one.
+pub(crate) fn time_rows(rows: &mut Vec<Row>, now: Option<u128>)
+    ensures { rows.new.items ≡ map (row_timed now) rows.old.items }
 {
-    let mut members = Members::new(alloc);
-    members.push(member)?;
-    Ok(Group { members })
+    for i in 0..rows.len() {
+        time_row(&mut rows[i], now);
+    }
 }

@@ -1,143 +1,148 @@
-//! The steps of a table: records one after another, and a flush.
+//! The steps of a table: records one after another, a force-completion, and a flush.
 
-ghost use Rattle.std.specs.Prelude.{◌≡◌, [], ◌∷◌, ◌++◌, map, codes, length, ◌≤◌, IfOk, OnOk, OnErr};
-ghost use Rattle.vsl_record.specs.Payload.{most_payload};
-ghost use Rattle.txn_rows.specs.Transaction.{first_mark};
-ghost use Rattle.txn_rows.specs.Grouping.{raw_group, step, steps};
-ghost use Rattle.txn_rows.specs.inside.Rows.{transaction_of, state_of, flushed_group, RowsStepped};
+ghost use Rattle.std.specs.Prelude.{◌≡◌, ◌++◌, OnOk, OnErr};
+ghost use Rattle.txn_rows.specs.Grouping.{is_reported, reported, step, steps, force, flush};
 ghost use Rattle.txn_rows.specs.Table.{GainsPrefix};
+ghost use Rattle.txn_rows.specs.inside.Rows.{AreTrees};
+ghost use Rattle.txn_rows.specs.inside.Steps.{AddsPart};
+ghost use Rattle.txn_rows.specs.inside.States.{state_of, WentBy, WentReported};
 
-use crate::group::{Group, Grouping, Kind, Member, Reason};
-use crate::rows::{Row, add_record, group_alone, group_of_row, open_row};
+use crate::force::{Which, force_all, force_at, oldest_of};
+use crate::group::{Cause, Group, GroupOptions, Grouping, Kind, Member};
+use crate::pending::Pending;
+use crate::raw::take_raw;
+use crate::take::take_record;
 use log_model::NoMemory;
 use std::alloc::Global;
-use vsl_record::{Mark, Payload, Record, Records, Vxid};
-use vsl_tags::Tag;
+use vsl_record::{Record, Vxid};
+
+/// Whether a group that left is reported: request grouping does not report sessions.
+fn is_reported(grouping: Grouping, group: &Group) -> bool
+    ensures { result ≡ is_reported grouping group.now }
+{
+    match (grouping, group.members.as_slice()) {
+        (Grouping::Request, [root, ..]) => root.kind != Kind::Session,
+        _ => true,
+    }
+}
+
+/// Adds the groups that are reported, of those that left.
+fn report(grouping: Grouping, left: Vec<Group>, out: &mut Vec<Group>) -> Result<(), NoMemory>
+    ensures ok { OnOk result (out.new.items ≡ out.old.items ++ reported grouping left.items) }
+    ensures err { OnErr result (GainsPrefix (reported grouping left.items) out.old.items out.new.items) }
+{
+    for group in left {
+        if is_reported(grouping, &group) {
+            out.push(group)?;
+        }
+    }
+    Ok(())
+}
+
+/// Takes one record, and adds the groups that leave.
+fn take_one(
+    alloc: Global,
+    options: GroupOptions,
+    pending: &mut Pending,
+    vxid: Vxid,
+    rec: &Record,
+    left: &mut Vec<Group>,
+) -> Result<(), NoMemory>
+    ensures ok { AreTrees pending.old.begun pending.old.rows.items → OnOk result (WentBy (step options vxid rec.now (state_of pending.old)) pending.new left.old.items left.new.items) }
+    ensures err { AreTrees pending.old.begun pending.old.rows.items → OnErr result (AddsPart (step options vxid rec.now (state_of pending.old)).groups left.old.items left.new.items) }
+{
+    if options.grouping == Grouping::Raw {
+        return take_raw(alloc, vxid, rec, left);
+    }
+    take_record(alloc, options, pending, vxid, rec, left)
+}
+
+/// Takes records of one VXID in order, and adds the groups that leave.
+fn take_all(
+    alloc: Global,
+    options: GroupOptions,
+    pending: &mut Pending,
+    vxid: Vxid,
+    records: &[Record],
+    left: &mut Vec<Group>,
+) -> Result<(), NoMemory>
+    ensures ok { AreTrees pending.old.begun pending.old.rows.items → OnOk result (WentBy (steps options vxid records.now (state_of pending.old)) pending.new left.old.items left.new.items) }
+    ensures err { AreTrees pending.old.begun pending.old.rows.items → OnErr result (AddsPart (steps options vxid records.now (state_of pending.old)).groups left.old.items left.new.items) }
+{
+    for rec in records {
+        take_one(alloc, options, pending, vxid, rec, left)?;
+    }
+    Ok(())
+}
 
 /// Takes records of one VXID in order, and adds the groups that they complete.
+#[tactic(auto, using(crate::proofs::StepLemmas::part_either, crate::proofs::StepLemmas::part_reported, crate::proofs::StepLemmas::all_reported, crate::proofs::StepLemmas::went_reported))]
 pub(crate) fn take_records(
     alloc: Global,
-    grouping: Grouping,
-    rows: &mut Vec<Row>,
+    options: GroupOptions,
+    pending: &mut Pending,
     vxid: Vxid,
     records: &[Record],
     out: &mut Vec<Group>,
 ) -> Result<(), NoMemory>
-    ensures ok { OnOk result (RowsStepped (steps grouping vxid records.now (state_of rows.old.items)) rows.new.items out.old.items out.new.items) }
-    ensures err { let all = (steps grouping vxid records.now (state_of rows.old.items)).groups in OnErr result (GainsPrefix all out.old.items out.new.items) }
+    ensures ok { AreTrees pending.old.begun pending.old.rows.items → OnOk result (WentReported options.grouping (steps options vxid records.now (state_of pending.old)) pending.new out.old.items out.new.items) }
+    ensures err { AreTrees pending.old.begun pending.old.rows.items →
+        OnErr result (GainsPrefix (reported options.grouping (steps options vxid records.now (state_of pending.old)).groups) out.old.items out.new.items) }
 {
-    for rec in records {
-        take_record(alloc, grouping, rows, vxid, rec, out)?;
-    }
-    Ok(())
+    let mut left = Vec::new(alloc);
+    let taken = take_all(alloc, options, pending, vxid, records, &mut left);
+    report(options.grouping, left, out)?;
+    taken
 }
 
-/// Takes one record, and adds the group that it completes.
-fn take_record(
+/// Force-completes the oldest row that has not ended, and adds the group that it completes.
+pub(crate) fn force_oldest(
     alloc: Global,
     grouping: Grouping,
-    rows: &mut Vec<Row>,
-    vxid: Vxid,
-    rec: &Record,
+    pending: &mut Pending,
+    cause: Cause,
     out: &mut Vec<Group>,
 ) -> Result<(), NoMemory>
-    ensures ok { OnOk result (RowsStepped (step grouping vxid rec.now (state_of rows.old.items)) rows.new.items out.old.items out.new.items) }
-    ensures err { OnErr result (out.new.items ≡ out.old.items) }
+    ensures ok { AreTrees pending.old.begun pending.old.rows.items → OnOk result (WentReported grouping (force cause (state_of pending.old)) pending.new out.old.items out.new.items) }
+    ensures err { AreTrees pending.old.begun pending.old.rows.items →
+        OnErr result (GainsPrefix (reported grouping (force cause (state_of pending.old)).groups) out.old.items out.new.items) }
 {
-    match grouping {
-        Grouping::Raw => take_raw(alloc, vxid, rec, out),
-        Grouping::Vxid | Grouping::Request | Grouping::Session => {
-            take_grouped(alloc, rows, vxid, rec, out)
-        }
-    }
-}
-
-/// Adds a record as a group by itself.
-fn take_raw(alloc: Global, vxid: Vxid, rec: &Record, out: &mut Vec<Group>) -> Result<(), NoMemory>
-    ensures ok { OnOk result (out.new.items ≡ out.old.items ++ raw_group vxid rec.now ∷ []) }
-    ensures err { OnErr result (out.new.items ≡ out.old.items) }
-{
-    let copy = rec.to_owned(alloc)?;
-    let mut records = Records::new(alloc);
-    records.push(copy)?;
-    let member = Member {
-        vxid,
-        kind: Kind::Record,
-        reason: Reason::Other,
-        level: 0,
-        parent: 0,
-        records,
-    };
-    let group = group_alone(alloc, member)?;
-    out.push(group)?;
-    Ok(())
-}
-
-/// Adds a record to its row, which an End completes.
-fn take_grouped(
-    alloc: Global,
-    rows: &mut Vec<Row>,
-    vxid: Vxid,
-    rec: &Record,
-    out: &mut Vec<Group>,
-) -> Result<(), NoMemory>
-    ensures ok { OnOk result (RowsStepped (step Grouping.Vxid vxid rec.now (state_of rows.old.items)) rows.new.items out.old.items out.new.items) }
-    ensures err { OnErr result (out.new.items ≡ out.old.items) }
-{
-    let at = open_row(alloc, rows, vxid)?;
-    add_record(alloc, &mut rows[at], rec)?;
-    if rec.tag != Tag::END {
+    let Some(at) = oldest_of(Which::Unfinished, &pending.rows) else {
         return Ok(());
-    }
-    let row = rows.remove(at);
-    let group = group_of_row(alloc, row)?;
-    out.push(group)?;
-    Ok(())
+    };
+    let mut left = Vec::new(alloc);
+    force_at(alloc, &mut pending.rows, at, cause, &mut left)?;
+    report(grouping, left, out)
 }
 
-/// Force-completes all rows in order, and adds their groups.
-pub(crate) fn flush_rows(
+/// Force-completes every row that has not ended, the oldest first, and adds the groups that leave.
+fn end_all(alloc: Global, pending: &mut Pending, left: &mut Vec<Group>) -> Result<(), NoMemory>
+    ensures ok { AreTrees pending.old.begun pending.old.rows.items → OnOk result (WentBy (flush (state_of pending.old)) pending.new left.old.items left.new.items) }
+    ensures err { AreTrees pending.old.begun pending.old.rows.items → OnErr result (AddsPart (flush (state_of pending.old)).groups left.old.items left.new.items) }
+{
+    force_all(
+        alloc,
+        &mut pending.rows,
+        Which::Unfinished,
+        Cause::Flush,
+        left,
+    )
+}
+
+/// Force-completes every row that has not ended, the oldest first, and adds the groups that they complete.
+#[tactic(auto, using(crate::proofs::StepLemmas::part_either, crate::proofs::StepLemmas::part_reported, crate::proofs::StepLemmas::all_reported, crate::proofs::StepLemmas::went_reported))]
+pub(crate) fn flush_all(
     alloc: Global,
-    rows: Vec<Row>,
+    grouping: Grouping,
+    pending: &mut Pending,
     out: &mut Vec<Group>,
 ) -> Result<(), NoMemory>
-    ensures ok { OnOk result (out.new.items ≡ out.old.items ++ map flushed_group rows.items) }
-    ensures err { OnErr result (GainsPrefix (map flushed_group rows.items) out.old.items out.new.items) }
+    ensures ok { AreTrees pending.old.begun pending.old.rows.items → OnOk result (WentReported grouping (flush (state_of pending.old)) pending.new out.old.items out.new.items) }
+    ensures err { AreTrees pending.old.begun pending.old.rows.items →
+        OnErr result (GainsPrefix (reported grouping (flush (state_of pending.old)).groups) out.old.items out.new.items) }
 {
-    for row in rows {
-        let group = force_row(alloc, row)?;
-        out.push(group)?;
-    }
-    Ok(())
-}
-
-/// Force-completes a row: it gets a VSL record and an End.
-fn force_row(alloc: Global, mut row: Row) -> Result<Group, NoMemory>
-    ensures { IfOk result (λ group. group ≡ flushed_group row) }
-{
-    let mark = mark_of(row.records.as_slice());
-    let cause = synthesized(alloc, Tag::VSL, mark, b"flush")?;
-    row.records.push(cause)?;
-    let end = synthesized(alloc, Tag::END, mark, b"synth")?;
-    row.records.push(end)?;
-    group_of_row(alloc, row)
-}
-
-/// The mark of the first record, or none.
-fn mark_of(records: &[Record]) -> Mark
-    ensures { result ≡ first_mark records.now }
-{
-    match records {
-        [rec, ..] => rec.mark,
-        [] => Mark::Plain,
-    }
-}
-
-/// A record that no worker wrote.
-fn synthesized(alloc: Global, tag: Tag, mark: Mark, payload: &[u8]) -> Result<Record, NoMemory>
-    requires { length payload.now ≤ most_payload }
-    ensures { IfOk result (λ rec. rec ≡ record { tag = tag; mark = mark; payload = payload.now }) }
-{
-    let payload = Payload::from_slice(alloc, payload)?;
-    Ok(Record { tag, mark, payload })
+    let mut left = Vec::new(alloc);
+    let flushed = end_all(alloc, pending, &mut left);
+    report(grouping, left, out)?;
+    flushed
 }

@@ -111,7 +111,7 @@ some_units p (u ∷ us) text left = omega arith
 left_at_end : (fault : PrintFault) (p : PrinterState) (us : Log) (text : List ℕ) → IsPrefix (due p us false) text → IsLeft fault (due p us true) text → IsLeftOf fault p us true text
 left_at_end (WriteFault name) p us text least left = record {
   some = some_units p us text left;
-  least = prefix_then (due_first p.layout (is_held p.query) p.table.options.grouping us (length us - 1) false) least;
+  least = prefix_then (due_first p.layout (is_held p.query) p.table.options us (length us - 1) false) least;
   left = left;
 }
 left_at_end NoMemory p us text least left = left

@@ -1,5 +1,5 @@
 -- What a printer's text comes to, unit by unit.
-use Rattle.std.proofs.Common.{◌≡◌, ℕ, Bool, false, true, List, [], ◌∷◌, ◌++◌, take, drop, refl, sym, ap, subst, ◌∙◌}
+use Rattle.std.proofs.Common.{◌≡◌, ℕ, Bool, false, true, cond, List, [], ◌∷◌, ◌++◌, take, drop, refl, sym, ap, subst, ◌∙◌}
 use Rattle.std.proofs.lemmas.List.{append-nil, take-append-drop}
 use Rattle.std.proofs.lemmas.List.Concat.{flat_map-append}
 use Rattle.std.proofs.lemmas.List.Elements.{filter-append}
@@ -16,7 +16,7 @@ use Rattle.txn_rows.specs.declared.group.Group.{Group}
 use Rattle.txn_rows.specs.declared.group.GroupOptions.{GroupOptions}
 use Rattle.txn_rows.proofs.GroupingLemmas.{steps_append}
 use Rattle.vsl_select.proofs.RawLemmas.{raw_steps}
-use Rattle.txn_rows.specs.Grouping.{State, no_state, unit_step, unit_steps, flush, groups_of}
+use Rattle.txn_rows.specs.Grouping.{State, Leaving, no_state, nothing_left, is_reported, reported, steps, passes_over, unit_step, unit_steps, flush, groups_of}
 use Rattle.txn_rows.specs.Table.{TableStepped}
 use Rattle.txn_rows.specs.TableState.{TableState}
 use Rattle.vsl_select.specs.Lines.{group_text}
@@ -38,50 +38,60 @@ laid_append : (l : Layout) (gs hs : List Group) → laid_out l (gs ++ hs) ≡ la
 laid_append Lines gs hs = flat_map-append (group_text false) gs hs
 laid_append Units gs hs = ap log_bytes (flat_map-append file_units gs hs) ∙ flat_map-append unit_bytes (flat_map file_units gs) (flat_map file_units hs)
 
--- the text of those of groups that pass a test
-abbrev passed_text : Layout → (Group → Bool) → List Group → List ℕ
-passed_text l test groups = laid_out l (filter test groups)
+-- the text of those of the groups that left that are reported and pass a test
+abbrev passed_text : Layout → (Group → Bool) → Grouping → List Group → List ℕ
+passed_text l test grouping groups = laid_out l (filter test (reported grouping groups))
 
 -- the text of those of the groups of units that pass a test, where the units have ended or not; with what a query holds for it is what is due
-abbrev pub tested_text : Layout → (Group → Bool) → Grouping → Log → Bool → List ℕ
-tested_text l test by units ended = passed_text l test (groups_of by units ended)
+abbrev pub tested_text : Layout → (Group → Bool) → GroupOptions → Log → Bool → List ℕ
+tested_text l test options units ended = laid_out l (filter test (groups_of options units ended))
 
-passed_append : (l : Layout) (test : Group → Bool) (gs hs : List Group) → passed_text l test (gs ++ hs) ≡ passed_text l test gs ++ passed_text l test hs
-passed_append l test gs hs = ap (λ (all : List Group). laid_out l all) (filter-append test gs hs) ∙ laid_append l (filter test gs) (filter test hs)
+passed_append : (l : Layout) (test : Group → Bool) (grouping : Grouping) (gs hs : List Group) → passed_text l test grouping (gs ++ hs) ≡ passed_text l test grouping gs ++ passed_text l test grouping hs
+passed_append l test grouping gs hs =
+    ap (λ (all : List Group). laid_out l (filter test all)) (filter-append (is_reported grouping) gs hs)
+    ∙ ap (λ (all : List Group). laid_out l all) (filter-append test (reported grouping gs) (reported grouping hs))
+    ∙ laid_append l (filter test (reported grouping gs)) (filter test (reported grouping hs))
 
 -- what is due for units and more units
-due_append : (l : Layout) (test : Group → Bool) (by : Grouping) (us vs : Log)
-    → tested_text l test by (us ++ vs) false ≡ tested_text l test by us false ++ passed_text l test (unit_steps by vs (unit_steps by us no_state).state).groups
-due_append l test by us vs =
-    ap (λ (gs : List Group). passed_text l test gs) (steps_append by us vs no_state).1 ∙ passed_append l test (unit_steps by us no_state).groups (unit_steps by vs (unit_steps by us no_state).state).groups
+due_append : (l : Layout) (test : Group → Bool) (options : GroupOptions) (us vs : Log)
+    → tested_text l test options (us ++ vs) false ≡ tested_text l test options us false ++ passed_text l test options.grouping (unit_steps options vs (unit_steps options us no_state).state).groups
+due_append l test options us vs =
+    ap (λ (gs : List Group). passed_text l test options.grouping gs) (steps_append options us vs no_state).1 ∙ passed_append l test options.grouping (unit_steps options us no_state).groups (unit_steps options vs (unit_steps options us no_state).state).groups
 
 -- what is due for one unit more
-due_more : (l : Layout) (test : Group → Bool) (by : Grouping) (us : Log) (u : LogUnit)
-    → tested_text l test by (us ++ u ∷ []) false ≡ tested_text l test by us false ++ passed_text l test (unit_step by u (unit_steps by us no_state).state).groups
-due_more l test by us u =
-    due_append l test by us (u ∷ []) ∙ ap (λ (gs : List Group). tested_text l test by us false ++ passed_text l test gs) (append-nil (unit_step by u (unit_steps by us no_state).state).groups)
+due_more : (l : Layout) (test : Group → Bool) (options : GroupOptions) (us : Log) (u : LogUnit)
+    → tested_text l test options (us ++ u ∷ []) false ≡ tested_text l test options us false ++ passed_text l test options.grouping (unit_step options u (unit_steps options us no_state).state).groups
+due_more l test options us u =
+    due_append l test options us (u ∷ []) ∙ ap (λ (gs : List Group). tested_text l test options us false ++ passed_text l test options.grouping gs) (append-nil (unit_step options u (unit_steps options us no_state).state).groups)
 
 -- what is due at the end
-pub due_end : (l : Layout) (test : Group → Bool) (by : Grouping) (us : Log) → tested_text l test by us true ≡ tested_text l test by us false ++ passed_text l test (flush (unit_steps by us no_state).state).groups
-due_end l test by us = passed_append l test (unit_steps by us no_state).groups (flush (unit_steps by us no_state).state).groups
+pub due_end : (l : Layout) (test : Group → Bool) (options : GroupOptions) (us : Log) → tested_text l test options us true ≡ tested_text l test options us false ++ passed_text l test options.grouping (flush (unit_steps options us no_state).state).groups
+due_end l test options us = passed_append l test options.grouping (unit_steps options us no_state).groups (flush (unit_steps options us no_state).state).groups
 
 pub represents_more : (p q : PrinterState) (u : LogUnit) (units : Log) (a b : List ℕ) → q.table.options ≡ p.table.options
     → PutUnit p.layout p.query u p.table q.table a b → Represents p units → Represents q (units ++ u ∷ [])
 represents_more p q u units a b same put old = record {
-  state = put.state ∙ ap (λ (s : State). (unit_step p.table.options.grouping u s).state) old.state ∙ sym (steps_append p.table.options.grouping units (u ∷ []) no_state).0
-      ∙ ap (λ (o : GroupOptions). (unit_steps o.grouping (units ++ u ∷ []) no_state).state) (sym same);
+  state = put.state ∙ ap (λ (s : State). (unit_step p.table.options u s).state) old.state ∙ sym (steps_append p.table.options units (u ∷ []) no_state).0
+      ∙ ap (λ (o : GroupOptions). (unit_steps o (units ++ u ∷ []) no_state).state) (sym same);
   sound = put.sound old.sound;
 }
 
 -- the text of what a step reported goes on from what was due
-step_text : (l : Layout) (query : Query) (p q : TableState) (u : LogUnit) (units : Log) (a b : List ℕ) → a ≡ [] → p.state ≡ (unit_steps p.options.grouping units no_state).state
-    → PutUnit l query u p q a b → due_text l query p.options.grouping (units ++ u ∷ []) false ≡ due_text l query p.options.grouping units false ++ b
-step_text l query p q u units a b e is put = due_more l (is_held query) p.options.grouping units u
-    ∙ ap (λ (s : State). due_text l query p.options.grouping units false ++ laid_out l (held_groups query (unit_step p.options.grouping u s).groups)) (sym is)
-    ∙ ap (λ (text : List ℕ). due_text l query p.options.grouping units false ++ text) (sym (put.text ∙ ap (λ (x : List ℕ). x ++ laid_out l (held_groups query (unit_step p.options.grouping u p.state).groups)) e))
+step_text : (l : Layout) (query : Query) (p q : TableState) (u : LogUnit) (units : Log) (a b : List ℕ) → a ≡ [] → p.state ≡ (unit_steps p.options units no_state).state
+    → PutUnit l query u p q a b → due_text l query p.options (units ++ u ∷ []) false ≡ due_text l query p.options units false ++ b
+step_text l query p q u units a b e is put = due_more l (is_held query) p.options units u
+    ∙ ap (λ (s : State). due_text l query p.options units false ++ laid_out l (held_groups query (reported p.options.grouping (unit_step p.options u s).groups))) (sym is)
+    ∙ ap (λ (text : List ℕ). due_text l query p.options units false ++ text) (sym (put.text ∙ ap (λ (x : List ℕ). x ++ laid_out l (held_groups query (reported p.options.grouping (unit_step p.options u p.state).groups))) e))
 
-raw_text : (u : LogUnit) (s : State) → laid_out Lines (unit_step Raw u s).groups ≡ raw_lines u
-raw_text u s = (raw_steps u.vxid u.records s).1
+-- a unit of which each record is a group by itself leaves the state as it is, and its text is its raw lines
+raw_unit : (options : GroupOptions) → options.grouping ≡ Raw → (u : LogUnit) (s : State)
+    → ((unit_step options u s).state ≡ s) × (laid_out Lines (reported options.grouping (unit_step options u s).groups) ≡ raw_lines u)
+raw_unit options raw u s =
+    let taken : unit_step options u s ≡ steps options u.vxid u.records s = ap (λ (g : Grouping). cond (passes_over g u.vxid) (nothing_left s) (steps options u.vxid u.records s)) raw in
+    let texts = raw_steps options raw u.vxid u.records s in (
+      ap (λ (l : Leaving). l.state) taken ∙ texts.0,
+      ap (λ (l : Leaving). laid_out Lines (reported options.grouping l.groups)) taken ∙ ap (λ (g : Grouping). laid_out Lines (reported g (steps options u.vxid u.records s).groups)) raw ∙ texts.1,
+    )
 
 -- a query that holds always holds for each group
 always_holds : (query : Query) → query.always ≡ true → (groups : List Group) → held_groups query groups ≡ groups
@@ -90,18 +100,18 @@ always_holds query always (group ∷ groups) = rw always (ap (λ (gs : List Grou
 
 pub put_raw : (query : Query) (u : LogUnit) (table : TableState) (a b : List ℕ) → query.always ≡ true → table.options.grouping ≡ Raw → b ≡ a ++ raw_lines u → PutUnit Lines query u table table a b
 put_raw query u table a b always raw e = record {
-  state = sym (ap (λ (g : Grouping). (unit_step g u table.state).state) raw ∙ (raw_steps u.vxid u.records table.state).0);
+  state = sym (raw_unit table.options raw u table.state).0;
   sound = λ sound. sound;
-  text = e ∙ ap (λ (x : List ℕ). a ++ x) (sym (ap (λ (gs : List Group). laid_out Lines gs) (always_holds query always (unit_step table.options.grouping u table.state).groups)
-      ∙ ap (λ (g : Grouping). laid_out Lines (unit_step g u table.state).groups) raw ∙ raw_text u table.state));
+  text = e ∙ ap (λ (x : List ℕ). a ++ x) (sym (ap (λ (gs : List Group). laid_out Lines gs) (always_holds query always (reported table.options.grouping (unit_step table.options u table.state).groups))
+      ∙ (raw_unit table.options raw u table.state).1));
 }
 
-pub put_grouped : (l : Layout) (query : Query) (u : LogUnit) (p q : TableState) (g h lent : List Group) (a b : List ℕ) → g ≡ [] → lent ≡ h → TableStepped (unit_step p.options.grouping u p.state) p q g h
+pub put_grouped : (l : Layout) (query : Query) (u : LogUnit) (p q : TableState) (g h lent : List Group) (a b : List ℕ) → g ≡ [] → lent ≡ h → TableStepped (unit_step p.options u p.state) p q g h
     → b ≡ a ++ laid_out l (held_groups query lent) → PutUnit l query u p q a b
 put_grouped l query u p q g h lent a b e lent_is step text = rw step.state (record {
   state = refl;
   sound = λ sound. refl;
-  text = text ∙ ap (λ (gs : List Group). a ++ laid_out l (held_groups query gs)) (lent_is ∙ step.groups ∙ ap (λ (gs : List Group). gs ++ (unit_step p.options.grouping u p.state).groups) e);
+  text = text ∙ ap (λ (gs : List Group). a ++ laid_out l (held_groups query gs)) (lent_is ∙ step.groups ∙ ap (λ (gs : List Group). gs ++ reported p.options.grouping (unit_step p.options u p.state).groups) e);
 })
 
 -- what was due was written on to what is due
@@ -123,10 +133,10 @@ pub unit_left : (f : PrintFault) (p q : PrinterState) (u : LogUnit) (units : Log
     → Represents p units → WroteOn p.sink (due p units false) (IsLeft f (due p (units ++ u ∷ []) false)) s t
 unit_left f p q u units a b s t e put w old = left_on f p.sink (due p units false) (due p (units ++ u ∷ []) false) b s t (step_text p.layout p.query p.table q.table u units a b e old.state put) w
 
-pub end_left : (f : PrintFault) (p : PrinterState) (units : Log) (gs : List Group) (s t : Seen) → Represents p units → gs ≡ (flush p.table.state).groups → WroteOn p.sink [] (IsLeft f (laid_out p.layout (held_groups p.query gs))) s t
+pub end_left : (f : PrintFault) (p : PrinterState) (units : Log) (gs : List Group) (s t : Seen) → Represents p units → gs ≡ reported p.table.options.grouping (flush p.table.state).groups → WroteOn p.sink [] (IsLeft f (laid_out p.layout (held_groups p.query gs))) s t
     → WroteOn p.sink (due p units false) (IsLeft f (due p units true)) s t
 end_left f p units gs s t old e left = left_on f p.sink (due p units false) (due p units true) (laid_out p.layout (held_groups p.query gs)) s t
-    (due_end p.layout (is_held p.query) p.table.options.grouping units ∙ ap (λ (r : State). due p units false ++ laid_out p.layout (held_groups p.query (flush r).groups)) (sym old.state)
+    (due_end p.layout (is_held p.query) p.table.options units ∙ ap (λ (r : State). due p units false ++ laid_out p.layout (held_groups p.query (reported p.table.options.grouping (flush r).groups))) (sym old.state)
     ∙ ap (λ (hs : List Group). due p units false ++ laid_out p.layout (held_groups p.query hs)) (sym e))
     left
 
@@ -135,21 +145,21 @@ pub none_left : (p : PrinterState) (u : LogUnit) (units : Log) (s : Seen) → Re
     → WroteOn p.sink (due p units false) (IsLeft NoMemory (due p (units ++ u ∷ []) false)) s s
 none_left p u units s old = record {
   added = [];
-  is = rw (append-nil (due p units false), due_more p.layout (is_held p.query) p.table.options.grouping units u)
-      (prefix_append (due p units false) (laid_out p.layout (held_groups p.query (unit_step p.table.options.grouping u (unit_steps p.table.options.grouping units no_state).state).groups)));
+  is = rw (append-nil (due p units false), due_more p.layout (is_held p.query) p.table.options units u)
+      (prefix_append (due p units false) (laid_out p.layout (held_groups p.query (reported p.table.options.grouping (unit_step p.table.options u (unit_steps p.table.options units no_state).state).groups))));
   wrote = Wrote-none p.sink s;
 }
 
-due_on : (l : Layout) (test : Group → Bool) (by : Grouping) (us vs : Log) → IsPrefix (tested_text l test by us false) (tested_text l test by (us ++ vs) false)
-due_on l test by us vs = record { rest = passed_text l test (unit_steps by vs (unit_steps by us no_state).state).groups; is = due_append l test by us vs }
+due_on : (l : Layout) (test : Group → Bool) (options : GroupOptions) (us vs : Log) → IsPrefix (tested_text l test options us false) (tested_text l test options (us ++ vs) false)
+due_on l test options us vs = record { rest = passed_text l test options.grouping (unit_steps options vs (unit_steps options us no_state).state).groups; is = due_append l test options us vs }
 
 -- the text of units goes on in that of units and more units, flushed or not
-due_prefix : (l : Layout) (test : Group → Bool) (by : Grouping) (us vs : Log) (b : Bool) → IsPrefix (tested_text l test by us false) (tested_text l test by (us ++ vs) b)
-due_prefix l test by us vs false = due_on l test by us vs
-due_prefix l test by us vs true = prefix_then (due_on l test by us vs) (record { rest = passed_text l test (flush (unit_steps by (us ++ vs) no_state).state).groups; is = due_end l test by (us ++ vs) })
+due_prefix : (l : Layout) (test : Group → Bool) (options : GroupOptions) (us vs : Log) (b : Bool) → IsPrefix (tested_text l test options us false) (tested_text l test options (us ++ vs) b)
+due_prefix l test options us vs false = due_on l test options us vs
+due_prefix l test options us vs true = prefix_then (due_on l test options us vs) (record { rest = passed_text l test options.grouping (flush (unit_steps options (us ++ vs) no_state).state).groups; is = due_end l test options (us ++ vs) })
 
-pub due_first : (l : Layout) (test : Group → Bool) (by : Grouping) (units : Log) (n : ℕ) (b : Bool) → IsPrefix (tested_text l test by (take n units) false) (tested_text l test by units b)
-due_first l test by units n b = subst (λ (us : Log). IsPrefix (tested_text l test by (take n units) false) (tested_text l test by us b)) (take-append-drop n units) (due_prefix l test by (take n units) (drop n units) b)
+pub due_first : (l : Layout) (test : Group → Bool) (options : GroupOptions) (units : Log) (n : ℕ) (b : Bool) → IsPrefix (tested_text l test options (take n units) false) (tested_text l test options units b)
+due_first l test options units n b = subst (λ (us : Log). IsPrefix (tested_text l test options (take n units) false) (tested_text l test options us b)) (take-append-drop n units) (due_prefix l test options (take n units) (drop n units) b)
 
-pub due_flag : (l : Layout) (test : Group → Bool) (by : Grouping) (units : Log) (b : Bool) → IsPrefix (tested_text l test by units false) (tested_text l test by units b)
-due_flag l test by units b = subst (λ (us : Log). IsPrefix (tested_text l test by units false) (tested_text l test by us b)) (append-nil units) (due_prefix l test by units [] b)
+pub due_flag : (l : Layout) (test : Group → Bool) (options : GroupOptions) (units : Log) (b : Bool) → IsPrefix (tested_text l test options units false) (tested_text l test options units b)
+due_flag l test options units b = subst (λ (us : Log). IsPrefix (tested_text l test options units false) (tested_text l test options us b)) (append-nil units) (due_prefix l test options units [] b)

@@ -20,7 +20,7 @@ use Rattle.varnish_tools.specs.declared.fault.ToolFault.TheVariants.{ReadFault}
 use Rattle.varnish_tools.specs.declared.outcome.RunRecord.{RunRecord}
 use Rattle.varnish_tools.specs.declared.outcome.RunRecord.TheVariants.{Nothing, Counted}
 use Rattle.varnish_tools.specs.declared.outcome.Outcome.{Outcome}
-use Rattle.varnish_tools.specs.Asked.{Asked, Refuse, Work, asked_of, file_of, write_of}
+use Rattle.varnish_tools.specs.Asked.{Asked, Refuse, Work, asked_of, options_of, file_of, write_of}
 use Rattle.varnish_tools.specs.Faults.{FaultClass, Refused, RefusedQuery, LongQuery, NotOpened, NotRead, NotWritten, BadInput, class_of, message, fault_message, status_of}
 use Rattle.varnish_tools.specs.Objects.{Object, source_of, sink_of, inputs_of, sources_of, sinks_of, streams_of, query_files, name_of, calls_of, SinkGained, SinkUntouched, SinksGained, SinksUntouched, NothingTouched, GivesAtMost, TouchesJob}
 use Rattle.varnish_tools.specs.Queries.{Ask, is_asked, chosen}
@@ -181,16 +181,16 @@ prefix_until asked s t u streams touched told p = λ input is_input o one. elim 
 
 -- the text of a run of units without what follows it
 run_text : (job : Job) (ask : Ask) (empty : Bool) (units : Log) (ending : Ending)
-    → sink_text (Work job) ask (run_of empty units) ending ≡ head_text job empty ++ laid_out (layout_of job) (chosen ask (groups_of job.grouping units (is_flushed ending)))
-run_text job ask empty units ending = ap (λ (us : Log). head_text job empty ++ laid_out (layout_of job) (chosen ask (groups_of job.grouping us (is_flushed ending)))) (append-nil units)
+    → sink_text (Work job) ask (run_of empty units) ending ≡ head_text job empty ++ laid_out (layout_of job) (chosen ask (groups_of (options_of job) units (is_flushed ending)))
+run_text job ask empty units ending = ap (λ (us : Log). head_text job empty ++ laid_out (layout_of job) (chosen ask (groups_of (options_of job) us (is_flushed ending)))) (append-nil units)
 
 -- the text of the first units is a prefix
 first_prefix : (job : Job) (ask : Ask) (input : Input) (run : Run) (n : ℕ) (f : ToolFault) → run ≡ run_of input.sink_empty (take n input.units) → IsPrefix (sink_text (Work job) ask run (Faulted f)) (whole_text (Work job) ask input)
 first_prefix job ask input run n f e = rw (e, run_text job ask input.sink_empty (take n input.units) (Faulted f))
-    (prefix_after (head_text job input.sink_empty) (due_first (layout_of job) (is_asked ask) job.grouping input.units n (is_whole input.file_ending)))
+    (prefix_after (head_text job input.sink_empty) (due_first (layout_of job) (is_asked ask) (options_of job) input.units n (is_whole input.file_ending)))
 
 whole_prefix : (job : Job) (ask : Ask) (input : Input) (run : Run) → is_whole input.file_ending ≡ true → run ≡ whole_run input → IsPrefix (sink_text (Work job) ask run Whole) (whole_text (Work job) ask input)
-whole_prefix job ask input run whole e = rw (e, run_text job ask input.sink_empty input.units Whole, whole) (prefix_same (head_text job input.sink_empty ++ laid_out (layout_of job) (chosen ask (groups_of job.grouping input.units true))))
+whole_prefix job ask input run whole e = rw (e, run_text job ask input.sink_empty input.units Whole, whole) (prefix_same (head_text job input.sink_empty ++ laid_out (layout_of job) (chosen ask (groups_of (options_of job) input.units true))))
 
 both : (a b : Bool) → (a && b) ≡ true → (a ≡ true) × (b ≡ true)
 both true b e = (refl, e)
@@ -306,7 +306,8 @@ no_fault job input (Some f) s u is_input clean good none causes = absurd (no_cau
 whole_written : (recorded : RunRecord) (job : Job) (ask : Ask) (input : Input) (run : Run) (ending : Ending) (s u : Seen) → fault_of ending ≡ None → LeavesSinks None (Work job) recorded s u → Takes input run ending
     → SinksLeft recorded (IsDue (Work job) ask input run ending) (Work job) s u → SinksGained (λ text. text ≡ sink_text (Work job) ask (whole_run input) Whole) (Work job) s u
 whole_written Nothing job ask input run ending s u e left takes p = absurd left.0
-whole_written (Counted n items) job ask input run Whole s u e left takes p = λ o one. gained_so (λ text so. so ∙ ap (λ (r : Run). sink_text (Work job) ask r Whole) takes.1) (p o one)
+whole_written (Counted n items) job ask input run Whole s u e left takes p =
+    subst (λ (r : Run). SinksGained (λ text. text ≡ sink_text (Work job) ask r Whole) (Work job) s u) takes.1 p
 whole_written (Counted n items) job ask input run Kept s u e left takes p = absurd takes
 whole_written (Counted n items) job ask input run (Faulted f) s u e left takes p = absurd cc
 

@@ -1,5 +1,6 @@
 -- What the words of a command line ask for (this project's choice).
 use Rattle.std.specs.Prelude.{ℕ, if◌then◌else◌, List, [], unwrap_or, codes, Result, Ok, Err}
+use Rattle.txn_rows.specs.declared.group.GroupOptions.{GroupOptions}
 use Rattle.tool_words.specs.declared.fault.UsageFault.{UsageFault}
 use Rattle.tool_words.specs.declared.job.Job.{Job}
 use Rattle.tool_words.specs.Job.{job_of}
@@ -20,6 +21,10 @@ asked_by (Ok job) = if is_built job then Work job else Refuse NotBuilt
 -- what the words ask for
 abbrev pub asked_of : List (List ℕ) → Asked
 asked_of words = asked_by (job_of words)
+
+-- how a job groups records
+abbrev pub options_of : Job → GroupOptions
+options_of job = record { grouping = job.grouping; limit = job.limit; timeout = job.timeout }
 
 -- the name of a job's log file, where it has one
 abbrev pub file_of : Job → List ℕ

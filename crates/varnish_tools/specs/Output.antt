@@ -9,7 +9,7 @@ use Rattle.vsl_select.specs.FileUnits.{file_units}
 use Rattle.tool_words.specs.declared.job.Job.{Job}
 use Rattle.varnish_tools.specs.declared.layout.Layout.{Layout}
 use Rattle.varnish_tools.specs.declared.layout.Layout.TheVariants.{Lines, Units}
-use Rattle.varnish_tools.specs.Asked.{Asked, Refuse, Work}
+use Rattle.varnish_tools.specs.Asked.{Asked, Refuse, Work, options_of}
 use Rattle.varnish_tools.specs.Queries.{Ask, chosen}
 use Rattle.varnish_tools.specs.Run.{Run, Ending, Whole, Kept, Faulted, taken_units}
 
@@ -41,4 +41,4 @@ is_flushed (Faulted fault) = false
 abbrev pub sink_text : Asked → Ask → Run → Ending → List ℕ
 sink_text (Refuse fault) ask run ending = []
 sink_text (Work job) ask run ending =
-    head_text job run.sink_empty ++ laid_out (layout_of job) (chosen ask (groups_of job.grouping (taken_units run.history) (is_flushed ending)))
+    head_text job run.sink_empty ++ laid_out (layout_of job) (chosen ask (groups_of (options_of job) (taken_units run.history) (is_flushed ending)))

@@ -5,7 +5,7 @@ use Rattle.log_model.specs.Prefix.{IsPrefix, IsProperPrefix}
 use Rattle.vio.specs.World.{Seen, Writing}
 use Rattle.vsl_record.specs.Unit.{Log}
 use Rattle.txn_rows.specs.declared.group.Group.{Group}
-use Rattle.txn_rows.specs.declared.group.Grouping.{Grouping}
+use Rattle.txn_rows.specs.declared.group.GroupOptions.{GroupOptions}
 use Rattle.txn_rows.specs.Grouping.{no_state, unit_steps, groups_of}
 use Rattle.txn_rows.specs.TableState.{TableState}
 use Rattle.query_parser.specs.declared.query.Query.{Query}
@@ -31,7 +31,7 @@ printer_state p = record { table = p.table; layout = p.style.layout; query = ask
 
 -- the printer was given these units, and no call was refused
 pub record Represents (p : PrinterState) (units : Log) : Type 0 where
-  pub state : p.table.state ≡ (unit_steps p.table.options.grouping units no_state).state
+  pub state : p.table.state ≡ (unit_steps p.table.options units no_state).state
   pub sound : p.table.failed ≡ false
 
 -- the groups for which a query holds, in their order
@@ -39,12 +39,12 @@ abbrev pub held_groups : Query → List Group → List Group
 held_groups query groups = filter (is_held query) groups
 
 -- the text that is due for these units, where they have ended or not: that of the groups for which the query holds
-abbrev pub due_text : Layout → Query → Grouping → Log → Bool → List ℕ
-due_text layout query grouping units ended = laid_out layout (held_groups query (groups_of grouping units ended))
+abbrev pub due_text : Layout → Query → GroupOptions → Log → Bool → List ℕ
+due_text layout query options units ended = laid_out layout (held_groups query (groups_of options units ended))
 
 -- the text that is due at a printer's sink for these units, where they have ended or not
 abbrev pub due : PrinterState → Log → Bool → List ℕ
-due p units ended = due_text p.layout p.query p.table.options.grouping units ended
+due p units ended = due_text p.layout p.query p.table.options units ended
 
 -- a call keeps options, layout, query and sink
 pub record IsSamePrinter (old new : PrinterState) : Type 0 where

@@ -16,7 +16,7 @@ use Rattle.varnish_tools.specs.declared.outcome.RunRecord.{RunRecord}
 use Rattle.varnish_tools.specs.declared.outcome.RunRecord.TheVariants.{Nothing, Counted}
 use Rattle.varnish_tools.specs.declared.outcome.Outcome.{Outcome}
 use Rattle.tool_words.specs.declared.job.Job.{Job}
-use Rattle.varnish_tools.specs.Asked.{Asked, Refuse, Work, asked_of}
+use Rattle.varnish_tools.specs.Asked.{Asked, Refuse, Work, asked_of, options_of}
 use Rattle.varnish_tools.specs.Faults.{FaultClass, Refused, RefusedQuery, LongQuery, NotOpened, NotRead, NotWritten, BadInput, class_of, message, fault_message, status_of}
 use Rattle.varnish_tools.specs.Objects.{Object, OpenedFile, CreatedFile, Stream, source_of, sink_of, calls_of, IsSourceHandle, SinkGained, SinkUntouched, SinksGained, SinksUntouched, NothingTouched, name_of, names_of, sinks_of, inputs_of, input_calls}
 use Rattle.varnish_tools.specs.Queries.{Ask, AreAsked, chosen, TextsHold, texts_fault}
@@ -119,7 +119,7 @@ whole_run input = run_of input.sink_empty input.units
 abbrev pub whole_text : Asked → Ask → Input → List ℕ
 whole_text (Refuse fault) ask input = []
 whole_text (Work job) ask input =
-    head_text job input.sink_empty ++ laid_out (layout_of job) (chosen ask (groups_of job.grouping input.units (is_whole input.file_ending)))
+    head_text job input.sink_empty ++ laid_out (layout_of job) (chosen ask (groups_of (options_of job) input.units (is_whole input.file_ending)))
 
 -- the record of a run over an input: it takes so many units, from the first on, without a gap; or nothing
 abbrev pub IsRunOf : RunRecord → Input → Run → Type 0

@@ -2,14 +2,14 @@
 
 ghost use Rattle.std.specs.Prelude.{◌≡◌, map, true, IfOk, MatchResult, IfErr};
 ghost use Rattle.std.specs.String.{string_bytes};
-ghost use Rattle.varnish_tools.specs.Asked.{Refuse, Work, asked_of, file_of, write_of};
+ghost use Rattle.varnish_tools.specs.Asked.{Refuse, Work, asked_of, options_of, file_of, write_of};
 ghost use Rattle.varnish_tools.specs.Faults.{Refused, class_of};
-ghost use Rattle.varnish_tools.specs.Built.{is_built, is_built_grouping, is_built_tool, shows_all};
+ghost use Rattle.varnish_tools.specs.Built.{is_built, is_built_tool, shows_all};
 
 use crate::fault::ToolFault;
 use std::alloc::Global;
 use tool_words::{Job, Tool, WordsFault, read_words};
-use txn_rows::Grouping;
+use txn_rows::GroupOptions;
 use vio::NoMemory;
 use vsl_select::{Sides, Text};
 
@@ -22,18 +22,6 @@ fn has_tool(tool: Tool) -> bool
         Tool::Ncsa => false,
         Tool::Top => false,
         Tool::Stat => false,
-    }
-}
-
-/// Whether the grouping is built.
-fn has_grouping(grouping: Grouping) -> bool
-    ensures { result ≡ is_built_grouping grouping }
-{
-    match grouping {
-        Grouping::Raw => true,
-        Grouping::Vxid => true,
-        Grouping::Request => false,
-        Grouping::Session => false,
     }
 }
 
@@ -50,13 +38,21 @@ fn is_built_job(job: &Job) -> bool
 {
     has_tool(job.tool)
         && job.file.is_some()
-        && job.limit == 1000
-        && job.timeout == 120
         && job.keep.is_none()
         && is_all(job.sides)
         && !job.verbose
         && job.rules.as_slice().is_empty()
-        && has_grouping(job.grouping)
+}
+
+/// How a job groups records.
+pub fn options_of(job: &Job) -> GroupOptions
+    ensures { result ≡ options_of job.now }
+{
+    GroupOptions {
+        grouping: job.grouping,
+        limit: job.limit,
+        timeout: job.timeout,
+    }
 }
 
 /// The name of the job's log: that of a file, or `-` for standard input.
@@ -84,7 +80,6 @@ pub fn read_job(alloc: Global, words: &[String]) -> Result<Result<Job, ToolFault
     ensures asked { IfOk result (λ r. MatchResult r
         (λ job. asked_of (map string_bytes words.now) ≡ Work job)
         (λ fault. asked_of (map string_bytes words.now) ≡ Refuse fault)) }
-    ensures built { IfOk result (λ r. IfOk r (λ job. is_built job ≡ true)) }
     ensures refused { IfOk result (λ r. IfErr r (λ fault. class_of fault ≡ Refused)) }
 {
     match read_words(alloc, words) {

@@ -4,7 +4,6 @@ ghost use Rattle.std.specs.Prelude.{◌≡◌, ◌≢◌, [], ◌∷◌, ◌++�
 ghost use Rattle.vio.specs.World.{Seen, Writing, HasStreams};
 ghost use Rattle.vio.specs.Touches.{Touches};
 ghost use Rattle.varnish_tools.specs.Asked.{Work, file_of, write_of};
-ghost use Rattle.varnish_tools.specs.Built.{is_built};
 ghost use Rattle.varnish_tools.specs.Objects.{GivesAtMost, created_of, opened_of, source_of, streams_of, sink_of};
 ghost use Rattle.varnish_tools.specs.Output.{head_text, layout_of, writes_log};
 ghost use Rattle.varnish_tools.specs.Printer.{IsSink, Represents, printer_state};
@@ -12,7 +11,7 @@ ghost use Rattle.varnish_tools.specs.Queries.{Ask};
 ghost use Rattle.varnish_tools.specs.inside.Works.{WorksFor, PrefixFor};
 ghost use Rattle.varnish_tools.specs.inside.LogFile.{HasBegun, HoldsAsAsked, IsJobPrinter, SourceOpened, fault_as};
 
-use crate::asked::{file_name, written_name};
+use crate::asked::{file_name, options_of, written_name};
 use crate::fault::ToolFault;
 use crate::layout::Layout;
 use crate::log_source::LogFile;
@@ -24,7 +23,6 @@ use crate::source::SourceFault;
 use query_parser::Query;
 use std::alloc::Global;
 use tool_words::Job;
-use txn_rows::GroupOptions;
 use vio::{Created, NoMemory, World, WorldFault, write_all};
 use vsl_file::put_header;
 use vsl_select::Text;
@@ -68,18 +66,12 @@ fn job_printer<'q>(
     query: &'q Query,
     sink: u32,
 ) -> Result<Printer<'q>, NoMemory>
-    requires { is_built job.now ≡ true }
     ensures sink { IfOk result (λ p. IsSink sink (write_of job.now) (printer_state p).sink (printer_state p).name) }
     ensures none { IfOk result (λ p. Represents (printer_state p) []) }
     ensures asked { IfOk result (λ p. (ask : Ask) → HoldsAsAsked query.now ask → IsJobPrinter job.now ask sink (printer_state p)) }
 {
-    let options = GroupOptions {
-        grouping: job.grouping,
-        limit: job.limit,
-        timeout: job.timeout,
-    };
     let name = Text::new(alloc, written_name(job))?;
-    Printer::new(alloc, options, layout_of(job), query, sink, name)
+    Printer::new(alloc, options_of(job), layout_of(job), query, sink, name)
 }
 
 /// The fault of a log of this name that stopped so; want of memory is none.
@@ -110,7 +102,6 @@ fn print_log<W: World>(
     sink: u32,
     world: &mut W,
 ) -> Result<Ran, NoMemory>
-    requires built { is_built job.now ≡ true }
     requires named { IsTrue ((W.seen world.old).names Writing sink (write_of job.now)) }
     requires given { (W.seen world.old).given sink ≡ true }
     ensures touches { Touches (source ∷ []) (sink ∷ []) [] [] (W.seen world.old) (W.seen world.new) }
@@ -144,7 +135,6 @@ fn print_created<W: World>(
     sink: Created,
     world: &mut W,
 ) -> Result<Ran, NoMemory>
-    requires built { is_built job.now ≡ true }
     requires named { IsTrue ((W.seen world.old).names Writing sink.handle (write_of job.now)) }
     requires given { (W.seen world.old).given sink.handle ≡ true }
     ensures touches { Touches (source ∷ []) (sink.handle ∷ []) [] [] (W.seen world.old) (W.seen world.new) }
@@ -168,7 +158,6 @@ fn print_opened<W: World>(
     source: u32,
     world: &mut W,
 ) -> Result<Ran, NoMemory>
-    requires built { is_built job.now ≡ true }
     ensures touches { Touches (source ∷ []) (streams_of (sink_of job.now ∷ [])) [] (created_of (sink_of job.now ∷ [])) (W.seen world.old) (W.seen world.new) }
     ensures handles { GivesAtMost (length (created_of (sink_of job.now ∷ []))) (W.seen world.old) (W.seen world.new) }
     ensures prefix { OnErr result ((ask : Ask) (before : Seen) → HoldsAsAsked query.now ask → HasStreams before → SourceOpened (source_of job.now) source before (W.seen world.old) → PrefixFor ask (Work job.now) before (W.seen world.new)) }
@@ -189,7 +178,6 @@ pub fn run_job<W: World>(
     query: &Query,
     world: &mut W,
 ) -> Result<Ran, NoMemory>
-    requires built { is_built job.now ≡ true }
     ensures touches { Touches (streams_of (source_of job.now ∷ [])) (streams_of (sink_of job.now ∷ [])) (opened_of (source_of job.now ∷ [])) (created_of (sink_of job.now ∷ [])) (W.seen world.old) (W.seen world.new) }
     ensures handles { GivesAtMost (length (opened_of (source_of job.now ∷ []) ++ created_of (sink_of job.now ∷ []))) (W.seen world.old) (W.seen world.new) }
     ensures prefix { OnErr result ((ask : Ask) → HoldsAsAsked query.now ask → PrefixFor ask (Work job.now) (W.seen world.old) (W.seen world.new)) }

@@ -1,6 +1,6 @@
 //! The printer: units in, and out comes the text of the groups that they complete and for which the query holds.
 
-ghost use Rattle.std.specs.Prelude.{◌≡◌, ◌⊎◌, ◌<◌, [], ◌∷◌, ◌++◌, false, true, IsTrue, IfOk, IfErr, OnOk, OnErr};
+ghost use Rattle.std.specs.Prelude.{◌≡◌, [], ◌∷◌, ◌++◌, false, true, IsTrue, IfOk, IfErr, OnOk, OnErr};
 ghost use Rattle.log_model.specs.Prefix.{IsPrefix};
 ghost use Rattle.vio.specs.World.{Writing, Wrote};
 ghost use Rattle.vio.specs.Writes.{WroteOn};
@@ -166,8 +166,6 @@ impl<'q> Printer<'q> {
         sink: u32,
         name: Text,
     ) -> Result<Printer<'q>, NoMemory>
-        requires grouping { (options.grouping ≡ Grouping.Raw) ⊎ (options.grouping ≡ Grouping.Vxid) }
-        requires limit { 0 < options.limit }
         ensures options { IfOk result (λ p. (printer_state p).table.options ≡ options) }
         ensures layout { IfOk result (λ p. (printer_state p).layout ≡ layout) }
         ensures query { IfOk result (λ p. (printer_state p).query ≡ query.now) }

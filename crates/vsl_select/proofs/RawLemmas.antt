@@ -4,15 +4,23 @@ use Rattle.std.proofs.lemmas.List.{append-nil}
 use Rattle.std.specs.List.{flat_map}
 use Rattle.vsl_record.specs.declared.record_type.Record.{Record}
 use Rattle.txn_rows.specs.declared.group.Grouping.TheVariants.{Raw}
-use Rattle.txn_rows.specs.Grouping.{State, raw_group, steps}
+use Rattle.txn_rows.specs.declared.group.GroupOptions.{GroupOptions}
+use Rattle.txn_rows.specs.Grouping.{State, Leaving, then_left, raw_group, step, steps, reported}
 use Rattle.vsl_select.specs.RawLine.{raw_line}
 use Rattle.vsl_select.specs.Lines.{group_text}
 
+raw_step : (options : GroupOptions) → options.grouping ≡ Raw → (vxid : ℕ) (rec : Record) (s : State) → step options vxid rec s ≡ record { state = s; groups = raw_group vxid rec ∷ [] }
+raw_step options raw vxid rec s = rw raw refl
+
 -- records by themselves leave nothing pending, and their text is their raw lines
-pub raw_steps : (vxid : ℕ) (records : List Record) (s : State)
-    → ((steps Raw vxid records s).state ≡ s) × (flat_map (group_text false) (steps Raw vxid records s).groups ≡ flat_map (raw_line vxid) records)
-raw_steps vxid [] s = (refl, refl)
-raw_steps vxid (rec ∷ records) s =
-    let others = raw_steps vxid records s in
-    let one : group_text false (raw_group vxid rec) ≡ raw_line vxid rec = append-nil ((raw_line vxid rec) ++ []) ∙ append-nil (raw_line vxid rec) in
-    (others.0, ap (λ (x : List ℕ). x ++ flat_map (group_text false) (steps Raw vxid records s).groups) one ∙ ap (λ (x : List ℕ). raw_line vxid rec ++ x) others.1)
+pub raw_steps : (options : GroupOptions) → options.grouping ≡ Raw → (vxid : ℕ) (records : List Record) (s : State)
+    → ((steps options vxid records s).state ≡ s) × (flat_map (group_text false) (reported Raw (steps options vxid records s).groups) ≡ flat_map (raw_line vxid) records)
+raw_steps options raw vxid [] s = (refl, refl)
+raw_steps options raw vxid (rec ∷ records) s =
+    let first = ap (λ (l : Leaving). then_left l (steps options vxid records)) (raw_step options raw vxid rec s) in
+    let others = raw_steps options raw vxid records s in
+    let one : group_text false (raw_group vxid rec) ≡ raw_line vxid rec = append-nil ((raw_line vxid rec) ++ []) ∙ append-nil (raw_line vxid rec) in (
+      ap (λ (l : Leaving). l.state) first ∙ others.0,
+      ap (λ (l : Leaving). flat_map (group_text false) (reported Raw l.groups)) first ∙ ap (λ (x : List ℕ). x ++ flat_map (group_text false) (reported Raw (steps options vxid records s).groups)) one
+          ∙ ap (λ (x : List ℕ). raw_line vxid rec ++ x) others.1,
+    )

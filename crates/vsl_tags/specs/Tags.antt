@@ -92,9 +92,17 @@ tag_names =
 abbrev pub tag_name : ℕ → List ℕ
 tag_name n = slice_index_or tag_names (n - first_tag) []
 
+-- the number of the tag `Timestamp`
+abbrev pub timestamp_tag : ℕ
+timestamp_tag = 41
+
 -- the number of the tag `Begin`
 abbrev pub begin_tag : ℕ
 begin_tag = 42
+
+-- the number of the tag `Link`
+abbrev pub link_tag : ℕ
+link_tag = 43
 
 -- the number of the tag `End`
 abbrev pub end_tag : ℕ

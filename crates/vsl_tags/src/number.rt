@@ -31,8 +31,14 @@ impl Model for Tag {
 }
 
 impl Tag {
+    /// `Timestamp`, a time that a transaction tells.
+    pub const TIMESTAMP: Tag = Tag { number: 41 };
+
     /// `Begin`, with which a transaction begins.
     pub const BEGIN: Tag = Tag { number: 42 };
+
+    /// `Link`, with which a transaction names a child.
+    pub const LINK: Tag = Tag { number: 43 };
 
     /// `End`, with which a transaction ends.
     pub const END: Tag = Tag { number: 44 };

@@ -17,15 +17,22 @@ const VERSION: &str = "vtools 0.1 (unreleased)\n";
 const HELP: &str = "\
 vtools: Varnish's logging tools as one program
 
-usage: vtools [OPTIONS] varnishlog [-g GROUPING] [-q TEXT] [-Q FILE] [-C]
-              [-w FILE [-a] [-A]] -r FILE
+usage: vtools [OPTIONS] varnishlog [-g GROUPING] [-L N] [-T N] [-q TEXT]
+              [-Q FILE] [-C] [-w FILE [-a] [-A]] -r FILE
 
 Prints the records of a log file, a group of them when it is complete, or
 writes them as a log file.
 
   -r FILE           reads the log file FILE; - is standard input
   -g vxid           groups records by transaction; this is the default
+  -g request        groups a request with all that it caused, as its fetch and
+                    its ESI parts; sessions are left out
+  -g session        groups a client's session with all of its requests
   -g raw            takes each record by itself, in the order of the file
+  -L N              keeps at most N transactions pending, 1 to 1000000; 1000
+                    without it; past that the oldest is force-completed
+  -T N              force-completes a transaction that began more than N seconds
+                    before the log's time, 1 to 1000000; 120 without it
   -q TEXT           takes only groups for which the query TEXT holds, as in
                     -q 'RespStatus >= 500'; of several queries one must hold
   -Q FILE           reads queries from FILE, one a line
@@ -35,10 +42,9 @@ writes them as a log file.
   -A                writes lines to the file of -w, and no log file
   -a                appends to the file of -w, which is emptied otherwise
 
-Taken too, and of no effect: -d; -L 1000 and -T 120, which are the defaults;
-before the tool --ring N, --reclen N, --turns N and --feed-first. Options
-stand in any order, letters may share a word, and of -g, -r and -w the last
-counts.
+Taken too, and of no effect: -d; before the tool --ring N, --reclen N,
+--turns N and --feed-first. Options stand in any order, letters may share a
+word, and of -g, -L, -T, -r and -w the last counts.
 
 The words of varnishncsa, varnishtop and varnishstat are read, but these tools
 are not built yet.

@@ -1,22 +1,22 @@
--- The rows of a table as pending transactions, and what private steps do with them.
-use Rattle.std.specs.Prelude.{◌≡◌, ℕ, ◌+◌, ◌==◌, ◌<◌, if◌then◌else◌, false, List, [], ◌∷◌, ◌++◌, length, drop, map}
-use Rattle.std.specs.List.{HoldsAt}
-use Rattle.vsl_tags.specs.Tags.{begin_tag}
+-- The rows of a table as pending transactions.
+use Rattle.std.specs.Prelude.{◌≡◌, ℕ, ◌+◌, ◌<◌, ◌≤◌, ◌==◌, ◌⊎◌, if◌then◌else◌, Bool, true, false, List, [], ◌∷◌, ◌++◌, length, take, drop, map, not, ⊤, Option, Some, None, count_by, codes}
+use Rattle.std.specs.List.{HoldsAt, find, filter, list_all, list_any}
+use Rattle.vsl_tags.specs.Tags.{begin_tag, end_tag, vsl_tag}
 use Rattle.vsl_record.specs.declared.record_type.Record.{Record}
 use Rattle.txn_rows.specs.declared.rows.Row.{Row}
+use Rattle.txn_rows.specs.declared.group.ParentLink.{ParentLink}
+use Rattle.txn_rows.specs.declared.join.Join.{Join}
+use Rattle.txn_rows.specs.declared.group.Member.{Member}
 use Rattle.txn_rows.specs.declared.group.Group.{Group}
-use Rattle.txn_rows.specs.declared.group.Cause.TheVariants.{Flush}
 use Rattle.txn_rows.specs.Claim.{claim_of}
-use Rattle.txn_rows.specs.Transaction.{Transaction, is_pending, claimed_kind, forced}
-use Rattle.txn_rows.specs.Grouping.{State, Report, group_of}
+use Rattle.txn_rows.specs.declared.group.Cause.{Cause}
+use Rattle.txn_rows.specs.Transaction.{Transaction, is_pending, claimed_kind, first_mark, cause_text}
+use Rattle.txn_rows.specs.Links.{is_path_before, parent_vxid}
+use Rattle.txn_rows.specs.Grouping.{first_known}
 
--- a row is a transaction that has not ended
+-- a row is a transaction, with the serial number at the top of its tree and its path beside it
 abbrev pub transaction_of : Row → Transaction
-transaction_of row = record { vxid = row.vxid; kind = row.kind; reason = row.reason; records = row.records; ended = false }
-
--- the state that rows hold
-abbrev pub state_of : List Row → State
-state_of rows = record { pending = map transaction_of rows }
+transaction_of row = record { serial = row.serial; vxid = row.vxid; kind = row.kind; reason = row.reason; records = row.records; parent = row.parent; ended = row.ended; time = row.time }
 
 -- the newest row of a VXID is at this place
 pub record IsNewestRow (vxid at : ℕ) (rows : List Row) : Type 0 where
@@ -25,16 +25,115 @@ pub record IsNewestRow (vxid at : ℕ) (rows : List Row) : Type 0 where
   pub none_after : is_pending vxid (map transaction_of (drop (at + 1) rows)) ≡ false
 
 -- a transaction with a record at its end, of which it takes the claim if that is a Begin
-abbrev pub grown_by : Record → Transaction → Transaction
-grown_by rec t =
+abbrev pub with_one : Record → Transaction → Transaction
+with_one rec t =
     let longer : Transaction = record t { records = t.records ++ rec ∷ [] } in
     if rec.tag == begin_tag then claimed_kind (claim_of rec.payload) longer else longer
 
--- the group of a row that a flush completes
-abbrev pub flushed_group : Row → Group
-flushed_group row = group_of (forced Flush (transaction_of row))
+-- the row of a serial number
+abbrev pub row_of : ℕ → List Row → Option Row
+row_of serial rows = find (λ row. row.serial == serial) rows
 
--- the rows went to the reported state, and the reported groups were added to the list
-pub record RowsStepped (report : Report) (now : List Row) (out_before out_now : List Group) : Type 0 where
-  pub state : state_of now ≡ report.state
-  pub groups : out_now ≡ out_before ++ report.groups
+-- serial numbers rise, from one on, and stay below another
+abbrev pub Rising : ℕ → ℕ → List Row → Type 0
+Rising low high [] = low ≤ high
+Rising low high (row ∷ rows) = (low ≤ row.serial) × Rising (row.serial + 1) high rows
+
+-- a row at the top leads to itself
+pub record IsTop (row : Row) : Type 0 where
+  pub none : row.parent ≡ None
+  pub root : row.root ≡ row.serial
+  pub path : row.path ≡ []
+
+-- a row below another is in its tree
+pub record IsBelow (rows : List Row) (row : Row) : Type 0 where
+  pub link : ParentLink
+  pub linked : row.parent ≡ Some link
+  pub above : Row
+  pub found : row_of link.serial rows ≡ Some above
+  pub root : row.root ≡ above.root
+  pub path : row.path ≡ above.path ++ link.number ∷ []
+
+-- rows stand in trees: each is at the top of one or below another row, no deeper than its tree has rows
+pub record IsForest (rows : List Row) : Type 0 where
+  pub linked : (serial : ℕ) (row : Row) → row_of serial rows ≡ Some row → IsTop row ⊎ IsBelow rows row
+  pub shallow : (serial : ℕ) (row : Row) → row_of serial rows ≡ Some row → length row.path < count_by (λ r. r.root == row.root) rows
+
+-- the fact holds of each row
+abbrev pub Each : (Row → Type 0) → List Row → Type 0
+Each P [] = ⊤
+Each P (row ∷ rows) = P row × Each P rows
+
+-- the rows of a tree, by the serial number at its top
+abbrev pub rows_below : ℕ → List Row → List Row
+rows_below root rows = filter (λ row. row.root == root) rows
+
+-- the rows of the other trees
+abbrev pub rows_beside : ℕ → List Row → List Row
+rows_beside root rows = filter (λ row. not (row.root == root)) rows
+
+-- a row is put among others that are in preorder
+abbrev pub row_placed : Row → List Row → List Row
+row_placed row [] = row ∷ []
+row_placed row (r ∷ rows) = if is_path_before row.path r.path then row ∷ r ∷ rows else r ∷ row_placed row rows
+
+-- rows in preorder
+abbrev pub rows_in_preorder : List Row → List Row
+rows_in_preorder [] = []
+rows_in_preorder (row ∷ rows) = row_placed row (rows_in_preorder rows)
+
+-- a row as a member of its group
+abbrev pub member_of_row : Row → Member
+member_of_row row = record { vxid = row.vxid; kind = row.kind; reason = row.reason; level = length row.path + 1; parent = parent_vxid row.parent; records = row.records }
+
+-- rows are in the order of their serial numbers, all below the next one, and stand in trees
+pub record AreTrees (begun : ℕ) (rows : List Row) : Type 0 where
+  pub rising : Rising 0 begun rows
+  pub forest : IsForest rows
+
+-- a row of the tree that is joined moves below the parent
+abbrev pub moved : Join → Row → Row
+moved join row = if row.root == join.child then record row { root = join.root; path = join.path ++ join.link.number ∷ row.path } else row
+
+-- a row after its tree, or another, was joined to a parent
+abbrev pub joined : Join → Row → Row
+joined join row = if row.serial == join.child then record (moved join row) { parent = Some join.link } else moved join row
+
+-- the rows are those of these transactions, and stand in trees
+pub record Rows (begun : ℕ) (pending : List Transaction) (rows : List Row) : Type 0 where
+  pub trees : AreTrees begun rows
+  pub told : map transaction_of rows ≡ pending
+
+-- rows, and the groups that left
+pub record RowsLeft : Type 0 where
+  pub rows : List Row
+  pub groups : List Group
+
+-- where all rows of a tree have ended, they leave as a group
+abbrev pub left_rows : ℕ → List Row → RowsLeft
+left_rows root rows =
+    if list_all (λ row. row.ended) (rows_below root rows)
+    then record { rows = rows_beside root rows; groups = record { members = map member_of_row (rows_in_preorder (rows_below root rows)) } ∷ [] }
+    else record { rows = rows; groups = [] }
+
+-- the rows are those, and the groups were added to the list
+pub record LeftRows (left : RowsLeft) (now : List Row) (out_before out_now : List Group) : Type 0 where
+  pub rows : now ≡ left.rows
+  pub groups : out_now ≡ out_before ++ left.groups
+
+-- a row is force-completed
+abbrev pub forced_row : Cause → Row → Row
+forced_row cause row = record row {
+  records = row.records ++ record { tag = vsl_tag; mark = first_mark row.records; payload = cause_text cause } ∷ record { tag = end_tag; mark = first_mark row.records; payload = codes "synth" } ∷ [];
+  ended = true;
+}
+
+-- the oldest row that passes a test is at this place
+pub record IsOldestRow (test : Transaction → Bool) (at : ℕ) (rows : List Row) : Type 0 where
+  pub within : at < length rows
+  pub passes : HoldsAt (λ row. test (transaction_of row) ≡ true) rows at
+  pub none_before : list_any test (map transaction_of (take at rows)) ≡ false
+
+-- a row without a time takes one
+abbrev pub row_timed : Option ℕ → Row → Row
+row_timed now row = record row { time = first_known row.time now }

@@ -11,7 +11,7 @@ use Rattle.query_eval.specs.Meaning.{is_held}
 use Rattle.varnish_tools.specs.Queries.{Ask, is_asked}
 use Rattle.vio.specs.World.{Seen, Reading, Writing, Gains, NoCountFalls, Opened, FileCreated}
 use Rattle.tool_words.specs.declared.job.Job.{Job}
-use Rattle.varnish_tools.specs.Asked.{file_of, write_of}
+use Rattle.varnish_tools.specs.Asked.{options_of, file_of, write_of}
 use Rattle.varnish_tools.specs.Objects.{Object, OpenedFile, CreatedFile, Stream, source_of, sink_of, IsSourceHandle, IsSinkHandle, HoldsText}
 use Rattle.varnish_tools.specs.Output.{layout_of}
 use Rattle.varnish_tools.specs.Promise.{SourceHolds, SinkBegins}
@@ -50,7 +50,7 @@ pub record HoldsAsAsked (query : Query) (ask : Ask) : Type 0 where
 -- a new printer of a job and of what is asked to this handle
 pub record IsJobPrinter (job : Job) (ask : Ask) (handle : ℕ) (p : PrinterState) : Type 0 where
   pub asks : HoldsAsAsked p.query ask
-  pub is_grouped : p.table.options.grouping ≡ job.grouping
+  pub is_grouped : p.table.options ≡ options_of job
   pub is_laid_out : p.layout ≡ layout_of job
   pub sink : p.sink ≡ handle
   pub name : p.name ≡ write_of job

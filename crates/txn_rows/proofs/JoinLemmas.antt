@@ -1,0 +1,454 @@
+-- A tree that is joined to a parent: the rows stand in trees again, and the definitions see the link alone.
+use Rattle.std.proofs.Common.{◌≡◌, ◌+◌, ◌<◌, ◌≤◌, ◌⊎◌, ⊎_elim, inl, inr, ℕ, zero, suc, Bool, true, false, not, eqb, cond, ◌&&◌, Option, Some, None, List, [], ◌∷◌, ◌++◌, length, map, refl, ap, sym, ◌∙◌, subst, append_assoc, length-append, get_or, set, take, drop, arith}
+use Rattle.std.specs.Prelude.{count_by, is_none}
+use Rattle.std.specs.List.{Contains}
+use Rattle.std.specs.Option.{option_map}
+use Rattle.std.proofs.Math.Bool.{or-true}
+use Rattle.std.proofs.lemmas.Bool.{eqb-true, eqb-false, eq-eqb, ne_eqb, or_parts, and_parts, not-true}
+use Rattle.std.proofs.lemmas.List.{length-map, length-take-le, map-append, take-append-drop, drop_more, set_at, map_more, get_or_at}
+use Rattle.std.proofs.lemmas.List.Sums.{sum_by-cons, get_or-le-sum_by}
+use Rattle.std.proofs.lemmas.List.Elements.{Contains-append_right}
+use Rattle.txn_rows.specs.declared.rows.Row.{Row}
+use Rattle.txn_rows.specs.declared.group.ParentLink.{ParentLink}
+use Rattle.txn_rows.specs.declared.join.Join.{Join}
+use Rattle.txn_rows.specs.Transaction.{Transaction, newest, with_newest, is_pending}
+use Rattle.txn_rows.specs.Links.{can_join, with_parent, with_link, children, leads_to}
+use Rattle.txn_rows.specs.inside.Rows.{transaction_of, row_of, Rising, IsTop, IsBelow, IsForest, AreTrees, Each, moved, joined, IsNewestRow, Rows}
+use Rattle.txn_rows.proofs.LineLemmas.{by_cases, row_of_serial}
+use Rattle.txn_rows.proofs.TreeLemmas.{line_whole, each_found}
+
+-- a change that keeps serial numbers
+pub row_of_map : (f : Row → Row) → ((row : Row) → (f row).serial ≡ row.serial) → (s : ℕ) (rows : List Row) → row_of s (map f rows) ≡ option_map f (row_of s rows)
+row_of_map f keeps s [] = refl
+row_of_map f keeps s (row ∷ rows) =
+    ap (λ (n : ℕ). cond (eqb n s) (Some (f row)) (row_of s (map f rows))) (keeps row)
+    ∙ by_cases (cond (eqb row.serial s) (Some (f row)) (row_of s (map f rows)) ≡ option_map f (row_of s (row ∷ rows))) (eqb row.serial s)
+    (λ t. rw t refl)
+    (λ t. rw t (row_of_map f keeps s rows))
+
+pub rising_map : (f : Row → Row) → ((row : Row) → (f row).serial ≡ row.serial) → (low high : ℕ) (rows : List Row) → Rising low high rows → Rising low high (map f rows)
+rising_map f keeps low high [] r = r
+rising_map f keeps low high (row ∷ rows) r = (rw (keeps row) r.0, rw (keeps row) (rising_map f keeps (row.serial + 1) high rows r.1))
+
+-- the parts of a row that was joined
+moved_serial : (join : Join) (row : Row) → (moved join row).serial ≡ row.serial
+moved_serial join row = by_cases ((moved join row).serial ≡ row.serial) (eqb row.root join.child) (λ t. rw t refl) (λ t. rw t refl)
+
+pub joined_serial : (join : Join) (row : Row) → (joined join row).serial ≡ row.serial
+joined_serial join row = by_cases ((joined join row).serial ≡ row.serial) (eqb row.serial join.child) (λ t. rw t (moved_serial join row)) (λ t. rw t (moved_serial join row))
+
+pub joined_root : (join : Join) (row : Row) → (joined join row).root ≡ cond (eqb row.root join.child) join.root row.root
+joined_root join row =
+    by_cases ((joined join row).root ≡ cond (eqb row.root join.child) join.root row.root) (eqb row.serial join.child)
+    (λ t. by_cases ((joined join row).root ≡ cond (eqb row.root join.child) join.root row.root) (eqb row.root join.child) (λ u. rw (t, u) refl) (λ u. rw (t, u) refl))
+    (λ t. by_cases ((joined join row).root ≡ cond (eqb row.root join.child) join.root row.root) (eqb row.root join.child) (λ u. rw (t, u) refl) (λ u. rw (t, u) refl))
+
+joined_path : (join : Join) (row : Row) → (joined join row).path ≡ cond (eqb row.root join.child) (join.path ++ join.link.number ∷ row.path) row.path
+joined_path join row =
+    by_cases ((joined join row).path ≡ cond (eqb row.root join.child) (join.path ++ join.link.number ∷ row.path) row.path) (eqb row.serial join.child)
+    (λ t. by_cases ((joined join row).path ≡ cond (eqb row.root join.child) (join.path ++ join.link.number ∷ row.path) row.path) (eqb row.root join.child) (λ u. rw (t, u) refl) (λ u. rw (t, u) refl))
+    (λ t. by_cases ((joined join row).path ≡ cond (eqb row.root join.child) (join.path ++ join.link.number ∷ row.path) row.path) (eqb row.root join.child) (λ u. rw (t, u) refl) (λ u. rw (t, u) refl))
+
+joined_parent : (join : Join) (row : Row) → (joined join row).parent ≡ cond (eqb row.serial join.child) (Some join.link) row.parent
+joined_parent join row =
+    by_cases ((joined join row).parent ≡ cond (eqb row.serial join.child) (Some join.link) row.parent) (eqb row.serial join.child)
+    (λ t. rw t refl)
+    (λ t. by_cases ((joined join row).parent ≡ cond (eqb row.serial join.child) (Some join.link) row.parent) (eqb row.root join.child) (λ u. rw (t, u) refl) (λ u. rw (t, u) refl))
+
+-- what has to hold of a join
+pub record CanJoin (rows : List Row) (join : Join) : Type 0 where
+  pub child : Row
+  pub here : row_of join.child rows ≡ Some child
+  pub top : IsTop child
+  pub parent : Row
+  pub there : row_of join.link.serial rows ≡ Some parent
+  pub root : join.root ≡ parent.root
+  pub path : join.path ≡ parent.path
+  pub apart : eqb parent.root join.child ≡ false
+
+-- how many rows a tree has after a join
+count_other : (join : Join) (x : ℕ) → eqb join.child x ≡ false → (rows : List Row) → count_by (λ (r : Row). eqb r.root x) rows ≤ count_by (λ (r : Row). eqb r.root x) (map (joined join) rows)
+count_other join x other [] = omega arith
+count_other join x other (row ∷ rows) =
+    let ih = count_other join x other rows in
+    let p : Row → ℕ = λ r. cond (eqb r.root x) 1 0 in
+    let whole = sum_by-cons p row rows in
+    let now = sum_by-cons p (joined join row) (map (joined join) rows) in
+    let one : p row ≤ p (joined join row) =
+    by_cases (p row ≤ p (joined join row)) (eqb row.root join.child)
+    (λ t. let same : eqb row.root x ≡ false = ap (λ (n : ℕ). eqb n x) (eqb-true row.root join.child t) ∙ other in rw same (omega arith))
+    (λ t. rw (joined_root join row, t) (omega arith)) in
+    omega (arith, ih, whole, now, one)
+
+count_both : (join : Join) → eqb join.root join.child ≡ false → (rows : List Row) → count_by (λ (r : Row). eqb r.root join.root) (map (joined join) rows) ≡ count_by (λ (r : Row). eqb r.root join.root) rows + count_by (λ (r : Row). eqb r.root join.child) rows
+count_both join apart [] = refl
+count_both join apart (row ∷ rows) =
+    let ih = count_both join apart rows in
+    let p : Row → ℕ = λ r. cond (eqb r.root join.root) 1 0 in
+    let q : Row → ℕ = λ r. cond (eqb r.root join.child) 1 0 in
+    let whole_p = sum_by-cons p row rows in
+    let whole_q = sum_by-cons q row rows in
+    let now = sum_by-cons p (joined join row) (map (joined join) rows) in
+    let one : p (joined join row) ≡ p row + q row =
+    by_cases (p (joined join row) ≡ p row + q row) (eqb row.root join.child)
+    (λ t. let other : eqb row.root join.root ≡ false = ne_eqb row.root join.root (λ e. eqb-false join.root join.child apart (sym e ∙ eqb-true row.root join.child t)) in
+    rw (joined_root join row, t, other, eq-eqb join.root join.root refl) (omega arith))
+    (λ t. rw (joined_root join row, t) (omega arith)) in
+    omega (arith, ih, whole_p, whole_q, now, one)
+
+-- where a row is found after a change, it was there before
+pub before_map : (f : Row → Row) (s : ℕ) (rows : List Row) (o : Option Row) (now : Row) → o ≡ row_of s rows → option_map f o ≡ Some now → (row : Row) × (row_of s rows ≡ Some row) × (now ≡ f row)
+before_map f s rows None now e h = absurd (cc)
+before_map f s rows (Some row) now e h = (row, sym e, (cc))
+
+-- the row that joins is at the top of its tree
+child_root : (rows : List Row) (join : Join) (c : CanJoin rows join) → c.child.root ≡ join.child
+child_root rows join c = c.top.root ∙ row_of_serial join.child rows c.child c.here
+
+-- where serial numbers are the same, the rows are
+same_row : (rows : List Row) (s : ℕ) (row other : Row) → row_of s rows ≡ Some row → row_of s rows ≡ Some other → row ≡ other
+same_row rows s row other here there = let e : Some row ≡ Some other = sym here ∙ there in cc
+
+-- a row outside of the tree that joins stays
+stays : (rows : List Row) (join : Join) (c : CanJoin rows join) (s : ℕ) (row : Row) → row_of s rows ≡ Some row → eqb row.root join.child ≡ false → joined join row ≡ row
+stays rows join c s row here outside =
+    let other : eqb row.serial join.child ≡ false =
+    ne_eqb row.serial join.child (λ e.
+    let at : row_of join.child rows ≡ Some row = ap (λ (n : ℕ). row_of n rows) (sym e ∙ row_of_serial s rows row here) ∙ here in
+    let same : row ≡ c.child = same_row rows join.child row c.child at c.here in
+    eqb-false row.root join.child outside (ap (λ (r : Row). r.root) same ∙ child_root rows join c)) in
+    rw (other, outside) refl
+
+-- the parent stays
+parent_stays : (rows : List Row) (join : Join) (c : CanJoin rows join) → joined join c.parent ≡ c.parent
+parent_stays rows join c = stays rows join c join.link.serial c.parent c.there c.apart
+
+-- what is found after the join
+found_joined : (rows : List Row) (join : Join) (s : ℕ) (row : Row) → row_of s rows ≡ Some row → row_of s (map (joined join) rows) ≡ Some (joined join row)
+found_joined rows join s row here = row_of_map (joined join) (joined_serial join) s rows ∙ ap (option_map (joined join)) here
+
+-- the row that joins is below the parent
+child_below : (rows : List Row) (join : Join) (c : CanJoin rows join) → IsBelow (map (joined join) rows) (joined join c.child)
+child_below rows join c =
+    let is : c.child.serial ≡ join.child = row_of_serial join.child rows c.child c.here in
+    let inside : eqb c.child.root join.child ≡ true = eq-eqb c.child.root join.child (child_root rows join c) in
+    record {
+      link = join.link;
+      linked = joined_parent join c.child ∙ ap (λ (b : Bool). cond b (Some join.link) c.child.parent) (eq-eqb c.child.serial join.child is);
+      above = c.parent;
+      found = found_joined rows join join.link.serial c.parent c.there ∙ ap Some (parent_stays rows join c);
+      root = joined_root join c.child ∙ ap (λ (b : Bool). cond b join.root c.child.root) inside ∙ c.root;
+      path = joined_path join c.child ∙ ap (λ (b : Bool). cond b (join.path ++ join.link.number ∷ c.child.path) c.child.path) inside
+          ∙ ap (λ (p : List ℕ). join.path ++ join.link.number ∷ p) c.top.path ∙ ap (λ (p : List ℕ). p ++ join.link.number ∷ []) c.path;
+    }
+
+-- a row of the tree that joins, but for the first, is below the same as before
+inner_below : (rows : List Row) (join : Join) (c : CanJoin rows join) (row : Row) (below : IsBelow rows row) → eqb row.serial join.child ≡ false → eqb row.root join.child ≡ true → IsBelow (map (joined join) rows) (joined join row)
+inner_below rows join c row below other inside =
+    let above_inside : eqb below.above.root join.child ≡ true = ap (λ (n : ℕ). eqb n join.child) (sym below.root) ∙ inside in
+    record {
+      link = below.link;
+      linked = joined_parent join row ∙ ap (λ (b : Bool). cond b (Some join.link) row.parent) other ∙ below.linked;
+      above = joined join below.above;
+      found = found_joined rows join below.link.serial below.above below.found;
+      root = joined_root join row ∙ ap (λ (b : Bool). cond b join.root row.root) inside ∙ sym (joined_root join below.above ∙ ap (λ (b : Bool). cond b join.root below.above.root) above_inside);
+      path = joined_path join row ∙ ap (λ (b : Bool). cond b (join.path ++ join.link.number ∷ row.path) row.path) inside
+          ∙ ap (λ (p : List ℕ). join.path ++ join.link.number ∷ p) below.path
+          ∙ sym (append_assoc join.path (join.link.number ∷ below.above.path) (below.link.number ∷ []))
+          ∙ ap (λ (p : List ℕ). p ++ below.link.number ∷ []) (sym (joined_path join below.above ∙ ap (λ (b : Bool). cond b (join.path ++ join.link.number ∷ below.above.path) below.above.path) above_inside));
+    }
+
+-- a row is below another among other rows, where that one is found
+pub still_below : (rows now : List Row) (row : Row) (below : IsBelow rows row) → row_of below.link.serial now ≡ Some below.above → IsBelow now row
+still_below rows now row below found = record { link = below.link; linked = below.linked; above = below.above; found = found; root = below.root; path = below.path }
+
+-- a row outside is where it was
+outer_below : (rows : List Row) (join : Join) (c : CanJoin rows join) (row : Row) (below : IsBelow rows row) → eqb row.root join.child ≡ false → IsBelow (map (joined join) rows) row
+outer_below rows join c row below outside =
+    let above_outside : eqb below.above.root join.child ≡ false = ap (λ (n : ℕ). eqb n join.child) (sym below.root) ∙ outside in
+    still_below rows (map (joined join) rows) row below (found_joined rows join below.link.serial below.above below.found ∙ ap Some (stays rows join c below.link.serial below.above below.found above_outside))
+
+joined_linked : (rows : List Row) → IsForest rows → (join : Join) (c : CanJoin rows join) (s : ℕ) (row : Row) → row_of s rows ≡ Some row → IsTop (joined join row) ⊎ IsBelow (map (joined join) rows) (joined join row)
+joined_linked rows forest join c s row here =
+    let Goal : Type 0 = IsTop (joined join row) ⊎ IsBelow (map (joined join) rows) (joined join row) in
+    by_cases Goal (eqb row.root join.child)
+    (λ inside. by_cases Goal (eqb row.serial join.child)
+    (λ is.
+    let at : row_of join.child rows ≡ Some row = ap (λ (n : ℕ). row_of n rows) (sym (eqb-true row.serial join.child is) ∙ row_of_serial s rows row here) ∙ here in
+    inr (subst (λ (r : Row). IsBelow (map (joined join) rows) (joined join r)) (sym (same_row rows join.child row c.child at c.here)) (child_below rows join c)))
+    (λ other. ⊎_elim
+    (λ (top : IsTop row). absurd (eqb-false row.serial join.child other (sym top.root ∙ eqb-true row.root join.child inside)))
+    (λ (below : IsBelow rows row). inr (inner_below rows join c row below other inside))
+    (forest.linked s row here)))
+    (λ outside.
+    let stay : row ≡ joined join row = sym (stays rows join c s row here outside) in
+    ⊎_elim
+    (λ (top : IsTop row). inl (subst IsTop stay top))
+    (λ (below : IsBelow rows row). inr (subst (IsBelow (map (joined join) rows)) stay (outer_below rows join c row below outside)))
+    (forest.linked s row here))
+
+joined_shallow : (rows : List Row) → IsForest rows → (join : Join) (c : CanJoin rows join) (s : ℕ) (row : Row) → row_of s rows ≡ Some row → length (joined join row).path < count_by (λ (r : Row). eqb r.root (joined join row).root) (map (joined join) rows)
+joined_shallow rows forest join c s row here =
+    let apart : eqb join.root join.child ≡ false = ap (λ (n : ℕ). eqb n join.child) c.root ∙ c.apart in
+    let shallow : length row.path < count_by (λ (r : Row). eqb r.root row.root) rows = forest.shallow s row here in
+    by_cases (length (joined join row).path < count_by (λ (r : Row). eqb r.root (joined join row).root) (map (joined join) rows)) (eqb row.root join.child)
+    (λ inside.
+    let above : length c.parent.path < count_by (λ (r : Row). eqb r.root c.parent.root) rows = forest.shallow join.link.serial c.parent c.there in
+    let above_is : length join.path < count_by (λ (r : Row). eqb r.root join.root) rows = rw (c.path, c.root) above in
+    let own : length row.path < count_by (λ (r : Row). eqb r.root join.child) rows = subst (λ (n : ℕ). length row.path < count_by (λ (r : Row). eqb r.root n) rows) (eqb-true row.root join.child inside) shallow in
+    let all = count_both join apart rows in
+    let long = length-append join.path (join.link.number ∷ row.path) in
+    rw (joined_path join row, joined_root join row, inside) (omega (arith, above_is, own, all, long)))
+    (λ outside.
+    let more = count_other join row.root (ne_eqb join.child row.root (λ e. eqb-false row.root join.child outside (sym e))) rows in
+    rw (joined_path join row, joined_root join row, outside) (omega (arith, shallow, more)))
+
+-- the rows stand in trees again
+joined_trees : (begun : ℕ) (rows : List Row) (join : Join) → AreTrees begun rows → CanJoin rows join → AreTrees begun (map (joined join) rows)
+joined_trees begun rows join trees c =
+    record {
+      rising = rising_map (joined join) (joined_serial join) 0 begun rows trees.rising;
+      forest = record {
+        linked = λ s now here.
+            let was = before_map (joined join) s rows (row_of s rows) now refl (sym (row_of_map (joined join) (joined_serial join) s rows) ∙ here) in
+            subst (λ (r : Row). IsTop r ⊎ IsBelow (map (joined join) rows) r) (sym was.2) (joined_linked rows trees.forest join c s was.0 was.1);
+        shallow = λ s now here.
+            let was = before_map (joined join) s rows (row_of s rows) now refl (sym (row_of_map (joined join) (joined_serial join) s rows) ∙ here) in
+            subst (λ (r : Row). length r.path < count_by (λ (x : Row). eqb x.root r.root) (map (joined join) rows)) (sym was.2) (joined_shallow rows trees.forest join c s was.0 was.1);
+      };
+    }
+
+-- a join changes one link in the transactions
+told_joined : (join : Join) (row : Row) → transaction_of (joined join row) ≡ cond (eqb row.serial join.child) (record (transaction_of row) { parent = Some join.link }) (transaction_of row)
+told_joined join row =
+    let Goal : Type 0 = transaction_of (joined join row) ≡ cond (eqb row.serial join.child) (record (transaction_of row) { parent = Some join.link }) (transaction_of row) in
+    by_cases Goal (eqb row.serial join.child)
+    (λ t. by_cases Goal (eqb row.root join.child) (λ u. rw (t, u) refl) (λ u. rw (t, u) refl))
+    (λ t. by_cases Goal (eqb row.root join.child) (λ u. rw (t, u) refl) (λ u. rw (t, u) refl))
+
+abbrev serial_in : Option Transaction → ℕ
+serial_in None = 0
+serial_in (Some t) = t.serial
+
+-- the newest is no older than the first
+newest_above : (vxid low high : ℕ) (rows : List Row) (row : Row) → Rising low high rows → newest vxid (map transaction_of rows) ≡ Some (transaction_of row) → low ≤ row.serial
+newest_above vxid low high [] row r e = absurd (cc)
+newest_above vxid low high (first ∷ rows) row r e =
+    by_cases (low ≤ row.serial) (is_pending vxid (map transaction_of rows))
+    (λ t. let later = newest_above vxid (first.serial + 1) high rows row r.1 (rw t at e) in omega (arith, later, r.0))
+    (λ t. by_cases (low ≤ row.serial) (eqb first.vxid vxid)
+    (λ u. let h : Some (transaction_of first) ≡ Some (transaction_of row) = rw (t, u) at e in
+    let same : first.serial ≡ row.serial = ap serial_in h in omega (arith, same, r.0))
+    (λ u. let h : None ≡ Some (transaction_of row) = rw (t, u) at e in absurd (cc)))
+
+-- no later row has a serial number that is passed
+joined_same : (join : Join) (low high : ℕ) (rows : List Row) → Rising low high rows → join.child < low → map transaction_of (map (joined join) rows) ≡ map transaction_of rows
+joined_same join low high [] r passed = refl
+joined_same join low high (row ∷ rows) r passed =
+    let other : eqb row.serial join.child ≡ false = ne_eqb row.serial join.child (λ e. omega (arith, r.0, passed)) in
+    let head : transaction_of (joined join row) ≡ transaction_of row = told_joined join row ∙ ap (λ (b : Bool). cond b (record (transaction_of row) { parent = Some join.link }) (transaction_of row)) other in
+    ap (λ (t : Transaction). t ∷ map transaction_of (map (joined join) rows)) head
+    ∙ ap (λ (ts : List Transaction). transaction_of row ∷ ts) (joined_same join (row.serial + 1) high rows r.1 (omega (arith, r.0, passed)))
+
+-- the newest of a VXID gets the link
+newest_joined : (vxid low high : ℕ) (rows : List Row) (join : Join) (child : Row) → Rising low high rows → newest vxid (map transaction_of rows) ≡ Some (transaction_of child) → child.serial ≡ join.child →
+    map transaction_of (map (joined join) rows) ≡ with_newest vxid (λ t. record t { parent = Some join.link }) (map transaction_of rows)
+newest_joined vxid low high [] join child r e is = absurd (cc)
+newest_joined vxid low high (row ∷ rows) join child r e is =
+    let change : Transaction → Transaction = λ t. record t { parent = Some join.link } in
+    let Goal : Type 0 = map transaction_of (map (joined join) (row ∷ rows)) ≡ with_newest vxid change (map transaction_of (row ∷ rows)) in
+    by_cases Goal (is_pending vxid (map transaction_of rows))
+    (λ t. let later : newest vxid (map transaction_of rows) ≡ Some (transaction_of child) = rw t at e in
+    let above = newest_above vxid (row.serial + 1) high rows child r.1 later in
+    let other : eqb row.serial join.child ≡ false = ne_eqb row.serial join.child (λ s. omega (arith, above, s, is)) in
+    let head : transaction_of (joined join row) ≡ transaction_of row = told_joined join row ∙ ap (λ (b : Bool). cond b (change (transaction_of row)) (transaction_of row)) other in
+    ap (λ (x : Transaction). x ∷ map transaction_of (map (joined join) rows)) head
+    ∙ ap (λ (ts : List Transaction). transaction_of row ∷ ts) (newest_joined vxid (row.serial + 1) high rows join child r.1 later is)
+    ∙ ap (λ (b : Bool). cond b (transaction_of row ∷ with_newest vxid change (map transaction_of rows)) (cond (eqb row.vxid vxid) (change (transaction_of row) ∷ map transaction_of rows) (transaction_of row ∷ map transaction_of rows))) (sym t))
+    (λ t. by_cases Goal (eqb row.vxid vxid)
+    (λ u. let h : Some (transaction_of row) ≡ Some (transaction_of child) = rw (t, u) at e in
+    let same : row.serial ≡ child.serial = ap serial_in h in
+    let this : eqb row.serial join.child ≡ true = eq-eqb row.serial join.child (same ∙ is) in
+    let head : transaction_of (joined join row) ≡ change (transaction_of row) = told_joined join row ∙ ap (λ (b : Bool). cond b (change (transaction_of row)) (transaction_of row)) this in
+    ap (λ (x : Transaction). x ∷ map transaction_of (map (joined join) rows)) head
+    ∙ ap (λ (ts : List Transaction). change (transaction_of row) ∷ ts) (joined_same join (row.serial + 1) high rows r.1 (omega (arith, same, is)))
+    ∙ ap (λ (b : Bool). cond b (change (transaction_of row) ∷ map transaction_of rows) (transaction_of row ∷ map transaction_of rows)) (sym u)
+    ∙ ap (λ (b : Bool). cond b (transaction_of row ∷ with_newest vxid change (map transaction_of rows)) (cond (eqb row.vxid vxid) (change (transaction_of row) ∷ map transaction_of rows) (transaction_of row ∷ map transaction_of rows))) (sym t))
+    (λ u. let h : None ≡ Some (transaction_of child) = rw (t, u) at e in absurd (cc)))
+
+-- rows of which the first few were changed
+changed_more : (f : Row → Row) (rows : List Row) (i : ℕ) (row : Row) → i < length rows → row ≡ get_or rows i row → set (map f (take i rows) ++ drop i rows) i (f row) ≡ map f (take (i + 1) rows) ++ drop (i + 1) rows
+changed_more f rows i row within read =
+    let rest : drop i rows ≡ row ∷ drop (i + 1) rows = drop_more rows i row within ∙ ap (λ (r : Row). r ∷ drop (i + 1) rows) (sym read) in
+    let long : length (map f (take i rows)) ≡ i = length-map (take i rows) f ∙ length-take-le i rows (omega (arith, within)) in
+    ap (λ (rs : List Row). set (map f (take i rows) ++ rs) i (f row)) rest
+    ∙ set_at (map f (take i rows)) row (drop (i + 1) rows) (f row) i long
+    ∙ sym (append_assoc (map f (take i rows)) (f row ∷ []) (drop (i + 1) rows))
+    ∙ ap (λ (rs : List Row). rs ++ drop (i + 1) rows) (sym (map_more f rows i row within ∙ ap (λ (r : Row). map f (take i rows) ++ f r ∷ []) (sym read)))
+
+-- the element that comes next was not changed
+changed_read : (f : Row → Row) (rows : List Row) (i : ℕ) (row : Row) → i < length rows → row ≡ get_or (map f (take i rows) ++ drop i rows) i row → row ≡ get_or rows i row
+changed_read f rows i row within read =
+    let long : length (map f (take i rows)) ≡ i = length-map (take i rows) f ∙ length-take-le i rows (omega (arith, within)) in
+    read ∙ ap (λ (rs : List Row). get_or (map f (take i rows) ++ rs) i row) (drop_more rows i row within) ∙ get_or_at (map f (take i rows)) (get_or rows i row) (drop (i + 1) rows) row i long
+
+-- one row more was changed
+pub changed_on : (f : Row → Row) (rows now : List Row) (i : ℕ) (row new : Row) → i < length rows → now ≡ map f (take i rows) ++ drop i rows → row ≡ get_or now i row → new ≡ f row → set now i new ≡ map f (take (i + 1) rows) ++ drop (i + 1) rows
+changed_on f rows now i row new within so_far read is =
+    ap (λ (rs : List Row). set rs i new) so_far
+    ∙ ap (λ (r : Row). set (map f (take i rows) ++ drop i rows) i r) is
+    ∙ changed_more f rows i row within (changed_read f rows i row within (read ∙ ap (λ (rs : List Row). get_or rs i row) so_far))
+
+-- what holds of each row holds of the one at a place
+pub each_at : (P : Row → Type 0) (rows : List Row) (at : ℕ) (row : Row) → Each P rows → at < length rows → row ≡ get_or rows at row → P row
+each_at P [] at row e within read = absurd (omega (arith, within))
+each_at P (r ∷ rows) zero row e within read = subst P (sym read) e.0
+each_at P (r ∷ rows) (suc at) row e within read = each_at P rows at row e.1 (omega (arith, within)) read
+
+-- a transaction of the number is pending
+pub pending_in : (vxid : ℕ) (front : List Transaction) (t : Transaction) (back : List Transaction) → eqb t.vxid vxid ≡ true → is_pending vxid (front ++ t ∷ back) ≡ true
+pending_in vxid [] t back same = rw same refl
+pending_in vxid (f ∷ front) t back same = rw (pending_in vxid front t back same) (or-true (eqb f.vxid vxid))
+
+-- the newest transaction of a VXID is that of the row
+pub newest_in : (vxid : ℕ) (front : List Transaction) (t : Transaction) (back : List Transaction) → eqb t.vxid vxid ≡ true → is_pending vxid back ≡ false → newest vxid (front ++ t ∷ back) ≡ Some t
+newest_in vxid [] t back same none = rw (none, same) refl
+newest_in vxid (f ∷ front) t back same none = rw (pending_in vxid front t back same) (newest_in vxid front t back same none)
+
+pub newest_none : (vxid : ℕ) (pending : List Transaction) → is_pending vxid pending ≡ false → newest vxid pending ≡ None
+newest_none vxid [] none = refl
+newest_none vxid (t ∷ pending) none =
+    let parts = or_parts (eqb t.vxid vxid) (is_pending vxid pending) none in
+    rw (parts.1, parts.0) refl
+
+-- a list around the element at a place
+pub around : {X : Type 0} (at : ℕ) (xs : List X) (x : X) → at < length xs → x ≡ get_or xs at x → xs ≡ take at xs ++ x ∷ drop (at + 1) xs
+around at xs x within read = sym (take-append-drop at xs) ∙ ap (λ ys. take at xs ++ ys) (drop_more xs at x within ∙ ap (λ y. y ∷ drop (at + 1) xs) (sym read))
+
+-- rows, split at a place
+pub split_at_row : (at : ℕ) (rows : List Row) (row : Row) → at < length rows → row ≡ get_or rows at row → map transaction_of rows ≡ map transaction_of (take at rows) ++ transaction_of row ∷ map transaction_of (drop (at + 1) rows)
+split_at_row at rows row within read = ap (map transaction_of) (around at rows row within read) ∙ map-append transaction_of (take at rows) (row ∷ drop (at + 1) rows)
+
+newest_at : (vxid at : ℕ) (rows : List Row) (row : Row) → IsNewestRow vxid at rows → row ≡ get_or rows at row → newest vxid (map transaction_of rows) ≡ Some (transaction_of row)
+newest_at vxid at rows row is read =
+    let same : row.vxid ≡ vxid = ap (λ (r : Row). r.vxid) read ∙ is.is row in
+    ap (newest vxid) (split_at_row at rows row is.within read)
+    ∙ newest_in vxid (map transaction_of (take at rows)) (transaction_of row) (map transaction_of (drop (at + 1) rows)) (eq-eqb row.vxid vxid same) is.none_after
+
+pub none_from : (o : Option ParentLink) → is_none o ≡ true → o ≡ None
+none_from None e = refl
+none_from (Some link) e = absurd (cc)
+
+-- whether a row can join, by what rows tell
+can_join_rows : (begun : ℕ) (rows : List Row) → AreTrees begun rows → (child parent : Row) → row_of child.serial rows ≡ Some child → row_of parent.serial rows ≡ Some parent →
+    can_join (map transaction_of rows) (transaction_of child) (transaction_of parent) ≡ (is_none child.parent && not child.ended && not (eqb parent.root child.serial))
+can_join_rows begun rows trees child parent here there =
+    let pending : List Transaction = map transaction_of rows in
+    by_cases (can_join pending (transaction_of child) (transaction_of parent) ≡ (is_none child.parent && not child.ended && not (eqb parent.root child.serial))) (is_none child.parent)
+    (λ none.
+    let line = line_whole rows trees.forest parent.serial parent there in
+    ap (λ (b : Bool). is_none child.parent && not child.ended && not b) (line.has child (none_from child.parent none) here))
+    (λ some. rw some refl)
+
+pub count_map : {X Y : Type 0} (p : Y → Bool) (f : X → Y) (xs : List X) → count_by p (map f xs) ≡ count_by (λ x. p (f x)) xs
+count_map p f [] = refl
+count_map {X} {Y} p f (x ∷ xs) =
+    let c : Y → ℕ = λ y. cond (p y) 1 0 in
+    sum_by-cons c (f x) (map f xs) ∙ ap (λ (n : ℕ). c (f x) + n) (count_map p f xs) ∙ sym (sum_by-cons (λ (x : X). c (f x)) x xs)
+
+-- a row that is found is in the list
+pub row_contained : (s : ℕ) (rows : List Row) (row : Row) → row_of s rows ≡ Some row → Contains rows row
+row_contained s [] row here = absurd (cc)
+row_contained s (first ∷ rows) row here =
+    by_cases (Contains (first ∷ rows) row) (eqb first.serial s)
+    (λ t. let same : Some first ≡ Some row = rw t at here in (0, omega arith, (cc)))
+    (λ t. Contains-append_right (first ∷ []) rows row (row_contained s rows row (rw t at here)))
+
+-- a row that passes is counted
+pub row_counted : (q : Row → Bool) (s : ℕ) (rows : List Row) (row : Row) → row_of s rows ≡ Some row → q row ≡ true → 1 ≤ count_by q rows
+row_counted q s rows row here passes =
+    let c : Row → ℕ = λ r. cond (q r) 1 0 in
+    let at = row_contained s rows row here in
+    omega (arith, get_or-le-sum_by c rows at.0 row at.1, ap c at.2, ap {B = ℕ} (λ (b : Bool). cond b 1 0) passes)
+
+top_from : (rows : List Row) (row : Row) → IsTop row ⊎ IsBelow rows row → row.parent ≡ None → IsTop row
+top_from rows row linked none = ⊎_elim (λ (top : IsTop row). top) (λ (below : IsBelow rows row). absurd (let e : Some below.link ≡ None = sym below.linked ∙ none in cc)) linked
+
+-- two rows, each the newest of its VXID
+pub record Pair (child_vxid parent_vxid : ℕ) (rows : List Row) (child parent : Row) : Type 0 where
+  pub child_newest : newest child_vxid (map transaction_of rows) ≡ Some (transaction_of child)
+  pub child_here : row_of child.serial rows ≡ Some child
+  pub child_vxid_is : child.vxid ≡ child_vxid
+  pub parent_newest : newest parent_vxid (map transaction_of rows) ≡ Some (transaction_of parent)
+  pub parent_here : row_of parent.serial rows ≡ Some parent
+
+pub found_at : (begun : ℕ) (rows : List Row) → AreTrees begun rows → (at : ℕ) (row : Row) → at < length rows → row ≡ get_or rows at row → row_of row.serial rows ≡ Some row
+found_at begun rows trees at row within read = each_at (λ r. row_of r.serial rows ≡ Some r) rows at row (each_found 0 begun rows trees.rising) within read
+
+-- the rows at two places, each the newest of its VXID
+pub pair_at : (begun cv pv : ℕ) (rows : List Row) → AreTrees begun rows → (below above : ℕ) (child parent : Row) → IsNewestRow cv below rows → child ≡ get_or rows below child → IsNewestRow pv above rows → parent ≡ get_or rows above parent → Pair cv pv rows child parent
+pair_at begun cv pv rows trees below above child parent child_is child_read parent_is parent_read = record {
+  child_newest = newest_at cv below rows child child_is child_read;
+  child_here = found_at begun rows trees below child child_is.within child_read;
+  child_vxid_is = ap (λ (r : Row). r.vxid) child_read ∙ child_is.is child;
+  parent_newest = newest_at pv above rows parent parent_is parent_read;
+  parent_here = found_at begun rows trees above parent parent_is.within parent_read;
+}
+
+-- what a link comes to, where both rows are there
+link_is : (cv pv : ℕ) (rows : List Row) (child parent : Row) → Pair cv pv rows child parent → with_link cv pv (map transaction_of rows) ≡ with_parent (Some (transaction_of child)) (Some (transaction_of parent)) (map transaction_of rows)
+link_is cv pv rows child parent pair =
+    let pending : List Transaction = map transaction_of rows in
+    ap (λ (c : Option Transaction). with_parent c (newest pv pending) pending) pair.child_newest
+    ∙ ap (λ (p : Option Transaction). with_parent (Some (transaction_of child)) p pending) pair.parent_newest
+
+-- a link that has no effect
+pub link_refused : (begun cv pv : ℕ) (rows : List Row) (child parent : Row) → AreTrees begun rows → Pair cv pv rows child parent → (is_none child.parent && not child.ended && not (eqb parent.root child.serial)) ≡ false → Rows begun (with_link cv pv (map transaction_of rows)) rows
+link_refused begun cv pv rows child parent trees pair cannot =
+    let pending : List Transaction = map transaction_of rows in
+    let here = pair.child_here in
+    let there = pair.parent_here in
+    let can = can_join_rows begun rows trees child parent here there ∙ cannot in
+    record {
+      trees = trees;
+      told = sym (link_is cv pv rows child parent pair ∙ rw can refl);
+    }
+
+pub link_none_child : (begun cv pv : ℕ) (rows : List Row) → AreTrees begun rows → is_pending cv (map transaction_of rows) ≡ false → Rows begun (with_link cv pv (map transaction_of rows)) rows
+link_none_child begun cv pv rows trees none = record {
+  trees = trees;
+  told = sym (ap (λ (c : Option Transaction). with_parent c (newest pv (map transaction_of rows)) (map transaction_of rows)) (newest_none cv (map transaction_of rows) none));
+}
+
+-- a link that takes effect
+pub link_joins : (begun cv pv : ℕ) (rows : List Row) (child parent : Row) (join : Join) → AreTrees begun rows → Pair cv pv rows child parent → (is_none child.parent && not child.ended && not (eqb parent.root child.serial)) ≡ true →
+    join ≡ record { child = child.serial; link = record { serial = parent.serial; vxid = parent.vxid; number = count_by (λ row. leads_to parent.serial row.parent) rows }; root = parent.root; path = parent.path } →
+    Rows begun (with_link cv pv (map transaction_of rows)) (map (joined join) rows)
+link_joins begun cv pv rows child parent join trees pair yes_can is =
+    let pending : List Transaction = map transaction_of rows in
+    let here = pair.child_here in
+    let there = pair.parent_here in
+    let can = can_join_rows begun rows trees child parent here there ∙ yes_can in
+    let parts = and_parts (is_none child.parent && not child.ended) (not (eqb parent.root child.serial)) yes_can in
+    let first = and_parts (is_none child.parent) (not child.ended) parts.0 in
+    let c : CanJoin rows join = record {
+      child = child;
+      here = ap (λ (j : Join). row_of j.child rows) is ∙ here;
+      top = top_from rows child (trees.forest.linked child.serial child here) (none_from child.parent first.0);
+      parent = parent;
+      there = ap (λ (j : Join). row_of j.link.serial rows) is ∙ there;
+      root = ap (λ (j : Join). j.root) is;
+      path = ap (λ (j : Join). j.path) is;
+      apart = ap (λ (j : Join). eqb parent.root j.child) is ∙ not-true (eqb parent.root child.serial) parts.1;
+    } in
+    let link : ParentLink = record { serial = parent.serial; vxid = parent.vxid; number = children pending (transaction_of parent) } in
+    let link_told : join.link ≡ link = ap (λ (j : Join). j.link) is ∙ ap (λ (n : ℕ). record { serial = parent.serial; vxid = parent.vxid; number = n }) (sym (count_map (λ (t : Transaction). leads_to parent.serial t.parent) transaction_of rows)) in
+    let same : child.vxid ≡ cv = pair.child_vxid_is in
+    record {
+      trees = joined_trees begun rows join trees c;
+      told =
+          newest_joined cv 0 begun rows join child trees.rising pair.child_newest (sym (ap (λ (j : Join). j.child) is))
+          ∙ ap (λ (l : ParentLink). with_newest cv (λ t. record t { parent = Some l }) pending) link_told
+          ∙ ap (λ (v : ℕ). with_newest v (λ t. record t { parent = Some link }) pending) (sym same)
+          ∙ sym (link_is cv pv rows child parent pair ∙ rw can refl);
+    }

@@ -1,0 +1,88 @@
+-- Rows of a tree among others.
+use Rattle.std.proofs.Common.{◌≡◌, ◌+◌, ◌<◌, ℕ, false, not, eqb, List, [], ◌∷◌, ◌++◌, length, get_or, set, take, drop, refl, ap, sym, ◌∙◌, append-nil, length-append, add-one, arith}
+use Rattle.std.specs.List.{HoldsAt}
+use Rattle.std.proofs.lemmas.Bool.{eq-eqb}
+use Rattle.std.proofs.lemmas.List.{drop_more, drop-set-lt, nil_from_length, set_split, length-set}
+use Rattle.std.proofs.lemmas.List.Elements.{filter-append, filter_more}
+use Rattle.txn_rows.specs.declared.rows.Row.{Row}
+use Rattle.txn_rows.specs.inside.Rows.{rows_below, rows_beside}
+use Rattle.txn_rows.proofs.LineLemmas.{by_cases}
+use Rattle.txn_rows.proofs.JoinLemmas.{around}
+
+-- a row of the tree is none of the others
+beside_around : (root : ℕ) (front back : List Row) (row : Row) → row.root ≡ root → rows_beside root (front ++ row ∷ back) ≡ rows_beside root front ++ rows_beside root back
+beside_around root front back row inside = filter-append (λ (r : Row). not (eqb r.root root)) front (row ∷ back) ∙ rw (eq-eqb row.root root inside) refl
+
+-- one row of the tree in the place of another
+beside_set : (root at : ℕ) (rows : List Row) (row gap : Row) → at < length rows → row ≡ get_or rows at row → row.root ≡ root → gap.root ≡ root → rows_beside root (set rows at gap) ≡ rows_beside root rows
+beside_set root at rows row gap within read inside gap_inside =
+    let changed : set rows at gap ≡ take at rows ++ gap ∷ drop (at + 1) rows = rw add-one (set_split rows at gap within) in
+    ap (rows_beside root) changed ∙ beside_around root (take at rows) (drop (at + 1) rows) gap gap_inside
+    ∙ sym (ap (rows_beside root) (around at rows row within read) ∙ beside_around root (take at rows) (drop (at + 1) rows) row inside)
+
+-- the rows of the tree among the first are taken, the others stand, and the rest is as it was
+pub record TakesOn (root at : ℕ) (first now tree : List Row) : Type 0 where
+  pub tree_is : tree ≡ rows_below root (take at first)
+  pub others : rows_beside root now ≡ rows_beside root first
+  pub rest : drop at now ≡ drop at first
+  pub long : length now ≡ length first
+
+-- the rest after one more
+record Rest (at : ℕ) (first now : List Row) (row : Row) : Type 0 where
+  read : row ≡ get_or first at row
+  rest : drop (at + 1) now ≡ drop (at + 1) first
+
+rest_more : (root at : ℕ) (first now tree : List Row) (row : Row) → TakesOn root at first now tree → at < length first → row ≡ get_or now at row → Rest at first now row
+rest_more root at first now tree row t within read =
+    let cells : get_or now at row ∷ drop (at + 1) now ≡ get_or first at row ∷ drop (at + 1) first =
+    sym (drop_more now at row (omega (arith, t.long, within))) ∙ t.rest ∙ drop_more first at row within in
+    record { read = cc; rest = cc }
+
+pub takes_row : (root at : ℕ) (first now tree : List Row) (row gap : Row) → TakesOn root at first now tree → at < length first → row ≡ get_or now at row → row.root ≡ root → gap.root ≡ root → TakesOn root (at + 1) first (set now at gap) (tree ++ row ∷ [])
+takes_row root at first now tree row gap t within read inside gap_inside =
+    let next = rest_more root at first now tree row t within read in
+    record {
+      tree_is = ap (λ (rs : List Row). rs ++ row ∷ []) t.tree_is ∙ sym (filter_more (λ (r : Row). eqb r.root root) first at row within ∙ rw (sym next.read, eq-eqb row.root root inside) refl);
+      others = beside_set root at now row gap (omega (arith, t.long, within)) read inside gap_inside ∙ t.others;
+      rest = drop-set-lt (at + 1) now at gap (omega arith) ∙ next.rest;
+      long = length-set now at gap ∙ t.long;
+    }
+
+pub takes_none : (root at : ℕ) (first now tree : List Row) (row : Row) → TakesOn root at first now tree → at < length first → row ≡ get_or now at row → eqb row.root root ≡ false → TakesOn root (at + 1) first now tree
+takes_none root at first now tree row t within read outside =
+    let next = rest_more root at first now tree row t within read in
+    record {
+      tree_is = t.tree_is ∙ sym (filter_more (λ (r : Row). eqb r.root root) first at row within ∙ rw (sym next.read, outside) (append-nil _));
+      others = t.others;
+      rest = next.rest;
+      long = t.long;
+    }
+
+-- where none is of the tree, all are others
+all_beside : (root : ℕ) (rows : List Row) → length (rows_below root rows) ≡ 0 → rows_beside root rows ≡ rows
+all_beside root [] none = refl
+all_beside root (row ∷ rows) none =
+    by_cases (rows_beside root (row ∷ rows) ≡ row ∷ rows) (eqb row.root root)
+    (λ e. let some = rw e at none in absurd (omega (arith, some)))
+    (λ e. rw e (ap (λ (rs : List Row). row ∷ rs) (all_beside root rows (rw e at none))))
+
+-- a row that is alone in its tree, and the others
+pub record IsAlone (root at : ℕ) (rows : List Row) (row : Row) : Type 0 where
+  pub tree : rows_below root rows ≡ row ∷ []
+  pub others : rows_beside root rows ≡ take at rows ++ drop (at + 1) rows
+
+pub alone_at : (root at : ℕ) (rows : List Row) (row : Row) → at < length rows → row ≡ get_or rows at row → HoldsAt (λ r. r.root ≡ root) rows at → length (rows_below root rows) ≡ 1 → IsAlone root at rows row
+alone_at root at rows row within read here one =
+    let inside : row.root ≡ root = ap (λ (r : Row). r.root) read ∙ here row in
+    let front : List Row = take at rows in
+    let back : List Row = drop (at + 1) rows in
+    let parts = around at rows row within read in
+    let tree : rows_below root rows ≡ rows_below root front ++ row ∷ rows_below root back =
+    ap (rows_below root) parts ∙ filter-append (λ (r : Row). eqb r.root root) front (row ∷ back) ∙ rw (eq-eqb row.root root inside) refl in
+    let lengths = ap length tree ∙ length-append (rows_below root front) (row ∷ rows_below root back) in
+    let no_front : length (rows_below root front) ≡ 0 = omega (arith, lengths, one) in
+    let no_back : length (rows_below root back) ≡ 0 = omega (arith, lengths, one) in
+    record {
+      tree = tree ∙ rw (nil_from_length _ no_front, nil_from_length _ no_back) refl;
+      others = ap (rows_beside root) parts ∙ beside_around root front back row inside ∙ rw (all_beside root front no_front, all_beside root back no_back) refl;
+    }

@@ -1,0 +1,125 @@
+-- Rows that begin, and which is open.
+use Rattle.std.proofs.Common.{◌≡◌, ◌+◌, ℕ, Bool, true, false, not, eqb, cond, Option, Some, None, List, [], ◌∷◌, ◌++◌, set, map, take, drop, get_or, refl, ap, sym, ◌∙◌, subst, arith}
+use Rattle.std.proofs.lemmas.Bool.{eq-eqb, or_parts}
+use Rattle.std.proofs.lemmas.List.{map-append, get_or_default}
+use Rattle.vsl_tags.specs.Tags.{begin_tag}
+use Rattle.txn_rows.specs.declared.rows.Row.{Row}
+use Rattle.txn_rows.specs.declared.group.Kind.TheVariants as kinds
+use Rattle.txn_rows.specs.declared.group.Reason.TheVariants as reasons
+use Rattle.txn_rows.specs.Transaction.{Transaction, is_pending, is_open, newest, with_newest, with_record, with_kind, claimed_kind, ended}
+use Rattle.txn_rows.specs.declared.claim.Claim.{Claim}
+use Rattle.txn_rows.specs.declared.group.Group.{Group}
+use Rattle.vsl_record.specs.declared.record_type.Record.{Record}
+use Rattle.txn_rows.specs.Claim.{claim_of}
+use Rattle.txn_rows.specs.Grouping.{with_new, ended_one}
+use Rattle.txn_rows.specs.inside.Rows.{transaction_of, IsNewestRow, AreTrees, with_one, left_rows, LeftRows}
+use Rattle.txn_rows.specs.inside.Steps.{state_with, RowsStep}
+use Rattle.txn_rows.proofs.LineLemmas.{either}
+use Rattle.txn_rows.proofs.KeepLemmas.{claimed_same}
+use Rattle.txn_rows.proofs.JoinLemmas.{pending_in, split_at_row, newest_in}
+use Rattle.txn_rows.proofs.StandLemmas.{trees_push, trees_set, IsInPlaceOf}
+use Rattle.txn_rows.proofs.ForceLemmas.{written, written_leaves}
+
+-- a row of which no record was seen
+abbrev pub empty_row : ℕ → ℕ → Option ℕ → Row
+empty_row serial vxid time = record { serial = serial; vxid = vxid; kind = kinds.Unknown; reason = reasons.Other; records = []; parent = None; ended = false; time = time; root = serial; path = [] }
+
+-- rows after one more began
+pub record Began (begun vxid : ℕ) (time : Option ℕ) (rows now : List Row) : Type 0 where
+  pub trees : AreTrees (begun + 1) now
+  pub told : state_with (begun + 1) time now ≡ with_new vxid (state_with begun time rows)
+
+pub began : (begun vxid : ℕ) (time : Option ℕ) (rows now : List Row) (row : Row) → AreTrees begun rows → row ≡ empty_row begun vxid time → now ≡ rows ++ row ∷ [] → Began begun vxid time rows now
+began begun vxid time rows now row trees is all =
+    let new : Row = empty_row begun vxid time in
+    let whole : now ≡ rows ++ new ∷ [] = all ∙ ap (λ (r : Row). rows ++ r ∷ []) is in
+    record {
+      trees = subst (AreTrees (begun + 1)) (sym whole) (trees_push begun rows new trees refl (record { none = refl; root = refl; path = refl }));
+      told = ap (state_with (begun + 1) time) whole ∙ ap (λ (ts : List Transaction). record { pending = ts; begun = begun + 1; time = time }) (map-append transaction_of rows (new ∷ []));
+    }
+
+open_in : (vxid : ℕ) (front : List Transaction) (t : Transaction) (back : List Transaction) → eqb t.vxid vxid ≡ true → is_pending vxid back ≡ false → is_open vxid (front ++ t ∷ back) ≡ not t.ended
+open_in vxid [] t back same none = rw (none, same) refl
+open_in vxid (f ∷ front) t back same none = rw (pending_in vxid front t back same) (open_in vxid front t back same none)
+
+-- whether the newest is open
+pub open_at : (vxid at : ℕ) (rows : List Row) (row : Row) → IsNewestRow vxid at rows → row ≡ get_or rows at row → is_open vxid (map transaction_of rows) ≡ not row.ended
+open_at vxid at rows row is read =
+    let same : row.vxid ≡ vxid = ap (λ (r : Row). r.vxid) read ∙ is.is row in
+    ap (is_open vxid) (split_at_row at rows row is.within read)
+    ∙ open_in vxid (map transaction_of (take at rows)) (transaction_of row) (map transaction_of (drop (at + 1) rows)) (eq-eqb row.vxid vxid same) is.none_after
+
+pub open_none : (vxid : ℕ) (pending : List Transaction) → is_pending vxid pending ≡ false → is_open vxid pending ≡ false
+open_none vxid [] none = refl
+open_none vxid (t ∷ pending) none =
+    let parts = or_parts (eqb t.vxid vxid) (is_pending vxid pending) none in
+    rw (parts.1, parts.0) refl
+
+-- the newest is pending
+pub pending_at : (vxid at : ℕ) (rows : List Row) → IsNewestRow vxid at rows → is_pending vxid (map transaction_of rows) ≡ true
+pending_at vxid at [] is = absurd (omega (arith, is.within))
+pending_at vxid at (first ∷ rest) is =
+    let rows : List Row = first ∷ rest in
+    let row : Row = get_or rows at first in
+    let read : row ≡ get_or rows at row = sym (get_or_default rows at row first is.within) in
+    let same : row.vxid ≡ vxid = is.is first in
+    ap (is_pending vxid) (split_at_row at rows row is.within read)
+    ∙ pending_in vxid (map transaction_of (take at rows)) (transaction_of row) (map transaction_of (drop (at + 1) rows)) (eq-eqb row.vxid vxid same)
+
+-- the newest transaction of a VXID is changed where it stands
+newest_changed : (vxid : ℕ) (change : Transaction → Transaction) (front : List Transaction) (t : Transaction) (back : List Transaction) → eqb t.vxid vxid ≡ true → is_pending vxid back ≡ false → with_newest vxid change (front ++ t ∷ back) ≡ front ++ change t ∷ back
+newest_changed vxid change [] t back same none = rw (none, same) refl
+newest_changed vxid change (f ∷ front) t back same none = rw (pending_in vxid front t back same) (ap (λ (ts : List Transaction). f ∷ ts) (newest_changed vxid change front t back same none))
+
+changed_if : (test : Bool) (vxid : ℕ) (change : Transaction → Transaction) (front : List Transaction) (t : Transaction) (back : List Transaction) → eqb t.vxid vxid ≡ true → is_pending vxid back ≡ false → cond test (with_newest vxid change (front ++ t ∷ back)) (front ++ t ∷ back) ≡ front ++ cond test (change t) t ∷ back
+changed_if true vxid change front t back same none = newest_changed vxid change front t back same none
+changed_if false vxid change front t back same none = refl
+
+one_same : {A : Type 0} (f : Transaction → A) → ((t : Transaction) (claim : Claim) → f (record t { kind = claim.kind; reason = claim.reason }) ≡ f t) → (rec : Record) (t : Transaction) → f (record t { records = t.records ++ rec ∷ [] }) ≡ f t → f (with_one rec t) ≡ f t
+one_same f keeps rec t longer =
+    let t_longer : Transaction = record t { records = t.records ++ rec ∷ [] } in
+    either (λ u. f u ≡ f t) (eqb rec.tag begin_tag) (claimed_kind (claim_of rec.payload) t_longer) t_longer (claimed_same f keeps (claim_of rec.payload) t_longer ∙ longer) longer
+
+-- rows after a record
+pub record Added (begun vxid : ℕ) (rec : Record) (rows now : List Row) : Type 0 where
+  pub trees : AreTrees begun now
+  pub told : map transaction_of now ≡ with_kind vxid rec (with_record vxid rec (map transaction_of rows))
+
+pub added : (begun vxid at : ℕ) (rec : Record) (rows : List Row) (row new : Row) → AreTrees begun rows → IsNewestRow vxid at rows → row ≡ get_or rows at row → transaction_of new ≡ with_one rec (transaction_of row) → new.root ≡ row.root → new.path ≡ row.path → Added begun vxid rec rows (set rows at new)
+added begun vxid at rec rows row new trees is read told root path =
+    let t : Transaction = transaction_of row in
+    let longer : Transaction = record t { records = t.records ++ rec ∷ [] } in
+    let front : List Transaction = map transaction_of (take at rows) in
+    let back : List Transaction = map transaction_of (drop (at + 1) rows) in
+    let same : eqb row.vxid vxid ≡ true = eq-eqb row.vxid vxid (ap (λ (r : Row). r.vxid) read ∙ is.is row) in
+    let in_place : IsInPlaceOf row new = record {
+      serial = ap (λ (x : Transaction). x.serial) told ∙ one_same (λ x. x.serial) (λ x c. refl) rec t refl;
+      parent = ap (λ (x : Transaction). x.parent) told ∙ one_same (λ x. x.parent) (λ x c. refl) rec t refl;
+      root = root;
+      path = path;
+    } in
+    record {
+      trees = trees_set begun at rows row new trees is.within read in_place;
+      told =
+          written at rows new is.within
+          ∙ ap (λ (x : Transaction). front ++ x ∷ back) told
+          ∙ sym (ap (λ (ts : List Transaction). with_kind vxid rec (with_record vxid rec ts)) (split_at_row at rows row is.within read)
+          ∙ ap (with_kind vxid rec) (newest_changed vxid (λ s. record s { records = s.records ++ rec ∷ [] }) front t back same is.none_after)
+          ∙ changed_if (eqb rec.tag begin_tag) vxid (claimed_kind (claim_of rec.payload)) front longer back same is.none_after);
+    }
+
+-- a row that ends is its transaction, ended
+pub ended_step : (begun vxid at : ℕ) (time : Option ℕ) (rows : List Row) (row new : Row) (now : List Row) (out_before out_now : List Group) → AreTrees begun rows → IsNewestRow vxid at rows → row ≡ get_or rows at row → new ≡ record row { ended = true } →
+    LeftRows (left_rows new.root (set rows at new)) now out_before out_now → RowsStep (ended_one vxid (state_with begun time rows)) begun time now out_before out_now
+ended_step begun vxid at time rows row new now out_before out_now trees is read ended_is left =
+    let pending : List Transaction = map transaction_of rows in
+    let t : Transaction = transaction_of row in
+    let front : List Transaction = map transaction_of (take at rows) in
+    let back : List Transaction = map transaction_of (drop (at + 1) rows) in
+    let same : eqb row.vxid vxid ≡ true = eq-eqb row.vxid vxid (ap (λ (r : Row). r.vxid) read ∙ is.is row) in
+    let told : transaction_of new ≡ ended t = ap transaction_of ended_is in
+    let changed : with_newest vxid ended pending ≡ front ++ ended t ∷ back = ap (with_newest vxid ended) (split_at_row at rows row is.within read) ∙ newest_changed vxid ended front t back same is.none_after in
+    let all : with_newest vxid ended pending ≡ map transaction_of (set rows at new) = changed ∙ ap (λ (x : Transaction). front ++ x ∷ back) (sym told) ∙ sym (written at rows new is.within) in
+    let first : newest vxid (with_newest vxid ended pending) ≡ Some (transaction_of new) = ap (newest vxid) changed ∙ newest_in vxid front (ended t) back same is.none_after ∙ ap Some (sym told) in
+    let in_place : IsInPlaceOf row new = subst (IsInPlaceOf row) (sym ended_is) (record { serial = refl; parent = refl; root = refl; path = refl }) in
+    written_leaves begun at time rows row new now out_before out_now (newest vxid (with_newest vxid ended pending)) (with_newest vxid ended pending) trees is.within read in_place left first all

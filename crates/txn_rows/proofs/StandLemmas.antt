@@ -1,0 +1,272 @@
+-- Rows stand in trees after each step: a tree leaves, a row begins, rows are changed in other respects.
+use Rattle.std.proofs.Common.{◌≡◌, ◌+◌, ◌<◌, ◌≤◌, ◌⊎◌, ⊎_elim, inl, inr, ℕ, zero, suc, Bool, true, false, not, eqb, cond, Option, Some, None, List, [], ◌∷◌, ◌++◌, length, map, get_or, set, refl, ap, sym, ◌∙◌, subst, arith}
+use Rattle.std.specs.Prelude.{count_by}
+use Rattle.std.specs.List.{list_all, filter}
+use Rattle.std.specs.Option.{option_map, option_or}
+use Rattle.std.proofs.lemmas.Bool.{eqb-true, eqb-false, eq-eqb, ne_eqb, not-true}
+use Rattle.std.proofs.lemmas.List.Sums.{sum_by-cons, sum_by_push}
+use Rattle.std.proofs.lemmas.List.Folds.{find-append, list_all-map}
+use Rattle.txn_rows.specs.declared.rows.Row.{Row}
+use Rattle.txn_rows.specs.declared.group.ParentLink.{ParentLink}
+use Rattle.txn_rows.specs.declared.group.Group.{Group}
+use Rattle.txn_rows.specs.Transaction.{Transaction}
+use Rattle.txn_rows.specs.Links.{root_of, tree_of, others, group_of}
+use Rattle.txn_rows.specs.Grouping.{Leaving, left_by, nothing_left}
+use Rattle.txn_rows.specs.inside.Rows.{transaction_of, row_of, Rising, IsTop, IsBelow, AreTrees, rows_below, rows_beside, left_rows}
+use Rattle.txn_rows.specs.inside.Steps.{state_with}
+use Rattle.txn_rows.proofs.LineLemmas.{by_cases, row_of_serial}
+use Rattle.txn_rows.proofs.TreeLemmas.{line_whole, tree_rows, other_rows, group_rows, rising_above}
+use Rattle.txn_rows.proofs.JoinLemmas.{row_of_map, rising_map, before_map, still_below, each_at}
+
+-- a row that is found is no older than the first
+found_above : (s low high : ℕ) (rows : List Row) (row : Row) → Rising low high rows → row_of s rows ≡ Some row → low ≤ row.serial
+found_above s low high [] row r here = absurd (cc)
+found_above s low high (first ∷ rows) row r here =
+    by_cases (low ≤ row.serial) (eqb first.serial s)
+    (λ t. let same : Some first ≡ Some row = rw t at here in let is : first ≡ row = (cc) in omega (arith, r.0, ap (λ (x : Row). x.serial) is))
+    (λ t. let later = found_above s (first.serial + 1) high rows row r.1 (rw t at here) in omega (arith, r.0, later))
+
+-- what is found among those that are kept was there, and is kept
+pub found_filter : (q : Row → Bool) (s low high : ℕ) (rows : List Row) (row : Row) → Rising low high rows → row_of s (filter q rows) ≡ Some row → (row_of s rows ≡ Some row) × (q row ≡ true)
+found_filter q s low high [] row r here = absurd (cc)
+found_filter q s low high (first ∷ rows) row r here =
+    let Goal : Type 0 = (row_of s (first ∷ rows) ≡ Some row) × (q row ≡ true) in
+    by_cases Goal (q first)
+    (λ kept.
+    let here_kept : cond (eqb first.serial s) (Some first) (row_of s (filter q rows)) ≡ Some row = rw kept at here in
+    by_cases Goal (eqb first.serial s)
+    (λ t. let same : Some first ≡ Some row = rw t at here_kept in
+    let is : first ≡ row = (cc) in
+    (rw t same, ap q (sym is) ∙ kept))
+    (λ t. let later = found_filter q s (first.serial + 1) high rows row r.1 (rw t at here_kept) in (rw t later.0, later.1)))
+    (λ left.
+    let later = found_filter q s (first.serial + 1) high rows row r.1 (rw left at here) in
+    let above = found_above s (first.serial + 1) high rows row r.1 later.0 in
+    let other : eqb first.serial s ≡ false = ne_eqb first.serial s (λ e. omega (arith, above, e, row_of_serial s rows row later.0)) in
+    (rw other later.0, later.1))
+
+-- what is kept is found
+pub kept_filter : (q : Row → Bool) (s : ℕ) (rows : List Row) (row : Row) → row_of s rows ≡ Some row → q row ≡ true → row_of s (filter q rows) ≡ Some row
+kept_filter q s [] row here kept = here
+kept_filter q s (first ∷ rows) row here kept =
+    let Goal : Type 0 = row_of s (filter q (first ∷ rows)) ≡ Some row in
+    by_cases Goal (eqb first.serial s)
+    (λ t. let same : Some first ≡ Some row = rw t at here in
+    let is : first ≡ row = (cc) in
+    let stay : q first ≡ true = ap q is ∙ kept in
+    rw (stay, t) same)
+    (λ t. let later = kept_filter q s rows row (rw t at here) kept in
+    by_cases Goal (q first) (λ u. rw (u, t) later) (λ u. rw u later))
+
+rising_weaker : (low lower high : ℕ) (rows : List Row) → lower ≤ low → Rising low high rows → Rising lower high rows
+rising_weaker low lower high [] w r = omega (arith, w, r)
+rising_weaker low lower high (row ∷ rows) w r = (omega (arith, w, r.0), r.1)
+
+pub rising_filter : (q : Row → Bool) (low high : ℕ) (rows : List Row) → Rising low high rows → Rising low high (filter q rows)
+rising_filter q low high [] r = r
+rising_filter q low high (row ∷ rows) r =
+    by_cases (Rising low high (filter q (row ∷ rows))) (q row)
+    (λ t. rw t (r.0, rising_filter q (row.serial + 1) high rows r.1))
+    (λ t. rw t (rising_weaker (row.serial + 1) low high (filter q rows) (omega (arith, r.0)) (rising_filter q (row.serial + 1) high rows r.1)))
+
+-- other trees keep their rows
+count_beside : (root x : ℕ) → eqb x root ≡ false → (rows : List Row) → count_by (λ (r : Row). eqb r.root x) (rows_beside root rows) ≡ count_by (λ (r : Row). eqb r.root x) rows
+count_beside root x other [] = refl
+count_beside root x other (row ∷ rows) =
+    let p : Row → ℕ = λ r. cond (eqb r.root x) 1 0 in
+    let ih = count_beside root x other rows in
+    let whole = sum_by-cons p row rows in
+    by_cases (count_by (λ (r : Row). eqb r.root x) (rows_beside root (row ∷ rows)) ≡ count_by (λ (r : Row). eqb r.root x) (row ∷ rows)) (eqb row.root root)
+    (λ t. let none : eqb row.root x ≡ false = ne_eqb row.root x (λ e. eqb-false x root other (sym e ∙ eqb-true row.root root t)) in
+    let zero_here : p row ≡ 0 = rw none refl in
+    rw t (omega (arith, ih, whole, zero_here)))
+    (λ t. rw t (omega (arith, ih, whole, sum_by-cons p row (rows_beside root rows))))
+
+-- where a tree leaves, the others stand
+trees_left : (begun root : ℕ) (rows : List Row) → AreTrees begun rows → AreTrees begun (rows_beside root rows)
+trees_left begun root rows trees =
+    let q : Row → Bool = λ r. not (eqb r.root root) in
+    record {
+      rising = rising_filter q 0 begun rows trees.rising;
+      forest = record {
+        linked = λ s row here.
+            let was = found_filter q s 0 begun rows row trees.rising here in
+            ⊎_elim
+            (λ (top : IsTop row). inl top)
+            (λ (below : IsBelow rows row). inr (still_below rows (rows_beside root rows) row below (kept_filter q below.link.serial rows below.above below.found (ap (λ (n : ℕ). not (eqb n root)) (sym below.root) ∙ was.1))))
+            (trees.forest.linked s row was.0);
+        shallow = λ s row here.
+            let was = found_filter q s 0 begun rows row trees.rising here in
+            omega (arith, trees.forest.shallow s row was.0, count_beside root row.root (not-true (eqb row.root root) was.1) rows);
+      };
+    }
+
+-- whether a tree leaves or stays, rows stand in trees
+pub trees_after : (begun root : ℕ) (rows : List Row) → AreTrees begun rows → AreTrees begun (left_rows root rows).rows
+trees_after begun root rows trees =
+    by_cases (AreTrees begun (left_rows root rows).rows) (list_all (λ (r : Row). r.ended) (rows_below root rows))
+    (λ t. rw t (trees_left begun root rows trees))
+    (λ t. rw t trees)
+
+-- what leaves with a row is what leaves with its transaction
+pub left_is : (begun count s : ℕ) (time : Option ℕ) (rows : List Row) (row : Row) → AreTrees begun rows → row_of s rows ≡ Some row →
+    left_by (Some (transaction_of row)) (state_with count time rows) ≡ record { state = state_with count time (left_rows row.root rows).rows; groups = (left_rows row.root rows).groups }
+left_is begun count s time rows row trees here =
+    let pending : List Transaction = map transaction_of rows in
+    let root : Transaction = root_of pending (transaction_of row) in
+    let top : root.serial ≡ row.root = (line_whole rows trees.forest s row here).top (transaction_of row) in
+    let tree : tree_of pending root ≡ map transaction_of (rows_below row.root rows) = tree_rows begun rows root trees.rising trees.forest ∙ ap (λ (n : ℕ). map transaction_of (rows_below n rows)) top in
+    let rest : others pending root ≡ map transaction_of (rows_beside row.root rows) = other_rows begun rows root trees.rising trees.forest ∙ ap (λ (n : ℕ). map transaction_of (rows_beside n rows)) top in
+    let all_ended : list_all (λ (u : Transaction). u.ended) (tree_of pending root) ≡ list_all (λ (r : Row). r.ended) (rows_below row.root rows) =
+    ap (list_all (λ (u : Transaction). u.ended)) tree ∙ list_all-map (λ (u : Transaction). u.ended) transaction_of (rows_below row.root rows) in
+    let leaves : List Transaction → Group → Leaving = λ ts g. record { state = record { pending = ts; begun = count; time = time }; groups = g ∷ [] } in
+    by_cases (left_by (Some (transaction_of row)) (state_with count time rows) ≡ record { state = state_with count time (left_rows row.root rows).rows; groups = (left_rows row.root rows).groups }) (list_all (λ (r : Row). r.ended) (rows_below row.root rows))
+    (λ t. ap (λ (b : Bool). cond b (leaves (others pending root) (group_of pending root)) (nothing_left (state_with count time rows))) (all_ended ∙ t)
+    ∙ ap (λ (ts : List Transaction). leaves ts (group_of pending root)) rest
+    ∙ ap (leaves (map transaction_of (rows_beside row.root rows))) (group_rows begun rows root trees.rising trees.forest)
+    ∙ rw (top, t) refl)
+    (λ t. ap (λ (b : Bool). cond b (leaves (others pending root) (group_of pending root)) (nothing_left (state_with count time rows))) (all_ended ∙ t) ∙ rw t refl)
+
+-- rows with the same links, changed in other respects
+pub record KeepsPlaces (f : Row → Row) (rows : List Row) : Type 0 where
+  pub serial : (row : Row) → (f row).serial ≡ row.serial
+  pub parent : (row : Row) → (f row).parent ≡ row.parent
+  pub root : (row : Row) → (f row).root ≡ row.root
+  pub path : (row : Row) → (f row).path ≡ row.path
+
+count_kept : (f : Row → Row) → ((row : Row) → (f row).root ≡ row.root) → (x : ℕ) (rows : List Row) → count_by (λ (r : Row). eqb r.root x) (map f rows) ≡ count_by (λ (r : Row). eqb r.root x) rows
+count_kept f keeps x [] = refl
+count_kept f keeps x (row ∷ rows) =
+    let p : Row → ℕ = λ r. cond (eqb r.root x) 1 0 in
+    sum_by-cons p (f row) (map f rows) ∙ ap (λ (n : ℕ). cond (eqb n x) 1 0 + count_by (λ (r : Row). eqb r.root x) (map f rows)) (keeps row)
+    ∙ ap (λ (n : ℕ). p row + n) (count_kept f keeps x rows) ∙ sym (sum_by-cons p row rows)
+
+-- rows that keep their places stand in trees
+pub trees_kept : (begun : ℕ) (f : Row → Row) (rows : List Row) → KeepsPlaces f rows → AreTrees begun rows → AreTrees begun (map f rows)
+trees_kept begun f rows keeps trees = record {
+  rising = rising_map f keeps.serial 0 begun rows trees.rising;
+  forest = record {
+    linked = λ s now here.
+        let was = before_map f s rows (row_of s rows) now refl (sym (row_of_map f keeps.serial s rows) ∙ here) in
+        let row : Row = was.0 in
+        subst (λ (r : Row). IsTop r ⊎ IsBelow (map f rows) r) (sym was.2) (⊎_elim
+        (λ (top : IsTop row). inl (record { none = keeps.parent row ∙ top.none; root = keeps.root row ∙ top.root ∙ sym (keeps.serial row); path = keeps.path row ∙ top.path }))
+        (λ (below : IsBelow rows row). inr (record {
+          link = below.link;
+          linked = keeps.parent row ∙ below.linked;
+          above = f below.above;
+          found = row_of_map f keeps.serial below.link.serial rows ∙ ap (option_map f) below.found;
+          root = keeps.root row ∙ below.root ∙ sym (keeps.root below.above);
+          path = keeps.path row ∙ below.path ∙ ap (λ (p : List ℕ). p ++ below.link.number ∷ []) (sym (keeps.path below.above));
+        }))
+        (trees.forest.linked s row was.1));
+    shallow = λ s now here.
+        let was = before_map f s rows (row_of s rows) now refl (sym (row_of_map f keeps.serial s rows) ∙ here) in
+        let row : Row = was.0 in
+        let few : length row.path < count_by (λ (x : Row). eqb x.root row.root) rows = trees.forest.shallow s row was.1 in
+        subst (λ (r : Row). length r.path < count_by (λ (x : Row). eqb x.root r.root) (map f rows)) (sym was.2)
+        (subst (λ (p : List ℕ). length p < count_by (λ (x : Row). eqb x.root (f row).root) (map f rows)) (sym (keeps.path row))
+        (subst (λ (n : ℕ). length row.path < count_by (λ (x : Row). eqb x.root n) (map f rows)) (sym (keeps.root row))
+        (omega (arith, few, count_kept f keeps.root row.root rows))));
+  };
+}
+
+-- a row that tells what another does, in its own place
+abbrev pub retold : Row → Row → Row
+retold new row = record row { vxid = new.vxid; kind = new.kind; reason = new.reason; records = new.records; ended = new.ended; time = new.time }
+
+-- the row with the serial number of another tells what that does
+abbrev pub swapped : Row → Row → Row
+swapped new row = cond (eqb row.serial new.serial) (retold new row) row
+
+swapped_keeps : (new : Row) (rows : List Row) → KeepsPlaces (swapped new) rows
+swapped_keeps new rows = record {
+  serial = λ row. by_cases ((swapped new row).serial ≡ row.serial) (eqb row.serial new.serial) (λ t. rw t refl) (λ t. rw t refl);
+  parent = λ row. by_cases ((swapped new row).parent ≡ row.parent) (eqb row.serial new.serial) (λ t. rw t refl) (λ t. rw t refl);
+  root = λ row. by_cases ((swapped new row).root ≡ row.root) (eqb row.serial new.serial) (λ t. rw t refl) (λ t. rw t refl);
+  path = λ row. by_cases ((swapped new row).path ≡ row.path) (eqb row.serial new.serial) (λ t. rw t refl) (λ t. rw t refl);
+}
+
+-- a row in the place of another
+pub record IsInPlaceOf (row new : Row) : Type 0 where
+  pub serial : new.serial ≡ row.serial
+  pub parent : new.parent ≡ row.parent
+  pub root : new.root ≡ row.root
+  pub path : new.path ≡ row.path
+
+retold_is : (row new : Row) → IsInPlaceOf row new → retold new row ≡ new
+retold_is row new same =
+    ap (λ (n : ℕ). record (retold new row) { serial = n }) (sym same.serial)
+    ∙ ap (λ (p : Option ParentLink). record (retold new row) { serial = new.serial; parent = p }) (sym same.parent)
+    ∙ ap (λ (n : ℕ). record (retold new row) { serial = new.serial; parent = new.parent; root = n }) (sym same.root)
+    ∙ ap (λ (p : List ℕ). record (retold new row) { serial = new.serial; parent = new.parent; root = new.root; path = p }) (sym same.path)
+
+-- later rows are not meant
+swapped_later : (new : Row) (low high : ℕ) (rows : List Row) → Rising low high rows → new.serial < low → map (swapped new) rows ≡ rows
+swapped_later new low high [] r passed = refl
+swapped_later new low high (row ∷ rows) r passed =
+    let other : eqb row.serial new.serial ≡ false = ne_eqb row.serial new.serial (λ e. omega (arith, r.0, e, passed)) in
+    ap (λ (b : Bool). cond b (retold new row) row ∷ map (swapped new) rows) other
+    ∙ ap (λ (rs : List Row). row ∷ rs) (swapped_later new (row.serial + 1) high rows r.1 (omega (arith, r.0, passed)))
+
+set_is_map : (low high at : ℕ) (rows : List Row) (row new : Row) → Rising low high rows → at < length rows → row ≡ get_or rows at row → IsInPlaceOf row new → set rows at new ≡ map (swapped new) rows
+set_is_map low high at [] row new r within read same = absurd (omega (arith, within))
+set_is_map low high zero (first ∷ rows) row new r within read same =
+    let is : eqb first.serial new.serial ≡ true = eq-eqb first.serial new.serial (ap (λ (x : Row). x.serial) (sym read) ∙ sym same.serial) in
+    sym (ap (λ (b : Bool). cond b (retold new first) first ∷ map (swapped new) rows) is
+    ∙ ap (λ (x : Row). retold new x ∷ map (swapped new) rows) (sym read)
+    ∙ ap (λ (x : Row). x ∷ map (swapped new) rows) (retold_is row new same)
+    ∙ ap (λ (rs : List Row). new ∷ rs) (swapped_later new (first.serial + 1) high rows r.1 (omega (arith, same.serial, ap (λ (x : Row). x.serial) read))))
+set_is_map low high (suc at) (first ∷ rows) row new r within read same =
+    let above : first.serial + 1 ≤ row.serial = each_at (λ x. first.serial + 1 ≤ x.serial) rows at row (rising_above (first.serial + 1) high rows r.1) (omega (arith, within)) read in
+    let other : eqb first.serial new.serial ≡ false = ne_eqb first.serial new.serial (λ e. omega (arith, above, e, same.serial)) in
+    ap (λ (rs : List Row). first ∷ rs) (set_is_map (first.serial + 1) high at rows row new r.1 (omega (arith, within)) read same)
+    ∙ ap (λ (b : Bool). cond b (retold new first) first ∷ map (swapped new) rows) (sym other)
+
+-- a row that is written in the place of another
+pub trees_set : (begun at : ℕ) (rows : List Row) (row new : Row) → AreTrees begun rows → at < length rows → row ≡ get_or rows at row → IsInPlaceOf row new → AreTrees begun (set rows at new)
+trees_set begun at rows row new trees within read same =
+    subst (AreTrees begun) (sym (set_is_map 0 begun at rows row new trees.rising within read same)) (trees_kept begun (swapped new) rows (swapped_keeps new rows) trees)
+
+rising_push : (low high : ℕ) (rows : List Row) (row : Row) → Rising low high rows → row.serial ≡ high → Rising low (high + 1) (rows ++ row ∷ [])
+rising_push low high [] row r is = (omega (arith, r, is), omega (arith, r, is))
+rising_push low high (first ∷ rows) row r is = (r.0, rising_push (first.serial + 1) high rows row r.1 is)
+
+-- what is found after a push
+pub found_push : (s : ℕ) (rows : List Row) (new row : Row) (o : Option Row) → o ≡ row_of s rows → row_of s (rows ++ new ∷ []) ≡ Some row → (o ≡ Some row) ⊎ (row ≡ new)
+found_push s rows new row (Some was) e here =
+    let joined : option_or (Some was) (row_of s (new ∷ [])) ≡ Some row = ap (λ (o : Option Row). option_or o (row_of s (new ∷ []))) e ∙ sym (find-append (λ (r : Row). eqb r.serial s) rows (new ∷ [])) ∙ here in
+    inl joined
+found_push s rows new row None e here =
+    let joined : cond (eqb new.serial s) (Some new) None ≡ Some row = ap (λ (o : Option Row). option_or o (row_of s (new ∷ []))) e ∙ sym (find-append (λ (r : Row). eqb r.serial s) rows (new ∷ [])) ∙ here in
+    by_cases ((None ≡ Some row) ⊎ (row ≡ new)) (eqb new.serial s)
+    (λ t. let same : Some new ≡ Some row = rw t at joined in inr (cc))
+    (λ t. let same : None ≡ Some row = rw t at joined in absurd (cc))
+
+pub found_still : (s : ℕ) (rows : List Row) (new row : Row) → row_of s rows ≡ Some row → row_of s (rows ++ new ∷ []) ≡ Some row
+found_still s rows new row here = find-append (λ (r : Row). eqb r.serial s) rows (new ∷ []) ∙ ap (λ (o : Option Row). option_or o (row_of s (new ∷ []))) here
+
+-- a row begins at the top of a tree of its own
+pub trees_push : (begun : ℕ) (rows : List Row) (new : Row) → AreTrees begun rows → new.serial ≡ begun → IsTop new → AreTrees (begun + 1) (rows ++ new ∷ [])
+trees_push begun rows new trees is top = record {
+  rising = rising_push 0 begun rows new trees.rising is;
+  forest = record {
+    linked = λ s row here. ⊎_elim
+        (λ (was : row_of s rows ≡ Some row). ⊎_elim
+        (λ (t : IsTop row). inl t)
+        (λ (below : IsBelow rows row). inr (still_below rows (rows ++ new ∷ []) row below (found_still below.link.serial rows new below.above below.found)))
+        (trees.forest.linked s row was))
+        (λ (same : row ≡ new). inl (subst IsTop (sym same) top))
+        (found_push s rows new row (row_of s rows) refl here);
+    shallow = λ s row here.
+        let q : Row → ℕ = λ r. cond (eqb r.root row.root) 1 0 in
+        let more = sum_by_push q rows new in
+        ⊎_elim
+        (λ (was : row_of s rows ≡ Some row). omega (arith, trees.forest.shallow s row was, more))
+        (λ (same : row ≡ new).
+        let own : q new ≡ 1 = ap (λ (b : Bool). cond b 1 0) (eq-eqb new.root row.root (ap (λ (r : Row). r.root) (sym same))) in
+        let short : length row.path ≡ 0 = ap (λ (r : Row). length r.path) same ∙ ap (λ (p : List ℕ). length p) top.path in
+        omega (arith, more, own, short))
+        (found_push s rows new row (row_of s rows) refl here);
+  };
+}

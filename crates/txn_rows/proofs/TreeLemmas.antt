@@ -1,0 +1,117 @@
+-- Trees of rows are the trees of their transactions, and a tree of rows in preorder is its group.
+use Rattle.std.proofs.Common.{◌≡◌, ◌+◌, ◌≤◌, ℕ, Bool, false, not, eqb, Some, List, [], ◌∷◌, length, map, refl, ap, ◌∙◌, arith}
+use Rattle.std.specs.List.{filter}
+use Rattle.std.proofs.lemmas.Bool.{eq-eqb, ne_eqb}
+use Rattle.std.proofs.lemmas.List.{length-map}
+use Rattle.std.proofs.lemmas.List.Sums.{count_by-le-length}
+use Rattle.txn_rows.specs.declared.rows.Row.{Row}
+use Rattle.txn_rows.specs.declared.group.Member.{Member}
+use Rattle.txn_rows.specs.Transaction.{Transaction}
+use Rattle.txn_rows.specs.Links.{line_of, root_of, tree_of, others, path_of, placed, preorder, member_of, group_of, is_path_before}
+use Rattle.txn_rows.specs.inside.Rows.{transaction_of, row_of, Rising, IsForest, Each, rows_below, rows_beside, row_placed, rows_in_preorder, member_of_row}
+use Rattle.txn_rows.proofs.LineLemmas.{by_cases, Line, line_tells}
+
+-- the whole line of a row
+pub line_whole : (rows : List Row) → IsForest rows → (s : ℕ) (row : Row) → row_of s rows ≡ Some row → Line rows row (line_of (map transaction_of rows) (transaction_of row))
+line_whole rows forest s row here =
+    line_tells rows forest (length (map transaction_of rows)) s row here
+    (omega (arith, forest.shallow s row here, count_by-le-length (λ (r : Row). eqb r.root row.root) rows, length-map rows transaction_of))
+
+pub each_weaker : (P Q : Row → Type 0) → ((row : Row) → P row → Q row) → (rows : List Row) → Each P rows → Each Q rows
+each_weaker P Q w [] e = tt
+each_weaker P Q w (row ∷ rows) e = (w row e.0, each_weaker P Q w rows e.1)
+
+-- serial numbers that rise are above the first
+pub rising_above : (low high : ℕ) (rows : List Row) → Rising low high rows → Each (λ row. low ≤ row.serial) rows
+rising_above low high [] r = tt
+rising_above low high (row ∷ rows) r = (r.0, each_weaker (λ x. row.serial + 1 ≤ x.serial) (λ x. low ≤ x.serial) (λ x h. omega (arith, h, r.0)) rows (rising_above (row.serial + 1) high rows r.1))
+
+-- a row before does not hide those that follow
+found_later : (first : Row) (rows all : List Row) → Each (λ row. first.serial + 1 ≤ row.serial) all → Each (λ row. row_of row.serial rows ≡ Some row) all → Each (λ row. row_of row.serial (first ∷ rows) ≡ Some row) all
+found_later first rows [] above found = tt
+found_later first rows (row ∷ all) above found =
+    let other : eqb first.serial row.serial ≡ false = ne_eqb first.serial row.serial (λ e. omega (arith, above.0)) in
+    (rw other found.0, found_later first rows all above.1 found.1)
+
+-- each row is found by its serial number
+pub each_found : (low high : ℕ) (rows : List Row) → Rising low high rows → Each (λ row. row_of row.serial rows ≡ Some row) rows
+each_found low high [] r = tt
+each_found low high (row ∷ rows) r =
+    (rw (eq-eqb row.serial row.serial refl) refl, found_later row rows rows (rising_above (row.serial + 1) high rows r.1) (each_found (row.serial + 1) high rows r.1))
+
+-- each row's line is what it tells
+pub each_line : (high : ℕ) (rows : List Row) → Rising 0 high rows → IsForest rows → Each (λ row. Line rows row (line_of (map transaction_of rows) (transaction_of row))) rows
+each_line high rows rising forest = each_weaker (λ row. row_of row.serial rows ≡ Some row) (λ row. Line rows row (line_of (map transaction_of rows) (transaction_of row))) (λ row here. line_whole rows forest row.serial row here) rows (each_found 0 high rows rising)
+
+-- tests that agree at each row keep the same
+filter_rows : (p : Transaction → Bool) (q : Row → Bool) (rows : List Row) → Each (λ row. p (transaction_of row) ≡ q row) rows → filter p (map transaction_of rows) ≡ map transaction_of (filter q rows)
+filter_rows p q [] e = refl
+filter_rows p q (row ∷ rows) e =
+    by_cases (filter p (map transaction_of (row ∷ rows)) ≡ map transaction_of (filter q (row ∷ rows))) (q row)
+    (λ t. rw (e.0, t) (ap (λ (ts : List Transaction). transaction_of row ∷ ts) (filter_rows p q rows e.1)))
+    (λ t. rw (e.0, t) (filter_rows p q rows e.1))
+
+-- the rows of a tree are its transactions
+pub tree_rows : (high : ℕ) (rows : List Row) (root : Transaction) → Rising 0 high rows → IsForest rows → tree_of (map transaction_of rows) root ≡ map transaction_of (rows_below root.serial rows)
+tree_rows high rows root rising forest =
+    filter_rows (λ t. eqb (root_of (map transaction_of rows) t).serial root.serial) (λ row. eqb row.root root.serial) rows
+    (each_weaker (λ row. Line rows row (line_of (map transaction_of rows) (transaction_of row))) (λ row. eqb (root_of (map transaction_of rows) (transaction_of row)).serial root.serial ≡ eqb row.root root.serial)
+    (λ row line. ap (λ (s : ℕ). eqb s root.serial) (line.top (transaction_of row))) rows (each_line high rows rising forest))
+
+pub other_rows : (high : ℕ) (rows : List Row) (root : Transaction) → Rising 0 high rows → IsForest rows → others (map transaction_of rows) root ≡ map transaction_of (rows_beside root.serial rows)
+other_rows high rows root rising forest =
+    filter_rows (λ t. not (eqb (root_of (map transaction_of rows) t).serial root.serial)) (λ row. not (eqb row.root root.serial)) rows
+    (each_weaker (λ row. Line rows row (line_of (map transaction_of rows) (transaction_of row))) (λ row. not (eqb (root_of (map transaction_of rows) (transaction_of row)).serial root.serial) ≡ not (eqb row.root root.serial))
+    (λ row line. ap (λ (s : ℕ). not (eqb s root.serial)) (line.top (transaction_of row))) rows (each_line high rows rising forest))
+
+each_filter : (P : Row → Type 0) (q : Row → Bool) (rows : List Row) → Each P rows → Each P (filter q rows)
+each_filter P q [] e = tt
+each_filter P q (row ∷ rows) e =
+    by_cases (Each P (filter q (row ∷ rows))) (q row)
+    (λ t. rw t (e.0, each_filter P q rows e.1))
+    (λ t. rw t (each_filter P q rows e.1))
+
+pub each_placed : (P : Row → Type 0) (row : Row) (rows : List Row) → P row → Each P rows → Each P (row_placed row rows)
+each_placed P row [] p e = (p, tt)
+each_placed P row (r ∷ rows) p e =
+    by_cases (Each P (row_placed row (r ∷ rows))) (is_path_before row.path r.path)
+    (λ t. rw t (p, e))
+    (λ t. rw t (e.0, each_placed P row rows p e.1))
+
+each_preorder : (P : Row → Type 0) (rows : List Row) → Each P rows → Each P (rows_in_preorder rows)
+each_preorder P [] e = tt
+each_preorder P (row ∷ rows) e = each_placed P row (rows_in_preorder rows) e.0 (each_preorder P rows e.1)
+
+-- placing a row is placing its transaction
+placed_rows : (path : Transaction → List ℕ) (row : Row) (rows : List Row) → path (transaction_of row) ≡ row.path → Each (λ r. path (transaction_of r) ≡ r.path) rows → placed path (transaction_of row) (map transaction_of rows) ≡ map transaction_of (row_placed row rows)
+placed_rows path row [] p e = refl
+placed_rows path row (r ∷ rows) p e =
+    by_cases (placed path (transaction_of row) (map transaction_of (r ∷ rows)) ≡ map transaction_of (row_placed row (r ∷ rows))) (is_path_before row.path r.path)
+    (λ t. rw (p, e.0, t) refl)
+    (λ t. rw (p, e.0, t) (ap (λ (ts : List Transaction). transaction_of r ∷ ts) (placed_rows path row rows p e.1)))
+
+preorder_rows : (path : Transaction → List ℕ) (rows : List Row) → Each (λ r. path (transaction_of r) ≡ r.path) rows → preorder path (map transaction_of rows) ≡ map transaction_of (rows_in_preorder rows)
+preorder_rows path [] e = refl
+preorder_rows path (row ∷ rows) e =
+    ap (placed path (transaction_of row)) (preorder_rows path rows e.1)
+    ∙ placed_rows path row (rows_in_preorder rows) e.0 (each_preorder (λ r. path (transaction_of r) ≡ r.path) rows e.1)
+
+members_are : (f : Transaction → Member) (rows : List Row) → Each (λ r. f (transaction_of r) ≡ member_of_row r) rows → map f (map transaction_of rows) ≡ map member_of_row rows
+members_are f [] e = refl
+members_are f (row ∷ rows) e = rw (e.0) (ap (λ (ms : List Member). member_of_row row ∷ ms) (members_are f rows e.1))
+
+-- the group of a tree is its rows in preorder
+pub group_rows : (high : ℕ) (rows : List Row) (root : Transaction) → Rising 0 high rows → IsForest rows → group_of (map transaction_of rows) root ≡ record { members = map member_of_row (rows_in_preorder (rows_below root.serial rows)) }
+group_rows high rows root rising forest =
+    let pending : List Transaction = map transaction_of rows in
+    let tree : List Row = rows_below root.serial rows in
+    let lines : Each (λ row. Line rows row (line_of pending (transaction_of row))) tree = each_filter (λ row. Line rows row (line_of pending (transaction_of row))) (λ row. eqb row.root root.serial) rows (each_line high rows rising forest) in
+    let paths : Each (λ r. path_of pending (transaction_of r) ≡ r.path) tree = each_weaker (λ row. Line rows row (line_of pending (transaction_of row))) (λ r. path_of pending (transaction_of r) ≡ r.path) (λ row line. line.path) tree lines in
+    let members : Each (λ r. member_of pending (transaction_of r) ≡ member_of_row r) (rows_in_preorder tree) =
+    each_weaker (λ row. Line rows row (line_of pending (transaction_of row))) (λ r. member_of pending (transaction_of r) ≡ member_of_row r)
+    (λ row line. ap (λ (n : ℕ). record (member_of_row row) { level = n }) line.long) (rows_in_preorder tree)
+    (each_preorder (λ row. Line rows row (line_of pending (transaction_of row))) tree lines) in
+    ap (λ (ms : List Member). record { members = ms })
+    (ap (λ (ts : List Transaction). map (member_of pending) (preorder (path_of pending) ts)) (tree_rows high rows root rising forest)
+    ∙ ap (map (member_of pending)) (preorder_rows (path_of pending) tree paths)
+    ∙ members_are (member_of pending) (rows_in_preorder tree) members)

@@ -1,0 +1,162 @@
+//! Trees that leave as groups.
+
+ghost use Rattle.std.specs.Prelude.{◌≡◌, ◌+◌, ◌<◌, length, false, true, map, [], ◌∷◌, IfOk, OnOk, OnErr, IfSome, IfNone};
+ghost use Rattle.std.specs.List.{HoldsAt, list_all};
+ghost use Rattle.txn_rows.specs.inside.Rows.{rows_below, rows_beside, rows_in_preorder, member_of_row, left_rows, LeftRows};
+
+use crate::group::{Group, Member, Members};
+use crate::raw::group_alone;
+use crate::rows::{Row, empty_row};
+use log_model::NoMemory;
+use std::alloc::Global;
+use std::mem;
+
+/// Puts rows into preorder. Where they are in it already, this is one walk.
+fn sort_rows(rows: &mut Vec<Row>) -> Result<(), NoMemory>
+    ensures { OnOk result (rows.new.items ≡ rows_in_preorder rows.old.items) }
+{
+    rows.sort_by(|a, b| a.path.as_slice().cmp(&b.path.as_slice()))?;
+    Ok(())
+}
+
+/// A row as a member of its group. A level that no `u32` holds counts as want of memory.
+fn member_of(row: Row) -> Result<Member, NoMemory>
+    ensures { IfOk result (λ member. member ≡ member_of_row row) }
+{
+    let level = level_of(row.path.as_slice().len())?;
+    let parent = match row.parent {
+        Some(link) => link.vxid,
+        None => 0,
+    };
+    Ok(Member {
+        vxid: row.vxid,
+        kind: row.kind,
+        reason: row.reason,
+        level,
+        parent,
+        records: row.records,
+    })
+}
+
+/// The level below so many others.
+fn level_of(above: usize) -> Result<u32, NoMemory>
+    ensures { IfOk result (λ level. level ≡ above + 1) }
+{
+    if above >= u32::MAX as usize {
+        return Err(NoMemory);
+    }
+    Ok(above as u32 + 1)
+}
+
+/// The group of rows that are in preorder.
+fn group_of(alloc: Global, rows: Vec<Row>) -> Result<Group, NoMemory>
+    ensures { IfOk result (λ group. group ≡ record { members = map member_of_row rows.items }) }
+{
+    let mut members = Members::new(alloc);
+    for row in rows {
+        members.push(member_of(row)?)?;
+    }
+    Ok(Group { members })
+}
+
+/// The rows of a tree, all of which have ended.
+#[derive(Drop)]
+struct Ended {
+    count: usize,
+    /// The place of the last, where there is one.
+    last: usize,
+}
+
+/// The rows of a tree, where all have ended.
+fn ended_rows(rows: &[Row], root: u64) -> Option<Ended>
+    ensures none { IfNone result (list_all (λ row. row.ended) (rows_below root rows.now) ≡ false) }
+    ensures all { IfSome result (λ ended. list_all (λ row. row.ended) (rows_below root rows.now) ≡ true) }
+    ensures count { IfSome result (λ ended. ended.count ≡ length (rows_below root rows.now)) }
+    ensures within { IfSome result (λ ended. 0 < ended.count → ended.last < length rows.now) }
+    ensures last { IfSome result (λ ended. 0 < ended.count → HoldsAt (λ row. row.root ≡ root) rows.now ended.last) }
+{
+    let mut count = 0;
+    let mut last = 0;
+    for i in 0..rows.len() {
+        if rows[i].root == root {
+            if !rows[i].ended {
+                return None;
+            }
+            count += 1;
+            last = i;
+        }
+    }
+    Some(Ended { count, last })
+}
+
+/// Takes out the one row of a tree.
+fn take_row(rows: &mut Vec<Row>, root: u64, at: usize) -> Row
+    requires alone { length (rows_below root rows.old.items) ≡ 1 }
+    requires within { at < length rows.old.items }
+    requires here { HoldsAt (λ row. row.root ≡ root) rows.old.items at }
+    ensures row { rows_below root rows.old.items ≡ result ∷ [] }
+    ensures others { rows.new.items ≡ rows_beside root rows.old.items }
+{
+    rows.remove(at)
+}
+
+/// Takes out the rows of a tree, so many. Each leaves an empty row in its place, so that the others move once.
+fn take_rows(
+    alloc: Global,
+    rows: &mut Vec<Row>,
+    root: u64,
+    count: usize,
+) -> Result<Vec<Row>, NoMemory>
+    ensures tree { IfOk result (λ tree. tree.items ≡ rows_below root rows.old.items) }
+    ensures others { OnOk result (rows.new.items ≡ rows_beside root rows.old.items) }
+{
+    let mut tree = Vec::with_capacity(alloc, count)?;
+    for i in 0..rows.len() {
+        if rows[i].root == root {
+            let gap = empty_row(alloc, root, 0, None);
+            tree.push(mem::replace(&mut rows[i], gap))?;
+        }
+    }
+    rows.retain(|row| row.root != root);
+    Ok(tree)
+}
+
+/// Takes out a tree, all of whose rows have ended, as a group.
+fn take_group(
+    alloc: Global,
+    rows: &mut Vec<Row>,
+    root: u64,
+    ended: Ended,
+) -> Result<Group, NoMemory>
+    requires count { ended.count ≡ length (rows_below root rows.old.items) }
+    requires within { 0 < ended.count → ended.last < length rows.old.items }
+    requires last { 0 < ended.count → HoldsAt (λ row. row.root ≡ root) rows.old.items ended.last }
+    ensures group { IfOk result (λ group. group ≡ record { members = map member_of_row (rows_in_preorder (rows_below root rows.old.items)) }) }
+    ensures others { OnOk result (rows.new.items ≡ rows_beside root rows.old.items) }
+{
+    if ended.count == 1 {
+        let row = take_row(rows, root, ended.last);
+        return group_alone(alloc, member_of(row)?);
+    }
+    let mut tree = take_rows(alloc, rows, root, ended.count)?;
+    sort_rows(&mut tree)?;
+    group_of(alloc, tree)
+}
+
+/// Where all rows of a tree have ended, they leave as a group.
+pub(crate) fn leave(
+    alloc: Global,
+    rows: &mut Vec<Row>,
+    root: u64,
+    out: &mut Vec<Group>,
+) -> Result<(), NoMemory>
+    ensures ok { OnOk result (LeftRows (left_rows root rows.old.items) rows.new.items out.old.items out.new.items) }
+    ensures err { OnErr result (out.new.items ≡ out.old.items) }
+{
+    let Some(ended) = ended_rows(rows, root) else {
+        return Ok(());
+    };
+    let group = take_group(alloc, rows, root, ended)?;
+    out.push(group)?;
+    Ok(())
+}

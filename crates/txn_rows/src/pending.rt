@@ -1,0 +1,170 @@
+//! What stands between two records, and how a record begins, names and links transactions.
+
+ghost use Rattle.std.specs.Prelude.{◌≡◌, ◌+◌, ◌<◌, length, map, IfOk, OnOk, OnErr};
+ghost use Rattle.txn_rows.specs.Transaction.{is_pending, with_record, with_kind};
+ghost use Rattle.txn_rows.specs.Grouping.{with_new, with_transaction, with_other, gives_parent, with_claim, ended_one, after_end, raised, with_time};
+ghost use Rattle.txn_rows.specs.inside.Rows.{transaction_of, IsNewestRow, AreTrees};
+ghost use Rattle.txn_rows.specs.inside.States.{state_of, Went, WentBy};
+
+use crate::claim::{Claim, read_claim};
+use crate::group::{Group, Grouping, Kind, Reason};
+use crate::join::link_rows;
+use crate::leave::leave;
+use crate::rows::{Row, add_record, empty_row, newest_row, time_rows};
+use log_model::NoMemory;
+use std::alloc::Global;
+use vsl_record::{Record, Vxid};
+use vsl_tags::Tag;
+
+/// The pending transactions, oldest first, and the log time.
+#[derive(Drop)]
+pub(crate) struct Pending {
+    pub(crate) rows: Vec<Row>,
+    /// How many transactions began.
+    pub(crate) begun: u64,
+    /// The log time, in units of 10^-18 seconds.
+    pub(crate) time: Option<u128>,
+}
+
+/// A transaction begins, the newest of all. Where no serial number is left, that counts as want of memory.
+fn begin(alloc: Global, pending: &mut Pending, vxid: Vxid) -> Result<(), NoMemory>
+    ensures went { AreTrees pending.old.begun pending.old.rows.items → OnOk result (Went (with_new vxid (state_of pending.old)) pending.new) }
+    ensures newest { OnOk result (IsNewestRow vxid (length pending.old.rows.items) pending.new.rows.items) }
+{
+    if pending.begun == u64::MAX {
+        return Err(NoMemory);
+    }
+    let row = empty_row(alloc, pending.begun, vxid, pending.time);
+    pending.rows.push(row)?;
+    pending.begun += 1;
+    Ok(())
+}
+
+/// The place of the newest row of a VXID that has not ended; where there is none, one begins.
+pub(crate) fn open_row(alloc: Global, pending: &mut Pending, vxid: Vxid) -> Result<usize, NoMemory>
+    ensures went { AreTrees pending.old.begun pending.old.rows.items → OnOk result (Went (with_transaction vxid (state_of pending.old)) pending.new) }
+    ensures newest { IfOk result (λ at. IsNewestRow vxid at pending.new.rows.items) }
+{
+    if let Some(at) = newest_row(&pending.rows, vxid) {
+        if !pending.rows[at].ended {
+            return Ok(at);
+        }
+    }
+    let at = pending.rows.len();
+    begin(alloc, pending, vxid)?;
+    Ok(at)
+}
+
+/// Whether a row of a VXID stands.
+fn stands(rows: &[Row], vxid: Vxid) -> bool
+    ensures { result ≡ is_pending vxid (map transaction_of rows.now) }
+{
+    match newest_row(rows, vxid) {
+        Some(_) => true,
+        None => false,
+    }
+}
+
+/// Where no row of a VXID stands, one begins.
+fn other_row(alloc: Global, pending: &mut Pending, vxid: Vxid) -> Result<(), NoMemory>
+    ensures { AreTrees pending.old.begun pending.old.rows.items → OnOk result (Went (with_other vxid (state_of pending.old)) pending.new) }
+{
+    if stands(&pending.rows, vxid) {
+        return Ok(());
+    }
+    begin(alloc, pending, vxid)
+}
+
+/// Whether a claim gives a parent.
+fn gives_parent(grouping: Grouping, claim: Claim) -> bool
+    ensures { result ≡ gives_parent grouping claim }
+{
+    if claim.vxid == 0 || claim.kind == Kind::Session {
+        return false;
+    }
+    match grouping {
+        Grouping::Raw | Grouping::Vxid => false,
+        Grouping::Request => !(claim.kind == Kind::Request && claim.reason == Reason::Rxreq),
+        Grouping::Session => true,
+    }
+}
+
+/// A Begin or a Link may link two transactions: a Begin names the parent of its transaction, a Link a child.
+pub(crate) fn take_claim(
+    alloc: Global,
+    grouping: Grouping,
+    pending: &mut Pending,
+    vxid: Vxid,
+    rec: &Record,
+) -> Result<(), NoMemory>
+    ensures { AreTrees pending.old.begun pending.old.rows.items → OnOk result (Went (with_claim grouping vxid rec.now (state_of pending.old)) pending.new) }
+{
+    let begins = rec.tag == Tag::BEGIN;
+    if !begins && rec.tag != Tag::LINK {
+        return Ok(());
+    }
+    let Some(claim) = read_claim(rec.payload.as_slice()) else {
+        return Ok(());
+    };
+    if !gives_parent(grouping, claim) {
+        return Ok(());
+    }
+    other_row(alloc, pending, claim.vxid)?;
+    if begins {
+        return link_rows(alloc, &mut pending.rows, vxid, claim.vxid);
+    }
+    link_rows(alloc, &mut pending.rows, claim.vxid, vxid)
+}
+
+/// Adds a record to the newest row of its VXID; a Begin may tell the row's kind.
+pub(crate) fn add_to(
+    alloc: Global,
+    pending: &mut Pending,
+    at: usize,
+    vxid: Vxid,
+    rec: &Record,
+) -> Result<(), NoMemory>
+    requires { IsNewestRow vxid at pending.old.rows.items }
+    ensures { AreTrees pending.old.begun pending.old.rows.items →
+        OnOk result (Went (record (state_of pending.old) { pending = with_kind vxid rec.now (with_record vxid rec.now (state_of pending.old).pending) }) pending.new) }
+{
+    add_record(alloc, &mut pending.rows[at], rec)?;
+    Ok(())
+}
+
+/// The newest row of a VXID ends, and may complete a group.
+pub(crate) fn end_row(
+    alloc: Global,
+    pending: &mut Pending,
+    at: usize,
+    vxid: Vxid,
+    out: &mut Vec<Group>,
+) -> Result<(), NoMemory>
+    requires { IsNewestRow vxid at pending.old.rows.items }
+    ensures ok { AreTrees pending.old.begun pending.old.rows.items → OnOk result (WentBy (ended_one vxid (state_of pending.old)) pending.new out.old.items out.new.items) }
+    ensures err { OnErr result (out.new.items ≡ out.old.items) }
+{
+    pending.rows[at].ended = true;
+    let root = pending.rows[at].root;
+    leave(alloc, &mut pending.rows, root, out)
+}
+
+/// The later of two times.
+fn raised(told: Option<u128>, old: Option<u128>) -> Option<u128>
+    ensures { result ≡ raised told old }
+{
+    match (told, old) {
+        (Some(time), Some(old)) => { if old < time { Some(time) } else { Some(old) } }
+        (Some(time), None) => Some(time),
+        (None, old) => old,
+    }
+}
+
+/// A time that was told may raise the log time.
+pub(crate) fn raise(pending: &mut Pending, told: Option<u128>)
+    ensures { AreTrees pending.old.begun pending.old.rows.items → Went (with_time told (state_of pending.old)) pending.new }
+{
+    let now = raised(told, pending.time);
+    time_rows(&mut pending.rows, now);
+    pending.time = now;
+}

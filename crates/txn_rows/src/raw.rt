@@ -1,0 +1,44 @@
+//! Records that are groups by themselves.
+
+ghost use Rattle.std.specs.Prelude.{◌≡◌, [], ◌∷◌, ◌++◌, IfOk, OnOk, OnErr};
+ghost use Rattle.txn_rows.specs.Grouping.{raw_group};
+
+use crate::group::{Group, Kind, Member, Members, Reason};
+use log_model::NoMemory;
+use std::alloc::Global;
+use vsl_record::{Record, Records, Vxid};
+
+/// Adds a record as a group by itself.
+pub(crate) fn take_raw(
+    alloc: Global,
+    vxid: Vxid,
+    rec: &Record,
+    out: &mut Vec<Group>,
+) -> Result<(), NoMemory>
+    ensures ok { OnOk result (out.new.items ≡ out.old.items ++ raw_group vxid rec.now ∷ []) }
+    ensures err { OnErr result (out.new.items ≡ out.old.items) }
+{
+    let copy = rec.to_owned(alloc)?;
+    let mut records = Records::new(alloc);
+    records.push(copy)?;
+    let member = Member {
+        vxid,
+        kind: Kind::Record,
+        reason: Reason::Other,
+        level: 0,
+        parent: 0,
+        records,
+    };
+    let group = group_alone(alloc, member)?;
+    out.push(group)?;
+    Ok(())
+}
+
+/// A group of one member.
+pub(crate) fn group_alone(alloc: Global, member: Member) -> Result<Group, NoMemory>
+    ensures { IfOk result (λ group. group ≡ record { members = member ∷ [] }) }
+{
+    let mut members = Members::new(alloc);
+    members.push(member)?;
+    Ok(Group { members })
+}
