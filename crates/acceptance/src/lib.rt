@@ -21,6 +21,8 @@ mod groups;
 #[cfg(test)]
 mod queries;
 #[cfg(test)]
+mod selections;
+#[cfg(test)]
 mod support;
 #[cfg(test)]
 mod tables;

@@ -241,6 +241,7 @@ fn variant_of(fault: &ToolFault) -> &'static str {
         ToolFault::Usage(UsageFault::BadValue { .. }) => "BadValue",
         ToolFault::Usage(_) => "Usage",
         ToolFault::NotBuilt => "NotBuilt",
+        ToolFault::BadPattern { .. } => "BadPattern",
         ToolFault::BadQuery { .. } => "BadQuery",
         ToolFault::NoOpen { .. } => "NoOpen",
         ToolFault::ReadFault { .. } => "ReadFault",
@@ -256,6 +257,7 @@ fn told_in(fault: &ToolFault) -> (&str, u64) {
     match fault {
         ToolFault::Usage(_) => ("", 0),
         ToolFault::NotBuilt => ("", 0),
+        ToolFault::BadPattern { word } => ("", u64::from(*word)),
         ToolFault::BadQuery { query, .. } => ("", u64::from(*query)),
         ToolFault::NoOpen { name } => (name.as_str(), 0),
         ToolFault::ReadFault { name } => (name.as_str(), 0),
@@ -374,12 +376,16 @@ pub fn record_of(alloc: Global, tag: Tag, payload: &[u8]) -> Result<Record, Fail
     Ok(Record::new(alloc, tag, Mark::Client, payload)?)
 }
 
-/// A selection that shows all.
-pub fn all_shown(alloc: Global) -> Result<Selection, Fail> {
-    let sides = Sides {
+/// No side.
+pub fn no_sides() -> Sides {
+    Sides {
         backend: false,
         client: false,
         esi: false,
-    };
-    Ok(Selection::new(alloc, sides, Vec::new(alloc), false)?)
+    }
+}
+
+/// A selection that shows all.
+pub fn all_shown(alloc: Global) -> Result<Selection, Fail> {
+    Ok(Selection::new(alloc, no_sides(), Vec::new(alloc), false)?)
 }

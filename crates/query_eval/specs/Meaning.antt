@@ -26,7 +26,7 @@ use Rattle.query_parser.specs.declared.test.Check.{Check}
 use Rattle.query_parser.specs.declared.test.Check.TheVariants.{Selected, Number, Text, Pattern}
 use Rattle.query_parser.specs.declared.test.Test.{Test}
 use Rattle.query_parser.specs.declared.query.Query.{Query}
-use Rattle.query_parser.specs.Patterns.{is_match, pattern_text, pattern_caseless}
+use Rattle.vsl_pattern.specs.Patterns.{is_match, pattern_text, pattern_caseless}
 
 -- ---- which records are selected, and what of them is asked
 

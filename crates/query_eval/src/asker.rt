@@ -9,9 +9,10 @@ ghost use Rattle.query_eval.specs.inside.Asking.{IsKept};
 use crate::eval::take_step;
 use crate::truths::Truths;
 use query_grammar::StepOver;
-use query_parser::{Matching, Query, Test};
+use query_parser::{Query, Test};
 use std::alloc::{AllocError, Global};
 use txn_rows::Group;
+use vsl_pattern::Matching;
 
 /// A step of a query, and what asks the pattern of its test, once that was made.
 #[derive(Drop)]

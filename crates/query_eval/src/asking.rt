@@ -6,9 +6,10 @@ ghost use Rattle.query_eval.specs.inside.Asking.{IsReady};
 
 use crate::check::satisfies;
 use crate::selection::{meets_level, subject};
-use query_parser::{Matching, Test};
+use query_parser::Test;
 use std::alloc::{AllocError, Global};
 use txn_rows::{Group, Member};
+use vsl_pattern::Matching;
 use vsl_record::Record;
 
 /// Whether some record of some member of the group satisfies the test. Only a test with a pattern takes memory, once a

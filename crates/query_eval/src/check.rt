@@ -5,14 +5,15 @@ ghost use Rattle.std.specs.Ordering.{int_cmp};
 ghost use Rattle.std.specs.Str.{bytes_eq};
 ghost use Rattle.vsl_decimal.specs.Decimal.{decimal_of};
 ghost use Rattle.vsl_decimal.specs.Prefix.{trimmed};
-ghost use Rattle.query_parser.specs.Patterns.{is_match, pattern_text, pattern_caseless};
+ghost use Rattle.vsl_pattern.specs.Patterns.{is_match, pattern_text, pattern_caseless};
 ghost use Rattle.query_eval.specs.Meaning.{compared, compares, folded, is_so, number_satisfies, satisfies};
 ghost use Rattle.query_eval.specs.inside.Asking.{IsMatchingOf, IsReady};
 
-use query_parser::{Check, Comparison, Matching, Pattern};
+use query_parser::{Check, Comparison};
 use std::alloc::{AllocError, Global};
 use std::cmp::Ordering;
 use vsl_decimal::{Decimal, compare, integral, read_decimal, trim};
+use vsl_pattern::{Matching, Pattern};
 
 /// Whether the text satisfies what is asked. What asks a pattern is made with its first text, and kept for the next ones.
 pub(crate) fn satisfies<'c>(

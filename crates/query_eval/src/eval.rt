@@ -9,9 +9,10 @@ ghost use Rattle.query_eval.specs.inside.Asking.{IsStepReady};
 use crate::asking::group_satisfies;
 use crate::truths::Truths;
 use query_grammar::StepOver;
-use query_parser::{Matching, Query, Test};
+use query_parser::{Query, Test};
 use std::alloc::{AllocError, Global};
 use txn_rows::Group;
+use vsl_pattern::Matching;
 
 /// Whether the query holds for the group. It takes memory for the truths of several tests, and for a pattern where a
 /// record is asked; the query that holds for every group, and one test without a pattern, take none.

@@ -1,4 +1,3 @@
-mod PatternLemmas
 mod CriterionFaults
 mod CriterionNames
 mod CriterionPieces

@@ -22,7 +22,7 @@ use Rattle.query_parser.specs.declared.token.Join.{Join}
 use Rattle.query_parser.specs.Answers.{IsAnswer}
 use Rattle.query_parser.specs.Operators.{operator_text}
 use Rattle.query_parser.specs.Parsed.{is_decimal}
-use Rattle.query_parser.specs.Patterns.{is_good_pattern}
+use Rattle.vsl_pattern.specs.Patterns.{is_good_pattern}
 use Rattle.query_parser.specs.inside.Stages.{mode_of, kept_of, join_token, spot_of, at_spot}
 use Rattle.query_parser.specs.inside.Follows.{rules, AreMeant, Follows, Takes, AreRead}
 use Rattle.query_parser.proofs.Follow.{AreBoth, closes_open, closes_none, closed_all, closed_none, no_answer, answer_bind, test_over, with_word, join_over, end_over}

@@ -22,7 +22,7 @@ use Rattle.query_parser.specs.declared.fault.QueryFault.{QueryFault}
 use Rattle.query_parser.specs.declared.test.Test.{Test}
 use Rattle.query_parser.specs.Answers.{IsAnswer}
 use Rattle.query_parser.specs.Parsed.{is_decimal, most_open, first_fault, IsTreeMeant, Means}
-use Rattle.query_parser.specs.Patterns.{is_good_pattern}
+use Rattle.vsl_pattern.specs.Patterns.{is_good_pattern}
 use Rattle.query_parser.specs.inside.Follows.{rules, IsStepMeant, AreMeant, none, more, AreRead}
 
 -- steps in two parts

@@ -1,6 +1,5 @@
 pub mod inside
 pub mod Operators
-pub mod Patterns
 pub mod Answers
 pub mod Meant
 pub mod Parsed

@@ -17,7 +17,7 @@ use Rattle.query_parser.specs.declared.test.Check.{Check}
 use Rattle.query_parser.specs.declared.test.Check.TheVariants.{Selected, Number, Text, Pattern}
 use Rattle.query_parser.specs.declared.test.Test.{Test}
 use Rattle.query_parser.specs.Operators.{operator_text}
-use Rattle.query_parser.specs.Patterns.{pattern_text, pattern_caseless}
+use Rattle.vsl_pattern.specs.Patterns.{pattern_text, pattern_caseless}
 
 -- the bound that the sign of a level means
 abbrev pub bound_of : Option LevelSign → Bound

@@ -15,7 +15,7 @@ use Rattle.query_parser.specs.declared.query.Query.{Query}
 use Rattle.query_parser.specs.declared.test.Test.{Test}
 use Rattle.query_parser.specs.Answers.{IsAnswer}
 use Rattle.query_parser.specs.Meant.{IsMeant}
-use Rattle.query_parser.specs.Patterns.{is_good_pattern}
+use Rattle.vsl_pattern.specs.Patterns.{is_good_pattern}
 
 -- a text is a decimal
 abbrev pub is_decimal : List ℕ → Bool

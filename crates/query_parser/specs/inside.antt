@@ -1,4 +1,3 @@
-pub mod Options
 pub mod Pieces
 pub mod Follows
 pub mod Stages

@@ -6,15 +6,15 @@ ghost use Rattle.query_parser.specs.Answers.{IsAnswer};
 ghost use Rattle.query_parser.specs.Meant.{IsCheck, is_integer};
 ghost use Rattle.query_parser.specs.Operators.{operator_text};
 ghost use Rattle.query_parser.specs.Parsed.{is_decimal};
-ghost use Rattle.query_parser.specs.Patterns.{is_good_pattern};
+ghost use Rattle.vsl_pattern.specs.Patterns.{is_good_pattern};
 
 use crate::fault::QueryFault;
 use crate::literal::Literal;
 use crate::operator::Operator;
-use crate::pattern::{Pattern, PatternFault};
 use crate::test::Check;
 use std::alloc::Global;
 use vsl_decimal::read_decimal;
+use vsl_pattern::{Pattern, PatternFault};
 
 /// Reads what an operator and an operand, which begins at this byte, ask.
 pub(crate) fn read_check(

@@ -2,8 +2,8 @@
 
 use crate::literal::Literal;
 use crate::operator::Comparison;
-use crate::pattern::Pattern;
 use vsl_decimal::Decimal;
+use vsl_pattern::Pattern;
 use vsl_tags::TagSet;
 
 /// How a member's level is compared.

@@ -18,7 +18,7 @@ use Rattle.query_parser.specs.declared.query.Query.{Query}
 use Rattle.query_eval.specs.Meaning.{is_held}
 use Rattle.tool_words.specs.declared.job.Job.{Job}
 use Rattle.varnish_tools.specs.declared.fault.ToolFault.TheVariants.{NoOpen, WriteFault}
-use Rattle.varnish_tools.specs.declared.layout.Layout.{Layout}
+use Rattle.varnish_tools.specs.declared.layout.Look.{Look}
 use Rattle.varnish_tools.specs.declared.outcome.Ran.{Ran}
 use Rattle.varnish_tools.specs.declared.outcome.RunRecord.TheVariants.{Nothing, Counted}
 use Rattle.varnish_tools.specs.declared.printer.PrintFault.TheVariants as print_faults
@@ -30,7 +30,7 @@ use Rattle.varnish_tools.specs.Asked.{Asked, Work, options_of, file_of, write_of
 use Rattle.varnish_tools.specs.Objects.{GivesAtMost, Object, OpenedFile, CreatedFile, source_of, sink_of, opened_of, created_of, SinkGained}
 use Rattle.varnish_tools.specs.Queries.{Ask, chosen}
 use Rattle.varnish_tools.specs.Run.{Ending, Faulted, no_run, run_of}
-use Rattle.varnish_tools.specs.Output.{head_text, laid_out, layout_of, is_flushed, sink_text}
+use Rattle.varnish_tools.specs.Output.{head_text, laid_out, look_of, is_flushed, sink_text}
 use Rattle.varnish_tools.specs.Printer.{PrinterState, due}
 use Rattle.varnish_tools.specs.Promise.{Input, IsInput, IsDue, ReadsOnce, HasFailed, HasFailedInput, WritesPrefix, whole_text, is_whole, ending_begun}
 use Rattle.varnish_tools.specs.inside.LogFile.{HasBegun, HoldsAsAsked, IsJobPrinter, SourceOpened, SinkCreated}
@@ -59,7 +59,7 @@ text_prefix job ask k p empty true units input is same whole first =
     (rw (all.0, all.1) (prefix_same (head_text job empty ++ due p input.units true)))
 text_prefix job ask k p empty false units input is same whole first =
     subst (λ (x : List ℕ). IsPrefix (head_text job empty ++ due p units false) x) (whole_is job ask k p empty input is same)
-    (prefix_after (head_text job empty) (subst (λ (us : Log). IsPrefix (due p us false) (due p input.units (is_whole input.file_ending))) (sym first) (due_first p.layout (is_held p.query) p.table.options input.units (length units) (is_whole input.file_ending))))
+    (prefix_after (head_text job empty) (subst (λ (us : Log). IsPrefix (due p us false) (due p input.units (is_whole input.file_ending))) (sym first) (due_first p.look (is_held p.query) p.table.options input.units (length units) (is_whole input.file_ending))))
 
 -- a sink that gained a part of what is due for the units that were given
 prefix_by : {IsSo : List ℕ → Type 0} (job : Job) (ask : Ask) (source sink : ℕ) (empty all : Bool) (p : PrinterState) (units : Log) (r s t : Seen) → HasBegun job source sink empty (head_text job empty) r s → IsJobPrinter job ask sink p
@@ -105,7 +105,7 @@ sink_begun job source sink empty head r s begun so = record { handle = sink; is_
 -- what an input's text begins with
 head_prefix : (job : Job) (ask : Ask) (empty : Bool) (input : Input) → input.sink_empty ≡ empty → IsPrefix (head_text job empty) (whole_text (Work job) ask input)
 head_prefix job ask empty input same = subst (λ (b : Bool). IsPrefix (head_text job b) (whole_text (Work job) ask input)) same
-    (prefix_append (head_text job input.sink_empty) (laid_out (layout_of job) (chosen ask (groups_of (options_of job) input.units (is_whole input.file_ending)))))
+    (prefix_append (head_text job input.sink_empty) (laid_out (look_of job) (chosen ask (groups_of (options_of job) input.units (is_whole input.file_ending)))))
 
 pub prefix_begun : (job : Job) (ask : Ask) (source sink : ℕ) (empty : Bool) (head : List ℕ) (r s : Seen) → IsPrefix head (head_text job empty) → HasBegun job source sink empty head r s → PrefixFor ask (Work job) r s
 prefix_begun job ask source sink empty head r s part begun = λ input is_input o one.
@@ -138,13 +138,13 @@ begun_more job source sink empty text r s t begun w =
     }
 
 -- no unit, no text
-nothing_laid : (l : Layout) (ask : Ask) (options : GroupOptions) (b : Bool) → laid_out l (chosen ask (groups_of options [] b)) ≡ []
+nothing_laid : (l : Look) (ask : Ask) (options : GroupOptions) (b : Bool) → laid_out l (chosen ask (groups_of options [] b)) ≡ []
 nothing_laid l ask options true = laid_nil l
 nothing_laid l ask options false = laid_nil l
 
 -- the text of a run that took no unit is the header
 headed : (job : Job) (ask : Ask) (empty : Bool) (ending : Ending) → sink_text (Work job) ask (run_of empty []) ending ≡ head_text job empty
-headed job ask empty ending = ap (λ (x : List ℕ). head_text job empty ++ x) (nothing_laid (layout_of job) ask (options_of job) (is_flushed ending)) ∙ append-nil (head_text job empty)
+headed job ask empty ending = ap (λ (x : List ℕ). head_text job empty ++ x) (nothing_laid (look_of job) ask (options_of job) (is_flushed ending)) ∙ append-nil (head_text job empty)
 
 -- the write of the header failed
 pub works_headless : (job : Job) (ask : Ask) (source sink : ℕ) (empty : Bool) (r s t : Seen) → HasBegun job source sink empty [] r s → WroteOn sink [] (λ text. IsProperPrefix text (head_text job empty)) s t → FaultsRose Writing sink s t

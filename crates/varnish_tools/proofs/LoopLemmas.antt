@@ -11,21 +11,25 @@ use Rattle.vio.specs.Touches.{Touches}
 use Rattle.vsl_record.specs.Unit.{LogUnit, Log}
 use Rattle.query_eval.specs.Meaning.{is_held}
 use Rattle.varnish_tools.specs.declared.layout.Layout.{Layout}
+use Rattle.varnish_tools.specs.declared.layout.Look.{Look}
 use Rattle.varnish_tools.specs.declared.layout.Layout.TheVariants.{Lines, Units}
 use Rattle.varnish_tools.specs.declared.source.SourceFault.{SourceFault}
 use Rattle.varnish_tools.specs.declared.printer.PrintFault.{PrintFault}
 use Rattle.varnish_tools.specs.declared.printer.PrintFault.TheVariants.{WriteFault, NoMemory}
 use Rattle.varnish_tools.specs.declared.run.Stopped.TheVariants.{ByPrinter}
-use Rattle.varnish_tools.specs.Output.{laid_out}
+use Rattle.varnish_tools.specs.Output.{laid_out, written}
 use Rattle.varnish_tools.specs.Printer.{PrinterState, Represents, IsSamePrinter, HasPrintCause, IsLeft, due}
 use Rattle.varnish_tools.specs.inside.Loop.{Added, AddedSome, Running, IsLeftOf, RanToEnd, RanUntil}
 use Rattle.varnish_tools.proofs.PrinterLemmas.{due_first}
 use Rattle.vio.proofs.TouchLemmas.{touches_wrote, touches_then, touches_read}
 
 -- no group, no text
-pub laid_nil : (l : Layout) → laid_out l [] ≡ []
-laid_nil Lines = refl
-laid_nil Units = refl
+pub laid_nil : (l : Look) → laid_out l [] ≡ []
+laid_nil l = none_written l.layout l.verbose
+  where
+    none_written : (layout : Layout) (verbose : Bool) → written layout verbose [] ≡ []
+    none_written Lines verbose = refl
+    none_written Units verbose = refl
 
 -- nothing was added
 pub added_none : (h : ℕ) (s : Seen) → Added h [] s s
@@ -48,9 +52,9 @@ added_more h a b s t u p names w = record {
 pub added_so : {IsSo IsToo : List ℕ → Type 0} {h : ℕ} {s t : Seen} → ((text : List ℕ) → IsSo text → IsToo text) → AddedSome IsSo h s t → AddedSome IsToo h s t
 added_so also p = record { text = p.text; is = also p.text p.is; added = p.added }
 
--- printers of one layout, query and grouping have the same text due
+-- printers of one look, query and grouping have the same text due
 same_due : (p q : PrinterState) (us : Log) (b : Bool) → IsSamePrinter p q → due q us b ≡ due p us b
-same_due p q us b same = rw (same.layout, same.query, same.options) refl
+same_due p q us b same = rw (same.look, same.query, same.options) refl
 
 -- what a printer wrote on to its text, since before that text
 added_on : (reads : List ℕ) (p q : PrinterState) (us vs : Log) (b : Bool) (IsSo : List ℕ → List ℕ → Type 0) (s t u v : Seen) → IsSamePrinter p q → s.given p.sink ≡ true → Touches reads (p.sink ∷ []) [] [] s t
@@ -86,7 +90,7 @@ running_more IsGiven IsNow reads p q r n u s t v w run given read stays same tak
       units = run.units ++ u ∷ [];
       given = stays wrote.added wrote.wrote;
       count = omega (arith, run.count, length-append run.units (u ∷ []));
-      same = record { options = same.options ∙ run.same.options; layout = same.layout ∙ run.same.layout; query = same.query ∙ run.same.query; sink = same.sink ∙ run.same.sink; name = same.name ∙ run.same.name };
+      same = record { options = same.options ∙ run.same.options; look = same.look ∙ run.same.look; query = same.query ∙ run.same.query; sink = same.sink ∙ run.same.sink; name = same.name ∙ run.same.name };
       represents = takes run.units run.represents;
       gains = subst (λ (text : List ℕ). Added p.sink text s w) gained.is.1 gained.added;
       touches = touches_printed reads p q _ _ s t v w run.same run.touches read wrote;
@@ -105,13 +109,13 @@ left_at NoMemory p us u text least left = left
 
 -- something of a text is missing only where there is one
 some_units : (p : PrinterState) (us : Log) (text : List ℕ) → IsProperPrefix text (due p us true) → 0 < length us
-some_units p [] text left = absurd (omega (arith, left.shorter, ap length (laid_nil p.layout)))
+some_units p [] text left = absurd (omega (arith, left.shorter, ap length (laid_nil p.look)))
 some_units p (u ∷ us) text left = omega arith
 
 left_at_end : (fault : PrintFault) (p : PrinterState) (us : Log) (text : List ℕ) → IsPrefix (due p us false) text → IsLeft fault (due p us true) text → IsLeftOf fault p us true text
 left_at_end (WriteFault name) p us text least left = record {
   some = some_units p us text left;
-  least = prefix_then (due_first p.layout (is_held p.query) p.table.options us (length us - 1) false) least;
+  least = prefix_then (due_first p.look (is_held p.query) p.table.options us (length us - 1) false) least;
   left = left;
 }
 left_at_end NoMemory p us text least left = left

@@ -22,7 +22,7 @@ use Rattle.query_eval.specs.Meaning.{is_held}
 use Rattle.tool_words.specs.declared.job.Job.{Job}
 use Rattle.varnish_tools.specs.declared.fault.ToolFault.{ToolFault}
 use Rattle.varnish_tools.specs.declared.fault.ToolFault.TheVariants.{ReadFault, WriteFault, NotALog, Damaged, TooLarge}
-use Rattle.varnish_tools.specs.declared.layout.Layout.{Layout}
+use Rattle.varnish_tools.specs.declared.layout.Look.{Look}
 use Rattle.varnish_tools.specs.declared.outcome.RunRecord.{RunRecord}
 use Rattle.varnish_tools.specs.declared.outcome.RunRecord.TheVariants.{Counted}
 use Rattle.varnish_tools.specs.declared.printer.PrintFault.TheVariants as print_faults
@@ -35,7 +35,7 @@ use Rattle.varnish_tools.specs.Faults.{FaultClass, BadInput, class_of}
 use Rattle.varnish_tools.specs.Objects.{IsSourceHandle, Object, source_of, sink_of, SinkGained}
 use Rattle.varnish_tools.specs.Queries.{Ask, chosen, is_asked}
 use Rattle.varnish_tools.specs.Run.{Ending, Whole, Faulted, run_of}
-use Rattle.varnish_tools.specs.Output.{head_text, laid_out, layout_of, is_flushed, sink_text}
+use Rattle.varnish_tools.specs.Output.{head_text, laid_out, look_of, is_flushed, sink_text}
 use Rattle.varnish_tools.specs.Printer.{PrinterState, due, due_text}
 use Rattle.varnish_tools.specs.Promise.{Input, SourceHolds, IsInput, RunBegan, TakesUntil, ReadsOnceUntil, IsDueUntil, IsDue, ReadsOnce, Took, WritesFor, whole_text, whole_run, input_fault, is_whole, ending_begun}
 use Rattle.varnish_tools.specs.inside.LogFile.{HasBegun, IsJobPrinter, fault_as}
@@ -113,18 +113,18 @@ given_ending job source sink empty r s units ending input begun ends is_input = 
 -- the text that is due
 
 -- the text that was due at the printer is that of the job
-due_is : (job : Job) (ask : Ask) (k : ℕ) (p : PrinterState) (units : Log) (b : Bool) → IsJobPrinter job ask k p → due p units b ≡ laid_out (layout_of job) (chosen ask (groups_of (options_of job) units b))
-due_is job ask k p units b is = ap (λ (l : Layout). due_text l p.query p.table.options units b) is.is_laid_out ∙ ap (λ (o : GroupOptions). due_text (layout_of job) p.query o units b) is.is_grouped
-    ∙ ap (λ (gs : List Group). laid_out (layout_of job) gs) (filter_agree (is_held p.query) (is_asked ask) is.asks.each (groups_of (options_of job) units b))
+due_is : (job : Job) (ask : Ask) (k : ℕ) (p : PrinterState) (units : Log) (b : Bool) → IsJobPrinter job ask k p → due p units b ≡ laid_out (look_of job) (chosen ask (groups_of (options_of job) units b))
+due_is job ask k p units b is = ap (λ (l : Look). due_text l p.query p.table.options units b) is.is_laid_out ∙ ap (λ (o : GroupOptions). due_text (look_of job) p.query o units b) is.is_grouped
+    ∙ ap (λ (gs : List Group). laid_out (look_of job) gs) (filter_agree (is_held p.query) (is_asked ask) is.asks.each (groups_of (options_of job) units b))
 
 -- the text of a run of units
 sink_is : (job : Job) (ask : Ask) (k : ℕ) (p : PrinterState) (empty : Bool) (units : Log) (ending : Ending) → IsJobPrinter job ask k p → head_text job empty ++ due p units (is_flushed ending) ≡ sink_text (Work job) ask (run_of empty units) ending
 sink_is job ask k p empty units ending is = ap (λ (x : List ℕ). head_text job empty ++ x)
-    (due_is job ask k p units (is_flushed ending) is ∙ ap (λ (us : Log). laid_out (layout_of job) (chosen ask (groups_of (options_of job) us (is_flushed ending)))) (sym (append-nil units)))
+    (due_is job ask k p units (is_flushed ending) is ∙ ap (λ (us : Log). laid_out (look_of job) (chosen ask (groups_of (options_of job) us (is_flushed ending)))) (sym (append-nil units)))
 
 pub whole_is : (job : Job) (ask : Ask) (k : ℕ) (p : PrinterState) (empty : Bool) (input : Input) → IsJobPrinter job ask k p → input.sink_empty ≡ empty → head_text job empty ++ due p input.units (is_whole input.file_ending) ≡ whole_text (Work job) ask input
 whole_is job ask k p empty input is e = ap (λ (x : List ℕ). head_text job empty ++ x) (due_is job ask k p input.units (is_whole input.file_ending) is)
-    ∙ ap (λ (b : Bool). head_text job b ++ laid_out (layout_of job) (chosen ask (groups_of (options_of job) input.units (is_whole input.file_ending)))) (sym e)
+    ∙ ap (λ (b : Bool). head_text job b ++ laid_out (look_of job) (chosen ask (groups_of (options_of job) input.units (is_whole input.file_ending)))) (sym e)
 
 -- what the sink gained since before the run
 pub sink_gained : {IsSo IsToo : List ℕ → Type 0} (job : Job) (ask : Ask) (source sink : ℕ) (empty : Bool) (p : PrinterState) (r s t : Seen) → HasBegun job source sink empty (head_text job empty) r s → IsJobPrinter job ask sink p → Touches (source ∷ []) (sink ∷ []) [] [] s t
@@ -272,7 +272,7 @@ ahead r taken units p = ahead_by r.begun taken r.rest units p.fresh p.parts p.sh
 -- the text with the last unit, flushed where the whole log was given, is a prefix of that of the run's ending
 begun_flag : (p : PrinterState) (units : Log) (all whole : Bool) (count : ℕ) → (all ≡ true → (length units ≡ count) × (whole ≡ true)) → IsPrefix (due p units all) (due p units (whole && eqb (length units) count))
 begun_flag p units true whole count given = let g = given refl in rw (g.1, g.0, eq-eqb count count refl) (prefix_same (due p units true))
-begun_flag p units false whole count given = due_flag p.layout (is_held p.query) p.table.options units (whole && eqb (length units) count)
+begun_flag p units false whole count given = due_flag p.look (is_held p.query) p.table.options units (whole && eqb (length units) count)
 
 flushed_at : (b : Bool) (fault : ToolFault) → is_flushed (cond b Whole (Faulted fault)) ≡ b
 flushed_at true fault = refl

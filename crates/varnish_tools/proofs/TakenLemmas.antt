@@ -8,7 +8,7 @@ use Rattle.vio.proofs.TouchLemmas.{touches_in, touches_then}
 use Rattle.tool_words.specs.declared.job.Job.{Job}
 use Rattle.tool_words.specs.declared.job.QueryText.{QueryText}
 use Rattle.varnish_tools.specs.declared.fault.ToolFault.{ToolFault}
-use Rattle.varnish_tools.specs.declared.fault.ToolFault.TheVariants.{Usage, NotBuilt, BadQuery, NoOpen, ReadFault, WriteFault, NotALog, Damaged, TooLarge}
+use Rattle.varnish_tools.specs.declared.fault.ToolFault.TheVariants.{Usage, NotBuilt, BadPattern, BadQuery, NoOpen, ReadFault, WriteFault, NotALog, Damaged, TooLarge}
 use Rattle.varnish_tools.specs.declared.outcome.RunRecord.{RunRecord}
 use Rattle.varnish_tools.specs.Asked.{Asked, Work}
 use Rattle.varnish_tools.specs.Faults.{FaultClass, RefusedQuery, LongQuery, NotOpened, NotRead, class_of}
@@ -33,6 +33,7 @@ stops_then : {reads writes : List ℕ} {opened created : List (List ℕ)} (casel
     → IsQueryFault caseless n query fault s u
 stops_then caseless n query (Usage why) s t u touched p = absurd p
 stops_then caseless n query NotBuilt s t u touched p = absurd p
+stops_then caseless n query (BadPattern word) s t u touched p = absurd p
 stops_then caseless n query (BadQuery number why) s t u touched p = (p.0, p.1, opened_then query s t u touched p.2, p.3)
 stops_then caseless n query (NoOpen name) s t u touched p = (p.0, p.1, omega (arith, touched.counts.each Opening name, p.2))
 stops_then caseless n query (ReadFault name) s t u touched p = (p.0, p.1, opened_then query s t u touched p.2, omega (arith, touched.counts.each Reading name, p.3))
@@ -100,6 +101,7 @@ pub stopped_class : (IsSo : FaultClass → Type 0) (job : Job) (fault : ToolFaul
     → ((name : List ℕ) → StoppedByQuery job (ReadFault name) s t → IsSo (NotRead name)) → IsSo (class_of fault)
 stopped_class IsSo job (Usage why) s t p refused long unopened unread = absurd p.stops
 stopped_class IsSo job NotBuilt s t p refused long unopened unread = absurd p.stops
+stopped_class IsSo job (BadPattern word) s t p refused long unopened unread = absurd p.stops
 stopped_class IsSo job (BadQuery number why) s t p refused long unopened unread = refused
 stopped_class IsSo job (NoOpen name) s t p refused long unopened unread = unopened name
 stopped_class IsSo job (ReadFault name) s t p refused long unopened unread = unread name p
@@ -143,6 +145,7 @@ none_faulty job input fault f s u is_input clean p has =
 pub none_stopped : (job : Job) (input : Input) (fault : ToolFault) (s u : Seen) → IsInput (Work job) s input → AreGood job input → NoFaultOf (Work job) s u → ¬ (StoppedByQuery job fault s u)
 none_stopped job input (Usage why) s u is_input clean none p = p.stops
 none_stopped job input NotBuilt s u is_input clean none p = p.stops
+none_stopped job input (BadPattern word) s u is_input clean none p = p.stops
 none_stopped job input (BadQuery number why) s u is_input clean none p = none_faulty job input (BadQuery number why) (BadQuery number why) s u is_input clean p (p.stops).3
 none_stopped job input (NoOpen name) s u is_input clean none p = let stops = p.stops in none Opening name (stopped_opening job (NoOpen name) name s u p stops.0 stops.1) stops.2
 none_stopped job input (ReadFault name) s u is_input clean none p = let stops = p.stops in none Reading name (stopped_reading job (ReadFault name) name s u p stops.0 stops.1) stops.3

@@ -25,7 +25,7 @@ use Rattle.varnish_tools.specs.Faults.{FaultClass, Refused, RefusedQuery, LongQu
 use Rattle.varnish_tools.specs.Objects.{Object, source_of, sink_of, inputs_of, sources_of, sinks_of, streams_of, query_files, name_of, calls_of, SinkGained, SinkUntouched, SinksGained, SinksUntouched, NothingTouched, GivesAtMost, TouchesJob}
 use Rattle.varnish_tools.specs.Queries.{Ask, is_asked, chosen}
 use Rattle.varnish_tools.specs.Run.{Run, Ending, Whole, Kept, Faulted, no_run, run_of, fault_of}
-use Rattle.varnish_tools.specs.Output.{head_text, laid_out, layout_of, is_flushed, sink_text}
+use Rattle.varnish_tools.specs.Output.{head_text, laid_out, look_of, is_flushed, sink_text}
 use Rattle.varnish_tools.specs.Promise.{Input, SourceHolds, IsInput, Asks, AreGood, IsStoppedByQuery, TakesQueries, IsCounted, LeavesAll, WritesFor, IsGood, HasFailed, HasFailedInput, HasClassCause, HasCause, IsRunOf, TakesUntil, Takes, TookSome, ReadsOnceUntil, ReadsOnce, IsDueUntil, IsDue, LeavesUntil, LeavesSinks, SinksLeft, WritesError, WorksOff, WritesPrefix, IsFaithful, IsComplete, IsCutShort, NoFaultOf, whole_run, whole_text, is_whole}
 use Rattle.varnish_tools.specs.inside.Report.{ReportsPart}
 use Rattle.varnish_tools.proofs.ObjectLemmas.{last_name, last_opened, IsSink, is_sink, IsSource, is_source, are_sources, untouched_until, gained_until, gained_so, took_until, error_no_sink, source_until, gives_still, gives_none}
@@ -181,16 +181,16 @@ prefix_until asked s t u streams touched told p = λ input is_input o one. elim 
 
 -- the text of a run of units without what follows it
 run_text : (job : Job) (ask : Ask) (empty : Bool) (units : Log) (ending : Ending)
-    → sink_text (Work job) ask (run_of empty units) ending ≡ head_text job empty ++ laid_out (layout_of job) (chosen ask (groups_of (options_of job) units (is_flushed ending)))
-run_text job ask empty units ending = ap (λ (us : Log). head_text job empty ++ laid_out (layout_of job) (chosen ask (groups_of (options_of job) us (is_flushed ending)))) (append-nil units)
+    → sink_text (Work job) ask (run_of empty units) ending ≡ head_text job empty ++ laid_out (look_of job) (chosen ask (groups_of (options_of job) units (is_flushed ending)))
+run_text job ask empty units ending = ap (λ (us : Log). head_text job empty ++ laid_out (look_of job) (chosen ask (groups_of (options_of job) us (is_flushed ending)))) (append-nil units)
 
 -- the text of the first units is a prefix
 first_prefix : (job : Job) (ask : Ask) (input : Input) (run : Run) (n : ℕ) (f : ToolFault) → run ≡ run_of input.sink_empty (take n input.units) → IsPrefix (sink_text (Work job) ask run (Faulted f)) (whole_text (Work job) ask input)
 first_prefix job ask input run n f e = rw (e, run_text job ask input.sink_empty (take n input.units) (Faulted f))
-    (prefix_after (head_text job input.sink_empty) (due_first (layout_of job) (is_asked ask) (options_of job) input.units n (is_whole input.file_ending)))
+    (prefix_after (head_text job input.sink_empty) (due_first (look_of job) (is_asked ask) (options_of job) input.units n (is_whole input.file_ending)))
 
 whole_prefix : (job : Job) (ask : Ask) (input : Input) (run : Run) → is_whole input.file_ending ≡ true → run ≡ whole_run input → IsPrefix (sink_text (Work job) ask run Whole) (whole_text (Work job) ask input)
-whole_prefix job ask input run whole e = rw (e, run_text job ask input.sink_empty input.units Whole, whole) (prefix_same (head_text job input.sink_empty ++ laid_out (layout_of job) (chosen ask (groups_of (options_of job) input.units true))))
+whole_prefix job ask input run whole e = rw (e, run_text job ask input.sink_empty input.units Whole, whole) (prefix_same (head_text job input.sink_empty ++ laid_out (look_of job) (chosen ask (groups_of (options_of job) input.units true))))
 
 both : (a b : Bool) → (a && b) ≡ true → (a ≡ true) × (b ≡ true)
 both true b e = (refl, e)

@@ -5,7 +5,7 @@ use Rattle.tool_words.specs.declared.fault.UsageFault.TheVariants.{UnknownTool, 
 use Rattle.query_parser.specs.declared.fault.QueryFault.{QueryFault}
 use Rattle.query_parser.specs.declared.fault.QueryFault.TheVariants.{Syntax, UnknownTag, Number, Pattern, Deep, NoMemory}
 use Rattle.varnish_tools.specs.declared.fault.ToolFault.{ToolFault}
-use Rattle.varnish_tools.specs.declared.fault.ToolFault.TheVariants.{Usage, NotBuilt, BadQuery, NoOpen, ReadFault, WriteFault, NotALog, Damaged, TooLarge}
+use Rattle.varnish_tools.specs.declared.fault.ToolFault.TheVariants.{Usage, NotBuilt, BadPattern, BadQuery, NoOpen, ReadFault, WriteFault, NotALog, Damaged, TooLarge}
 use Rattle.varnish_tools.specs.Queries.{most_query_bytes}
 
 -- the classes of faults; causes, what is taken and statuses are stated by class
@@ -29,6 +29,7 @@ pub data FaultClass : Type 0 where
 abbrev pub class_of : ToolFault → FaultClass
 class_of (Usage fault) = Refused
 class_of NotBuilt = Refused
+class_of (BadPattern word) = Refused
 class_of (BadQuery query fault) = RefusedQuery
 class_of (NoOpen name) = NotOpened name
 class_of (ReadFault name) = NotRead name
@@ -74,6 +75,7 @@ query_message NoMemory = codes "out of memory"
 abbrev pub message : List (List ℕ) → ToolFault → List ℕ
 message words (Usage fault) = usage_message words fault
 message words NotBuilt = told (codes "not built yet")
+message words (BadPattern word) = told (codes "pattern refused: " ++ word_at words word)
 message words (BadQuery query fault) = told (numbered (codes "query ") query (codes ": ") ++ query_message fault)
 message words (NoOpen name) = told (name ++ codes ": cannot open")
 message words (ReadFault name) = told (name ++ codes ": read failed")

@@ -1,22 +1,29 @@
 -- What a job writes to its sink for a run and an ending (varnishlog(1)).
-use Rattle.std.specs.Prelude.{Bool, ℕ, true, false, ◌&&◌, not, is_some, if◌then◌else◌, List, [], ◌++◌}
+use Rattle.std.specs.Prelude.{Bool, ℕ, true, false, ◌&&◌, not, is_some, if◌then◌else◌, List, [], ◌++◌, map}
 use Rattle.std.specs.List.{flat_map}
 use Rattle.vsl_file.specs.File.{file_header, log_bytes}
 use Rattle.txn_rows.specs.declared.group.Group.{Group}
 use Rattle.txn_rows.specs.Grouping.{groups_of}
 use Rattle.vsl_select.specs.Lines.{group_text}
+use Rattle.vsl_select.specs.Shown.{shown}
+use Rattle.vsl_select.specs.Showing.{Showing}
 use Rattle.vsl_select.specs.FileUnits.{file_units}
 use Rattle.tool_words.specs.declared.job.Job.{Job}
 use Rattle.varnish_tools.specs.declared.layout.Layout.{Layout}
+use Rattle.varnish_tools.specs.declared.layout.Look.{Look}
 use Rattle.varnish_tools.specs.declared.layout.Layout.TheVariants.{Lines, Units}
 use Rattle.varnish_tools.specs.Asked.{Asked, Refuse, Work, options_of}
 use Rattle.varnish_tools.specs.Queries.{Ask, chosen}
 use Rattle.varnish_tools.specs.Run.{Run, Ending, Whole, Kept, Faulted, taken_units}
 
--- what groups are written as, one after another: their lines, or the units of a log file
-abbrev pub laid_out : Layout → List Group → List ℕ
-laid_out Lines groups = flat_map (group_text false) groups
-laid_out Units groups = log_bytes (flat_map file_units groups)
+-- what groups are written as, one after another: their lines, verbose or not, or the units of a log file
+abbrev pub written : Layout → Bool → List Group → List ℕ
+written Lines verbose groups = flat_map (group_text verbose) groups
+written Units verbose groups = log_bytes (flat_map file_units groups)
+
+-- what groups look like: what of them is shown, as it is written
+abbrev pub laid_out : Look → List Group → List ℕ
+laid_out look groups = written look.layout look.verbose (map (shown look.selection) groups)
 
 -- whether a job writes a log file: varnishlog does so with -w, unless -A asks for lines
 abbrev pub writes_log : Job → Bool
@@ -25,6 +32,14 @@ writes_log job = is_some job.write && not job.text
 -- how a job writes groups
 abbrev pub layout_of : Job → Layout
 layout_of job = if writes_log job then Units else Lines
+
+-- what a job shows
+abbrev pub showing_of : Job → Showing
+showing_of job = record { sides = job.sides; rules = job.rules; caseless = job.caseless }
+
+-- what groups look like in what a job writes
+abbrev pub look_of : Job → Look
+look_of job = record { layout = layout_of job; verbose = job.verbose; selection = showing_of job }
 
 -- what a sink gains before any group: a log file that was empty begins with its header
 abbrev pub head_text : Job → Bool → List ℕ
@@ -41,4 +56,4 @@ is_flushed (Faulted fault) = false
 abbrev pub sink_text : Asked → Ask → Run → Ending → List ℕ
 sink_text (Refuse fault) ask run ending = []
 sink_text (Work job) ask run ending =
-    head_text job run.sink_empty ++ laid_out (layout_of job) (chosen ask (groups_of (options_of job) (taken_units run.history) (is_flushed ending)))
+    head_text job run.sink_empty ++ laid_out (look_of job) (chosen ask (groups_of (options_of job) (taken_units run.history) (is_flushed ending)))

@@ -14,20 +14,20 @@ use Rattle.query_eval.specs.Meaning.{is_held}
 use Rattle.varnish_tools.specs.declared.printer.PrintFault.{PrintFault}
 use Rattle.varnish_tools.specs.declared.printer.Printer.{Printer}
 use Rattle.varnish_tools.specs.declared.printer.PrintFault.TheVariants.{WriteFault, NoMemory}
-use Rattle.varnish_tools.specs.declared.layout.Layout.{Layout}
+use Rattle.varnish_tools.specs.declared.layout.Look.{Look}
 use Rattle.varnish_tools.specs.Output.{laid_out}
 
--- what a printer tells: the table of what is pending, how groups are written, the query that they are asked, and the handle of its sink and the name that faults give it
+-- what a printer tells: the table of what is pending, what groups look like, the query that they are asked, and the handle of its sink and the name that faults give it
 pub record PrinterState : Type 0 where
   pub table : TableState
-  pub layout : Layout
+  pub look : Look
   pub query : Query
   pub sink : ℕ
   pub name : List ℕ
 
 -- what a printer tells
 abbrev pub printer_state : Printer → PrinterState
-printer_state p = record { table = p.table; layout = p.style.layout; query = asker_query p.style.asker; sink = p.sink.handle; name = p.sink.name }
+printer_state p = record { table = p.table; look = p.style.look.now; query = asker_query p.style.asker; sink = p.sink.handle; name = p.sink.name }
 
 -- the printer was given these units, and no call was refused
 pub record Represents (p : PrinterState) (units : Log) : Type 0 where
@@ -39,17 +39,17 @@ abbrev pub held_groups : Query → List Group → List Group
 held_groups query groups = filter (is_held query) groups
 
 -- the text that is due for these units, where they have ended or not: that of the groups for which the query holds
-abbrev pub due_text : Layout → Query → GroupOptions → Log → Bool → List ℕ
-due_text layout query options units ended = laid_out layout (held_groups query (groups_of options units ended))
+abbrev pub due_text : Look → Query → GroupOptions → Log → Bool → List ℕ
+due_text look query options units ended = laid_out look (held_groups query (groups_of options units ended))
 
 -- the text that is due at a printer's sink for these units, where they have ended or not
 abbrev pub due : PrinterState → Log → Bool → List ℕ
-due p units ended = due_text p.layout p.query p.table.options units ended
+due p units ended = due_text p.look p.query p.table.options units ended
 
--- a call keeps options, layout, query and sink
+-- a call keeps options, look, query and sink
 pub record IsSamePrinter (old new : PrinterState) : Type 0 where
   pub options : new.table.options ≡ old.table.options
-  pub layout : new.layout ≡ old.layout
+  pub look : new.look ≡ old.look
   pub query : new.query ≡ old.query
   pub sink : new.sink ≡ old.sink
   pub name : new.name ≡ old.name

@@ -22,7 +22,7 @@ use Rattle.varnish_tools.specs.Objects.{Object, OpenedFile, CreatedFile, Stream,
 use Rattle.varnish_tools.specs.Queries.{Ask, AreAsked, chosen, TextsHold, texts_fault}
 use Rattle.varnish_tools.specs.QueryFiles.{AreTaken, StoppedByQuery}
 use Rattle.varnish_tools.specs.Run.{Run, Ending, Whole, Kept, Faulted, fault_of, no_run, run_of}
-use Rattle.varnish_tools.specs.Output.{head_text, laid_out, layout_of, sink_text}
+use Rattle.varnish_tools.specs.Output.{head_text, laid_out, look_of, sink_text}
 
 -- what the sources of a job hold, and whether its sink has no bytes when it is created
 pub record Input : Type 0 where
@@ -119,7 +119,7 @@ whole_run input = run_of input.sink_empty input.units
 abbrev pub whole_text : Asked → Ask → Input → List ℕ
 whole_text (Refuse fault) ask input = []
 whole_text (Work job) ask input =
-    head_text job input.sink_empty ++ laid_out (layout_of job) (chosen ask (groups_of (options_of job) input.units (is_whole input.file_ending)))
+    head_text job input.sink_empty ++ laid_out (look_of job) (chosen ask (groups_of (options_of job) input.units (is_whole input.file_ending)))
 
 -- the record of a run over an input: it takes so many units, from the first on, without a gap; or nothing
 abbrev pub IsRunOf : RunRecord → Input → Run → Type 0

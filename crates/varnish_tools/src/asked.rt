@@ -1,17 +1,20 @@
 //! What the words of a command line ask for.
 
-ghost use Rattle.std.specs.Prelude.{◌≡◌, map, true, IfOk, MatchResult, IfErr};
+ghost use Rattle.std.specs.Prelude.{◌≡◌, ◌≢◌, map, Some, IfOk, OnOk, MatchResult, IfErr};
 ghost use Rattle.std.specs.String.{string_bytes};
-ghost use Rattle.varnish_tools.specs.Asked.{Refuse, Work, asked_of, options_of, file_of, write_of};
+ghost use Rattle.vsl_select.specs.Shown.{rules_fault};
+ghost use Rattle.varnish_tools.specs.Asked.{Refuse, Work, asked_by_rules, asked_of, options_of, file_of, write_of};
 ghost use Rattle.varnish_tools.specs.Faults.{Refused, class_of};
-ghost use Rattle.varnish_tools.specs.Built.{is_built, is_built_tool, shows_all};
+ghost use Rattle.varnish_tools.specs.Built.{is_built, is_built_tool};
+ghost use Rattle.varnish_tools.specs.Output.{layout_of, look_of, writes_log};
 
 use crate::fault::ToolFault;
+use crate::layout::{Layout, Look};
 use std::alloc::Global;
-use tool_words::{Job, Tool, WordsFault, read_words};
+use tool_words::{Job, Tool, UsageFault, WordsFault, read_words};
 use txn_rows::GroupOptions;
 use vio::NoMemory;
-use vsl_select::{Sides, Text};
+use vsl_select::{RuleText, SelectFault, Selection, Text};
 
 /// Whether the tool is built.
 fn has_tool(tool: Tool) -> bool
@@ -25,23 +28,11 @@ fn has_tool(tool: Tool) -> bool
     }
 }
 
-/// Whether all transactions are shown.
-fn is_all(sides: Sides) -> bool
-    ensures { result ≡ shows_all sides }
-{
-    !sides.backend && !sides.client && !sides.esi
-}
-
 /// Whether a job asks for nothing that isn't built.
 fn is_built_job(job: &Job) -> bool
     ensures { result ≡ is_built job.now }
 {
-    has_tool(job.tool)
-        && job.file.is_some()
-        && job.keep.is_none()
-        && is_all(job.sides)
-        && !job.verbose
-        && job.rules.as_slice().is_empty()
+    has_tool(job.tool) && job.file.is_some() && job.keep.is_none()
 }
 
 /// How a job groups records.
@@ -75,20 +66,96 @@ pub fn written_name(job: &Job) -> &str
     }
 }
 
-/// The job that the words state, where it is built, or the fault that refuses them.
-pub fn read_job(alloc: Global, words: &[String]) -> Result<Result<Job, ToolFault>, NoMemory>
+/// Whether a job writes a log file.
+pub fn writes_log(job: &Job) -> bool
+    ensures { result ≡ writes_log job.now }
+{
+    job.write.is_some() && !job.text
+}
+
+/// How a job writes groups.
+fn layout_of(job: &Job) -> Layout
+    ensures { result ≡ layout_of job.now }
+{
+    if writes_log(job) {
+        Layout::Units
+    } else {
+        Layout::Lines
+    }
+}
+
+/// Copies of a job's rules.
+fn rules_of(alloc: Global, job: &Job) -> Result<Vec<RuleText>, NoMemory>
+    ensures { IfOk result (λ rules. rules.items ≡ job.now.rules) }
+{
+    let mut rules = Vec::new(alloc);
+    for rule in job.rules.as_slice() {
+        let copy = RuleText {
+            include: rule.include,
+            regex: rule.regex,
+            text: Text::new(alloc, rule.text.as_str())?,
+            word: rule.word,
+        };
+        if rules.push(copy).is_err() {
+            return Err(NoMemory);
+        }
+    }
+    Ok(rules)
+}
+
+/// How the fault of a rule is answered; want of memory is none.
+fn rule_fault(fault: SelectFault) -> Result<ToolFault, NoMemory>
+    ensures fault { IfOk result (λ f. (job : Job) → asked_by_rules job (Some fault) ≡ Refuse f) }
+    ensures some { OnOk result (fault ≢ SelectFault.NoMemory) }
+    ensures refused { IfOk result (λ f. class_of f ≡ Refused) }
+{
+    match fault {
+        SelectFault::BadTags { word } => Ok(ToolFault::Usage(UsageFault::BadValue { word })),
+        SelectFault::BadPattern { word } => Ok(ToolFault::BadPattern { word }),
+        SelectFault::NoMemory => Err(NoMemory),
+    }
+}
+
+/// What a job's words ask for: the job, and what groups look like in what it writes.
+#[derive(Drop)]
+pub struct Task {
+    pub job: Job,
+    pub look: Look,
+}
+
+/// The task of a job, where its rules are good and it is built, or the fault that refuses it.
+fn task_of(alloc: Global, job: Job) -> Result<Result<Task, ToolFault>, NoMemory>
     ensures asked { IfOk result (λ r. MatchResult r
-        (λ job. asked_of (map string_bytes words.now) ≡ Work job)
+        (λ task. (asked_by_rules job (rules_fault job.caseless job.rules) ≡ Work task.job) × (task.look ≡ look_of task.job))
+        (λ fault. asked_by_rules job (rules_fault job.caseless job.rules) ≡ Refuse fault)) }
+    ensures refused { IfOk result (λ r. IfErr r (λ fault. class_of fault ≡ Refused)) }
+{
+    let rules = rules_of(alloc, &job)?;
+    match Selection::new(alloc, job.sides, rules, job.caseless) {
+        Ok(selection) => {
+            if !is_built_job(&job) {
+                return Ok(Err(ToolFault::NotBuilt));
+            }
+            let look = Look {
+                layout: layout_of(&job),
+                verbose: job.verbose,
+                selection,
+            };
+            Ok(Ok(Task { job, look }))
+        }
+        Err(fault) => Ok(Err(rule_fault(fault)?)),
+    }
+}
+
+/// The task that the words state, where it is built, or the fault that refuses them.
+pub fn read_task(alloc: Global, words: &[String]) -> Result<Result<Task, ToolFault>, NoMemory>
+    ensures asked { IfOk result (λ r. MatchResult r
+        (λ task. (asked_of (map string_bytes words.now) ≡ Work task.job) × (task.look ≡ look_of task.job))
         (λ fault. asked_of (map string_bytes words.now) ≡ Refuse fault)) }
     ensures refused { IfOk result (λ r. IfErr r (λ fault. class_of fault ≡ Refused)) }
 {
     match read_words(alloc, words) {
-        Ok(job) => {
-            if !is_built_job(&job) {
-                return Ok(Err(ToolFault::NotBuilt));
-            }
-            Ok(Ok(job))
-        }
+        Ok(job) => task_of(alloc, job),
         Err(WordsFault::Usage(fault)) => Ok(Err(ToolFault::Usage(fault))),
         Err(WordsFault::NoMemory) => Err(NoMemory),
     }

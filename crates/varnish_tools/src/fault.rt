@@ -12,6 +12,11 @@ pub enum ToolFault {
     Usage(UsageFault),
     /// The words state a job that isn't built.
     NotBuilt,
+    /// The pattern of a rule of `-I` or `-X` is no good one.
+    BadPattern {
+        /// The place of the word that has it, from 0.
+        word: u32,
+    },
     /// A query's text is refused.
     BadQuery {
         /// Which query it is, in the order of the words, from 0.

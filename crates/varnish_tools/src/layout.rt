@@ -1,6 +1,7 @@
 //! How groups are written: as lines, or as the units of a log file.
 
 ghost use Rattle.std.specs.Prelude.{◌≡◌, ◌++◌, ◌∷◌, [], OnOk};
+ghost use Rattle.vsl_select.specs.Shown.{shown, shown_member};
 ghost use Rattle.vsl_file.specs.File.{log_bytes};
 ghost use Rattle.vsl_select.specs.FileUnits.{file_units, units_of};
 ghost use Rattle.query_eval.specs.Asker.{asker_query};
@@ -11,6 +12,7 @@ use query_eval::Asker;
 use txn_rows::{Group, Member};
 use vio::NoMemory;
 use vsl_file::put_records;
+use vsl_record::{Record, Vxid};
 use vsl_select::{Selection, first_unit, group_text};
 
 /// How groups are written.
@@ -22,49 +24,69 @@ pub enum Layout {
     Units,
 }
 
-/// Adds a transaction as the units of a log file.
-fn put_member_units(out: &mut Vec<u8>, member: &Member) -> Result<(), NoMemory>
-    ensures { OnOk result (out.new.items ≡ out.old.items ++ log_bytes (units_of member.now.vxid member.now.records)) }
+/// What groups look like: how they are written, and what of them is shown.
+#[derive(Debug, Drop)]
+pub struct Look {
+    pub layout: Layout,
+    /// Whether each line has the VXID and the mark of its record (varnishlog(1), `-v`).
+    pub verbose: bool,
+    pub selection: Selection,
+}
+
+/// Adds records as the units of a log file.
+fn put_units(out: &mut Vec<u8>, vxid: Vxid, records: &[Record]) -> Result<(), NoMemory>
+    ensures { OnOk result (out.new.items ≡ out.old.items ++ log_bytes (units_of vxid records.now)) }
 {
-    let mut rest = member.records.as_slice();
+    let mut rest = records;
     while !rest.is_empty() {
-        let (records, after) = rest.split_at(first_unit(rest));
-        put_records(member.vxid, records, out)?;
+        let (unit, after) = rest.split_at(first_unit(rest));
+        put_records(vxid, unit, out)?;
         rest = after;
     }
     Ok(())
 }
 
-/// Adds a group as the units of a log file.
-fn put_group_units(out: &mut Vec<u8>, group: &Group) -> Result<(), NoMemory>
-    ensures { OnOk result (out.new.items ≡ out.old.items ++ log_bytes (file_units group.now)) }
+/// Adds the shown records of a transaction as the units of a log file.
+fn put_member_units(
+    out: &mut Vec<u8>,
+    selection: &Selection,
+    member: &Member,
+) -> Result<(), NoMemory>
+    ensures { OnOk result (out.new.items ≡ out.old.items ++ log_bytes (units_of member.now.vxid (shown_member selection.now member.now).records)) }
+{
+    if selection.shows_every_record() {
+        return put_units(out, member.vxid, member.records.as_slice());
+    }
+    let records = selection.shown_records(member)?;
+    put_units(out, member.vxid, &records)
+}
+
+/// Adds what is shown of a group as the units of a log file.
+fn put_group_units(out: &mut Vec<u8>, selection: &Selection, group: &Group) -> Result<(), NoMemory>
+    ensures { OnOk result (out.new.items ≡ out.old.items ++ log_bytes (file_units (shown selection.now group.now))) }
 {
     for member in group.members.as_slice() {
-        put_member_units(out, member)?;
+        if selection.shows_member(member) {
+            put_member_units(out, selection, member)?;
+        }
     }
     Ok(())
 }
 
-/// Adds a group as the layout says.
-fn put_group(
-    out: &mut Vec<u8>,
-    layout: Layout,
-    group: &Group,
-    selection: &Selection,
-) -> Result<(), NoMemory>
-    ensures { OnOk result (out.new.items ≡ out.old.items ++ laid_out layout (group.now ∷ [])) }
+/// Adds what is shown of a group as it looks.
+fn put_group(out: &mut Vec<u8>, look: &Look, group: &Group) -> Result<(), NoMemory>
+    ensures { OnOk result (out.new.items ≡ out.old.items ++ laid_out look.now (group.now ∷ [])) }
 {
-    match layout {
-        Layout::Lines => group_text(group, selection, false, out),
-        Layout::Units => put_group_units(out, group),
+    match look.layout {
+        Layout::Lines => group_text(group, &look.selection, look.verbose, out),
+        Layout::Units => put_group_units(out, &look.selection, group),
     }
 }
 
-/// What is shown of groups, and how they are written.
+/// Which groups are written, and what they look like.
 #[derive(Drop)]
 pub(crate) struct Style<'q> {
-    pub layout: Layout,
-    pub selection: Selection,
+    pub look: &'q Look,
     /// What asks groups the query: the others are not written.
     pub asker: Asker<'q>,
 }
@@ -75,13 +97,13 @@ pub(crate) fn put_groups(
     groups: &[Group],
     style: &mut Style<'_>,
 ) -> Result<(), NoMemory>
-    ensures layout { style.new.layout ≡ style.old.layout }
+    ensures look { style.new.look ≡ style.old.look }
     ensures query { asker_query style.new.asker ≡ asker_query style.old.asker }
-    ensures ok { OnOk result (out.new.items ≡ out.old.items ++ laid_out style.old.layout (held_groups (asker_query style.old.asker) groups.now)) }
+    ensures ok { OnOk result (out.new.items ≡ out.old.items ++ laid_out style.old.look.now (held_groups (asker_query style.old.asker) groups.now)) }
 {
     for group in groups {
         if style.asker.holds(group)? {
-            put_group(out, style.layout, group, &style.selection)?;
+            put_group(out, style.look, group)?;
         }
     }
     Ok(())

@@ -1,9 +1,9 @@
 //! The tools, as one call: words in, a world of files and streams, and out comes what the tool wrote.
 //!
-//! `run_tools` reads the words, takes the queries that they give, opens the log that they name, creates what they write,
-//! reads the log in one pass, writes the text of the groups for which a query holds, all where there is none, and the
-//! message of a fault, and answers the status. Its contract is the main theorem of this project, `IsFaithful` in
-//! `specs/Promise.antt`.
+//! `run_tools` reads the words and the rules in them, takes the queries that they give, opens the log that they name,
+//! creates what they write, reads the log in one pass, writes the text of what is shown of the groups for which a query
+//! holds, all where there is none, and the message of a fault, and answers the status. Its contract is the main theorem of
+//! this project, `IsFaithful` in `specs/Promise.antt`.
 //!
 //! Start with `specs/Asked.antt`, `specs/Queries.antt`, `specs/Faults.antt` and `specs/Promise.antt`.
 //! Source: varnishlog(1); messages and statuses are this project's choice.
@@ -24,7 +24,7 @@ mod source;
 mod tools;
 
 pub use fault::ToolFault;
-pub use layout::Layout;
+pub use layout::{Layout, Look};
 pub use outcome::{Outcome, RunRecord};
 pub use printer::{PrintFault, Printer};
 pub use tools::run_tools;

@@ -5,15 +5,15 @@ ghost use Rattle.vio.specs.World.{Seen, Writing, HasStreams};
 ghost use Rattle.vio.specs.Touches.{Touches};
 ghost use Rattle.varnish_tools.specs.Asked.{Work, file_of, write_of};
 ghost use Rattle.varnish_tools.specs.Objects.{GivesAtMost, created_of, opened_of, source_of, streams_of, sink_of};
-ghost use Rattle.varnish_tools.specs.Output.{head_text, layout_of, writes_log};
+ghost use Rattle.varnish_tools.specs.Output.{head_text, look_of};
 ghost use Rattle.varnish_tools.specs.Printer.{IsSink, Represents, printer_state};
 ghost use Rattle.varnish_tools.specs.Queries.{Ask};
 ghost use Rattle.varnish_tools.specs.inside.Works.{WorksFor, PrefixFor};
 ghost use Rattle.varnish_tools.specs.inside.LogFile.{HasBegun, HoldsAsAsked, IsJobPrinter, SourceOpened, fault_as};
 
-use crate::asked::{file_name, options_of, written_name};
+use crate::asked::{file_name, options_of, writes_log, written_name};
 use crate::fault::ToolFault;
-use crate::layout::Layout;
+use crate::layout::Look;
 use crate::log_source::LogFile;
 use crate::objects::{create_sink, open_source};
 use crate::outcome::{Ran, counted, refused};
@@ -30,24 +30,6 @@ use vsl_select::Text;
 /// The most bytes of a log that are read: 2^40.
 const LOG_LIMIT: u64 = 1_099_511_627_776;
 
-/// Whether a job writes a log file.
-fn writes_log(job: &Job) -> bool
-    ensures { result ≡ writes_log job.now }
-{
-    job.write.is_some() && !job.text
-}
-
-/// How a job writes groups.
-fn layout_of(job: &Job) -> Layout
-    ensures { result ≡ layout_of job.now }
-{
-    if writes_log(job) {
-        Layout::Units
-    } else {
-        Layout::Lines
-    }
-}
-
 /// What a job writes before any group: the header of a log file that was empty.
 fn head_of(alloc: Global, job: &Job, empty: bool) -> Result<Vec<u8>, NoMemory>
     ensures { IfOk result (λ head. head.items ≡ head_text job.now empty) }
@@ -63,15 +45,17 @@ fn head_of(alloc: Global, job: &Job, empty: bool) -> Result<Vec<u8>, NoMemory>
 fn job_printer<'q>(
     alloc: Global,
     job: &Job,
+    look: &'q Look,
     query: &'q Query,
     sink: u32,
 ) -> Result<Printer<'q>, NoMemory>
+    requires look { look.now ≡ look_of job.now }
     ensures sink { IfOk result (λ p. IsSink sink (write_of job.now) (printer_state p).sink (printer_state p).name) }
     ensures none { IfOk result (λ p. Represents (printer_state p) []) }
     ensures asked { IfOk result (λ p. (ask : Ask) → HoldsAsAsked query.now ask → IsJobPrinter job.now ask sink (printer_state p)) }
 {
     let name = Text::new(alloc, written_name(job))?;
-    Printer::new(alloc, options_of(job), layout_of(job), query, sink, name)
+    Printer::new(alloc, options_of(job), look, query, sink, name)
 }
 
 /// The fault of a log of this name that stopped so; want of memory is none.
@@ -97,11 +81,13 @@ fn tool_fault(name: Text, fault: SourceFault) -> Result<ToolFault, NoMemory>
 fn print_log<W: World>(
     alloc: Global,
     job: &Job,
+    look: &Look,
     query: &Query,
     source: u32,
     sink: u32,
     world: &mut W,
 ) -> Result<Ran, NoMemory>
+    requires look { look.now ≡ look_of job.now }
     requires named { IsTrue ((W.seen world.old).names Writing sink (write_of job.now)) }
     requires given { (W.seen world.old).given sink ≡ true }
     ensures touches { Touches (source ∷ []) (sink ∷ []) [] [] (W.seen world.old) (W.seen world.new) }
@@ -109,7 +95,7 @@ fn print_log<W: World>(
     ensures works { IfOk result (λ r. (ask : Ask) (before : Seen) (empty : Bool) → HoldsAsAsked query.now ask → HasBegun job.now source sink empty (head_text job.now empty) before (W.seen world.old) → WorksFor ask (Work job.now) r.fault r.run before (W.seen world.new)) }
 {
     let name = Text::new(alloc, file_name(job))?;
-    let mut printer = job_printer(alloc, job, query, sink)?;
+    let mut printer = job_printer(alloc, job, look, query, sink)?;
     let mut log = LogFile::new(alloc, source)?;
     match print_source(world, &mut log, &mut printer) {
         Ok(units) => Ok(counted(None, units)),
@@ -130,11 +116,13 @@ fn print_log<W: World>(
 fn print_created<W: World>(
     alloc: Global,
     job: &Job,
+    look: &Look,
     query: &Query,
     source: u32,
     sink: Created,
     world: &mut W,
 ) -> Result<Ran, NoMemory>
+    requires look { look.now ≡ look_of job.now }
     requires named { IsTrue ((W.seen world.old).names Writing sink.handle (write_of job.now)) }
     requires given { (W.seen world.old).given sink.handle ≡ true }
     ensures touches { Touches (source ∷ []) (sink.handle ∷ []) [] [] (W.seen world.old) (W.seen world.new) }
@@ -144,7 +132,7 @@ fn print_created<W: World>(
     let head = head_of(alloc, job, sink.empty)?;
     let name = Text::new(alloc, written_name(job))?;
     match write_all(world, sink.handle, &head) {
-        Ok(()) => print_log(alloc, job, query, source, sink.handle, world),
+        Ok(()) => print_log(alloc, job, look, query, source, sink.handle, world),
         Err(WorldFault::Failed) => Ok(counted(Some(ToolFault::WriteFault { name }), 0)),
         Err(WorldFault::NoMemory) => Err(NoMemory),
     }
@@ -154,10 +142,12 @@ fn print_created<W: World>(
 fn print_opened<W: World>(
     alloc: Global,
     job: &Job,
+    look: &Look,
     query: &Query,
     source: u32,
     world: &mut W,
 ) -> Result<Ran, NoMemory>
+    requires look { look.now ≡ look_of job.now }
     ensures touches { Touches (source ∷ []) (streams_of (sink_of job.now ∷ [])) [] (created_of (sink_of job.now ∷ [])) (W.seen world.old) (W.seen world.new) }
     ensures handles { GivesAtMost (length (created_of (sink_of job.now ∷ []))) (W.seen world.old) (W.seen world.new) }
     ensures prefix { OnErr result ((ask : Ask) (before : Seen) → HoldsAsAsked query.now ask → HasStreams before → SourceOpened (source_of job.now) source before (W.seen world.old) → PrefixFor ask (Work job.now) before (W.seen world.new)) }
@@ -165,7 +155,7 @@ fn print_opened<W: World>(
 {
     let name = Text::new(alloc, written_name(job))?;
     match create_sink(written_name(job), job.append, world) {
-        Ok(sink) => print_created(alloc, job, query, source, sink, world),
+        Ok(sink) => print_created(alloc, job, look, query, source, sink, world),
         Err(WorldFault::Failed) => Ok(refused(ToolFault::NoOpen { name })),
         Err(WorldFault::NoMemory) => Err(NoMemory),
     }
@@ -175,9 +165,11 @@ fn print_opened<W: World>(
 pub fn run_job<W: World>(
     alloc: Global,
     job: &Job,
+    look: &Look,
     query: &Query,
     world: &mut W,
 ) -> Result<Ran, NoMemory>
+    requires look { look.now ≡ look_of job.now }
     ensures touches { Touches (streams_of (source_of job.now ∷ [])) (streams_of (sink_of job.now ∷ [])) (opened_of (source_of job.now ∷ [])) (created_of (sink_of job.now ∷ [])) (W.seen world.old) (W.seen world.new) }
     ensures handles { GivesAtMost (length (opened_of (source_of job.now ∷ []) ++ created_of (sink_of job.now ∷ []))) (W.seen world.old) (W.seen world.new) }
     ensures prefix { OnErr result ((ask : Ask) → HoldsAsAsked query.now ask → PrefixFor ask (Work job.now) (W.seen world.old) (W.seen world.new)) }
@@ -185,7 +177,7 @@ pub fn run_job<W: World>(
 {
     let name = Text::new(alloc, file_name(job))?;
     match open_source(file_name(job), world) {
-        Ok(source) => print_opened(alloc, job, query, source, world),
+        Ok(source) => print_opened(alloc, job, look, query, source, world),
         Err(WorldFault::Failed) => Ok(refused(ToolFault::NoOpen { name })),
         Err(WorldFault::NoMemory) => Err(NoMemory),
     }

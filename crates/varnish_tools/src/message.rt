@@ -115,6 +115,9 @@ pub fn message_of(alloc: Global, words: &[String], fault: &ToolFault) -> Result<
     match fault {
         ToolFault::Usage(fault) => usage_message(alloc, words, *fault),
         ToolFault::NotBuilt => tell(alloc, "not built yet", ""),
+        ToolFault::BadPattern { word } => {
+            tell(alloc, "pattern refused: ", word_named(words, *word))
+        }
         ToolFault::BadQuery { query, fault } => {
             let number = numbered(alloc, "query ", u64::from(*query), ": ")?;
             tell_both(alloc, &number, &query_message(alloc, *fault)?)
@@ -130,7 +133,7 @@ pub fn message_of(alloc: Global, words: &[String], fault: &ToolFault) -> Result<
     }
 }
 
-/// The exit status: 0 without a fault, 2 where the words or the text of a query was refused, else 1.
+/// The exit status: 0 without a fault, 2 where the words, a pattern or the text of a query was refused, else 1.
 pub fn status_of(fault: &Option<ToolFault>) -> u8
     ensures { result ≡ status_of fault.now }
 {
@@ -138,6 +141,7 @@ pub fn status_of(fault: &Option<ToolFault>) -> u8
         None => 0,
         Some(ToolFault::Usage(_)) => 2,
         Some(ToolFault::NotBuilt) => 2,
+        Some(ToolFault::BadPattern { .. }) => 2,
         Some(ToolFault::BadQuery { .. }) => 2,
         Some(_) => 1,
     }

@@ -10,14 +10,14 @@ ghost use Rattle.varnish_tools.specs.Output.{laid_out};
 ghost use Rattle.varnish_tools.specs.Printer.{held_groups, printer_state, Represents, IsSamePrinter, HasPrintCause, IsLeft, due, IsSink};
 ghost use Rattle.varnish_tools.specs.inside.Printing.{PutUnit};
 
-use crate::layout::{Layout, Style, put_groups};
+use crate::layout::{Layout, Look, Style, put_groups};
 use query_eval::Asker;
 use query_parser::Query;
 use std::alloc::Global;
 use txn_rows::{Group, GroupOptions, Grouping, Table};
 use vio::{NoMemory, World, WorldFault, write_all};
 use vsl_record::Unit;
-use vsl_select::{Selection, Sides, Text, raw_lines};
+use vsl_select::{Text, raw_lines};
 
 /// Why printing stopped.
 #[derive(Debug, Drop)]
@@ -58,9 +58,9 @@ fn put_grouped(
     style: &mut Style<'_>,
     unit: &Unit,
 ) -> Result<(), NoMemory>
-    ensures ok { OnOk result (PutUnit style.old.layout (asker_query style.old.asker) unit.now table.old table.new out.old.items out.new.items) }
+    ensures ok { OnOk result (PutUnit style.old.look.now (asker_query style.old.asker) unit.now table.old table.new out.old.items out.new.items) }
     ensures options { table.new.options ≡ table.old.options }
-    ensures layout { style.new.layout ≡ style.old.layout }
+    ensures look { style.new.look ≡ style.old.look }
     ensures query { asker_query style.new.asker ≡ asker_query style.old.asker }
 {
     groups.clear();
@@ -68,7 +68,7 @@ fn put_grouped(
     put_groups(out, groups, style)
 }
 
-/// Takes a unit, and adds the groups that it completed and for which the query holds. For raw lines without a query no group is made.
+/// Takes a unit, and adds the groups that it completed and for which the query holds. For raw lines of all records no group is made.
 fn put_unit(
     out: &mut Vec<u8>,
     table: &mut Table,
@@ -76,12 +76,13 @@ fn put_unit(
     style: &mut Style<'_>,
     unit: &Unit,
 ) -> Result<(), NoMemory>
-    ensures ok { OnOk result (PutUnit style.old.layout (asker_query style.old.asker) unit.now table.old table.new out.old.items out.new.items) }
+    ensures ok { OnOk result (PutUnit style.old.look.now (asker_query style.old.asker) unit.now table.old table.new out.old.items out.new.items) }
     ensures options { table.new.options ≡ table.old.options }
-    ensures layout { style.new.layout ≡ style.old.layout }
+    ensures look { style.new.look ≡ style.old.look }
     ensures query { asker_query style.new.asker ≡ asker_query style.old.asker }
 {
-    match (table.grouping(), style.layout, style.asker.always()) {
+    let shows_all = style.asker.always() && style.look.selection.shows_everything();
+    match (table.grouping(), style.look.layout, shows_all) {
         (Grouping::Raw, Layout::Lines, true) => raw_lines(unit, out),
         _ => put_grouped(out, table, groups, style, unit),
     }
@@ -114,10 +115,10 @@ fn print_groups<W: World>(
 ) -> Result<(), PrintFault>
     requires named { IsTrue ((W.seen world.old).names Writing sink.old.handle sink.old.name) }
     ensures same { IsSink sink.old.handle sink.old.name sink.new.handle sink.new.name }
-    ensures layout { style.new.layout ≡ style.old.layout }
+    ensures look { style.new.look ≡ style.old.look }
     ensures query { asker_query style.new.asker ≡ asker_query style.old.asker }
-    ensures ok { OnOk result (Wrote sink.old.handle (laid_out style.old.layout (held_groups (asker_query style.old.asker) groups.now)) (W.seen world.old) (W.seen world.new)) }
-    ensures refused { IfErr result (λ f. WroteOn sink.old.handle [] (IsLeft f (laid_out style.old.layout (held_groups (asker_query style.old.asker) groups.now))) (W.seen world.old) (W.seen world.new)) }
+    ensures ok { OnOk result (Wrote sink.old.handle (laid_out style.old.look.now (held_groups (asker_query style.old.asker) groups.now)) (W.seen world.old) (W.seen world.new)) }
+    ensures refused { IfErr result (λ f. WroteOn sink.old.handle [] (IsLeft f (laid_out style.old.look.now (held_groups (asker_query style.old.asker) groups.now))) (W.seen world.old) (W.seen world.new)) }
     ensures cause { IfErr result (λ f. HasPrintCause f sink.old.name (W.seen world.old) (W.seen world.new)) }
 {
     sink.text.clear();
@@ -125,28 +126,8 @@ fn print_groups<W: World>(
     print_text(world, sink)
 }
 
-/// The style of this layout and query that shows all.
-fn style_of<'q>(alloc: Global, layout: Layout, query: &'q Query) -> Result<Style<'q>, NoMemory>
-    ensures layout { IfOk result (λ style. style.layout ≡ layout) }
-    ensures query { IfOk result (λ style. asker_query style.asker ≡ query.now) }
-{
-    let sides = Sides {
-        backend: false,
-        client: false,
-        esi: false,
-    };
-    let Ok(selection) = Selection::new(alloc, sides, Vec::new(alloc), false) else {
-        return Err(NoMemory);
-    };
-    Ok(Style {
-        layout,
-        selection,
-        asker: Asker::new(alloc, query)?,
-    })
-}
-
 /// Groups units, and writes the text of each group for which the query holds when it is complete. Contracts see the table
-/// of what is pending, the layout, the query, which it borrows, and the sink; every list of units that it represents has a
+/// of what is pending, the look and the query, which it borrows, and the sink; every list of units that it represents has a
 /// text that is due.
 #[derive(Drop)]
 pub struct Printer<'q> {
@@ -161,20 +142,23 @@ impl<'q> Printer<'q> {
     pub fn new(
         alloc: Global,
         options: GroupOptions,
-        layout: Layout,
+        look: &'q Look,
         query: &'q Query,
         sink: u32,
         name: Text,
     ) -> Result<Printer<'q>, NoMemory>
         ensures options { IfOk result (λ p. (printer_state p).table.options ≡ options) }
-        ensures layout { IfOk result (λ p. (printer_state p).layout ≡ layout) }
+        ensures look { IfOk result (λ p. (printer_state p).look ≡ look.now) }
         ensures query { IfOk result (λ p. (printer_state p).query ≡ query.now) }
         ensures sink { IfOk result (λ p. IsSink sink name (printer_state p).sink (printer_state p).name) }
         ensures none { IfOk result (λ p. Represents (printer_state p) []) }
     {
         Ok(Printer {
             table: Table::new(alloc, options)?,
-            style: style_of(alloc, layout, query)?,
+            style: Style {
+                look,
+                asker: Asker::new(alloc, query)?,
+            },
             groups: Vec::new(alloc),
             sink: Sink {
                 alloc,

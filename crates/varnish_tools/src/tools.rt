@@ -10,7 +10,7 @@ ghost use Rattle.vio.specs.Touches.{Touches};
 ghost use Rattle.varnish_tools.specs.Promise.{WorksOff, WritesPrefix, WritesError, IsFaithful, IsComplete, IsCutShort};
 ghost use Rattle.varnish_tools.specs.inside.Report.{ReportsPart};
 
-use crate::asked::read_job;
+use crate::asked::read_task;
 use crate::fault::ToolFault;
 use crate::log_file::run_job;
 use crate::message::{message_of, status_of};
@@ -41,8 +41,8 @@ fn report<W: World>(
     }
 }
 
-/// Works off the words, but for the message of a fault: reads them, takes the queries of the job that they state, and
-/// runs it. No run begins where the words or a query has a fault.
+/// Works off the words, but for the message of a fault: reads them, with the rules of the job that they state, takes its
+/// queries, and runs it. No run begins where the words or a query has a fault.
 fn run_words<W: World>(alloc: Global, words: &[String], world: &mut W) -> Result<Ran, NoMemory>
     ensures touches { let asked = asked_of (map string_bytes words.now) in
         Touches (streams_of (sources_of asked)) (streams_of (sinks_of asked)) (calls_of asked Opening) (calls_of asked Creating) (W.seen world.old) (W.seen world.new) }
@@ -51,9 +51,9 @@ fn run_words<W: World>(alloc: Global, words: &[String], world: &mut W) -> Result
     ensures prefix { OnErr result (WritesPrefix (asked_of (map string_bytes words.now)) (W.seen world.old) (W.seen world.new)) }
     ensures works { IfOk result (λ r. WorksOff (asked_of (map string_bytes words.now)) r.fault r.run (W.seen world.old) (W.seen world.new)) }
 {
-    match read_job(alloc, words)? {
-        Ok(job) => match read_queries(alloc, &job, world)? {
-            Ok(query) => run_job(alloc, &job, &query, world),
+    match read_task(alloc, words)? {
+        Ok(task) => match read_queries(alloc, &task.job, world)? {
+            Ok(query) => run_job(alloc, &task.job, &task.look, &query, world),
             Err(fault) => Ok(refused(fault)),
         },
         Err(fault) => Ok(refused(fault)),
@@ -62,15 +62,15 @@ fn run_words<W: World>(alloc: Global, words: &[String], world: &mut W) -> Result
 
 /// Does what the words of a command line ask for, without the program's name.
 ///
-/// Words that state no job are refused, and so is a job that isn't built: built is varnishlog over a log, by transaction
-/// or one record by one. The queries are taken first, in the order of the words: the file of each is opened and read, and
-/// its text judged, before the next one's, and the first that has a fault ends the call. Then the log is opened, or it is
-/// standard input; then what is written is created, or it is standard output, and a log file that was empty gains its
-/// header. The log is read in pieces, in one pass, and what is written gains the groups for which a query holds, all where
-/// there is none: those that its units complete, and after the last unit of a whole log the pending ones, as lines, or with
-/// `-w` and without `-A` as the units of a log file. A fault's message goes to standard error. The status is 0 without a
-/// fault, 2 where the words or the text of a query is refused, and else 1. After `NoMemory` a prefix of the output was
-/// written.
+/// Words that state no job are refused, and so is a job of which a taglist or a pattern is, or that isn't built: built is
+/// varnishlog over a log, but for `-k`. The queries are taken first, in the order of the words: the file of each is opened
+/// and read, and its text judged, before the next one's, and the first that has a fault ends the call. Then the log is
+/// opened, or it is standard input; then what is written is created, or it is standard output, and a log file that was
+/// empty gains its header. The log is read in pieces, in one pass, and what is written gains what is shown of the groups
+/// for which a query holds, all where there is none: those that its units complete, and after the last unit of a whole log
+/// the pending ones, as lines, or with `-w` and without `-A` as the units of a log file. A fault's message goes to standard
+/// error. The status is 0 without a fault, 2 where the words, a pattern or the text of a query is refused, and else 1.
+/// After `NoMemory` a prefix of the output was written.
 ///
 /// Source: varnishlog(1); the order of the queries' faults, messages and statuses are this project's choice.
 pub fn run_tools<W: World>(

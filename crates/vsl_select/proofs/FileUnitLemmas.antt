@@ -10,8 +10,9 @@ use Rattle.vsl_record.specs.declared.mark.Mark.{Mark}
 use Rattle.vsl_record.specs.declared.mark.Mark.TheVariants.{Client, Backend, Plain}
 use Rattle.vsl_record.specs.declared.record_type.Record.{Record}
 use Rattle.vsl_record.specs.Payload.{IsPayload}
+use Rattle.txn_rows.specs.Transaction.{first_mark}
 use Rattle.vsl_record.specs.Words.{packed, record_words, unit_words}
-use Rattle.vsl_select.specs.FileUnits.{most_file_words, first_mark, file_unit, is_same_mark, goes_into, units_from, units_of}
+use Rattle.vsl_select.specs.FileUnits.{most_file_words, file_unit, is_same_mark, goes_into, units_from, units_of}
 
 -- the unit that was begun has the first n records, and so many words
 pub record IsBegun (size n : ℕ) (mark : Mark) (records : List Record) : Type 0 where

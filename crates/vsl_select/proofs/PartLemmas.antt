@@ -2,15 +2,9 @@
 use Rattle.std.proofs.Common.{ℕ, suc, ◌-◌, ◌<◌, ◌≤◌, ◌≡◌, Bool, true, false, List, [], ◌∷◌, ◌++◌, length, take, drop, get_or, replicate, ◌+◌, refl, sym, ap, ◌∙◌, append_assoc, arith}
 use Rattle.std.proofs.lemmas.List.{append-nil, take-append-drop, take_all, take-replicate, drop-replicate}
 use Rattle.std.proofs.lemmas.List.Concat.{flat_map-append}
-use Rattle.std.specs.Prelude.{not, ◌==◌, ◌||◌, nat_lt}
+use Rattle.std.specs.Prelude.{◌==◌, ◌||◌, nat_lt}
 use Rattle.std.specs.List.{list_any}
 use Rattle.vsl_select.specs.RawLine.{at_right, escaped, escaped_byte}
-use Rattle.vsl_select.specs.Lines.{is_some_of}
-
--- whether a list has an element, by its length
-pub is_some_of_length : {A : Type 0} (xs : List A) → not (length xs == 0) ≡ is_some_of xs
-is_some_of_length [] = refl
-is_some_of_length (x ∷ xs) = grind arith
 
 -- the parts of a test that is false
 or_left : (a b : Bool) → (a || b) ≡ false → a ≡ false

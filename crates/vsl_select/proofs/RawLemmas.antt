@@ -1,5 +1,5 @@
 -- Records by themselves have their raw lines.
-use Rattle.std.proofs.Common.{◌≡◌, ℕ, List, [], ◌∷◌, ◌++◌, false, refl, ap, ◌∙◌}
+use Rattle.std.proofs.Common.{◌≡◌, ℕ, List, [], ◌∷◌, ◌++◌, Bool, refl, ap, ◌∙◌}
 use Rattle.std.proofs.lemmas.List.{append-nil}
 use Rattle.std.specs.List.{flat_map}
 use Rattle.vsl_record.specs.declared.record_type.Record.{Record}
@@ -13,14 +13,14 @@ raw_step : (options : GroupOptions) → options.grouping ≡ Raw → (vxid : ℕ
 raw_step options raw vxid rec s = rw raw refl
 
 -- records by themselves leave nothing pending, and their text is their raw lines
-pub raw_steps : (options : GroupOptions) → options.grouping ≡ Raw → (vxid : ℕ) (records : List Record) (s : State)
-    → ((steps options vxid records s).state ≡ s) × (flat_map (group_text false) (reported Raw (steps options vxid records s).groups) ≡ flat_map (raw_line vxid) records)
-raw_steps options raw vxid [] s = (refl, refl)
-raw_steps options raw vxid (rec ∷ records) s =
+pub raw_steps : (verbose : Bool) (options : GroupOptions) → options.grouping ≡ Raw → (vxid : ℕ) (records : List Record) (s : State)
+    → ((steps options vxid records s).state ≡ s) × (flat_map (group_text verbose) (reported Raw (steps options vxid records s).groups) ≡ flat_map (raw_line vxid) records)
+raw_steps verbose options raw vxid [] s = (refl, refl)
+raw_steps verbose options raw vxid (rec ∷ records) s =
     let first = ap (λ (l : Leaving). then_left l (steps options vxid records)) (raw_step options raw vxid rec s) in
-    let others = raw_steps options raw vxid records s in
-    let one : group_text false (raw_group vxid rec) ≡ raw_line vxid rec = append-nil ((raw_line vxid rec) ++ []) ∙ append-nil (raw_line vxid rec) in (
+    let others = raw_steps verbose options raw vxid records s in
+    let one : group_text verbose (raw_group vxid rec) ≡ raw_line vxid rec = append-nil ((raw_line vxid rec) ++ []) ∙ append-nil (raw_line vxid rec) in (
       ap (λ (l : Leaving). l.state) first ∙ others.0,
-      ap (λ (l : Leaving). flat_map (group_text false) (reported Raw l.groups)) first ∙ ap (λ (x : List ℕ). x ++ flat_map (group_text false) (reported Raw (steps options vxid records s).groups)) one
+      ap (λ (l : Leaving). flat_map (group_text verbose) (reported Raw l.groups)) first ∙ ap (λ (x : List ℕ). x ++ flat_map (group_text verbose) (reported Raw (steps options vxid records s).groups)) one
           ∙ ap (λ (x : List ℕ). raw_line vxid rec ++ x) others.1,
     )

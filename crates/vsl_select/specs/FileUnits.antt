@@ -7,15 +7,11 @@ use Rattle.vsl_record.specs.declared.record_type.Record.{Record}
 use Rattle.vsl_record.specs.Unit.{LogUnit, Log}
 use Rattle.vsl_record.specs.Words.{unit_words}
 use Rattle.txn_rows.specs.declared.group.Group.{Group}
+use Rattle.txn_rows.specs.Transaction.{first_mark}
 
 -- the most words of a unit that records of a group are written in
 abbrev pub most_file_words : ℕ
 most_file_words = 65536
-
--- the mark of the first of some records
-abbrev pub first_mark : List Record → Mark
-first_mark [] = Plain
-first_mark (rec ∷ records) = rec.mark
 
 -- records as a unit of this VXID and of the first one's mark
 abbrev pub file_unit : ℕ → List Record → LogUnit
@@ -44,6 +40,6 @@ abbrev pub units_of : ℕ → List Record → Log
 units_of vxid [] = []
 units_of vxid (rec ∷ records) = units_from vxid (rec ∷ []) records
 
--- the units of a group: those of its members, in order; nothing is hidden yet
+-- the units of a group, or of what of it is shown: those of its members, in order
 abbrev pub file_units : Group → Log
 file_units group = flat_map (λ m. units_of m.vxid m.records) group.members

@@ -1,4 +1,6 @@
 pub mod RawLine
 pub mod Lines
+pub mod Showing
 pub mod Shown
 pub mod FileUnits
+pub mod inside

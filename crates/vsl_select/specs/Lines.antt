@@ -52,13 +52,11 @@ is_raw group = list_all (λ m. m.level == 0) group.members
 abbrev pub member_raw_lines : Member → List ℕ
 member_raw_lines m = flat_map (raw_line m.vxid) m.records
 
--- whether any of the transactions has a record
-abbrev pub is_shown : Group → Bool
-is_shown group = list_any (λ m. is_some_of m.records) group.members
+-- the text of transactions: their texts, and an empty line where any of them has a record
+abbrev pub transactions_text : Bool → List Member → List ℕ
+transactions_text verbose members = flat_map (member_text verbose) members ++ (if list_any (λ m. is_some_of m.records) members then codes "\n" else [])
 
--- the text of a group, of which nothing is hidden: of records by themselves their raw lines alone; of transactions their texts, and
--- an empty line where anything was printed; no grouping gives a member of level 0 beside others, and here it has a header
+-- the text of a group, or of what of it is shown: of records by themselves their raw lines alone, of transactions their text; no grouping gives a member of
+-- level 0 beside others, and here it has a header
 abbrev pub group_text : Bool → Group → List ℕ
-group_text verbose group =
-    if is_raw group then flat_map member_raw_lines group.members
-    else flat_map (member_text verbose) group.members ++ (if is_shown group then codes "\n" else [])
+group_text verbose group = if is_raw group then flat_map member_raw_lines group.members else transactions_text verbose group.members

@@ -3,19 +3,22 @@
 ghost use Rattle.std.specs.Prelude.{◌≡◌, ◌<◌, ◌≤◌, ◌∷◌, ℕ, length, take, drop};
 ghost use Rattle.std.specs.List.{All};
 ghost use Rattle.vsl_record.specs.Words.{unit_words};
-ghost use Rattle.vsl_select.specs.FileUnits.{most_file_words, first_mark, file_unit, units_of};
+ghost use Rattle.txn_rows.specs.Transaction.{first_mark};
+ghost use Rattle.vsl_select.specs.FileUnits.{most_file_words, file_unit, units_of};
 
 use vsl_record::{Mark, Record};
 
 /// The most words of a unit. This project's choice.
 const MOST_WORDS: usize = 65536;
 
-/// The mark of the first record.
-pub fn first_mark(records: &[Record]) -> Mark
-    requires { 0 < length records.now }
+/// The mark of the first record, or none.
+pub(crate) fn first_mark(records: &[Record]) -> Mark
     ensures { result ≡ first_mark records.now }
 {
-    records[0].mark
+    match records.first() {
+        Some(rec) => rec.mark,
+        None => Mark::Plain,
+    }
 }
 
 /// How many of a transaction's records the first unit has: it ends where the mark changes, and before the

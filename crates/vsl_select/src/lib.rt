@@ -1,9 +1,9 @@
 //! What of a group is shown, and its text.
 //!
-//! Groups go in; the lines that the tools print come out, at the end of a list of bytes. For now nothing is
-//! hidden, whatever the selection. For a log file, `first_unit` tells where the units of a group end.
+//! Groups go in; the lines that the tools print come out, at the end of a list of bytes. A `Selection` says which
+//! transactions and records are shown. For a log file, `first_unit` tells where the units of records end.
 //!
-//! Start with `specs/Lines.antt` and `specs/FileUnits.antt`. Source: varnishlog(1).
+//! Start with `specs/Shown.antt`, `specs/Lines.antt` and `specs/FileUnits.antt`. Source: varnishlog(1).
 #![tactic(auto)]
 
 mod file_units;
@@ -11,12 +11,15 @@ mod level_field;
 mod lines;
 mod parts;
 mod raw;
+mod rule;
+mod rule_text;
 mod selection;
 mod text;
 mod vxid_columns;
 
-pub use file_units::{first_mark, first_unit};
+pub use file_units::first_unit;
 pub use lines::group_text;
 pub use raw::{raw_line, raw_lines};
-pub use selection::{RuleText, SelectFault, Selection, Sides};
+pub use rule_text::{RuleText, SelectFault, Sides};
+pub use selection::Selection;
 pub use text::{Listed, Text};

@@ -1,28 +1,50 @@
 //! The text of groups.
 
 ghost use Rattle.std.specs.Prelude.{◌≡◌, ◌==◌, ◌++◌, [], if◌then◌else◌, codes, decimal, OnOk, OnErr};
-ghost use Rattle.std.specs.List.{flat_map, list_all, list_any};
+ghost use Rattle.std.specs.List.{flat_map, list_all};
 ghost use Rattle.vsl_select.specs.RawLine.{at_left, raw_line};
 ghost use Rattle.log_model.specs.Prefix.{IsPrefix};
-ghost use Rattle.vsl_select.specs.Lines.{header, record_text, record_line, is_some_of, member_text, member_raw_lines, is_shown, group_text};
+ghost use Rattle.vsl_select.specs.Lines.{header, record_text, record_line, member_text, member_raw_lines, transactions_text, group_text};
+ghost use Rattle.vsl_select.specs.Shown.{shown, shown_member, shown_members};
 
 use crate::level_field::LevelField;
 use crate::parts::{put_byte, put_text, put_vxid_left, title_of};
-use crate::raw::{put_payload, put_raw_line, put_raw_lines, put_tag};
+use crate::raw::{put_payload, put_raw_line, put_tag};
 use crate::selection::Selection;
 use crate::vxid_columns::VxidColumns;
 use log_model::NoMemory;
 use txn_rows::{Group, Member};
 use vsl_record::{Record, Vxid};
 
-/// Adds the raw lines of a group of records by themselves.
+/// Adds the raw lines of the shown records of a member.
 #[tactic(auto, using(crate::proofs::AddedLemmas::adding))]
-fn put_raw_members(out: &mut Vec<u8>, members: &[Member]) -> Result<(), NoMemory>
-    ensures ok { OnOk result (out.new.items ≡ out.old.items ++ flat_map member_raw_lines members.now) }
+fn put_raw_member(out: &mut Vec<u8>, selection: &Selection, member: &Member) -> Result<(), NoMemory>
+    ensures ok { OnOk result (out.new.items ≡ out.old.items ++ member_raw_lines (shown_member selection.now member.now)) }
+    ensures keeps { IsPrefix out.old.items out.new.items }
+{
+    let columns = VxidColumns::new(member.vxid);
+    for rec in member.records.as_slice() {
+        if selection.shows(rec)? {
+            put_raw_line(out, &columns, rec)?;
+        }
+    }
+    Ok(())
+}
+
+/// Adds the raw lines of what is shown of a group of records by themselves.
+#[tactic(auto, using(crate::proofs::AddedLemmas::adding))]
+fn put_raw_members(
+    out: &mut Vec<u8>,
+    selection: &Selection,
+    members: &[Member],
+) -> Result<(), NoMemory>
+    ensures ok { OnOk result (out.new.items ≡ out.old.items ++ flat_map member_raw_lines (shown_members selection.now members.now)) }
     ensures keeps { IsPrefix out.old.items out.new.items }
 {
     for member in members {
-        put_raw_lines(out, member.vxid, member.records.as_slice())?;
+        if selection.shows_member(member) {
+            put_raw_member(out, selection, member)?;
+        }
     }
     Ok(())
 }
@@ -82,96 +104,118 @@ fn put_record(
     }
 }
 
-/// Adds the lines of a transaction's records.
+/// Adds the lines of the shown records of a transaction.
 #[tactic(auto, using(crate::proofs::AddedLemmas::adding))]
-fn put_records(out: &mut Vec<u8>, verbose: bool, member: &Member) -> Result<(), NoMemory>
-    ensures ok { OnOk result (out.new.items ≡ out.old.items ++ flat_map (record_line verbose member.now) member.now.records) }
+fn put_records(
+    out: &mut Vec<u8>,
+    verbose: bool,
+    selection: &Selection,
+    member: &Member,
+) -> Result<(), NoMemory>
+    ensures ok { OnOk result (out.new.items ≡ out.old.items ++ flat_map (record_line verbose member.now) (shown_member selection.now member.now).records) }
     ensures keeps { IsPrefix out.old.items out.new.items }
 {
     let level = LevelField::new(b'-', member.level);
     let vxid = VxidColumns::new(member.vxid);
     for rec in member.records.as_slice() {
-        put_record(out, verbose, &level, &vxid, rec)?;
+        if selection.shows(rec)? {
+            put_record(out, verbose, &level, &vxid, rec)?;
+        }
     }
     Ok(())
 }
 
-/// Whether a transaction has any record.
-#[tactic(auto, using(crate::proofs::PartLemmas::is_some_of_length))]
-fn has_records(member: &Member) -> bool
-    ensures { result ≡ is_some_of member.now.records }
-{
-    !member.records.as_slice().is_empty()
-}
-
-/// Adds a transaction's header and its records, if it has any.
+/// Adds a transaction's header and its shown records, if it has any: the header of one without is cut off again.
 #[tactic(auto, using(crate::proofs::AddedLemmas::adding))]
-fn put_member(out: &mut Vec<u8>, verbose: bool, member: &Member) -> Result<(), NoMemory>
-    ensures ok { OnOk result (out.new.items ≡ out.old.items ++ member_text verbose member.now) }
+fn put_member(
+    out: &mut Vec<u8>,
+    verbose: bool,
+    selection: &Selection,
+    member: &Member,
+) -> Result<(), NoMemory>
+    ensures ok { OnOk result (out.new.items ≡ out.old.items ++ member_text verbose (shown_member selection.now member.now)) }
     ensures keeps { IsPrefix out.old.items out.new.items }
 {
-    if has_records(member) {
-        put_header(out, member)?;
-        put_records(out, verbose, member)?;
+    let before = out.len();
+    put_header(out, member)?;
+    let behind = out.len();
+    put_records(out, verbose, selection, member)?;
+    if out.len() == behind {
+        out.truncate(before);
     }
     Ok(())
 }
 
-/// Adds the texts of transactions, in order.
+/// Adds the texts of what is shown of transactions, in order.
 #[tactic(auto, using(crate::proofs::AddedLemmas::adding))]
-fn put_members(out: &mut Vec<u8>, verbose: bool, members: &[Member]) -> Result<(), NoMemory>
-    ensures ok { OnOk result (out.new.items ≡ out.old.items ++ flat_map (member_text verbose) members.now) }
+fn put_members(
+    out: &mut Vec<u8>,
+    verbose: bool,
+    selection: &Selection,
+    members: &[Member],
+) -> Result<(), NoMemory>
+    ensures ok { OnOk result (out.new.items ≡ out.old.items ++ flat_map (member_text verbose) (shown_members selection.now members.now)) }
     ensures keeps { IsPrefix out.old.items out.new.items }
 {
     for member in members {
-        put_member(out, verbose, member)?;
+        if selection.shows_member(member) {
+            put_member(out, verbose, selection, member)?;
+        }
     }
     Ok(())
 }
 
-/// Whether these are records by themselves.
-fn are_raw(members: &[Member]) -> bool
-    ensures { result ≡ list_all (λ m. m.level == 0) members.now }
+/// Whether what is shown of these are records by themselves.
+fn are_raw(selection: &Selection, members: &[Member]) -> bool
+    ensures { result ≡ list_all (λ m. m.level == 0) (shown_members selection.now members.now) }
 {
-    members.iter().all(|m| m.level == 0)
+    members
+        .iter()
+        .all(|m| m.level == 0 || !selection.shows_member(m))
 }
 
-/// Whether any of these transactions has a record.
-fn have_records(members: &[Member]) -> bool
-    ensures { result ≡ list_any (λ m. is_some_of m.records) members.now }
-{
-    members.iter().any(|m| has_records(m))
-}
-
-/// Adds the empty line after a group, if anything of it was printed.
+/// Adds the texts of what is shown of transactions, and an empty line if anything was printed.
 #[tactic(auto, using(crate::proofs::AddedLemmas::adding))]
-fn put_group_end(out: &mut Vec<u8>, group: &Group) -> Result<(), NoMemory>
-    ensures ok { OnOk result (out.new.items ≡ out.old.items ++ (if is_shown group.now then codes "\n" else [])) }
+fn put_transactions(
+    out: &mut Vec<u8>,
+    verbose: bool,
+    selection: &Selection,
+    members: &[Member],
+) -> Result<(), NoMemory>
+    ensures ok { OnOk result (out.new.items ≡ out.old.items ++ transactions_text verbose (shown_members selection.now members.now)) }
     ensures keeps { IsPrefix out.old.items out.new.items }
 {
-    if have_records(group.members.as_slice()) {
+    let before = out.len();
+    put_members(out, verbose, selection, members)?;
+    if out.len() > before {
         put_byte(out, b'\n')?;
     }
     Ok(())
 }
 
-/// Adds the text of a group, or a part of it.
+/// Adds the text of what is shown of a group, or a part of it.
 #[tactic(auto, using(crate::proofs::AddedLemmas::adding))]
-fn put_group(out: &mut Vec<u8>, verbose: bool, group: &Group) -> Result<(), NoMemory>
-    ensures ok { OnOk result (out.new.items ≡ out.old.items ++ group_text verbose group.now) }
+fn put_group(
+    out: &mut Vec<u8>,
+    verbose: bool,
+    selection: &Selection,
+    group: &Group,
+) -> Result<(), NoMemory>
+    ensures ok { OnOk result (out.new.items ≡ out.old.items ++ group_text verbose (shown selection.now group.now)) }
     ensures keeps { IsPrefix out.old.items out.new.items }
 {
-    if are_raw(group.members.as_slice()) {
-        put_raw_members(out, group.members.as_slice())?;
+    let members = group.members.as_slice();
+    if are_raw(selection, members) {
+        put_raw_members(out, selection, members)
     } else {
-        put_members(out, verbose, group.members.as_slice())?;
-        put_group_end(out, group)?;
+        put_transactions(out, verbose, selection, members)
     }
-    Ok(())
 }
 
-/// Adds the text of a group. Nothing is hidden, whatever the selection. After want of memory the list is as it
-/// was.
+/// Adds the text of what a selection shows of a group; verbose, with the VXID and the mark of each record. Where nothing
+/// is shown, nothing is added. After want of memory the list is as it was.
+///
+/// Source: varnishlog(1), `-v`.
 #[tactic(auto, using(crate::proofs::AddedLemmas::cut_back))]
 pub fn group_text(
     group: &Group,
@@ -179,11 +223,11 @@ pub fn group_text(
     verbose: bool,
     out: &mut Vec<u8>,
 ) -> Result<(), NoMemory>
-    ensures ok { OnOk result (out.new.items ≡ out.old.items ++ group_text verbose group.now) }
+    ensures ok { OnOk result (out.new.items ≡ out.old.items ++ group_text verbose (shown selection.now group.now)) }
     ensures err { OnErr result (out.new.items ≡ out.old.items) }
 {
     let length = out.len();
-    let added = put_group(out, verbose, group);
+    let added = put_group(out, verbose, selection, group);
     if added.is_err() {
         out.truncate(length);
     }

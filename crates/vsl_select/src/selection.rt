@@ -1,77 +1,228 @@
 //! What is shown.
 
-ghost use Rattle.std.specs.Prelude.{◌≡◌, length, false, IfOk, IsOk};
-ghost use Rattle.vsl_select.specs.Shown.{is_shown_member, is_shown_record};
+ghost use Rattle.std.specs.Prelude.{◌≡◌, ◌≢◌, ◌==◌, ◌&&◌, ◌||◌, not, true, false, List, Some, map, reverse, length, unwrap_or, IfOk, OnOk, IfErr, IsOk};
+ghost use Rattle.std.specs.List.{All, filter, list_any};
+ghost use Rattle.txn_rows.specs.declared.group.Group.{Group};
+ghost use Rattle.vsl_select.specs.Showing.{Showing};
+ghost use Rattle.vsl_select.specs.Shown.{first_says, has_sides, is_esi, is_matched, is_shown_member, is_shown_record, names_tag, rules_fault, shown, shows_client, shows_everything, shows_kind, shows_mark, shows_others};
+ghost use Rattle.vsl_select.specs.inside.Reading.{IsRead};
 
-use crate::text::Text;
+use crate::file_units::first_mark;
+use crate::rule::Rule;
+use crate::rule_text::{RuleText, SelectFault, Sides};
 use log_model::NoMemory;
 use std::alloc::Global;
-use thiserror::Error;
-use txn_rows::Member;
-use vsl_record::Record;
+use std::marker::Model;
+use txn_rows::{Kind, Member, Reason};
+use vsl_record::{Mark, Record};
+use vsl_tags::Tag;
 
-/// Whose transactions are shown (varnishlog(1), `-b`, `-c`, `-E`).
-#[derive(Clone, Copy, Debug, PartialEq, Eq)]
-pub struct Sides {
-    pub backend: bool,
-    pub client: bool,
-    pub esi: bool,
-}
-
-/// A rule of `-i`, `-x`, `-I` or `-X` as it was given.
-#[derive(Debug, Drop)]
-pub struct RuleText {
-    pub include: bool,
-    pub regex: bool,
-    pub text: Text,
-    /// The place of the word that has the text.
-    pub word: u32,
-}
-
-/// Why a selection is refused.
-#[derive(Clone, Copy, Debug, PartialEq, Eq, Error)]
-pub enum SelectFault {
-    /// There was no memory for the rules.
-    #[error("out of memory")]
-    NoMemory,
-}
-
-/// Which transactions and records are shown; for now all.
+/// Which transactions and records are shown. Contracts see the sides and the rules that it was made of.
 #[derive(Debug, Drop)]
 pub struct Selection {
+    alloc: Global,
     sides: Sides,
+    caseless: bool,
+    rules: Vec<Rule>,
+    ghost read: { ∥ All (IsRead caseless) rules.items ∥₁ },
+}
+
+impl Model for Selection {
+    ghost use Rattle.std.specs.Prelude.{map};
+    ghost use Rattle.vsl_select.specs.Showing.{Showing};
+
+    ghost Value = { Showing };
+
+    ghost view = { λ s. record { sides = s.sides; rules = map (λ r. r.text) s.rules.items; caseless = s.caseless } };
+}
+
+/// Whether what is a client's is shown.
+fn shows_client(sides: Sides) -> bool
+    ensures { result ≡ shows_client sides }
+{
+    sides.client || sides.esi
+}
+
+/// Whether a record by itself of this mark is shown with `-b`, `-c` or `-E`.
+fn shows_mark(sides: Sides, mark: Mark) -> bool
+    ensures { result ≡ shows_mark sides mark }
+{
+    match mark {
+        Mark::Client => shows_client(sides),
+        Mark::Backend => sides.backend,
+        Mark::Plain => false,
+    }
+}
+
+/// Whether a request that began for this reason is shown with `-b`, `-c` or `-E`.
+fn shows_request(sides: Sides, reason: Reason) -> bool
+    ensures { result ≡ (shows_client sides && (sides.esi || not (is_esi reason))) }
+{
+    match reason {
+        Reason::Esi => sides.esi,
+        Reason::Rxreq => shows_client(sides),
+        Reason::Other => shows_client(sides),
+    }
+}
+
+/// Reads rules in their order, up to the first that is refused.
+fn read_rules(alloc: Global, rules: Vec<RuleText>, caseless: bool) -> Result<Vec<Rule>, SelectFault>
+    ensures read { IfOk result (λ read. All (IsRead caseless) read.items) }
+    ensures texts { IfOk result (λ read. map (λ r. r.text) read.items ≡ rules.items) }
+    ensures good { OnOk result (rules_fault caseless rules.items ≡ None) }
+    ensures refused { IfErr result (λ fault. fault ≢ SelectFault.NoMemory → rules_fault caseless rules.items ≡ Some fault) }
+{
+    let mut read = Vec::new(alloc);
+    for text in rules {
+        let rule = Rule::new(alloc, text, caseless)?;
+        if read.push(rule).is_err() {
+            return Err(SelectFault::NoMemory);
+        }
+    }
+    Ok(read)
+}
+
+/// Whether the first of `-I` and `-X` includes.
+fn first_pattern_includes(rules: &[Rule]) -> bool
+    ensures { result ≡ unwrap_or (first_says (λ r. r.regex) (map (λ r. r.text) rules.now)) false }
+{
+    match rules.iter().find(|rule| rule.text.regex) {
+        Some(rule) => rule.text.include,
+        None => false,
+    }
+}
+
+/// Whether the first of `-i` and `-x` includes.
+fn first_list_includes(rules: &[Rule]) -> bool
+    ensures { result ≡ unwrap_or (first_says (λ r. not r.regex) (map (λ r. r.text) rules.now)) false }
+{
+    match rules.iter().find(|rule| !rule.text.regex) {
+        Some(rule) => rule.text.include,
+        None => false,
+    }
 }
 
 impl Selection {
-    /// What these sides and rules show. For now no rule and no side is taken, so all is shown.
+    /// What these sides and rules show. The rules are read in order, and the first that is refused is the answer: for its taglist,
+    /// or else for its pattern. Where no side is set, all transactions are shown, and where there is no rule, all records.
+    ///
+    /// Source: varnishlog(1), `-b`, `-c`, `-E`, `-i`, `-x`, `-I`, `-X` and `-C`.
     pub fn new(
         alloc: Global,
         sides: Sides,
         rules: Vec<RuleText>,
         caseless: bool,
     ) -> Result<Selection, SelectFault>
-        requires rules { length rules.items ≡ 0 }
-        requires backend { sides.backend ≡ false }
-        requires client { sides.client ≡ false }
-        requires esi { sides.esi ≡ false }
-        ensures taken { IsOk result }
-        ensures sides { IfOk result (λ s. s.sides ≡ sides) }
+        ensures made { IfOk result (λ s. s ≡ record { sides = sides; rules = rules.items; caseless = caseless }) }
+        ensures good { OnOk result (rules_fault caseless rules.items ≡ None) }
+        ensures refused { IfErr result (λ fault. fault ≢ SelectFault.NoMemory → rules_fault caseless rules.items ≡ Some fault) }
     {
-        Ok(Selection { sides })
+        let rules = read_rules(alloc, rules, caseless)?;
+        Ok(Selection {
+            alloc,
+            sides,
+            caseless,
+            rules,
+        })
+    }
+
+    /// Whether nothing is hidden.
+    pub fn shows_everything(&self) -> bool
+        ensures told { result ≡ shows_everything self.now }
+        ensures all { result ≡ true → (group : Group) → shown self.now group ≡ group }
+    {
+        !self.has_sides() && self.rules.is_empty()
+    }
+
+    /// Whether every record of a shown transaction is shown.
+    pub fn shows_every_record(&self) -> bool
+        ensures told { result ≡ (length self.now.rules == 0) }
+        ensures all { result ≡ true → (records : List Record) → filter (is_shown_record self.now) records ≡ records }
+    {
+        self.rules.is_empty()
+    }
+
+    /// Whether some transactions are hidden.
+    fn has_sides(&self) -> bool
+        ensures { result ≡ has_sides self.now.sides }
+    {
+        self.sides.backend || self.sides.client || self.sides.esi
     }
 
     /// Whether the transaction is shown.
     pub fn shows_member(&self, member: &Member) -> bool
-        ensures { result ≡ is_shown_member member.now }
+        ensures { result ≡ is_shown_member self.now.sides member.now }
     {
-        true
+        if !self.has_sides() {
+            return true;
+        }
+        match member.kind {
+            Kind::Request => shows_request(self.sides, member.reason),
+            Kind::BeReq => self.sides.backend,
+            Kind::Record => shows_mark(self.sides, first_mark(member.records.as_slice())),
+            Kind::Session => false,
+            Kind::Unknown => false,
+        }
     }
 
-    /// Whether the record is shown, in a transaction that is.
-    pub fn shows(&self, rec: &Record) -> Result<bool, NoMemory>
-        ensures shown { IfOk result (λ b. b ≡ is_shown_record rec.now) }
-        ensures answered { IsOk result }
+    /// What the first of `-I` and `-X` that matches the record says.
+    fn first_match(&self, rec: &Record) -> Result<Option<bool>, NoMemory>
+        ensures said { IfOk result (λ said. said ≡ first_says (λ r. r.regex && is_matched self.now.caseless rec.now r) self.now.rules) }
+        ensures answered { list_any (λ r. r.regex) self.now.rules ≡ false → IsOk result }
     {
-        Ok(true)
+        for rule in &self.rules {
+            if rule.text.regex && rule.fits(self.alloc, rec)? {
+                return Ok(Some(rule.text.include));
+            }
+        }
+        Ok(None)
+    }
+
+    /// What the last of `-i` and `-x` that names the tag says.
+    fn last_named(&self, tag: Tag) -> Option<bool>
+        ensures { result ≡ first_says (λ r. not r.regex && names_tag r tag) (reverse self.now.rules) }
+    {
+        let mut said = None;
+        for rule in &self.rules {
+            if !rule.text.regex && rule.names(tag) {
+                said = Some(rule.text.include);
+            }
+        }
+        said
+    }
+
+    /// Whether a record for which no rule decides is shown.
+    fn shows_others(&self) -> bool
+        ensures { result ≡ shows_others self.now.rules }
+    {
+        !first_list_includes(&self.rules) && !first_pattern_includes(&self.rules)
+    }
+
+    /// Whether the record is shown, in a transaction that is. Without `-I` and `-X` this takes no memory.
+    pub fn shows(&self, rec: &Record) -> Result<bool, NoMemory>
+        ensures shown { IfOk result (λ b. b ≡ is_shown_record self.now rec.now) }
+        ensures answered { list_any (λ r. r.regex) self.now.rules ≡ false → IsOk result }
+    {
+        let said = match self.first_match(rec)? {
+            Some(said) => Some(said),
+            None => self.last_named(rec.tag),
+        };
+        match said {
+            Some(said) => Ok(said),
+            None => Ok(self.shows_others()),
+        }
+    }
+
+    /// Copies of the shown records of a transaction, which share their payloads.
+    pub fn shown_records(&self, member: &Member) -> Result<Vec<Record>, NoMemory>
+        ensures { IfOk result (λ records. records.items ≡ filter (is_shown_record self.now) member.now.records) }
+    {
+        let mut records = Vec::new(self.alloc);
+        for rec in member.records.as_slice() {
+            if self.shows(rec)? {
+                records.push(rec.to_owned(self.alloc)?)?;
+            }
+        }
+        Ok(records)
     }
 }

@@ -18,10 +18,11 @@ const HELP: &str = "\
 vtools: Varnish's logging tools as one program
 
 usage: vtools [OPTIONS] varnishlog [-g GROUPING] [-L N] [-T N] [-q TEXT]
-              [-Q FILE] [-C] [-w FILE [-a] [-A]] -r FILE
+              [-Q FILE] [-b] [-c] [-E] [-i TAGLIST] [-x TAGLIST] [-I RULE]
+              [-X RULE] [-C] [-v] [-w FILE [-a] [-A]] -r FILE
 
 Prints the records of a log file, a group of them when it is complete, or
-writes them as a log file.
+writes them as a log file; all of them, or those that are chosen.
 
   -r FILE           reads the log file FILE; - is standard input
   -g vxid           groups records by transaction; this is the default
@@ -36,11 +37,26 @@ writes them as a log file.
   -q TEXT           takes only groups for which the query TEXT holds, as in
                     -q 'RespStatus >= 500'; of several queries one must hold
   -Q FILE           reads queries from FILE, one a line
-  -C                asks texts and patterns of queries without regard to case
+  -b                shows requests to a backend, and no other transactions but
+                    those of -c and -E
+  -c                shows clients' requests, and no other transactions but
+                    those of -b and -E
+  -E                the same as -c, with requests for ESI parts
+  -i TAGLIST        shows records of these tags, as in -i 'Req*,End'
+  -x TAGLIST        hides records of these tags
+  -I RULE           shows records that RULE matches: a pattern, or
+                    TAGLIST:PATTERN, as in -I 'ReqHeader:^Host:'
+  -X RULE           hides records that RULE matches
+  -C                asks patterns, and texts of queries, without regard to case
+  -v                prints VXID and mark in the line of each record
   -w FILE           writes a log file, in place of lines on standard output;
                     - is standard output
   -A                writes lines to the file of -w, and no log file
   -a                appends to the file of -w, which is emptied otherwise
+
+The first -I or -X that matches a record decides, else the last -i or -x that
+names its tag. Other records are hidden where the first of -i and -x is -i, or
+the first of -I and -X is -I.
 
 Taken too, and of no effect: -d; before the tool --ring N, --reclen N,
 --turns N and --feed-first. Options stand in any order, letters may share a
@@ -52,8 +68,8 @@ are not built yet.
   vtools --help     prints this text
   vtools --version  prints the version
 
-Exit status: 0 done, 1 the input or the outside failed, 2 the command line or
-a query was refused, 3 out of memory.
+Exit status: 0 done, 1 the input or the outside failed, 2 the command line, a
+pattern or a query was refused, 3 out of memory.
 
 All options, and which are built: docs/FORMATS.md. Manual: docs/man/vtools.1.
 ";

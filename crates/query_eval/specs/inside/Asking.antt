@@ -1,14 +1,14 @@
 -- What asks a pattern.
 use Rattle.std.specs.Prelude.{◌≡◌, ℕ, Bool, List, Option, None, Some, IfSome}
 use Rattle.std.specs.Option.{ForSome}
-use Rattle.query_parser.specs.declared.pattern.Pattern.{Pattern}
-use Rattle.query_parser.specs.declared.pattern.Matching.{Matching}
+use Rattle.vsl_pattern.specs.declared.pattern.Pattern.{Pattern}
+use Rattle.vsl_pattern.specs.declared.pattern.Matching.{Matching}
 use Rattle.query_parser.specs.declared.test.Check.{Check}
 use Rattle.query_parser.specs.declared.test.Check.TheVariants as checks
 use Rattle.query_grammar.specs.declared.step.StepOver.{StepOver}
 use Rattle.query_grammar.specs.declared.step.StepOver.TheVariants as kinds
 use Rattle.query_parser.specs.declared.test.Test.{Test}
-use Rattle.query_parser.specs.Patterns.{pattern_text, pattern_caseless, matching_text, matching_caseless}
+use Rattle.vsl_pattern.specs.Patterns.{pattern_text, pattern_caseless, matching_text, matching_caseless}
 
 -- it asks this pattern
 pub record IsMatchingOf (pattern : Pattern) (matching : Matching) : Type 0 where

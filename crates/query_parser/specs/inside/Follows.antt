@@ -14,7 +14,7 @@ use Rattle.query_parser.specs.declared.draft.Draft.{Draft}
 use Rattle.query_parser.specs.Answers.{IsAnswer}
 use Rattle.query_parser.specs.Meant.{IsMeant}
 use Rattle.query_parser.specs.Parsed.{is_decimal, most_open}
-use Rattle.query_parser.specs.Patterns.{is_good_pattern}
+use Rattle.vsl_pattern.specs.Patterns.{is_good_pattern}
 use Rattle.query_parser.specs.inside.Stages.{spot_of}
 
 -- the rules of a query's text

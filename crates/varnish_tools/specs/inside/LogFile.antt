@@ -13,7 +13,7 @@ use Rattle.vio.specs.World.{Seen, Reading, Writing, Gains, NoCountFalls, Opened,
 use Rattle.tool_words.specs.declared.job.Job.{Job}
 use Rattle.varnish_tools.specs.Asked.{options_of, file_of, write_of}
 use Rattle.varnish_tools.specs.Objects.{Object, OpenedFile, CreatedFile, Stream, source_of, sink_of, IsSourceHandle, IsSinkHandle, HoldsText}
-use Rattle.varnish_tools.specs.Output.{layout_of}
+use Rattle.varnish_tools.specs.Output.{look_of}
 use Rattle.varnish_tools.specs.Promise.{SourceHolds, SinkBegins}
 use Rattle.varnish_tools.specs.Printer.{PrinterState, Represents}
 
@@ -51,7 +51,7 @@ pub record HoldsAsAsked (query : Query) (ask : Ask) : Type 0 where
 pub record IsJobPrinter (job : Job) (ask : Ask) (handle : ℕ) (p : PrinterState) : Type 0 where
   pub asks : HoldsAsAsked p.query ask
   pub is_grouped : p.table.options ≡ options_of job
-  pub is_laid_out : p.layout ≡ layout_of job
+  pub is_laid_out : p.look ≡ look_of job
   pub sink : p.sink ≡ handle
   pub name : p.name ≡ write_of job
   pub none : Represents p []

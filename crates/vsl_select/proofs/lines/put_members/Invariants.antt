@@ -1,8 +1,9 @@
--- the texts of the transactions so far were added
+-- the texts of the shown transactions so far were added
 use Rattle.std.proofs.Common.{◌≡◌, ◌++◌, take}
 use Rattle.std.specs.List.{flat_map}
 use Rattle.vsl_select.specs.Lines.{member_text}
+use Rattle.vsl_select.specs.Shown.{shown_members}
 use Rattle.vsl_select.proofs.lines.put_members.Given as goal
 
 abbrev pub invariant-loop-member : goal.invariant-loop-member
-invariant-loop-member l = l.out.items ≡ l.initial.out.items ++ flat_map (member_text l.verbose) (take l.member-index l.members)
+invariant-loop-member l = l.out.items ≡ l.initial.out.items ++ flat_map (member_text l.verbose) (shown_members l.selection (take l.member-index l.members))

@@ -1,8 +1,9 @@
--- the lines of the records so far were added
+-- the lines of the shown records so far were added
 use Rattle.std.proofs.Common.{◌≡◌, ◌++◌, take}
-use Rattle.std.specs.List.{flat_map}
+use Rattle.std.specs.List.{filter, flat_map}
 use Rattle.vsl_select.specs.Lines.{record_line}
+use Rattle.vsl_select.specs.Shown.{is_shown_record}
 use Rattle.vsl_select.proofs.lines.put_records.Given as goal
 
 abbrev pub invariant-loop-rec : goal.invariant-loop-rec
-invariant-loop-rec l = l.out.items ≡ l.initial.out.items ++ flat_map (record_line l.verbose l.member) (take l.rec-index l.rec-items)
+invariant-loop-rec l = l.out.items ≡ l.initial.out.items ++ flat_map (record_line l.verbose l.member) (filter (is_shown_record l.selection) (take l.rec-index l.rec-items))

@@ -11,11 +11,11 @@ returns-clause-takes g c = (OnOk-always c.print_text.result (λ units old. repre
 
 pub returns-clause-writes : goal.returns-clause-writes
 returns-clause-writes g c = (on_ok_weaker c.print_text.result
-    (λ wrote units old. unit_writes (printer_state c.args.self.now) (record { table = c.put_unit.new.table; layout = c.args.self.now.style.layout; query = asker_query c.args.self.now.style.asker; sink = c.args.self.now.sink.handle; name = c.args.self.now.sink.name }) c.args.unit.now units _ _ _ _ c.clear.ensures.items c.in_default.ensures.ok wrote old) c.print_text.ensures.ok)
+    (λ wrote units old. unit_writes (printer_state c.args.self.now) (record { table = c.put_unit.new.table; look = c.args.self.now.style.look.now; query = asker_query c.args.self.now.style.asker; sink = c.args.self.now.sink.handle; name = c.args.self.now.sink.name }) c.args.unit.now units _ _ _ _ c.clear.ensures.items c.in_default.ensures.ok wrote old) c.print_text.ensures.ok)
 
 pub returns-clause-refused : goal.returns-clause-refused
 returns-clause-refused g c = (IfErr-weaker c.print_text.result _ _
-    (λ (f : PrintFault) left units old. unit_left f (printer_state c.args.self.now) (record { table = c.put_unit.new.table; layout = c.args.self.now.style.layout; query = asker_query c.args.self.now.style.asker; sink = c.args.self.now.sink.handle; name = c.args.self.now.sink.name }) c.args.unit.now units _ _ _ _ c.clear.ensures.items c.in_default.ensures.ok left old) c.print_text.ensures.refused)
+    (λ (f : PrintFault) left units old. unit_left f (printer_state c.args.self.now) (record { table = c.put_unit.new.table; look = c.args.self.now.style.look.now; query = asker_query c.args.self.now.style.asker; sink = c.args.self.now.sink.handle; name = c.args.self.now.sink.name }) c.args.unit.now units _ _ _ _ c.clear.ensures.items c.in_default.ensures.ok left old) c.print_text.ensures.refused)
 
 pub returns-in-Err-clause-refused : goal.returns-in-Err-clause-refused
 returns-in-Err-clause-refused g c = (λ units old. none_left (printer_state c.args.self.now) c.args.unit.now units _ old)

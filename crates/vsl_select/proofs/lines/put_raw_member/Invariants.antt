@@ -1,0 +1,9 @@
+-- the raw lines of the shown records so far were added
+use Rattle.std.proofs.Common.{◌≡◌, ◌++◌, take}
+use Rattle.std.specs.List.{filter, flat_map}
+use Rattle.vsl_select.specs.RawLine.{raw_line}
+use Rattle.vsl_select.specs.Shown.{is_shown_record}
+use Rattle.vsl_select.proofs.lines.put_raw_member.Given as goal
+
+abbrev pub invariant-loop-rec : goal.invariant-loop-rec
+invariant-loop-rec l = l.out.items ≡ l.initial.out.items ++ flat_map (raw_line l.member.vxid) (filter (is_shown_record l.selection) (take l.rec-index l.rec-items))
