@@ -134,7 +134,7 @@ once_since (BadInput name) o input run r s t touched p = tt
 
 reads_since : {opened : List (List ℕ)} (ending : Ending) (o : Object) (input : Input) (run : Run) (r s t : Seen) → Touches [] [] opened [] r s → ReadsOnce ending o input run s t → ReadsOnce ending o input run r t
 reads_since Whole o input run r s t touched p = tt
-reads_since Kept o input run r s t touched p = absurd p
+reads_since Kept o input run r s t touched p = took_since o input r s t touched p
 reads_since (Faulted f) o input run r s t touched p = once_since (class_of f) o input run r s t touched p
 
 left_since : {opened : List (List ℕ)} (recorded : RunRecord) (IsSo : List ℕ → Type 0) (job : Job) (r s t : Seen) → HasStreams r → Touches [] [] opened [] r s → IsStill r s → SinksLeft recorded IsSo (Work job) s t → SinksLeft recorded IsSo (Work job) r t
@@ -211,7 +211,7 @@ works_early job fault r s streams quiet touched p =
           ending = Faulted fault;
           is_run = refl;
           is_ending = refl;
-          takes = stopped_class (λ c. TakesUntil c input no_run) job fault r s p refl refl (λ name. refl) (λ name read. inl refl);
+          takes = stopped_class (λ c. TakesUntil c (Work job) None input no_run) job fault r s p refl refl (λ name. refl) (λ name read. inl refl);
           reads_once = λ o one. stopped_class (λ c. ReadsOnceUntil c o input no_run r s) job fault r s p tt tt (λ name. tt) (λ name read. inl refl);
           sinks = λ o one. untouched_still o r s still;
         },

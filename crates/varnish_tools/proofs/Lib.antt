@@ -1,3 +1,4 @@
+mod AskedLemmas
 mod LayoutLemmas
 mod ObjectLemmas
 mod PrinterLemmas

@@ -1,5 +1,5 @@
 -- A job over a log: opening, creating, the header, and what is left after want of memory.
-use Rattle.std.proofs.Common.{length-append, ◌≡◌, ℕ, ◌+◌, ◌-◌, ◌<◌, ◌⊎◌, Bool, true, false, List, [], ◌∷◌, ◌++◌, length, take, Some, refl, sym, ap, subst, ◌∙◌, inl, inr, append_assoc, arith, Result, Ok, Err}
+use Rattle.std.proofs.Common.{length-append, ◌≡◌, ℕ, ◌+◌, ◌-◌, ◌<◌, ◌⊎◌, Bool, true, false, List, [], ◌∷◌, ◌++◌, length, take, Option, Some, refl, sym, ap, subst, ◌∙◌, inl, inr, append_assoc, arith, Result, Ok, Err}
 use Rattle.std.specs.Result.{IfOk, OnErr}
 use Rattle.std.proofs.lemmas.List.{append-nil}
 use Rattle.log_model.specs.Faults.{HasNewFault}
@@ -30,7 +30,7 @@ use Rattle.varnish_tools.specs.Asked.{Asked, Work, options_of, file_of, write_of
 use Rattle.varnish_tools.specs.Objects.{GivesAtMost, Object, OpenedFile, CreatedFile, source_of, sink_of, opened_of, created_of, SinkGained}
 use Rattle.varnish_tools.specs.Queries.{Ask, chosen}
 use Rattle.varnish_tools.specs.Run.{Ending, Faulted, no_run, run_of}
-use Rattle.varnish_tools.specs.Output.{head_text, laid_out, look_of, is_flushed, sink_text}
+use Rattle.varnish_tools.specs.Output.{head_text, kept, is_filled, laid_out, look_of, is_flushed, sink_text}
 use Rattle.varnish_tools.specs.Printer.{PrinterState, due}
 use Rattle.varnish_tools.specs.Promise.{Input, IsInput, IsDue, ReadsOnce, HasFailed, HasFailedInput, WritesPrefix, whole_text, is_whole, ending_begun}
 use Rattle.varnish_tools.specs.inside.LogFile.{HasBegun, HoldsAsAsked, IsJobPrinter, SourceOpened, SinkCreated}
@@ -38,7 +38,7 @@ use Rattle.varnish_tools.specs.inside.LogSource.{GaveUnits, GaveFirst, StoppedSo
 use Rattle.varnish_tools.specs.inside.Works.{WorksFor, PrefixFor}
 use Rattle.varnish_tools.specs.inside.Loop.{Added, AddedSome, RanUntil}
 use Rattle.varnish_tools.proofs.LogSourceLemmas.{gave_as_first}
-use Rattle.varnish_tools.proofs.LoopLemmas.{laid_nil}
+use Rattle.varnish_tools.proofs.LoopLemmas.{none_laid}
 use Rattle.varnish_tools.proofs.ObjectLemmas.{source_name, sink_name, source_still, sink_still, holds_more, IsStill, untouched_none, untouched_still, still_counts, still_then, still_opened, is_open, is_made, sink_before, begins_before, holds_before, touches_opening, touches_making, is_source, are_sources, source_still_left, gives_then, gives_still, gives_none, gives_more, gives_opening, gives_making}
 use Rattle.varnish_tools.proofs.PrinterLemmas.{due_first}
 use Rattle.varnish_tools.proofs.RunLemmas.{each_one, run_began, works_by, sink_gained, given_first, given_all, whole_is}
@@ -105,7 +105,7 @@ sink_begun job source sink empty head r s begun so = record { handle = sink; is_
 -- what an input's text begins with
 head_prefix : (job : Job) (ask : Ask) (empty : Bool) (input : Input) → input.sink_empty ≡ empty → IsPrefix (head_text job empty) (whole_text (Work job) ask input)
 head_prefix job ask empty input same = subst (λ (b : Bool). IsPrefix (head_text job b) (whole_text (Work job) ask input)) same
-    (prefix_append (head_text job input.sink_empty) (laid_out (look_of job) (chosen ask (groups_of (options_of job) input.units (is_whole input.file_ending)))))
+    (prefix_append (head_text job input.sink_empty) (laid_out (look_of job) (kept job.keep (chosen ask (groups_of (options_of job) input.units (is_whole input.file_ending))))))
 
 pub prefix_begun : (job : Job) (ask : Ask) (source sink : ℕ) (empty : Bool) (head : List ℕ) (r s : Seen) → IsPrefix head (head_text job empty) → HasBegun job source sink empty head r s → PrefixFor ask (Work job) r s
 prefix_begun job ask source sink empty head r s part begun = λ input is_input o one.
@@ -138,18 +138,18 @@ begun_more job source sink empty text r s t begun w =
     }
 
 -- no unit, no text
-nothing_laid : (l : Look) (ask : Ask) (options : GroupOptions) (b : Bool) → laid_out l (chosen ask (groups_of options [] b)) ≡ []
-nothing_laid l ask options true = laid_nil l
-nothing_laid l ask options false = laid_nil l
+nothing_laid : (l : Look) (ask : Ask) (keep : Option ℕ) (options : GroupOptions) (b : Bool) → laid_out l (kept keep (chosen ask (groups_of options [] b))) ≡ []
+nothing_laid l ask keep options true = none_laid l keep
+nothing_laid l ask keep options false = none_laid l keep
 
 -- the text of a run that took no unit is the header
 headed : (job : Job) (ask : Ask) (empty : Bool) (ending : Ending) → sink_text (Work job) ask (run_of empty []) ending ≡ head_text job empty
-headed job ask empty ending = ap (λ (x : List ℕ). head_text job empty ++ x) (nothing_laid (look_of job) ask (options_of job) (is_flushed ending)) ∙ append-nil (head_text job empty)
+headed job ask empty ending = ap (λ (x : List ℕ). head_text job empty ++ x) (nothing_laid (look_of job) ask job.keep (options_of job) (is_flushed ending)) ∙ append-nil (head_text job empty)
 
 -- the write of the header failed
-pub works_headless : (job : Job) (ask : Ask) (source sink : ℕ) (empty : Bool) (r s t : Seen) → HasBegun job source sink empty [] r s → WroteOn sink [] (λ text. IsProperPrefix text (head_text job empty)) s t → FaultsRose Writing sink s t
+pub works_headless : (job : Job) (ask : Ask) (source sink : ℕ) (empty : Bool) (r s t : Seen) → HasBegun job source sink empty [] r s → WroteOn sink [] (λ text. IsProperPrefix text (head_text job empty)) s t → FaultsRose Writing sink s t → is_filled job.keep [] ≡ false
     → WorksFor ask (Work job) (Some (WriteFault (write_of job))) (Counted 0 1) r t
-works_headless job ask source sink empty r s t begun left rose =
+works_headless job ask source sink empty r s t begun left rose keeps =
     let more = begun_more job source sink empty left.added r s t begun left.wrote in
     let fault = WriteFault (write_of job) in
     works_by job ask fault (Counted 0 1) r t
@@ -162,7 +162,7 @@ works_headless job ask source sink empty r s t begun left rose =
       ending = Faulted fault;
       is_run = (omega arith, refl, refl);
       is_ending = refl;
-      takes = (0, omega arith, refl);
+      takes = ((0, omega arith, refl), keeps);
       reads_once = each_one (λ o. ReadsOnce (Faulted fault) o input run r t) (source_of job)
           ([], omega arith, record { handle = source; is_handle = more.is_source; rest = input.bytes; left = more.told input.bytes is_input.0; parts = refl });
       sinks = each_one (λ o. SinkGained (IsDue (Work job) ask input run (Faulted fault)) o r t) (sink_of job) (sink_begun job source sink empty left.added r t more (

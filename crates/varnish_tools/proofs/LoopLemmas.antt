@@ -1,5 +1,5 @@
 -- What a run's loop comes to, call by call.
-use Rattle.std.proofs.Common.{◌≡◌, ℕ, ◌+◌, ◌-◌, ◌<◌, ◌≤◌, Bool, true, false, List, [], ◌∷◌, ◌++◌, length, length-append, take, IsTrue, Option, Some, refl, sym, ap, subst, ◌∙◌, append_assoc, arith}
+use Rattle.std.proofs.Common.{◌≡◌, ℕ, zero, suc, None, ◌+◌, ◌-◌, ◌<◌, ◌≤◌, Bool, true, false, List, [], ◌∷◌, ◌++◌, length, length-append, take, IsTrue, Option, Some, refl, sym, ap, subst, ◌∙◌, append_assoc, arith}
 use Rattle.std.proofs.lemmas.List.{append-nil, take-append-le, take_all}
 use Rattle.log_model.specs.Prefix.{IsPrefix, IsProperPrefix}
 use Rattle.log_model.proofs.PrefixLemmas.{prefix_append, prefix_then}
@@ -9,6 +9,7 @@ use Rattle.vio.proofs.WholeLemmas.{NoCountFalls-then}
 use Rattle.vio.specs.Writes.{WroteOn}
 use Rattle.vio.specs.Touches.{Touches}
 use Rattle.vsl_record.specs.Unit.{LogUnit, Log}
+use Rattle.txn_rows.specs.declared.group.Group.{Group}
 use Rattle.query_eval.specs.Meaning.{is_held}
 use Rattle.varnish_tools.specs.declared.layout.Layout.{Layout}
 use Rattle.varnish_tools.specs.declared.layout.Look.{Look}
@@ -17,11 +18,11 @@ use Rattle.varnish_tools.specs.declared.source.SourceFault.{SourceFault}
 use Rattle.varnish_tools.specs.declared.printer.PrintFault.{PrintFault}
 use Rattle.varnish_tools.specs.declared.printer.PrintFault.TheVariants.{WriteFault, NoMemory}
 use Rattle.varnish_tools.specs.declared.run.Stopped.TheVariants.{ByPrinter}
-use Rattle.varnish_tools.specs.Output.{laid_out, written}
-use Rattle.varnish_tools.specs.Printer.{PrinterState, Represents, IsSamePrinter, HasPrintCause, IsLeft, due}
-use Rattle.varnish_tools.specs.inside.Loop.{Added, AddedSome, Running, IsLeftOf, RanToEnd, RanUntil}
-use Rattle.varnish_tools.proofs.PrinterLemmas.{due_first}
-use Rattle.vio.proofs.TouchLemmas.{touches_wrote, touches_then, touches_read}
+use Rattle.varnish_tools.specs.Output.{laid_out, written, kept}
+use Rattle.varnish_tools.specs.Printer.{PrinterState, Represents, IsSamePrinter, HasPrintCause, IsLeft, due, has_all, is_nothing_left}
+use Rattle.varnish_tools.specs.inside.Loop.{Added, AddedSome, Running, IsOpen, IsLeftOf, RanToEnd, RanToKept, RanUntil}
+use Rattle.varnish_tools.proofs.PrinterLemmas.{due_first, is_done}
+use Rattle.vio.proofs.TouchLemmas.{touches_none, touches_wrote, touches_then, touches_read}
 
 -- no group, no text
 pub laid_nil : (l : Look) → laid_out l [] ≡ []
@@ -30,6 +31,14 @@ laid_nil l = none_written l.layout l.verbose
     none_written : (layout : Layout) (verbose : Bool) → written layout verbose [] ≡ []
     none_written Lines verbose = refl
     none_written Units verbose = refl
+
+pub none_laid : (l : Look) (keep : Option ℕ) → laid_out l (kept keep []) ≡ []
+none_laid l keep = ap (λ (gs : List Group). laid_out l gs) (kept_none keep) ∙ laid_nil l
+  where
+    kept_none : (k : Option ℕ) → kept k [] ≡ []
+    kept_none None = refl
+    kept_none (Some zero) = refl
+    kept_none (Some (suc most)) = refl
 
 -- nothing was added
 pub added_none : (h : ℕ) (s : Seen) → Added h [] s s
@@ -83,18 +92,21 @@ pub running_more : (IsGiven IsNow : Log → Type 0) (reads : List ℕ) (p q r : 
     → (run : Running IsGiven reads p q n s t) → s.given p.sink ≡ true → Touches reads [] [] [] t v → ((bytes : List ℕ) → Wrote q.sink bytes v w → IsNow (run.units ++ u ∷ [])) → IsSamePrinter q r
     → ((us : Log) → Represents q us → Represents r (us ++ u ∷ []))
     → ((us : Log) → Represents q us → WroteOn q.sink (due q us false) (λ text. text ≡ due q (us ++ u ∷ []) false) v w)
-    → Running IsNow reads p r (n + 1) s w
+    → (more : Running IsNow reads p r (n + 1) s w) × (more.units ≡ run.units ++ u ∷ [])
 running_more IsGiven IsNow reads p q r n u s t v w run given read stays same takes writes =
     let wrote = writes run.units run.represents in
-    let gained = added_on reads p q run.units (run.units ++ u ∷ []) false (λ whole text. text ≡ whole) s t v w run.same given run.touches run.gains read wrote in record {
-      units = run.units ++ u ∷ [];
-      given = stays wrote.added wrote.wrote;
-      count = omega (arith, run.count, length-append run.units (u ∷ []));
-      same = record { options = same.options ∙ run.same.options; look = same.look ∙ run.same.look; query = same.query ∙ run.same.query; sink = same.sink ∙ run.same.sink; name = same.name ∙ run.same.name };
-      represents = takes run.units run.represents;
-      gains = subst (λ (text : List ℕ). Added p.sink text s w) gained.is.1 gained.added;
-      touches = touches_printed reads p q _ _ s t v w run.same run.touches read wrote;
-    }
+    let gained = added_on reads p q run.units (run.units ++ u ∷ []) false (λ whole text. text ≡ whole) s t v w run.same given run.touches run.gains read wrote in (
+      record {
+        units = run.units ++ u ∷ [];
+        given = stays wrote.added wrote.wrote;
+        count = omega (arith, run.count, length-append run.units (u ∷ []));
+        same = record { options = same.options ∙ run.same.options; look = same.look ∙ run.same.look; query = same.query ∙ run.same.query; sink = same.sink ∙ run.same.sink; name = same.name ∙ run.same.name };
+        represents = takes run.units run.represents;
+        gains = subst (λ (text : List ℕ). Added p.sink text s w) gained.is.1 gained.added;
+        touches = touches_printed reads p q _ _ s t v w run.same run.touches read wrote;
+      },
+      refl,
+    )
 
 -- the text of units without their last one
 without_last : (us : Log) (u : LogUnit) → take (length (us ++ u ∷ []) - 1) (us ++ u ∷ []) ≡ us
@@ -109,7 +121,7 @@ left_at NoMemory p us u text least left = left
 
 -- something of a text is missing only where there is one
 some_units : (p : PrinterState) (us : Log) (text : List ℕ) → IsProperPrefix text (due p us true) → 0 < length us
-some_units p [] text left = absurd (omega (arith, left.shorter, ap length (laid_nil p.look)))
+some_units p [] text left = absurd (omega (arith, left.shorter, ap length (none_laid p.look p.look.keep)))
 some_units p (u ∷ us) text left = omega arith
 
 left_at_end : (fault : PrintFault) (p : PrinterState) (us : Log) (text : List ℕ) → IsPrefix (due p us false) text → IsLeft fault (due p us true) text → IsLeftOf fault p us true text
@@ -130,9 +142,9 @@ cause_since NoMemory name now s t u same counts cause = tt
 pub printer_stopped : (IsGiven : Log → Type 0) (reads : List ℕ) (gave : Log → Bool → Type 0) (stopped : SourceFault → Log → Type 0) (fault : PrintFault) (p q : PrinterState) (n : ℕ) (u : LogUnit) (s t v w : Seen)
     → (run : Running IsGiven reads p q n s t) → s.given p.sink ≡ true → Touches reads [] [] [] t v → ((bytes : List ℕ) → Wrote q.sink bytes v w → gave (run.units ++ u ∷ []) false)
     → HasPrintCause fault q.name v w
-    → ((us : Log) → Represents q us → WroteOn q.sink (due q us false) (IsLeft fault (due q (us ++ u ∷ []) false)) v w)
+    → ((us : Log) → Represents q us → WroteOn q.sink (due q us false) (IsLeft fault (due q (us ++ u ∷ []) false)) v w) → IsOpen p run.units
     → RanUntil (ByPrinter fault (n + 1)) gave stopped p s w
-printer_stopped IsGiven reads gave stopped fault p q n u s t v w run given read stays cause refused =
+printer_stopped IsGiven reads gave stopped fault p q n u s t v w run given read stays cause refused fewer =
     let left = refused run.units run.represents in (
       cause_since fault p.name q.name s v w run.same.name (NoCountFalls-then run.touches.counts read.counts) cause,
       (
@@ -140,6 +152,7 @@ printer_stopped IsGiven reads gave stopped fault p q n u s t v w run given read 
         record {
           units = run.units ++ u ∷ [];
           given = stays left.added left.wrote;
+          cut = rw (without_last run.units u) fewer.all;
           count = omega (arith, run.count, length-append run.units (u ∷ []));
           gains = added_so (λ text so. left_at fault p run.units u text so.0 so.1)
               (added_on reads p q run.units (run.units ++ u ∷ []) false (IsLeft fault) s t v w run.same given run.touches run.gains read left);
@@ -151,9 +164,9 @@ printer_stopped IsGiven reads gave stopped fault p q n u s t v w run given read 
 pub end_stopped : (IsGiven : Log → Type 0) (reads : List ℕ) (gave : Log → Bool → Type 0) (stopped : SourceFault → Log → Type 0) (fault : PrintFault) (p q : PrinterState) (n : ℕ) (s t v w : Seen)
     → (run : Running IsGiven reads p q n s t) → s.given p.sink ≡ true → Touches reads [] [] [] t v → ((bytes : List ℕ) → Wrote q.sink bytes v w → gave run.units true)
     → HasPrintCause fault q.name v w
-    → ((us : Log) → Represents q us → WroteOn q.sink (due q us false) (IsLeft fault (due q us true)) v w)
+    → ((us : Log) → Represents q us → WroteOn q.sink (due q us false) (IsLeft fault (due q us true)) v w) → IsOpen p run.units
     → RanUntil (ByPrinter fault n) gave stopped p s w
-end_stopped IsGiven reads gave stopped fault p q n s t v w run given read stays cause refused =
+end_stopped IsGiven reads gave stopped fault p q n s t v w run given read stays cause refused fewer =
     let left = refused run.units run.represents in (
       cause_since fault p.name q.name s v w run.same.name (NoCountFalls-then run.touches.counts read.counts) cause,
       (
@@ -161,6 +174,7 @@ end_stopped IsGiven reads gave stopped fault p q n s t v w run given read stays 
         record {
           units = run.units;
           given = stays left.added left.wrote;
+          cut = fewer.first;
           count = run.count;
           gains = added_so (λ text so. left_at_end fault p run.units text so.0 so.1)
               (added_on reads p q run.units run.units true (IsLeft fault) s t v w run.same given run.touches run.gains read left);
@@ -171,15 +185,50 @@ end_stopped IsGiven reads gave stopped fault p q n s t v w run given read stays 
 -- all was given and printed
 pub ran_to_end : (IsGiven : Log → Type 0) (reads : List ℕ) (gave : Log → Bool → Type 0) (p q : PrinterState) (n : ℕ) (s t v w : Seen)
     → (run : Running IsGiven reads p q n s t) → s.given p.sink ≡ true → Touches reads [] [] [] t v → ((bytes : List ℕ) → Wrote q.sink bytes v w → gave run.units true)
-    → ((us : Log) → Represents q us → WroteOn q.sink (due q us false) (λ text. text ≡ due q us true) v w)
+    → ((us : Log) → Represents q us → WroteOn q.sink (due q us false) (λ text. text ≡ due q us true) v w) → IsOpen p run.units
     → RanToEnd gave p n s w
-ran_to_end IsGiven reads gave p q n s t v w run given read stays writes =
+ran_to_end IsGiven reads gave p q n s t v w run given read stays writes fewer =
     let wrote = writes run.units run.represents in record {
       units = run.units;
       given = stays wrote.added wrote.wrote;
+      cut = fewer;
       count = run.count;
       gains = added_so (λ text so. so.1) (added_on reads p q run.units run.units true (λ whole text. text ≡ whole) s t v w run.same given run.touches run.gains read wrote);
     }
+
+-- no unit was given
+pub running_none : (IsGiven : Log → Type 0) (reads : List ℕ) (p : PrinterState) (s : Seen) → IsGiven [] → Represents p [] → has_all p [] ≡ false → (run : Running IsGiven reads p p 0 s s) × IsOpen p run.units
+running_none IsGiven reads p s given new kept = (
+  record {
+    units = [];
+    given = given;
+    count = refl;
+    same = record { options = refl; look = refl; query = refl; sink = refl; name = refl };
+    represents = new;
+    gains = subst (λ (text : List ℕ). Added p.sink text s s) (sym (none_laid p.look p.look.keep)) (added_none p.sink s);
+    touches = touches_none _ _ _ _ s;
+  },
+  record { all = kept; first = kept },
+)
+
+-- where not as many were written as are kept, the groups of the units and one more are not as many
+pub open_more : (IsGiven : Log → Type 0) (reads : List ℕ) (p q : PrinterState) (n : ℕ) (us : Log) (u : LogUnit) (s t : Seen) → (run : Running IsGiven reads p q n s t) → run.units ≡ us ++ u ∷ [] → IsOpen p us
+    → false ≡ is_nothing_left q.left → IsOpen p run.units
+open_more IsGiven reads p q n us u s t run are fewer more = record {
+  all = is_done p q run.units false run.same run.represents more;
+  first = rw (are, without_last us u) fewer.all;
+}
+
+-- the last group that is kept was written
+pub ran_to_kept : (gave : Log → Bool → Type 0) (reads : List ℕ) (p q : PrinterState) (n : ℕ) (us : Log) (u : LogUnit) (s t : Seen) → (run : Running (λ units. gave units false) reads p q n s t)
+    → run.units ≡ us ++ u ∷ [] → IsOpen p us → true ≡ is_nothing_left q.left → RanToKept gave p n s t
+ran_to_kept gave reads p q n us u s t run are fewer done = record {
+  units = run.units;
+  given = run.given;
+  cut = record { all = is_done p q run.units true run.same run.represents done; first = rw (are, without_last us u) fewer.all };
+  count = run.count;
+  gains = record { text = due p run.units false; is = refl; added = run.gains };
+}
 
 -- the sink keeps its name
 pub named_still : (IsGiven : Log → Type 0) (reads : List ℕ) (p q : PrinterState) (n : ℕ) (s t u : Seen) → Running IsGiven reads p q n s t → Touches reads [] [] [] t u → s.given p.sink ≡ true

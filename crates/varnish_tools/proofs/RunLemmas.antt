@@ -1,5 +1,5 @@
 -- What a run over a log comes to, by how it ended.
-use Rattle.std.proofs.Common.{◌≡◌, ◌≢◌, ℕ, ◌+◌, ◌-◌, ◌<◌, ◌≤◌, Bool, true, false, cond, eqb, eq-eqb, ◌&&◌, List, [], ◌∷◌, ◌++◌, length, length-append, take, Some, None, refl, sym, ap, subst, ◌∙◌, inl, inr, append_assoc, arith}
+use Rattle.std.proofs.Common.{◌≡◌, ◌≢◌, ◌⊎◌, ℕ, ◌+◌, ◌-◌, ◌<◌, ◌≤◌, Bool, true, false, cond, eqb, eq-eqb, ◌&&◌, List, [], ◌∷◌, ◌++◌, length, length-append, take, Some, None, refl, sym, ap, subst, ◌∙◌, inl, inr, append_assoc, arith}
 use Rattle.std.specs.List.{AllByRecursion}
 use Rattle.std.proofs.lemmas.List.{append-nil, take_all, take-append-le}
 use Rattle.std.proofs.lemmas.List.Elements.{filter_agree}
@@ -34,14 +34,14 @@ use Rattle.varnish_tools.specs.Asked.{Work, options_of, file_of, write_of}
 use Rattle.varnish_tools.specs.Faults.{FaultClass, BadInput, class_of}
 use Rattle.varnish_tools.specs.Objects.{IsSourceHandle, Object, source_of, sink_of, SinkGained}
 use Rattle.varnish_tools.specs.Queries.{Ask, chosen, is_asked}
-use Rattle.varnish_tools.specs.Run.{Ending, Whole, Faulted, run_of}
-use Rattle.varnish_tools.specs.Output.{head_text, laid_out, look_of, is_flushed, sink_text}
-use Rattle.varnish_tools.specs.Printer.{PrinterState, due, due_text}
-use Rattle.varnish_tools.specs.Promise.{Input, SourceHolds, IsInput, RunBegan, TakesUntil, ReadsOnceUntil, IsDueUntil, IsDue, ReadsOnce, Took, WritesFor, whole_text, whole_run, input_fault, is_whole, ending_begun}
+use Rattle.varnish_tools.specs.Run.{Ending, Whole, Kept, Faulted, run_of}
+use Rattle.varnish_tools.specs.Output.{head_text, kept, is_filled, laid_out, look_of, is_flushed, sink_text}
+use Rattle.varnish_tools.specs.Printer.{PrinterState, due, due_text, has_all, held_groups}
+use Rattle.varnish_tools.specs.Promise.{Input, SourceHolds, IsInput, RunBegan, TakesUntil, fills, ReadsOnceUntil, IsDueUntil, IsDue, ReadsOnce, Took, WritesFor, whole_text, whole_run, input_fault, is_whole, ending_begun}
 use Rattle.varnish_tools.specs.inside.LogFile.{HasBegun, IsJobPrinter, fault_as}
 use Rattle.varnish_tools.specs.inside.LogSource.{TookFrom, BeginsLog, GaveUnits, GaveFirst, EndsFile, FailedAfter, StoppedSo}
 use Rattle.varnish_tools.specs.inside.Works.{HasRunCause, RunLeavesUntil, WorksFor}
-use Rattle.varnish_tools.specs.inside.Loop.{AddedSome, RanToEnd, RanUntil}
+use Rattle.varnish_tools.specs.inside.Loop.{AddedSome, IsOpen, RanToEnd, RanToKept, RanUntil}
 use Rattle.varnish_tools.proofs.LogSourceLemmas.{gave_as_first}
 use Rattle.varnish_tools.proofs.ObjectLemmas.{source_name, sink_name, source_still, gained_after}
 use Rattle.varnish_tools.proofs.PrinterLemmas.{due_flag}
@@ -113,18 +113,26 @@ given_ending job source sink empty r s units ending input begun ends is_input = 
 -- the text that is due
 
 -- the text that was due at the printer is that of the job
-due_is : (job : Job) (ask : Ask) (k : ℕ) (p : PrinterState) (units : Log) (b : Bool) → IsJobPrinter job ask k p → due p units b ≡ laid_out (look_of job) (chosen ask (groups_of (options_of job) units b))
+due_is : (job : Job) (ask : Ask) (k : ℕ) (p : PrinterState) (units : Log) (b : Bool) → IsJobPrinter job ask k p → due p units b ≡ laid_out (look_of job) (kept job.keep (chosen ask (groups_of (options_of job) units b)))
 due_is job ask k p units b is = ap (λ (l : Look). due_text l p.query p.table.options units b) is.is_laid_out ∙ ap (λ (o : GroupOptions). due_text (look_of job) p.query o units b) is.is_grouped
-    ∙ ap (λ (gs : List Group). laid_out (look_of job) gs) (filter_agree (is_held p.query) (is_asked ask) is.asks.each (groups_of (options_of job) units b))
+    ∙ ap (λ (gs : List Group). laid_out (look_of job) (kept job.keep gs)) (filter_agree (is_held p.query) (is_asked ask) is.asks.each (groups_of (options_of job) units b))
+
+-- whether the printer's groups are as many as are kept, told of the job
+fills_is : (job : Job) (ask : Ask) (k : ℕ) (p : PrinterState) (units : Log) → IsJobPrinter job ask k p → fills (Work job) ask units ≡ has_all p units
+fills_is job ask k p units is = sym (
+    ap (λ (l : Look). is_filled l.keep (held_groups p.query (groups_of p.table.options units false))) is.is_laid_out
+    ∙ ap (λ (o : GroupOptions). is_filled job.keep (held_groups p.query (groups_of o units false))) is.is_grouped
+    ∙ ap (λ (gs : List Group). is_filled job.keep gs) (filter_agree (is_held p.query) (is_asked ask) is.asks.each (groups_of (options_of job) units false))
+    )
 
 -- the text of a run of units
 sink_is : (job : Job) (ask : Ask) (k : ℕ) (p : PrinterState) (empty : Bool) (units : Log) (ending : Ending) → IsJobPrinter job ask k p → head_text job empty ++ due p units (is_flushed ending) ≡ sink_text (Work job) ask (run_of empty units) ending
 sink_is job ask k p empty units ending is = ap (λ (x : List ℕ). head_text job empty ++ x)
-    (due_is job ask k p units (is_flushed ending) is ∙ ap (λ (us : Log). laid_out (look_of job) (chosen ask (groups_of (options_of job) us (is_flushed ending)))) (sym (append-nil units)))
+    (due_is job ask k p units (is_flushed ending) is ∙ ap (λ (us : Log). laid_out (look_of job) (kept job.keep (chosen ask (groups_of (options_of job) us (is_flushed ending))))) (sym (append-nil units)))
 
 pub whole_is : (job : Job) (ask : Ask) (k : ℕ) (p : PrinterState) (empty : Bool) (input : Input) → IsJobPrinter job ask k p → input.sink_empty ≡ empty → head_text job empty ++ due p input.units (is_whole input.file_ending) ≡ whole_text (Work job) ask input
 whole_is job ask k p empty input is e = ap (λ (x : List ℕ). head_text job empty ++ x) (due_is job ask k p input.units (is_whole input.file_ending) is)
-    ∙ ap (λ (b : Bool). head_text job b ++ laid_out (look_of job) (chosen ask (groups_of (options_of job) input.units (is_whole input.file_ending)))) (sym e)
+    ∙ ap (λ (b : Bool). head_text job b ++ laid_out (look_of job) (kept job.keep (chosen ask (groups_of (options_of job) input.units (is_whole input.file_ending))))) (sym e)
 
 -- what the sink gained since before the run
 pub sink_gained : {IsSo IsToo : List ℕ → Type 0} (job : Job) (ask : Ask) (source sink : ℕ) (empty : Bool) (p : PrinterState) (r s t : Seen) → HasBegun job source sink empty (head_text job empty) r s → IsJobPrinter job ask sink p → Touches (source ∷ []) (sink ∷ []) [] [] s t
@@ -154,7 +162,7 @@ text_of_all : (job : Job) (ask : Ask) (k : ℕ) (p : PrinterState) (empty : Bool
 text_of_all job ask k p empty units input ending is same e = sink_is job ask k p empty units ending is ∙ ap (λ (b : Bool). sink_text (Work job) ask (run_of b units) ending) (sym e)
     ∙ ap (λ (us : Log). sink_text (Work job) ask (run_of input.sink_empty us) ending) same
 
-pub works_whole : (job : Job) (ask : Ask) (source sink : ℕ) (empty : Bool) (start now : LogFile) (n : ℕ) (p : PrinterState) (r s t : Seen) → start.reader.handle ≡ source → IsJobPrinter job ask sink p
+works_whole : (job : Job) (ask : Ask) (source sink : ℕ) (empty : Bool) (start now : LogFile) (n : ℕ) (p : PrinterState) (r s t : Seen) → start.reader.handle ≡ source → IsJobPrinter job ask sink p
     → Touches (source ∷ []) (sink ∷ []) [] [] s t → RanToEnd (GaveUnits start now s t) p n s t → HasBegun job source sink empty (head_text job empty) r s → WorksFor ask (Work job) None (Counted n 1) r t
 works_whole job ask source sink empty start now n p r s t handle is touched ran begun = record {
   causes = λ f e. absurd cc;
@@ -167,7 +175,7 @@ works_whole job ask source sink empty start now n p r s t handle is touched ran 
         ending = Whole;
         is_run = (many.0, refl, many.1);
         is_ending = refl;
-        takes = (all.1, refl);
+        takes = (all.1, refl, ap (λ (us : Log). fills (Work job) ask us) (sym all.0) ∙ fills_is job ask sink p ran.units is ∙ ran.cut.all);
         reads_once = λ o one. tt;
         sinks = each_one (λ o. SinkGained (IsDue (Work job) ask input (whole_run input) Whole) o r t) (sink_of job) (sink_gained job ask source sink empty p r s t begun is touched
             (λ text so. ap (λ (x : List ℕ). head_text job empty ++ x) so ∙ text_of_all job ask sink p empty ran.units input Whole is all.0 same) ran.gains);
@@ -178,8 +186,8 @@ works_whole job ask source sink empty start now n p r s t handle is touched ran 
 
 pub works_ended : (job : Job) (ask : Ask) (source sink : ℕ) (empty : Bool) (n : ℕ) (p : PrinterState) (units : Log) (ending : FileEnding) (fault : ToolFault) (r s t : Seen) → IsJobPrinter job ask sink p → Touches (source ∷ []) (sink ∷ []) [] [] s t
     → n ≡ length units → class_of fault ≡ BadInput (file_of job) → input_fault (file_of job) ending ≡ Some fault → HasBegun job source sink empty (head_text job empty) r s → EndsFile source s units ending
-    → AddedSome (λ text. text ≡ due p units false) p.sink s t → WorksFor ask (Work job) (Some fault) (Counted n 1) r t
-works_ended job ask source sink empty n p units ending fault r s t is touched count e blamed begun ends added =
+    → AddedSome (λ text. text ≡ due p units false) p.sink s t → IsOpen p units → WorksFor ask (Work job) (Some fault) (Counted n 1) r t
+works_ended job ask source sink empty n p units ending fault r s t is touched count e blamed begun ends added fewer =
     works_by job ask fault (Counted n 1) r t
     (subst (λ (c : FaultClass). HasRunCause (Work job) fault c r t) (sym e) (
       source_of job,
@@ -196,7 +204,7 @@ works_ended job ask source sink empty n p units ending fault r s t is touched co
       ending = Faulted fault;
       is_run = (many.0, refl, many.1);
       is_ending = refl;
-      takes = subst (λ (c : FaultClass). TakesUntil c input (whole_run input)) (sym e) refl;
+      takes = subst (λ (c : FaultClass). TakesUntil c (Work job) ask input (whole_run input)) (sym e) (refl, ap (λ (us : Log). fills (Work job) ask us) (sym all.0) ∙ fills_is job ask sink p units is ∙ fewer.all);
       reads_once = λ o one. subst (λ (c : FaultClass). ReadsOnceUntil c o input (whole_run input) r t) (sym e) tt;
       sinks = each_one (λ o. SinkGained (IsDue (Work job) ask input (whole_run input) (Faulted fault)) o r t) (sink_of job) (sink_gained job ask source sink empty p r s t begun is touched
           (λ text so. subst (λ (c : FaultClass). IsDueUntil c (Work job) ask input (whole_run input) (Faulted fault) (head_text job empty ++ text)) (sym e)
@@ -214,9 +222,9 @@ text_of_first job ask k p empty b units ending is e = sink_is job ask k p empty 
 -- a read failed
 
 pub works_unread : (job : Job) (ask : Ask) (source sink : ℕ) (empty : Bool) (n : ℕ) (p : PrinterState) (units : Log) (r s t : Seen) → IsJobPrinter job ask sink p → Touches (source ∷ []) (sink ∷ []) [] [] s t → n ≡ length units
-    → HasBegun job source sink empty (head_text job empty) r s → FailedAfter source s t units → AddedSome (λ text. text ≡ due p units false) p.sink s t
+    → HasBegun job source sink empty (head_text job empty) r s → FailedAfter source s t units → AddedSome (λ text. text ≡ due p units false) p.sink s t → IsOpen p units
     → WorksFor ask (Work job) (Some (ReadFault (file_of job))) (Counted n 1) r t
-works_unread job ask source sink empty n p units r s t is touched count begun stop added =
+works_unread job ask source sink empty n p units r s t is touched count begun stop added fewer =
     works_by job ask (ReadFault (file_of job)) (Counted n 1) r t
     (inl (sym (source_name (file_of job))), omega (arith, begun.counts.each Reading (file_of job), stop.rose.each (file_of job) begun.reads))
     (inl (sym (source_name (file_of job))), run_began job source sink empty n r s t begun touched)
@@ -227,7 +235,7 @@ works_unread job ask source sink empty n p units r s t is touched count begun st
       ending = Faulted (ReadFault (file_of job));
       is_run = (first.0, refl, first.1);
       is_ending = refl;
-      takes = inr (n, first.0, first.1);
+      takes = inr ((n, first.0, first.1), fills_is job ask sink p units is ∙ fewer.all);
       reads_once = each_one (λ o. ReadsOnce (Faulted (ReadFault (file_of job))) o input (run_of input.sink_empty units) r t) (source_of job)
           (inr (stop.given.taken, stop.holds, took job source sink empty r s t stop.given.taken input begun touched stop.given.took is_input));
       sinks = each_one (λ o. SinkGained (IsDue (Work job) ask input (run_of input.sink_empty units) (Faulted (ReadFault (file_of job)))) o r t) (sink_of job) (sink_gained job ask source sink empty p r s t begun is touched
@@ -242,22 +250,22 @@ large_class name = refl
 -- the source stopped, but for want of memory
 
 stopped_by : (job : Job) (ask : Ask) (source sink : ℕ) (empty : Bool) (fault : SourceFault) (n : ℕ) (p : PrinterState) (units : Log) (r s t : Seen) → IsJobPrinter job ask sink p → Touches (source ∷ []) (sink ∷ []) [] [] s t → fault ≢ source_faults.NoMemory
-    → n ≡ length units → StoppedSo source fault s t units → AddedSome (λ text. text ≡ due p units false) p.sink s t → HasBegun job source sink empty (head_text job empty) r s → WorksFor ask (Work job) (Some (fault_as (file_of job) fault)) (Counted n 1) r t
-stopped_by job ask source sink empty (source_faults.NotALog at) n p units r s t is touched some count stop added begun =
-    works_ended job ask source sink empty n p units (file.NotALog at) (NotALog (file_of job) at) r s t is touched count refl refl begun stop added
-stopped_by job ask source sink empty (source_faults.Damaged at) n p units r s t is touched some count stop added begun =
-    works_ended job ask source sink empty n p units (file.Damaged at) (Damaged (file_of job) at) r s t is touched count refl refl begun stop added
-stopped_by job ask source sink empty source_faults.TooLarge n p units r s t is touched some count stop added begun =
-    works_ended job ask source sink empty n p units file.TooLarge (TooLarge (file_of job) most_bytes) r s t is touched count (large_class (file_of job)) refl begun stop added
-stopped_by job ask source sink empty source_faults.ReadFault n p units r s t is touched some count stop added begun = works_unread job ask source sink empty n p units r s t is touched count begun stop added
-stopped_by job ask source sink empty source_faults.NoMemory n p units r s t is touched some count stop added begun = absurd (some refl)
+    → n ≡ length units → StoppedSo source fault s t units → AddedSome (λ text. text ≡ due p units false) p.sink s t → IsOpen p units → HasBegun job source sink empty (head_text job empty) r s → WorksFor ask (Work job) (Some (fault_as (file_of job) fault)) (Counted n 1) r t
+stopped_by job ask source sink empty (source_faults.NotALog at) n p units r s t is touched some count stop added fewer begun =
+    works_ended job ask source sink empty n p units (file.NotALog at) (NotALog (file_of job) at) r s t is touched count refl refl begun stop added fewer
+stopped_by job ask source sink empty (source_faults.Damaged at) n p units r s t is touched some count stop added fewer begun =
+    works_ended job ask source sink empty n p units (file.Damaged at) (Damaged (file_of job) at) r s t is touched count refl refl begun stop added fewer
+stopped_by job ask source sink empty source_faults.TooLarge n p units r s t is touched some count stop added fewer begun =
+    works_ended job ask source sink empty n p units file.TooLarge (TooLarge (file_of job) most_bytes) r s t is touched count (large_class (file_of job)) refl begun stop added fewer
+stopped_by job ask source sink empty source_faults.ReadFault n p units r s t is touched some count stop added fewer begun = works_unread job ask source sink empty n p units r s t is touched count begun stop added fewer
+stopped_by job ask source sink empty source_faults.NoMemory n p units r s t is touched some count stop added fewer begun = absurd (some refl)
 
 pub works_stopped : (job : Job) (ask : Ask) (source sink : ℕ) (empty : Bool) (start now : LogFile) (fault : SourceFault) (name : List ℕ) (f : ToolFault) (n : ℕ) (p : PrinterState) (r s t : Seen) → start.reader.handle ≡ source → IsJobPrinter job ask sink p
     → Touches (source ∷ []) (sink ∷ []) [] [] s t → name ≡ file_of job → f ≡ fault_as name fault → fault ≢ source_faults.NoMemory
     → RanUntil (BySource fault n) (GaveUnits start now s t) (λ why units. StoppedSo start.reader.handle why s t units) p s t → HasBegun job source sink empty (head_text job empty) r s → WorksFor ask (Work job) (Some f) (Counted n 1) r t
 works_stopped job ask source sink empty start now fault name f n p r s t handle is touched named e some ran begun =
     subst (λ (x : ToolFault). WorksFor ask (Work job) (Some x) (Counted n 1) r t) (sym (e ∙ ap (λ (x : List ℕ). fault_as x fault) named))
-    (stopped_by job ask source sink empty fault n p ran.units r s t is touched some ran.count (subst (λ (h : ℕ). StoppedSo h fault s t ran.units) handle ran.given) ran.gains begun)
+    (stopped_by job ask source sink empty fault n p ran.units r s t is touched some ran.count (subst (λ (h : ℕ). StoppedSo h fault s t ran.units) handle ran.given) ran.gains ran.cut begun)
 
 -- a write failed
 
@@ -306,7 +314,7 @@ works_unwritten job ask source sink empty start now name n p r s t handle is tou
       ending = Faulted fault;
       is_run = (first.0, refl, first.1);
       is_ending = refl;
-      takes = (n, first.0, first.1);
+      takes = ((n, first.0, first.1), fills_is job ask sink p (take (length units - 1) units) is ∙ run.cut);
       reads_once = each_one (λ o. ReadsOnce (Faulted fault) o input (run_of input.sink_empty units) r t) (source_of job)
           (run.given.taken, ahead now.reader run.given.taken units run.given.represents, took job source sink empty r s t run.given.taken input begun touched (subst (λ (h : ℕ). TookFrom h run.given.taken s t) handle run.given.took) is_input);
       sinks = each_one (λ o. SinkGained (IsDue (Work job) ask input (run_of input.sink_empty units) (Faulted fault)) o r t) (sink_of job) (sink_gained job ask source sink empty p r s t begun is touched
@@ -318,3 +326,34 @@ works_unwritten job ask source sink empty start now name n p r s t handle is tou
                 (given_some job source sink empty ran.1.0 start now r s t units input handle begun run.given is_input)))),
           )) run.gains);
     })
+
+-- the last group that is kept was written
+
+works_kept : (job : Job) (ask : Ask) (source sink : ℕ) (empty : Bool) (start now : LogFile) (n : ℕ) (p : PrinterState) (r s t : Seen) → start.reader.handle ≡ source → IsJobPrinter job ask sink p
+    → Touches (source ∷ []) (sink ∷ []) [] [] s t → RanToKept (GaveUnits start now s t) p n s t → HasBegun job source sink empty (head_text job empty) r s → WorksFor ask (Work job) None (Counted n 1) r t
+works_kept job ask source sink empty start now n p r s t handle is touched run begun = record {
+  causes = λ f e. absurd cc;
+  leaves = run_began job source sink empty n r s t begun touched;
+  writes = λ input is_input.
+      let same = begun.begins input.sink_empty is_input.2 in
+      let units = run.units in
+      let gave = gave_as_first start now source s t units false handle run.given in
+      let first = first_taken n units input.units input.sink_empty run.count (given_first job source sink empty r s t units input begun gave is_input) in record {
+        run = run_of input.sink_empty units;
+        ending = Kept;
+        is_run = (first.0, refl, first.1);
+        is_ending = refl;
+        takes = ((n, first.0, first.1), fills_is job ask sink p units is ∙ run.cut.all, fills_is job ask sink p (take (length units - 1) units) is ∙ run.cut.first);
+        reads_once = each_one (λ o. ReadsOnce Kept o input (run_of input.sink_empty units) r t) (source_of job)
+            (run.given.taken, ahead now.reader run.given.taken units run.given.represents, took job source sink empty r s t run.given.taken input begun touched (subst (λ (h : ℕ). TookFrom h run.given.taken s t) handle run.given.took) is_input);
+        sinks = each_one (λ o. SinkGained (IsDue (Work job) ask input (run_of input.sink_empty units) Kept) o r t) (sink_of job) (sink_gained job ask source sink empty p r s t begun is touched
+            (λ text so. ap (λ (x : List ℕ). head_text job empty ++ x) so ∙ text_of_first job ask sink p empty input.sink_empty units Kept is same) run.gains);
+      };
+}
+
+-- the run ended, with the whole log or with the last group that is kept
+pub works_ran : (job : Job) (ask : Ask) (source sink : ℕ) (empty : Bool) (start now : LogFile) (n : ℕ) (p : PrinterState) (r s t : Seen) → start.reader.handle ≡ source → IsJobPrinter job ask sink p
+    → Touches (source ∷ []) (sink ∷ []) [] [] s t → RanToEnd (GaveUnits start now s t) p n s t ⊎ RanToKept (GaveUnits start now s t) p n s t → HasBegun job source sink empty (head_text job empty) r s
+    → WorksFor ask (Work job) None (Counted n 1) r t
+works_ran job ask source sink empty start now n p r s t handle is touched (inl ran) begun = works_whole job ask source sink empty start now n p r s t handle is touched ran begun
+works_ran job ask source sink empty start now n p r s t handle is touched (inr ran) begun = works_kept job ask source sink empty start now n p r s t handle is touched ran begun

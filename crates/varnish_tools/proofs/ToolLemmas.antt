@@ -16,7 +16,8 @@ use Rattle.vsl_record.specs.Unit.{Log}
 use Rattle.tool_words.specs.declared.job.Job.{Job}
 use Rattle.txn_rows.specs.Grouping.{groups_of}
 use Rattle.varnish_tools.specs.declared.fault.ToolFault.{ToolFault}
-use Rattle.varnish_tools.specs.declared.fault.ToolFault.TheVariants.{ReadFault}
+use Rattle.txn_rows.specs.declared.group.Group.{Group}
+use Rattle.varnish_tools.specs.declared.fault.ToolFault.TheVariants.{ReadFault, NotBuilt}
 use Rattle.varnish_tools.specs.declared.outcome.RunRecord.{RunRecord}
 use Rattle.varnish_tools.specs.declared.outcome.RunRecord.TheVariants.{Nothing, Counted}
 use Rattle.varnish_tools.specs.declared.outcome.Outcome.{Outcome}
@@ -25,11 +26,11 @@ use Rattle.varnish_tools.specs.Faults.{FaultClass, Refused, RefusedQuery, LongQu
 use Rattle.varnish_tools.specs.Objects.{Object, source_of, sink_of, inputs_of, sources_of, sinks_of, streams_of, query_files, name_of, calls_of, SinkGained, SinkUntouched, SinksGained, SinksUntouched, NothingTouched, GivesAtMost, TouchesJob}
 use Rattle.varnish_tools.specs.Queries.{Ask, is_asked, chosen}
 use Rattle.varnish_tools.specs.Run.{Run, Ending, Whole, Kept, Faulted, no_run, run_of, fault_of}
-use Rattle.varnish_tools.specs.Output.{head_text, laid_out, look_of, is_flushed, sink_text}
-use Rattle.varnish_tools.specs.Promise.{Input, SourceHolds, IsInput, Asks, AreGood, IsStoppedByQuery, TakesQueries, IsCounted, LeavesAll, WritesFor, IsGood, HasFailed, HasFailedInput, HasClassCause, HasCause, IsRunOf, TakesUntil, Takes, TookSome, ReadsOnceUntil, ReadsOnce, IsDueUntil, IsDue, LeavesUntil, LeavesSinks, SinksLeft, WritesError, WorksOff, WritesPrefix, IsFaithful, IsComplete, IsCutShort, NoFaultOf, whole_run, whole_text, is_whole}
+use Rattle.varnish_tools.specs.Output.{head_text, kept, is_filled, laid_out, look_of, is_flushed, sink_text}
+use Rattle.varnish_tools.specs.Promise.{Input, SourceHolds, IsInput, Asks, AreGood, IsStoppedByQuery, TakesQueries, IsCounted, LeavesAll, WritesFor, IsGood, HasFailed, HasFailedInput, HasClassCause, HasCause, IsRunOf, TakesUntil, Takes, TakesFirst, fills, TookSome, ReadsOnceUntil, ReadsOnce, IsDueUntil, IsDue, LeavesUntil, LeavesSinks, SinksLeft, WritesError, WorksOff, WritesPrefix, IsFaithful, IsComplete, IsCutShort, NoFaultOf, whole_run, whole_text, is_whole}
 use Rattle.varnish_tools.specs.inside.Report.{ReportsPart}
 use Rattle.varnish_tools.proofs.ObjectLemmas.{last_name, last_opened, IsSink, is_sink, IsSource, is_source, are_sources, untouched_until, gained_until, gained_so, took_until, error_no_sink, source_until, gives_still, gives_none}
-use Rattle.varnish_tools.proofs.PrinterLemmas.{due_first}
+use Rattle.varnish_tools.proofs.PrinterLemmas.{due_first, kept_first}
 use Rattle.varnish_tools.proofs.QueryLemmas.{taken_then}
 use Rattle.varnish_tools.proofs.TakenLemmas.{began_then, stopped_then, none_stopped}
 
@@ -48,7 +49,7 @@ works_refused f s e = record {
       ending = Faulted f;
       is_run = refl;
       is_ending = refl;
-      takes = subst (λ (c : FaultClass). TakesUntil c input no_run) (sym e) refl;
+      takes = subst (λ (c : FaultClass). TakesUntil c (Refuse f) None input no_run) (sym e) refl;
       reads_once = λ o one. absurd one;
       sinks = λ o one. absurd one;
     },
@@ -143,7 +144,7 @@ once_class (BadInput name) asked o input run s t u one streams touched told p = 
 
 once_until : (ending : Ending) (asked : Asked) (o : Object) (input : Input) (run : Run) (s t u : Seen) → IsOneOf o (inputs_of asked) → HasStreams s → TouchedBy asked s t → Told t u → ReadsOnce ending o input run s t → ReadsOnce ending o input run s u
 once_until Whole asked o input run s t u one streams touched told p = tt
-once_until Kept asked o input run s t u one streams touched told p = absurd p
+once_until Kept asked o input run s t u one streams touched told p = some_until _ asked o input s t u one streams touched told p
 once_until (Faulted f) asked o input run s t u one streams touched told p = once_class (class_of f) asked o input run s t u one streams touched told p
 
 queries_until : (job : Job) (fault : Option ToolFault) (recorded : RunRecord) (s t u : Seen) → HasStreams s → TouchedBy (Work job) s t → Told t u → TakesQueries job fault recorded s t → TakesQueries job fault recorded s u
@@ -181,8 +182,8 @@ prefix_until asked s t u streams touched told p = λ input is_input o one. elim 
 
 -- the text of a run of units without what follows it
 run_text : (job : Job) (ask : Ask) (empty : Bool) (units : Log) (ending : Ending)
-    → sink_text (Work job) ask (run_of empty units) ending ≡ head_text job empty ++ laid_out (look_of job) (chosen ask (groups_of (options_of job) units (is_flushed ending)))
-run_text job ask empty units ending = ap (λ (us : Log). head_text job empty ++ laid_out (look_of job) (chosen ask (groups_of (options_of job) us (is_flushed ending)))) (append-nil units)
+    → sink_text (Work job) ask (run_of empty units) ending ≡ head_text job empty ++ laid_out (look_of job) (kept job.keep (chosen ask (groups_of (options_of job) units (is_flushed ending))))
+run_text job ask empty units ending = ap (λ (us : Log). head_text job empty ++ laid_out (look_of job) (kept job.keep (chosen ask (groups_of (options_of job) us (is_flushed ending))))) (append-nil units)
 
 -- the text of the first units is a prefix
 first_prefix : (job : Job) (ask : Ask) (input : Input) (run : Run) (n : ℕ) (f : ToolFault) → run ≡ run_of input.sink_empty (take n input.units) → IsPrefix (sink_text (Work job) ask run (Faulted f)) (whole_text (Work job) ask input)
@@ -190,7 +191,7 @@ first_prefix job ask input run n f e = rw (e, run_text job ask input.sink_empty 
     (prefix_after (head_text job input.sink_empty) (due_first (look_of job) (is_asked ask) (options_of job) input.units n (is_whole input.file_ending)))
 
 whole_prefix : (job : Job) (ask : Ask) (input : Input) (run : Run) → is_whole input.file_ending ≡ true → run ≡ whole_run input → IsPrefix (sink_text (Work job) ask run Whole) (whole_text (Work job) ask input)
-whole_prefix job ask input run whole e = rw (e, run_text job ask input.sink_empty input.units Whole, whole) (prefix_same (head_text job input.sink_empty ++ laid_out (look_of job) (chosen ask (groups_of (options_of job) input.units true))))
+whole_prefix job ask input run whole e = rw (e, run_text job ask input.sink_empty input.units Whole, whole) (prefix_same (head_text job input.sink_empty ++ laid_out (look_of job) (kept job.keep (chosen ask (groups_of (options_of job) input.units true)))))
 
 both : (a b : Bool) → (a && b) ≡ true → (a ≡ true) × (b ≡ true)
 both true b e = (refl, e)
@@ -220,9 +221,9 @@ class_prefix (NotWritten name) job ask input run f n items s t text left is due 
 class_prefix (BadInput name) job ask input run f n items s t text left is due = rw due (first_prefix job ask input run n f is.2)
 
 due_is_prefix : (fault : Option ToolFault) (job : Job) (ask : Ask) (input : Input) (run : Run) (ending : Ending) (n items : ℕ) (s t : Seen) (text : List ℕ) → fault_of ending ≡ fault → LeavesSinks fault (Work job) (Counted n items) s t
-    → IsRunOf (Counted n items) input run → Takes input run ending → IsDue (Work job) ask input run ending text → IsPrefix text (whole_text (Work job) ask input)
+    → IsRunOf (Counted n items) input run → Takes (Work job) ask input run ending → IsDue (Work job) ask input run ending text → IsPrefix text (whole_text (Work job) ask input)
 due_is_prefix fault job ask input run Whole n items s t text e left is takes due = rw due (whole_prefix job ask input run (ap is_whole takes.0) takes.1)
-due_is_prefix fault job ask input run Kept n items s t text e left is takes due = absurd takes
+due_is_prefix fault job ask input run Kept n items s t text e left is takes due = rw due (first_prefix job ask input run n NotBuilt is.2)
 due_is_prefix fault job ask input run (Faulted f) n items s t text e left is takes due =
     class_prefix (class_of f) job ask input run f n items s t text (subst (λ (x : Option ToolFault). LeavesSinks x (Work job) (Counted n items) s t) (sym e) left) is due
 
@@ -302,13 +303,22 @@ no_fault : (job : Job) (input : Input) (fault : Option ToolFault) (s u : Seen) �
 no_fault job input None s u is_input clean good none causes = refl
 no_fault job input (Some f) s u is_input clean good none causes = absurd (no_cause job input f (class_of f) s u is_input clean good none (causes f refl))
 
+-- the text of the groups that are kept is that of the whole input
+kept_whole : (job : Job) (ask : Ask) (input : Input) (run : Run) → TakesFirst input run → fills (Work job) ask run.log ≡ true → sink_text (Work job) ask run Kept ≡ sink_text (Work job) ask (whole_run input) Whole
+kept_whole job ask input run first filled =
+    let all : is_filled job.keep (chosen ask (groups_of (options_of job) (take first.0 input.units) false)) ≡ true = subst (λ (r : Run). fills (Work job) ask r.log ≡ true) first.2 filled in
+    ap (λ (r : Run). sink_text (Work job) ask r Kept) first.2 ∙ run_text job ask input.sink_empty (take first.0 input.units) Kept
+    ∙ ap (λ (gs : List Group). head_text job input.sink_empty ++ laid_out (look_of job) gs) (sym (kept_first job.keep (is_asked ask) (options_of job) input.units first.0 true all))
+    ∙ sym (run_text job ask input.sink_empty input.units Whole)
+
 -- without a fault the text of the whole input was written
-whole_written : (recorded : RunRecord) (job : Job) (ask : Ask) (input : Input) (run : Run) (ending : Ending) (s u : Seen) → fault_of ending ≡ None → LeavesSinks None (Work job) recorded s u → Takes input run ending
+whole_written : (recorded : RunRecord) (job : Job) (ask : Ask) (input : Input) (run : Run) (ending : Ending) (s u : Seen) → fault_of ending ≡ None → LeavesSinks None (Work job) recorded s u → Takes (Work job) ask input run ending
     → SinksLeft recorded (IsDue (Work job) ask input run ending) (Work job) s u → SinksGained (λ text. text ≡ sink_text (Work job) ask (whole_run input) Whole) (Work job) s u
 whole_written Nothing job ask input run ending s u e left takes p = absurd left.0
 whole_written (Counted n items) job ask input run Whole s u e left takes p =
     subst (λ (r : Run). SinksGained (λ text. text ≡ sink_text (Work job) ask r Whole) (Work job) s u) takes.1 p
-whole_written (Counted n items) job ask input run Kept s u e left takes p = absurd takes
+whole_written (Counted n items) job ask input run Kept s u e left takes p =
+    subst (λ (text : List ℕ). SinksGained (λ x. x ≡ text) (Work job) s u) (kept_whole job ask input run takes.0 takes.1) p
 whole_written (Counted n items) job ask input run (Faulted f) s u e left takes p = absurd cc
 
 pub is_complete : (words : List (List ℕ)) (outcome : Outcome) (s u : Seen) → IsFaithful words outcome s u → IsComplete words outcome s u

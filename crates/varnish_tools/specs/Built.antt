@@ -1,5 +1,5 @@
 -- Which jobs are built (this project's choice).
-use Rattle.std.specs.Prelude.{◌&&◌, Bool, true, false, is_none, is_some}
+use Rattle.std.specs.Prelude.{◌&&◌, Bool, true, false, is_some}
 use Rattle.tool_words.specs.declared.job.Job.{Job}
 use Rattle.tool_words.specs.declared.job.Tool.{Tool}
 use Rattle.tool_words.specs.declared.job.Tool.TheVariants.{Log, Ncsa, Top, Stat}
@@ -11,6 +11,6 @@ is_built_tool Ncsa = false
 is_built_tool Top = false
 is_built_tool Stat = false
 
--- whether a job asks for nothing that isn't built: a log, and no number of groups
+-- whether a job asks for nothing that isn't built: it has a log
 abbrev pub is_built : Job → Bool
-is_built job = is_built_tool job.tool && is_some job.file && is_none job.keep
+is_built job = is_built_tool job.tool && is_some job.file

@@ -1,5 +1,5 @@
 -- What a job writes to its sink for a run and an ending (varnishlog(1)).
-use Rattle.std.specs.Prelude.{Bool, ℕ, true, false, ◌&&◌, not, is_some, if◌then◌else◌, List, [], ◌++◌, map}
+use Rattle.std.specs.Prelude.{Bool, ℕ, ◌-◌, true, false, ◌&&◌, not, nat_le, is_some, if◌then◌else◌, List, [], ◌++◌, map, length, take, Option, Some, None}
 use Rattle.std.specs.List.{flat_map}
 use Rattle.vsl_file.specs.File.{file_header, log_bytes}
 use Rattle.txn_rows.specs.declared.group.Group.{Group}
@@ -21,6 +21,21 @@ abbrev pub written : Layout → Bool → List Group → List ℕ
 written Lines verbose groups = flat_map (group_text verbose) groups
 written Units verbose groups = log_bytes (flat_map file_units groups)
 
+-- the first of some groups, at most as many as are kept; all where no number is given
+abbrev pub kept : Option ℕ → List Group → List Group
+kept None groups = groups
+kept (Some most) groups = take most groups
+
+-- how many are still kept after so many groups
+abbrev pub left_after : Option ℕ → ℕ → Option ℕ
+left_after None count = None
+left_after (Some most) count = Some (most - count)
+
+-- whether some groups are as many as are kept
+abbrev pub is_filled : Option ℕ → List Group → Bool
+is_filled None groups = false
+is_filled (Some most) groups = nat_le most (length groups)
+
 -- what groups look like: what of them is shown, as it is written
 abbrev pub laid_out : Look → List Group → List ℕ
 laid_out look groups = written look.layout look.verbose (map (shown look.selection) groups)
@@ -39,7 +54,7 @@ showing_of job = record { sides = job.sides; rules = job.rules; caseless = job.c
 
 -- what groups look like in what a job writes
 abbrev pub look_of : Job → Look
-look_of job = record { layout = layout_of job; verbose = job.verbose; selection = showing_of job }
+look_of job = record { layout = layout_of job; verbose = job.verbose; selection = showing_of job; keep = job.keep }
 
 -- what a sink gains before any group: a log file that was empty begins with its header
 abbrev pub head_text : Job → Bool → List ℕ
@@ -52,8 +67,8 @@ is_flushed Kept = false
 is_flushed (Faulted fault) = false
 
 -- the text for the sink: the header where one is due, and of the groups of the units that were taken those that are asked for, in the order in which they are
--- complete; refused words have none
+-- complete, at most as many as are kept; refused words have none
 abbrev pub sink_text : Asked → Ask → Run → Ending → List ℕ
 sink_text (Refuse fault) ask run ending = []
 sink_text (Work job) ask run ending =
-    head_text job run.sink_empty ++ laid_out (look_of job) (chosen ask (groups_of (options_of job) (taken_units run.history) (is_flushed ending)))
+    head_text job run.sink_empty ++ laid_out (look_of job) (kept job.keep (chosen ask (groups_of (options_of job) (taken_units run.history) (is_flushed ending))))

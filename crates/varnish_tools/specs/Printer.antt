@@ -1,5 +1,5 @@
 -- What a printer represents: the units that it was given, whose text is due at its sink (this project's choice).
-use Rattle.std.specs.Prelude.{◌≡◌, ℕ, Bool, false, List, filter}
+use Rattle.std.specs.Prelude.{◌≡◌, ℕ, Bool, false, List, filter, length, Option, None, Some, ◌==◌}
 use Rattle.log_model.specs.Faults.{HasNewFault}
 use Rattle.log_model.specs.Prefix.{IsPrefix, IsProperPrefix}
 use Rattle.vio.specs.World.{Seen, Writing}
@@ -15,36 +15,47 @@ use Rattle.varnish_tools.specs.declared.printer.PrintFault.{PrintFault}
 use Rattle.varnish_tools.specs.declared.printer.Printer.{Printer}
 use Rattle.varnish_tools.specs.declared.printer.PrintFault.TheVariants.{WriteFault, NoMemory}
 use Rattle.varnish_tools.specs.declared.layout.Look.{Look}
-use Rattle.varnish_tools.specs.Output.{laid_out}
+use Rattle.varnish_tools.specs.Output.{laid_out, kept, left_after, is_filled}
 
--- what a printer tells: the table of what is pending, what groups look like, the query that they are asked, and the handle of its sink and the name that faults give it
+-- what a printer tells: the table of what is pending, what groups look like, the query that they are asked, how many of them are still kept, and the handle of its sink and the name that faults give it
 pub record PrinterState : Type 0 where
   pub table : TableState
   pub look : Look
   pub query : Query
+  pub left : Option ℕ
   pub sink : ℕ
   pub name : List ℕ
 
 -- what a printer tells
 abbrev pub printer_state : Printer → PrinterState
-printer_state p = record { table = p.table; look = p.style.look.now; query = asker_query p.style.asker; sink = p.sink.handle; name = p.sink.name }
-
--- the printer was given these units, and no call was refused
-pub record Represents (p : PrinterState) (units : Log) : Type 0 where
-  pub state : p.table.state ≡ (unit_steps p.table.options units no_state).state
-  pub sound : p.table.failed ≡ false
+printer_state p = record { table = p.table; look = p.style.look.now; query = asker_query p.style.asker; left = p.style.left; sink = p.sink.handle; name = p.sink.name }
 
 -- the groups for which a query holds, in their order
 abbrev pub held_groups : Query → List Group → List Group
 held_groups query groups = filter (is_held query) groups
 
--- the text that is due for these units, where they have ended or not: that of the groups for which the query holds
+-- the printer was given these units, and no call was refused
+pub record Represents (p : PrinterState) (units : Log) : Type 0 where
+  pub state : p.table.state ≡ (unit_steps p.table.options units no_state).state
+  pub sound : p.table.failed ≡ false
+  pub left : p.left ≡ left_after p.look.keep (length (held_groups p.query (groups_of p.table.options units false)))
+
+-- the text that is due for these units, where they have ended or not: that of the groups for which the query holds, at most as many as are kept
 abbrev pub due_text : Look → Query → GroupOptions → Log → Bool → List ℕ
-due_text look query options units ended = laid_out look (held_groups query (groups_of options units ended))
+due_text look query options units ended = laid_out look (kept look.keep (held_groups query (groups_of options units ended)))
 
 -- the text that is due at a printer's sink for these units, where they have ended or not
 abbrev pub due : PrinterState → Log → Bool → List ℕ
 due p units ended = due_text p.look p.query p.table.options units ended
+
+-- whether none is still kept
+abbrev pub is_nothing_left : Option ℕ → Bool
+is_nothing_left None = false
+is_nothing_left (Some left) = left == 0
+
+-- the groups of these units for which the query holds are as many as are kept
+abbrev pub has_all : PrinterState → Log → Bool
+has_all p units = is_filled p.look.keep (held_groups p.query (groups_of p.table.options units false))
 
 -- a call keeps options, look, query and sink
 pub record IsSamePrinter (old new : PrinterState) : Type 0 where

@@ -22,7 +22,7 @@ use Rattle.varnish_tools.specs.Objects.{Object, OpenedFile, CreatedFile, Stream,
 use Rattle.varnish_tools.specs.Queries.{Ask, AreAsked, chosen, TextsHold, texts_fault}
 use Rattle.varnish_tools.specs.QueryFiles.{AreTaken, StoppedByQuery}
 use Rattle.varnish_tools.specs.Run.{Run, Ending, Whole, Kept, Faulted, fault_of, no_run, run_of}
-use Rattle.varnish_tools.specs.Output.{head_text, laid_out, look_of, sink_text}
+use Rattle.varnish_tools.specs.Output.{head_text, kept, is_filled, laid_out, look_of, sink_text}
 
 -- what the sources of a job hold, and whether its sink has no bytes when it is created
 pub record Input : Type 0 where
@@ -119,7 +119,7 @@ whole_run input = run_of input.sink_empty input.units
 abbrev pub whole_text : Asked → Ask → Input → List ℕ
 whole_text (Refuse fault) ask input = []
 whole_text (Work job) ask input =
-    head_text job input.sink_empty ++ laid_out (look_of job) (chosen ask (groups_of (options_of job) input.units (is_whole input.file_ending)))
+    head_text job input.sink_empty ++ laid_out (look_of job) (kept job.keep (chosen ask (groups_of (options_of job) input.units (is_whole input.file_ending))))
 
 -- the record of a run over an input: it takes so many units, from the first on, without a gap; or nothing
 abbrev pub IsRunOf : RunRecord → Input → Run → Type 0
@@ -130,21 +130,30 @@ IsRunOf (Counted units items) input run = (units ≤ length input.units) × (ite
 abbrev pub TakesFirst : Input → Run → Type 0
 TakesFirst input run = (n : ℕ) × (n ≤ length input.units) × (run ≡ run_of input.sink_empty (take n input.units))
 
--- what a run takes of its input until a fault of a class; a read may have failed before the run began
-abbrev pub TakesUntil : FaultClass → Input → Run → Type 0
-TakesUntil Refused input run = run ≡ no_run
-TakesUntil RefusedQuery input run = run ≡ no_run
-TakesUntil LongQuery input run = run ≡ no_run
-TakesUntil (NotOpened name) input run = run ≡ no_run
-TakesUntil (NotRead name) input run = (run ≡ no_run) ⊎ TakesFirst input run
-TakesUntil (NotWritten name) input run = TakesFirst input run
-TakesUntil (BadInput name) input run = run ≡ whole_run input
+-- whether the groups that units complete and that are asked for are as many as are kept
+abbrev pub fills : Asked → Ask → Log → Bool
+fills (Refuse fault) ask units = false
+fills (Work job) ask units = is_filled job.keep (chosen ask (groups_of (options_of job) units false))
 
--- what a run takes of its input, by how it ends
-abbrev pub Takes : Input → Run → Ending → Type 0
-Takes input run Whole = IsGood input × (run ≡ whole_run input)
-Takes input run Kept = ⊥
-Takes input run (Faulted fault) = TakesUntil (class_of fault) input run
+-- the run without the last unit that it took
+abbrev pub without_last : Run → Run
+without_last run = run_of run.sink_empty (take (length run.log - 1) run.log)
+
+-- what a run takes of its input until a fault of a class, which comes before all groups that are kept are complete; a read may have failed before the run began
+abbrev pub TakesUntil : FaultClass → Asked → Ask → Input → Run → Type 0
+TakesUntil Refused asked ask input run = run ≡ no_run
+TakesUntil RefusedQuery asked ask input run = run ≡ no_run
+TakesUntil LongQuery asked ask input run = run ≡ no_run
+TakesUntil (NotOpened name) asked ask input run = run ≡ no_run
+TakesUntil (NotRead name) asked ask input run = (run ≡ no_run) ⊎ (TakesFirst input run × (fills asked ask run.log ≡ false))
+TakesUntil (NotWritten name) asked ask input run = TakesFirst input run × (fills asked ask (without_last run).log ≡ false)
+TakesUntil (BadInput name) asked ask input run = (run ≡ whole_run input) × (fills asked ask run.log ≡ false)
+
+-- what a run takes of its input, by how it ends: all of a whole log; or the first units, up to the one that completes the last group that is kept
+abbrev pub Takes : Asked → Ask → Input → Run → Ending → Type 0
+Takes asked ask input run Whole = IsGood input × (run ≡ whole_run input) × (fills asked ask run.log ≡ false)
+Takes asked ask input run Kept = TakesFirst input run × (fills asked ask run.log ≡ true) × (fills asked ask (without_last run).log ≡ false)
+Takes asked ask input run (Faulted fault) = TakesUntil (class_of fault) asked ask input run
 
 -- the first bytes of a source were taken, and the rest is left
 pub record Took (source : Object) (bytes taken : List ℕ) (before now : Seen) : Type 0 where
@@ -158,27 +167,26 @@ pub record Took (source : Object) (bytes taken : List ℕ) (before now : Seen) :
 abbrev pub TookSome : (List ℕ → Type 0) → Object → Input → Seen → Seen → Type 0
 TookSome IsSo source input before now = (taken : List ℕ) × IsSo taken × Took source input.bytes taken before now
 
+-- the bytes that were taken are fewer than 65,536 past the end of the last unit that was taken, or past the header
+abbrev pub TakesFew : Object → Input → Run → Seen → Seen → Type 0
+TakesFew source input run before now = TookSome (λ taken. length taken < length (file_header ++ log_bytes run.log) + 65536) source input before now
+
 -- one pass, until a fault of a class: after a failed read of a run, the units that were taken are all that lie whole in the bytes that were taken; after a
--- failed write, these are fewer than 65,536 past the end of the last unit that was taken, or past the header
+-- failed write few bytes were taken past them
 abbrev pub ReadsOnceUntil : FaultClass → Object → Input → Run → Seen → Seen → Type 0
 ReadsOnceUntil Refused source input run before now = Unit {0}
 ReadsOnceUntil RefusedQuery source input run before now = Unit {0}
 ReadsOnceUntil LongQuery source input run before now = Unit {0}
 ReadsOnceUntil (NotOpened name) source input run before now = Unit {0}
 ReadsOnceUntil (NotRead name) source input run before now = (run ≡ no_run) ⊎ TookSome (λ taken. HoldsWhole taken run.log) source input before now
-ReadsOnceUntil (NotWritten name) source input run before now =
-    TookSome (λ taken. length taken < length (file_header ++ log_bytes run.log) + 65536) source input before now
+ReadsOnceUntil (NotWritten name) source input run before now = TakesFew source input run before now
 ReadsOnceUntil (BadInput name) source input run before now = Unit {0}
 
--- one pass, by how the run ends
+-- one pass, by how the run ends: few bytes were taken past the unit that completed the last group that is kept
 abbrev pub ReadsOnce : Ending → Object → Input → Run → Seen → Seen → Type 0
 ReadsOnce Whole source input run before now = Unit {0}
-ReadsOnce Kept source input run before now = ⊥
+ReadsOnce Kept source input run before now = TakesFew source input run before now
 ReadsOnce (Faulted fault) source input run before now = ReadsOnceUntil (class_of fault) source input run before now
-
--- the run without the last unit that it took
-abbrev pub without_last : Run → Run
-without_last run = run_of run.sink_empty (take (length run.log - 1) run.log)
 
 -- the ending of the text whose write failed: whole where the run took all units of a whole input
 abbrev pub ending_begun : Input → Run → Ending → Ending
@@ -242,7 +250,7 @@ pub record WritesFor (ask : Ask) (asked : Asked) (input : Input) (fault : Option
   pub ending : Ending
   pub is_run : IsRunOf recorded input run
   pub is_ending : fault_of ending ≡ fault
-  pub takes : Takes input run ending
+  pub takes : Takes asked ask input run ending
   pub reads_once : (source : Object) → IsOneOf source (inputs_of asked) → ReadsOnce ending source input run before now
   pub sinks : SinksLeft recorded (IsDue asked ask input run ending) asked before now
 

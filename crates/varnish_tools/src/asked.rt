@@ -1,12 +1,12 @@
 //! What the words of a command line ask for.
 
-ghost use Rattle.std.specs.Prelude.{◌≡◌, ◌≢◌, map, Some, IfOk, OnOk, MatchResult, IfErr};
+ghost use Rattle.std.specs.Prelude.{◌≡◌, ◌≢◌, [], false, map, Some, IfOk, OnOk, MatchResult, IfErr};
 ghost use Rattle.std.specs.String.{string_bytes};
 ghost use Rattle.vsl_select.specs.Shown.{rules_fault};
 ghost use Rattle.varnish_tools.specs.Asked.{Refuse, Work, asked_by_rules, asked_of, options_of, file_of, write_of};
 ghost use Rattle.varnish_tools.specs.Faults.{Refused, class_of};
 ghost use Rattle.varnish_tools.specs.Built.{is_built, is_built_tool};
-ghost use Rattle.varnish_tools.specs.Output.{layout_of, look_of, writes_log};
+ghost use Rattle.varnish_tools.specs.Output.{is_filled, layout_of, look_of, writes_log};
 
 use crate::fault::ToolFault;
 use crate::layout::{Layout, Look};
@@ -32,7 +32,7 @@ fn has_tool(tool: Tool) -> bool
 fn is_built_job(job: &Job) -> bool
     ensures { result ≡ is_built job.now }
 {
-    has_tool(job.tool) && job.file.is_some() && job.keep.is_none()
+    has_tool(job.tool) && job.file.is_some()
 }
 
 /// How a job groups records.
@@ -128,6 +128,7 @@ fn task_of(alloc: Global, job: Job) -> Result<Result<Task, ToolFault>, NoMemory>
     ensures asked { IfOk result (λ r. MatchResult r
         (λ task. (asked_by_rules job (rules_fault job.caseless job.rules) ≡ Work task.job) × (task.look ≡ look_of task.job))
         (λ fault. asked_by_rules job (rules_fault job.caseless job.rules) ≡ Refuse fault)) }
+    ensures same { IfOk result (λ r. IfOk r (λ task. task.job.keep ≡ job.keep)) }
     ensures refused { IfOk result (λ r. IfErr r (λ fault. class_of fault ≡ Refused)) }
 {
     let rules = rules_of(alloc, &job)?;
@@ -140,6 +141,7 @@ fn task_of(alloc: Global, job: Job) -> Result<Result<Task, ToolFault>, NoMemory>
                 layout: layout_of(&job),
                 verbose: job.verbose,
                 selection,
+                keep: job.keep,
             };
             Ok(Ok(Task { job, look }))
         }
@@ -152,6 +154,7 @@ pub fn read_task(alloc: Global, words: &[String]) -> Result<Result<Task, ToolFau
     ensures asked { IfOk result (λ r. MatchResult r
         (λ task. (asked_of (map string_bytes words.now) ≡ Work task.job) × (task.look ≡ look_of task.job))
         (λ fault. asked_of (map string_bytes words.now) ≡ Refuse fault)) }
+    ensures keeps { IfOk result (λ r. IfOk r (λ task. is_filled task.job.keep [] ≡ false)) }
     ensures refused { IfOk result (λ r. IfErr r (λ fault. class_of fault ≡ Refused)) }
 {
     match read_words(alloc, words) {

@@ -1,12 +1,12 @@
 //! A run over a log: it is opened, what is written is created, and the groups of its units are written.
 
-ghost use Rattle.std.specs.Prelude.{◌≡◌, ◌≢◌, [], ◌∷◌, ◌++◌, length, Bool, true, IsTrue, IfOk, OnOk, OnErr};
+ghost use Rattle.std.specs.Prelude.{◌≡◌, ◌≢◌, [], false, ◌∷◌, ◌++◌, length, Bool, true, IsTrue, IfOk, OnOk, OnErr};
 ghost use Rattle.vio.specs.World.{Seen, Writing, HasStreams};
 ghost use Rattle.vio.specs.Touches.{Touches};
 ghost use Rattle.varnish_tools.specs.Asked.{Work, file_of, write_of};
 ghost use Rattle.varnish_tools.specs.Objects.{GivesAtMost, created_of, opened_of, source_of, streams_of, sink_of};
-ghost use Rattle.varnish_tools.specs.Output.{head_text, look_of};
-ghost use Rattle.varnish_tools.specs.Printer.{IsSink, Represents, printer_state};
+ghost use Rattle.varnish_tools.specs.Output.{head_text, is_filled, look_of};
+ghost use Rattle.varnish_tools.specs.Printer.{IsSink, Represents, has_all, printer_state};
 ghost use Rattle.varnish_tools.specs.Queries.{Ask};
 ghost use Rattle.varnish_tools.specs.inside.Works.{WorksFor, PrefixFor};
 ghost use Rattle.varnish_tools.specs.inside.LogFile.{HasBegun, HoldsAsAsked, IsJobPrinter, SourceOpened, fault_as};
@@ -52,6 +52,7 @@ fn job_printer<'q>(
     requires look { look.now ≡ look_of job.now }
     ensures sink { IfOk result (λ p. IsSink sink (write_of job.now) (printer_state p).sink (printer_state p).name) }
     ensures none { IfOk result (λ p. Represents (printer_state p) []) }
+    ensures kept { IfOk result (λ p. has_all (printer_state p) [] ≡ is_filled job.now.keep []) }
     ensures asked { IfOk result (λ p. (ask : Ask) → HoldsAsAsked query.now ask → IsJobPrinter job.now ask sink (printer_state p)) }
 {
     let name = Text::new(alloc, written_name(job))?;
@@ -88,6 +89,7 @@ fn print_log<W: World>(
     world: &mut W,
 ) -> Result<Ran, NoMemory>
     requires look { look.now ≡ look_of job.now }
+    requires keeps { is_filled job.now.keep [] ≡ false }
     requires named { IsTrue ((W.seen world.old).names Writing sink (write_of job.now)) }
     requires given { (W.seen world.old).given sink ≡ true }
     ensures touches { Touches (source ∷ []) (sink ∷ []) [] [] (W.seen world.old) (W.seen world.new) }
@@ -123,6 +125,7 @@ fn print_created<W: World>(
     world: &mut W,
 ) -> Result<Ran, NoMemory>
     requires look { look.now ≡ look_of job.now }
+    requires keeps { is_filled job.now.keep [] ≡ false }
     requires named { IsTrue ((W.seen world.old).names Writing sink.handle (write_of job.now)) }
     requires given { (W.seen world.old).given sink.handle ≡ true }
     ensures touches { Touches (source ∷ []) (sink.handle ∷ []) [] [] (W.seen world.old) (W.seen world.new) }
@@ -148,6 +151,7 @@ fn print_opened<W: World>(
     world: &mut W,
 ) -> Result<Ran, NoMemory>
     requires look { look.now ≡ look_of job.now }
+    requires keeps { is_filled job.now.keep [] ≡ false }
     ensures touches { Touches (source ∷ []) (streams_of (sink_of job.now ∷ [])) [] (created_of (sink_of job.now ∷ [])) (W.seen world.old) (W.seen world.new) }
     ensures handles { GivesAtMost (length (created_of (sink_of job.now ∷ []))) (W.seen world.old) (W.seen world.new) }
     ensures prefix { OnErr result ((ask : Ask) (before : Seen) → HoldsAsAsked query.now ask → HasStreams before → SourceOpened (source_of job.now) source before (W.seen world.old) → PrefixFor ask (Work job.now) before (W.seen world.new)) }
@@ -170,6 +174,7 @@ pub fn run_job<W: World>(
     world: &mut W,
 ) -> Result<Ran, NoMemory>
     requires look { look.now ≡ look_of job.now }
+    requires keeps { is_filled job.now.keep [] ≡ false }
     ensures touches { Touches (streams_of (source_of job.now ∷ [])) (streams_of (sink_of job.now ∷ [])) (opened_of (source_of job.now ∷ [])) (created_of (sink_of job.now ∷ [])) (W.seen world.old) (W.seen world.new) }
     ensures handles { GivesAtMost (length (opened_of (source_of job.now ∷ []) ++ created_of (sink_of job.now ∷ []))) (W.seen world.old) (W.seen world.new) }
     ensures prefix { OnErr result ((ask : Ask) → HoldsAsAsked query.now ask → PrefixFor ask (Work job.now) (W.seen world.old) (W.seen world.new)) }

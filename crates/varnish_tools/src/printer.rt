@@ -6,8 +6,8 @@ ghost use Rattle.vio.specs.World.{Writing, Wrote};
 ghost use Rattle.vio.specs.Writes.{WroteOn};
 ghost use Rattle.vsl_record.specs.Unit.{Log};
 ghost use Rattle.query_eval.specs.Asker.{asker_query};
-ghost use Rattle.varnish_tools.specs.Output.{laid_out};
-ghost use Rattle.varnish_tools.specs.Printer.{held_groups, printer_state, Represents, IsSamePrinter, HasPrintCause, IsLeft, due, IsSink};
+ghost use Rattle.varnish_tools.specs.Output.{laid_out, kept};
+ghost use Rattle.varnish_tools.specs.Printer.{held_groups, is_nothing_left, printer_state, Represents, IsSamePrinter, HasPrintCause, IsLeft, due, IsSink};
 ghost use Rattle.varnish_tools.specs.inside.Printing.{PutUnit};
 
 use crate::layout::{Layout, Look, Style, put_groups};
@@ -58,7 +58,7 @@ fn put_grouped(
     style: &mut Style<'_>,
     unit: &Unit,
 ) -> Result<(), NoMemory>
-    ensures ok { OnOk result (PutUnit style.old.look.now (asker_query style.old.asker) unit.now table.old table.new out.old.items out.new.items) }
+    ensures ok { OnOk result (PutUnit style.old.look.now (asker_query style.old.asker) unit.now table.old table.new style.old.left style.new.left out.old.items out.new.items) }
     ensures options { table.new.options ≡ table.old.options }
     ensures look { style.new.look ≡ style.old.look }
     ensures query { asker_query style.new.asker ≡ asker_query style.old.asker }
@@ -76,12 +76,14 @@ fn put_unit(
     style: &mut Style<'_>,
     unit: &Unit,
 ) -> Result<(), NoMemory>
-    ensures ok { OnOk result (PutUnit style.old.look.now (asker_query style.old.asker) unit.now table.old table.new out.old.items out.new.items) }
+    ensures ok { OnOk result (PutUnit style.old.look.now (asker_query style.old.asker) unit.now table.old table.new style.old.left style.new.left out.old.items out.new.items) }
     ensures options { table.new.options ≡ table.old.options }
     ensures look { style.new.look ≡ style.old.look }
     ensures query { asker_query style.new.asker ≡ asker_query style.old.asker }
 {
-    let shows_all = style.asker.always() && style.look.selection.shows_everything();
+    let shows_all = style.left.is_none()
+        && style.asker.always()
+        && style.look.selection.shows_everything();
     match (table.grouping(), style.look.layout, shows_all) {
         (Grouping::Raw, Layout::Lines, true) => raw_lines(unit, out),
         _ => put_grouped(out, table, groups, style, unit),
@@ -117,8 +119,8 @@ fn print_groups<W: World>(
     ensures same { IsSink sink.old.handle sink.old.name sink.new.handle sink.new.name }
     ensures look { style.new.look ≡ style.old.look }
     ensures query { asker_query style.new.asker ≡ asker_query style.old.asker }
-    ensures ok { OnOk result (Wrote sink.old.handle (laid_out style.old.look.now (held_groups (asker_query style.old.asker) groups.now)) (W.seen world.old) (W.seen world.new)) }
-    ensures refused { IfErr result (λ f. WroteOn sink.old.handle [] (IsLeft f (laid_out style.old.look.now (held_groups (asker_query style.old.asker) groups.now))) (W.seen world.old) (W.seen world.new)) }
+    ensures ok { OnOk result (Wrote sink.old.handle (laid_out style.old.look.now (kept style.old.left (held_groups (asker_query style.old.asker) groups.now))) (W.seen world.old) (W.seen world.new)) }
+    ensures refused { IfErr result (λ f. WroteOn sink.old.handle [] (IsLeft f (laid_out style.old.look.now (kept style.old.left (held_groups (asker_query style.old.asker) groups.now)))) (W.seen world.old) (W.seen world.new)) }
     ensures cause { IfErr result (λ f. HasPrintCause f sink.old.name (W.seen world.old) (W.seen world.new)) }
 {
     sink.text.clear();
@@ -126,7 +128,8 @@ fn print_groups<W: World>(
     print_text(world, sink)
 }
 
-/// Groups units, and writes the text of each group for which the query holds when it is complete. Contracts see the table
+/// Groups units, and writes the text of each group for which the query holds when it is complete, at most as many as the look
+/// keeps. Contracts see the table
 /// of what is pending, the look and the query, which it borrows, and the sink; every list of units that it represents has a
 /// text that is due.
 #[derive(Drop)]
@@ -158,6 +161,7 @@ impl<'q> Printer<'q> {
             style: Style {
                 look,
                 asker: Asker::new(alloc, query)?,
+                left: look.keep,
             },
             groups: Vec::new(alloc),
             sink: Sink {
@@ -193,6 +197,13 @@ impl<'q> Printer<'q> {
         print_text(world, &mut self.sink)
     }
 
+    /// Whether as many groups were written as are kept.
+    pub fn is_done(&self) -> bool
+        ensures { result ≡ is_nothing_left (printer_state self.now).left }
+    {
+        self.style.left == Some(0)
+    }
+
     /// The units have ended: completes what is pending, and writes the text of the groups for which the query holds.
     pub fn end<W: World>(&mut self, world: &mut W) -> Result<(), PrintFault>
         requires named { IsTrue ((W.seen world.old).names Writing (printer_state self.old).sink (printer_state self.old).name) }
@@ -204,7 +215,9 @@ impl<'q> Printer<'q> {
         ensures cause { IfErr result (λ f. HasPrintCause f (printer_state self.old).name (W.seen world.old) (W.seen world.new)) }
     {
         self.groups.clear();
-        self.table.flush(&mut self.groups)?;
+        if let Err(NoMemory) = self.table.flush(&mut self.groups) {
+            return Err(PrintFault::NoMemory);
+        }
         print_groups(world, &mut self.sink, &self.groups, &mut self.style)
     }
 }

@@ -1,10 +1,10 @@
 //! A run: units from a source are given to a printer, and it is ended where the source has given all.
 
-ghost use Rattle.std.specs.Prelude.{◌≡◌, ◌<◌, ◌^◌, [], ◌∷◌, true, false, IsTrue, IfOk, IfErr};
+ghost use Rattle.std.specs.Prelude.{◌≡◌, ◌⊎◌, ◌<◌, ◌^◌, [], ◌∷◌, true, false, IsTrue, IfOk, IfErr};
 ghost use Rattle.vio.specs.World.{Writing};
 ghost use Rattle.vio.specs.Touches.{Touches};
-ghost use Rattle.varnish_tools.specs.Printer.{Represents, printer_state};
-ghost use Rattle.varnish_tools.specs.inside.Loop.{RanToEnd, RanUntil};
+ghost use Rattle.varnish_tools.specs.Printer.{Represents, has_all, printer_state};
+ghost use Rattle.varnish_tools.specs.inside.Loop.{RanToEnd, RanToKept, RanUntil};
 
 use crate::printer::{PrintFault, Printer};
 use crate::source::{Source, SourceFault};
@@ -19,7 +19,7 @@ pub enum Stopped {
     ByPrinter(PrintFault, u64),
 }
 
-/// Prints the units of a source, and answers how many they are.
+/// Prints the units of a source, up to the one that completes the last group that is kept, and answers how many they are.
 pub fn print_source<W: World, S: Source>(
     world: &mut W,
     source: &mut S,
@@ -29,9 +29,11 @@ pub fn print_source<W: World, S: Source>(
     requires given { (W.seen world.old).given (printer_state printer.old).sink ≡ true }
     requires new { Represents (printer_state printer.old) [] }
     requires fresh { S.gave source.old source.old (W.seen world.old) (W.seen world.old) [] false }
+    requires kept { has_all (printer_state printer.old) [] ≡ false }
     requires few { S.most source.old < 2 ^ 64 }
     ensures touches { Touches (S.reads source.old) ((printer_state printer.old).sink ∷ []) [] [] (W.seen world.old) (W.seen world.new) }
-    ensures ran { IfOk result (λ n. RanToEnd (S.gave source.old source.new (W.seen world.old) (W.seen world.new)) (printer_state printer.old) n (W.seen world.old) (W.seen world.new)) }
+    ensures ran { IfOk result (λ n. RanToEnd (S.gave source.old source.new (W.seen world.old) (W.seen world.new)) (printer_state printer.old) n (W.seen world.old) (W.seen world.new)
+        ⊎ RanToKept (S.gave source.old source.new (W.seen world.old) (W.seen world.new)) (printer_state printer.old) n (W.seen world.old) (W.seen world.new)) }
     ensures stopped { IfErr result (λ s. RanUntil s (S.gave source.old source.new (W.seen world.old) (W.seen world.new))
         (λ fault units. S.stopped source.old source.new fault (W.seen world.old) (W.seen world.new) units) (printer_state printer.old) (W.seen world.old) (W.seen world.new)) }
 {
@@ -42,6 +44,9 @@ pub fn print_source<W: World, S: Source>(
                 units += 1;
                 if let Err(fault) = printer.unit(world, source.unit()) {
                     return Err(Stopped::ByPrinter(fault, units));
+                }
+                if printer.is_done() {
+                    return Ok(units);
                 }
             }
             Ok(false) => {

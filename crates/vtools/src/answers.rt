@@ -18,8 +18,8 @@ const HELP: &str = "\
 vtools: Varnish's logging tools as one program
 
 usage: vtools [OPTIONS] varnishlog [-g GROUPING] [-L N] [-T N] [-q TEXT]
-              [-Q FILE] [-b] [-c] [-E] [-i TAGLIST] [-x TAGLIST] [-I RULE]
-              [-X RULE] [-C] [-v] [-w FILE [-a] [-A]] -r FILE
+              [-Q FILE] [-k N] [-b] [-c] [-E] [-i TAGLIST] [-x TAGLIST]
+              [-I RULE] [-X RULE] [-C] [-v] [-w FILE [-a] [-A]] -r FILE
 
 Prints the records of a log file, a group of them when it is complete, or
 writes them as a log file; all of them, or those that are chosen.
@@ -37,6 +37,8 @@ writes them as a log file; all of them, or those that are chosen.
   -q TEXT           takes only groups for which the query TEXT holds, as in
                     -q 'RespStatus >= 500'; of several queries one must hold
   -Q FILE           reads queries from FILE, one a line
+  -k N              takes the first N groups, shown or not, and reads no more,
+                    1 to 999999999
   -b                shows requests to a backend, and no other transactions but
                     those of -c and -E
   -c                shows clients' requests, and no other transactions but
@@ -60,7 +62,7 @@ the first of -I and -X is -I.
 
 Taken too, and of no effect: -d; before the tool --ring N, --reclen N,
 --turns N and --feed-first. Options stand in any order, letters may share a
-word, and of -g, -L, -T, -r and -w the last counts.
+word, and of -g, -k, -L, -T, -r and -w the last counts.
 
 The words of varnishncsa, varnishtop and varnishstat are read, but these tools
 are not built yet.

@@ -9,7 +9,7 @@ use Rattle.varnish_tools.specs.declared.printer.PrintFault.{PrintFault}
 use Rattle.varnish_tools.specs.declared.printer.PrintFault.TheVariants.{WriteFault, NoMemory}
 use Rattle.varnish_tools.specs.declared.run.Stopped.{Stopped}
 use Rattle.varnish_tools.specs.declared.run.Stopped.TheVariants.{BySource, ByPrinter}
-use Rattle.varnish_tools.specs.Printer.{PrinterState, Represents, IsSamePrinter, HasPrintCause, due}
+use Rattle.varnish_tools.specs.Printer.{PrinterState, Represents, IsSamePrinter, HasPrintCause, due, has_all}
 
 -- a text was added to what a handle tells, and to a file that it names
 pub record Added (h : ℕ) (text : List ℕ) (before now : Seen) : Type 0 where
@@ -22,12 +22,23 @@ pub record AddedSome (IsSo : List ℕ → Type 0) (h : ℕ) (before now : Seen) 
   pub is : IsSo text
   pub added : Added h text before now
 
--- so many units were given, and a text of them that is so was written
-pub record Printed (IsGiven : Log → Type 0) (IsText : Log → List ℕ → Type 0) (sink n : ℕ) (before now : Seen) : Type 0 where
+-- so many units were given, which are cut so, and a text of them that is so was written
+pub record Printed (IsGiven IsCut : Log → Type 0) (IsText : Log → List ℕ → Type 0) (sink n : ℕ) (before now : Seen) : Type 0 where
   pub units : Log
   pub given : IsGiven units
+  pub cut : IsCut units
   pub count : n ≡ length units
   pub gains : AddedSome (IsText units) sink before now
+
+-- the groups of these units, and those of all but the last, are not as many as are kept
+pub record IsOpen (p : PrinterState) (units : Log) : Type 0 where
+  pub all : has_all p units ≡ false
+  pub first : has_all p (take (length units - 1) units) ≡ false
+
+-- the last unit completed the last group that is kept
+pub record IsKept (p : PrinterState) (units : Log) : Type 0 where
+  pub all : has_all p units ≡ true
+  pub first : has_all p (take (length units - 1) units) ≡ false
 
 -- each unit that was given was printed; the printer goes on
 pub record Running (IsGiven : Log → Type 0) (reads : List ℕ) (p q : PrinterState) (n : ℕ) (before now : Seen) : Type 0 where
@@ -52,10 +63,14 @@ IsLeftOf NoMemory p units all text = IsPrefix text (due p units all)
 
 -- all units were given, and all text was written
 abbrev pub RanToEnd : (Log → Bool → Type 0) → PrinterState → ℕ → Seen → Seen → Type 0
-RanToEnd gave p n before now = Printed (λ units. gave units true) (λ units text. text ≡ due p units true) p.sink n before now
+RanToEnd gave p n before now = Printed (λ units. gave units true) (IsOpen p) (λ units text. text ≡ due p units true) p.sink n before now
+
+-- units were given up to the one that completes the last group that is kept, and their text was written
+abbrev pub RanToKept : (Log → Bool → Type 0) → PrinterState → ℕ → Seen → Seen → Type 0
+RanToKept gave p n before now = Printed (λ units. gave units false) (IsKept p) (λ units text. text ≡ due p units false) p.sink n before now
 
 -- the run stopped early: where the source stopped, the text of its units was written; where the printer did, what it left
 abbrev pub RanUntil : Stopped → (Log → Bool → Type 0) → (SourceFault → Log → Type 0) → PrinterState → Seen → Seen → Type 0
-RanUntil (BySource fault n) gave stopped p before now = Printed (stopped fault) (λ units text. text ≡ due p units false) p.sink n before now
+RanUntil (BySource fault n) gave stopped p before now = Printed (stopped fault) (IsOpen p) (λ units text. text ≡ due p units false) p.sink n before now
 RanUntil (ByPrinter fault n) gave stopped p before now =
-    HasPrintCause fault p.name before now × ((all : Bool) × Printed (λ units. gave units all) (λ units text. IsLeftOf fault p units all text) p.sink n before now)
+    HasPrintCause fault p.name before now × ((all : Bool) × Printed (λ units. gave units all) (λ units. has_all p (take (length units - 1) units) ≡ false) (λ units text. IsLeftOf fault p units all text) p.sink n before now)

@@ -21,7 +21,7 @@ pub returns-in-Err-Failed-clause-works : goal.returns-in-Err-Failed-clause-works
 returns-in-Err-Failed-clause-works g c = λ ask before holds begun.
     let left = rw (c.deref.ensures.value, c.in_ok-head.ensures) at c.in-Err-Failed.ensures.err in
     rw (c.counted.ensures.fault, c.counted.ensures.run, c.in_ok-name.ensures, c.written_name.ensures)
-    (works_headless _ ask _ _ _ before _ _ begun left (c.in-Err-Failed.ensures.failed (ap Err c.in-Err-Failed.field-0-is)))
+    (works_headless _ ask _ _ _ before _ _ begun left (c.in-Err-Failed.ensures.failed (ap Err c.in-Err-Failed.field-0-is)) c.requires.keeps)
 
 pub returns-clause-prefix : goal.returns-clause-prefix
 returns-clause-prefix g c = λ ask before holds begun.

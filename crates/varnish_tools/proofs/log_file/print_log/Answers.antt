@@ -1,6 +1,6 @@
 use Rattle.vio.proofs.WholeLemmas.{OnErr-always}
 use Rattle.std.proofs.Common.{◌∙◌}
-use Rattle.varnish_tools.proofs.RunLemmas.{works_whole, works_stopped, works_unwritten}
+use Rattle.varnish_tools.proofs.RunLemmas.{works_ran, works_stopped, works_unwritten}
 use Rattle.varnish_tools.proofs.LogFileLemmas.{few_units, prefix_stopped, prefix_printer}
 use Rattle.varnish_tools.proofs.log_file.print_log.Goals as goal
 
@@ -13,7 +13,7 @@ print_source-requires-clause-few g c = few_units _
 pub returns-in-Ok-clause-works : goal.returns-in-Ok-clause-works
 returns-in-Ok-clause-works g c = λ ask before empty holds begun.
     let touched = rw (c.in_ok-log.ensures.handle, c.in_ok-printer.ensures.sink.same_handle) at c.print_source.ensures.touches in
-    rw (c.counted.ensures.fault, c.counted.ensures.run) (works_whole _ ask _ _ empty _ _ _ _ before _ _ c.in_ok-log.ensures.handle (c.in_ok-printer.ensures.asked ask holds) touched c.in-Ok.ensures.ran begun)
+    rw (c.counted.ensures.fault, c.counted.ensures.run) (works_ran _ ask _ _ empty _ _ _ _ before _ _ c.in_ok-log.ensures.handle (c.in_ok-printer.ensures.asked ask holds) touched c.in-Ok.ensures.ran begun)
 
 pub returns-in_err-fault-in-Err-BySource-clause-prefix : goal.returns-in_err-fault-in-Err-BySource-clause-prefix
 returns-in_err-fault-in-Err-BySource-clause-prefix g c =

@@ -1,0 +1,83 @@
+#!/usr/bin/env python3
+"""Runs the examples of docs/man/vtools.1 that show what is printed, and compares it, from the page's own text.
+
+Usage: tools/check_man.py [PROGRAM]; without one it is the program that `rt ci` built. The log `f` of the examples is that of
+a case, whole, without its last byte or not there, as the sentence before an example says. It also asks that each option of
+varnishlog has an example.
+"""
+
+import pathlib
+import re
+import shlex
+import subprocess
+import sys
+import tempfile
+
+TOP = pathlib.Path(__file__).resolve().parent.parent
+PAGE = TOP / "docs/man/vtools.1"
+LOG = TOP / "cases/a_log_is_written_to_standard_output/data/f"
+# the options of varnishlog that change what is printed or written, and those that have an effect in another example alone
+OPTIONS = "aAbcCEgiIkLqQrTvwxX"
+MARKS = {"\\(aq": "'", "\\(dq": '"', "\\(ti": "~", "\\(ha": "^", "\\-": "-", "\\ ": " ", "\\&": "", "\\e": "\\"}
+
+
+def plain(line):
+    """A line of the page as it is shown."""
+    return re.sub(r"\\\(..|\\.", lambda mark: MARKS[mark.group()], line)
+
+
+def log_for(sentence):
+    """The bytes of the log that a sentence speaks of; none where there is no file."""
+    whole = LOG.read_bytes()
+    if "no file of that name" in sentence:
+        return None
+    if "last byte of the log is missing" in sentence or "damage is not seen" in sentence:
+        return whole[:-1]
+    return whole
+
+
+def examples(page):
+    """The sentence before each example, and its lines."""
+    for block in re.finditer(r"\.PP\n\.nf\n\.RS\n(\$ vtools .*?)\n\.RE\n\.fi", page, re.DOTALL):
+        before = page[: block.start()].rstrip("\n").split("\n.PP\n")[-1]
+        yield before, [plain(line) for line in block.group(1).split("\n")]
+
+
+def commands(lines):
+    """Each command of an example, and the lines that it prints."""
+    for line in lines:
+        if line.startswith("$ "):
+            yield line[2:], (printed := [])
+        else:
+            printed.append(line)
+
+
+def printed_by(program, command, folder):
+    """What a command prints on standard output, and then on standard error."""
+    words = shlex.split(command)
+    run = subprocess.run([program, *words[1:]], cwd=folder, stdin=subprocess.DEVNULL, capture_output=True, check=False)
+    return (run.stdout + run.stderr).decode().split("\n")[:-1]
+
+
+def main():
+    program = str(pathlib.Path(sys.argv[1] if len(sys.argv) > 1 else TOP / "crates/vtools/out/vtools").resolve())
+    page = PAGE.read_text()
+    count = 0
+    for before, lines in examples(page):
+        with tempfile.TemporaryDirectory() as folder:
+            log = log_for(before)
+            if log is not None:
+                (pathlib.Path(folder) / "f").write_bytes(log)
+            for command, wanted in list(commands(lines)):
+                got = printed_by(program, command, folder)
+                if got != wanted:
+                    sys.exit(f"man: {command}: {got}, not {wanted}")
+                count += 1
+    shown = plain(page[page.index(".SH EXAMPLES") :])
+    for option in OPTIONS:
+        if not re.search(rf"vtools varnishlog .*-[a-zA-Z]*{option}", shown):
+            sys.exit(f"man: no example of -{option}")
+    print(f"man: ok, {count} examples")
+
+
+main()
