@@ -1,4 +1,3 @@
-mod AskedLemmas
 mod LayoutLemmas
 mod ObjectLemmas
 mod PrinterLemmas

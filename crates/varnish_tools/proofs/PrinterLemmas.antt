@@ -1,6 +1,6 @@
 -- What a printer's text comes to, unit by unit.
-use Rattle.std.proofs.Common.{◌≡◌, ◌⊎◌, inl, inr, ◌<◌, ℕ, zero, suc, ◌+◌, ◌-◌, ◌==◌, Bool, false, true, cond, nat_le, List, [], ◌∷◌, ◌++◌, length, length-append, get_or, map, take, drop, Option, None, Some, refl, sym, ap, subst, ◌∙◌, append_assoc, arith}
-use Rattle.std.proofs.lemmas.List.{map-append, append-nil, take-append-drop, take-append-le, take_more}
+use Rattle.std.proofs.Common.{◌≡◌, ◌⊎◌, inl, inr, ◌<◌, ℕ, zero, suc, ◌+◌, ◌-◌, ◌==◌, Bool, false, true, cond, nat_le, List, [], ◌∷◌, ◌++◌, length, length-append, map, take, drop, Option, None, Some, refl, sym, ap, subst, ◌∙◌, append_assoc, arith}
+use Rattle.std.proofs.lemmas.List.{map-append, append-nil, take-append-drop, take-append-le}
 use Rattle.std.proofs.lemmas.Bool.{cases_order, le-leb, leb-true, lt-leb, ne_eqb}
 use Rattle.std.proofs.lemmas.List.Concat.{flat_map-append}
 use Rattle.std.proofs.lemmas.List.Elements.{filter-append}
@@ -312,27 +312,3 @@ kept_first keep test options units n b filled =
     let on = goes_on test options (take n units) (drop n units) b in
     let all : tested test options units b ≡ tested test options (take n units) false ++ on.0 = subst (λ (us : Log). tested test options us b ≡ tested test options (take n units) false ++ on.0) (take-append-drop n units) on.1 in
     ap (λ (gs : List Group). kept keep gs) all ∙ kept_filled keep (tested test options (take n units) false) on.0 filled
-
--- one group more for which the query holds was added, where it is still written
-pub put_more : (l : Look) (before left : Option ℕ) (gs : List Group) (g : Group) (a out new : List ℕ) → left ≡ left_after before (length gs) → out ≡ a ++ laid_out l (kept before gs)
-    → new ≡ out ++ laid_out l (kept left (g ∷ [])) → new ≡ a ++ laid_out l (kept before (gs ++ g ∷ []))
-put_more l before left gs g a out new is so_far added =
-    added ∙ ap (λ (x : List ℕ). x ++ laid_out l (kept left (g ∷ []))) so_far ∙ append_assoc a (laid_out l (kept before gs)) (laid_out l (kept left (g ∷ [])))
-    ∙ ap (λ (o : Option ℕ). a ++ (laid_out l (kept before gs) ++ laid_out l (kept o (g ∷ [])))) is
-    ∙ ap (λ (x : List ℕ). a ++ x) (sym (laid_append l (kept before gs) (kept (left_after before (length gs)) (g ∷ []))) ∙ ap (λ (all : List Group). laid_out l all) (sym (kept_append before gs (g ∷ []))))
-
--- one fewer is still kept
-pub left_one : (before left now : Option ℕ) (gs : List Group) (g : Group) → left ≡ left_after before (length gs) → now ≡ left_after left 1 → now ≡ left_after before (length (gs ++ g ∷ []))
-left_one before left now gs g is one = one ∙ ap (λ (o : Option ℕ). left_after o 1) is ∙ left_again before (length gs) 1 ∙ ap (λ (n : ℕ). left_after before n) (sym (length-append gs (g ∷ [])))
-
--- the groups to an index for which a query holds, with the one there
-pub held_more : (query : Query) (gs : List Group) (n : ℕ) (g : Group) → n < length gs → g ≡ get_or gs n g → is_held query g ≡ true → held_groups query (take (n + 1) gs) ≡ held_groups query (take n gs) ++ g ∷ []
-held_more query gs n g within is held =
-    let one : held_groups query (g ∷ []) ≡ g ∷ [] = rw held refl in
-    ap (λ (xs : List Group). held_groups query xs) (take_more gs n g within ∙ ap (λ (x : Group). take n gs ++ x ∷ []) (sym is)) ∙ filter-append (is_held query) (take n gs) (g ∷ []) ∙ ap (λ (xs : List Group). held_groups query (take n gs) ++ xs) one
-
--- or without it
-pub held_no_more : (query : Query) (gs : List Group) (n : ℕ) (g : Group) → n < length gs → g ≡ get_or gs n g → is_held query g ≡ false → held_groups query (take (n + 1) gs) ≡ held_groups query (take n gs)
-held_no_more query gs n g within is held =
-    let none : held_groups query (g ∷ []) ≡ [] = rw held refl in
-    ap (λ (xs : List Group). held_groups query xs) (take_more gs n g within ∙ ap (λ (x : Group). take n gs ++ x ∷ []) (sym is)) ∙ filter-append (is_held query) (take n gs) (g ∷ []) ∙ ap (λ (xs : List Group). held_groups query (take n gs) ++ xs) none ∙ append-nil (held_groups query (take n gs))
