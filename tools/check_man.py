@@ -3,7 +3,7 @@
 
 Usage: tools/check_man.py [PROGRAM]; without one it is the program that `rt ci` built. The log `f` of the examples is that of
 a case, whole, without its last byte or not there, as the sentence before an example says. It also asks that each option of
-varnishlog has an example.
+varnishlog stands in an example that was run.
 """
 
 import pathlib
@@ -16,8 +16,8 @@ import tempfile
 TOP = pathlib.Path(__file__).resolve().parent.parent
 PAGE = TOP / "docs/man/vtools.1"
 LOG = TOP / "cases/a_log_is_written_to_standard_output/data/f"
-# the options of varnishlog that change what is printed or written, and those that have an effect in another example alone
-OPTIONS = "aAbcCEgiIkLqQrTvwxX"
+QUERIES = "Link\n"
+OPTIONS = "aAbcCdEgiIkLqQrTvwxX"
 MARKS = {"\\(aq": "'", "\\(dq": '"', "\\(ti": "~", "\\(ha": "^", "\\-": "-", "\\ ": " ", "\\&": "", "\\e": "\\"}
 
 
@@ -62,22 +62,22 @@ def printed_by(program, command, folder):
 def main():
     program = str(pathlib.Path(sys.argv[1] if len(sys.argv) > 1 else TOP / "crates/vtools/out/vtools").resolve())
     page = PAGE.read_text()
-    count = 0
+    ran = []
     for before, lines in examples(page):
         with tempfile.TemporaryDirectory() as folder:
             log = log_for(before)
+            (pathlib.Path(folder) / "queries").write_text(QUERIES)
             if log is not None:
                 (pathlib.Path(folder) / "f").write_bytes(log)
             for command, wanted in list(commands(lines)):
                 got = printed_by(program, command, folder)
                 if got != wanted:
                     sys.exit(f"man: {command}: {got}, not {wanted}")
-                count += 1
-    shown = plain(page[page.index(".SH EXAMPLES") :])
+                ran.append(command)
     for option in OPTIONS:
-        if not re.search(rf"vtools varnishlog .*-[a-zA-Z]*{option}", shown):
-            sys.exit(f"man: no example of -{option}")
-    print(f"man: ok, {count} examples")
+        if not any(re.search(rf" -[a-zA-Z]*{option}", command) for command in ran):
+            sys.exit(f"man: no example of -{option} is run")
+    print(f"man: ok, {len(ran)} examples")
 
 
 main()
