@@ -8,8 +8,6 @@ set -euo pipefail
 cd "$(dirname "${BASH_SOURCE[0]}")/.."
 
 python3 - "${1:-bin/vtools}" examples/real-1.vslog <<'PYTHON'
-import ctypes
-import ctypes.util
 import os
 import shutil
 import struct
@@ -19,16 +17,14 @@ import tempfile
 import time
 
 sys.dont_write_bytecode = True
-sys.path.insert(0, "tools")
-import group_listing
+sys.path.insert(0, "bench")
+from varnish_log import VARNISH_HEADER, varnish_records
 
 RUNS = 5
 HEADER = b"VSLOG-1\n"
 CLIENT = 1 << 30
 BEGIN, END, DEBUG = 42, 44, 1
 GROUPINGS = ["vxid", "request", "session", "raw"]
-VARNISH_HEADER = b"VSL\0"
-VARNISH_MARKS = {"-": 0, "c": 1 << 30, "b": 1 << 31}
 
 
 def record(vxid, tag, payload):
@@ -57,19 +53,6 @@ def one_after_another(count):
         unit(v, [(BEGIN, b"req 1 rxreq"), (DEBUG, b"in the middle"), (END, b"")])
         for v in range(1, count + 1)
     )
-
-
-def varnish_records(path):
-    """The records of a log file as Varnish 7 writes them: its own tag numbers, and a zero byte behind each payload."""
-    library = ctypes.CDLL(ctypes.util.find_library("varnishapi") or "libvarnishapi.so.3")
-    names = (ctypes.c_char_p * 256).in_dll(library, "VSL_tags")
-    numbers = {name.decode(): number for number, name in enumerate(names) if name}
-    words = []
-    for vxid, mark, records in group_listing.read_units(path):
-        for tag, payload in records:
-            head = struct.pack("<II", numbers[tag] << 24 | len(payload) + 1, vxid | VARNISH_MARKS[mark])
-            words.append(head + payload + b"\0" * (4 - len(payload) % 4))
-    return b"".join(words)
 
 
 def write(path, *parts):

@@ -20,7 +20,7 @@ fail() {
 find . -type f ! -path './.git/*' ! -path './bin/*' ! -path '*/out/*' ! -path './examples/*' ! -path './cases/*/*' ! -path './crates/*/data/*' >"$work/files"
 
 for file in README.md CHANGELOG.md CONTRIBUTING.md docs/ARCHITECTURE.md docs/PROOF.md docs/DEFINITIONS.md \
-    docs/FORMATS.md docs/DECISIONS.md docs/man/vtools.1; do
+    docs/FORMATS.md docs/DECISIONS.md docs/man/vtools.1 docs/man/vtools-varnishtop.1; do
     [ -s "$file" ] || fail "$file is missing"
 done
 
@@ -39,9 +39,9 @@ python3 tools/definitions.py >"$work/definitions" 2>"$work/errors" ||
 diff docs/DEFINITIONS.md "$work/definitions" >"$work/differ" ||
     fail "docs/DEFINITIONS.md is not what \`make definitions\` writes ('>' is new):" "$work/differ"
 
-# The options of a text: words that begin with '-' and a letter.
+# The options of a text: words that begin with '-' and a letter, and `-1`.
 options() {
-    tr -c 'A-Za-z0-9_-' '\n' | grep -E '^--?[A-Za-z]' | sort -u || true
+    tr -c 'A-Za-z0-9_-' '\n' | grep -E '^(--?[A-Za-z]|-1$)' | sort -u || true
 }
 
 # Each option of a man page is in FORMATS.
@@ -68,7 +68,8 @@ python3 tools/options.py | sort >"$work/options"
 diff "$work/options" "$work/tables" >"$work/differ" ||
     fail "options of docs/FORMATS.md that are not those of the source ('<' is the source):" "$work/differ"
 
-# The help is FORMATS' text, and the options that are built are the same in FORMATS, help and man page.
+# The help is FORMATS' text, and the options that are built are the same in FORMATS, in the help, and of each tool in its
+# man page.
 sed -n '/^const HELP/,/^";/p' crates/vtools/src/answers.rt | sed -e '1d' -e '$d' >"$work/help"
 # shellcheck disable=SC2016 # the backquotes are the document's
 sed -n '/^`vtools --help` prints/,/^`vtools --version`/p' docs/FORMATS.md |
@@ -78,9 +79,18 @@ cells 'What is built' | cut -d'|' -f1 | options >"$work/built"
 [ -s "$work/built" ] || fail "docs/FORMATS.md has no options that are built"
 options <"$work/help" | diff "$work/built" - >"$work/differ" ||
     fail "options that are built and not in --help, or the reverse ('<' is docs/FORMATS.md):" "$work/differ"
-sed -n '/^\.SH OPTIONS/,/^\.SH EXIT/p' docs/man/vtools.1 | grep -A 1 '^\.TP' | grep '^\.B' |
-    sed -e 's/\\-/-/g' | options | diff "$work/built" - >"$work/differ" ||
-    fail "options that are built and not options of the man page, or the reverse ('<' is docs/FORMATS.md):" "$work/differ"
+while read -r tool page; do
+    {
+        awk -v tool="$tool" '$1 == "vtools" || $1 == tool { print $2 }' "$work/options"
+        printf '%s\n' --help --version
+    } | sort -u | comm -12 "$work/built" - >"$work/wanted"
+    sed -n '/^\.SH OPTIONS/,/^\.SH EXIT/p' "docs/man/$page" | grep -A 1 '^\.TP' | grep '^\.B' |
+        sed -e 's/\\-/-/g' | options | diff "$work/wanted" - >"$work/differ" ||
+        fail "options of $tool that are built and not in its page $page, or the reverse ('<' is docs/FORMATS.md):" "$work/differ"
+done <<'PAGES'
+varnishlog vtools.1
+varnishtop vtools-varnishtop.1
+PAGES
 
 # Each file that a must-fail edit changes is there.
 find crates -path '*/must-fail/*.edit' ! -path '*/out/*' >"$work/edits"

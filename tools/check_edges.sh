@@ -29,6 +29,7 @@ cd "$work"
 count=0
 newline=$'\n'
 text='         0 CLI            - Rd ping'
+counted='         1 CLI            Rd ping'
 unwritten='vtools: -: write failed'
 cp "$one" one.log
 head -c -1 one.log >cut.log
@@ -58,7 +59,7 @@ expect() {
 : >err
 
 # Standard output is a pipe whose reader has gone.
-for words in "varnishlog -r $log" "varnishlog -g raw -r one.log" --help --version; do
+for words in "varnishlog -r $log" "varnishlog -g raw -r one.log" "varnishtop -1 -r $log" --help --version; do
     exec 3<>pipe
     exec 4>pipe 3>&-
     # shellcheck disable=SC2086 # the words stand between spaces
@@ -68,7 +69,7 @@ for words in "varnishlog -r $log" "varnishlog -g raw -r one.log" --help --versio
 done
 
 # Standard output is full, or closed. A run that writes nothing doesn't see it.
-for words in "varnishlog -r $log" "varnishlog -g raw -r one.log" --help --version; do
+for words in "varnishlog -r $log" "varnishlog -g raw -r one.log" "varnishtop -1 -r $log" --help --version; do
     # shellcheck disable=SC2086
     run $words >/dev/full 2>err </dev/null
     expect "a full output: $words" 1 "$unwritten"
@@ -80,6 +81,10 @@ run varnishlog -r header.log >/dev/full 2>err </dev/null
 expect "a full output and nothing to write" 0 ""
 run varnishlog -r header.log >&- 2>err </dev/null
 expect "a closed output and nothing to write" 0 ""
+run varnishtop -1 -r one.log >/dev/full 2>err </dev/null
+expect "a full output and nothing to count" 0 ""
+run varnishtop -1 -g raw -r cut.log >/dev/full 2>err </dev/null
+expect "a full output and no report" 1 "vtools: cut.log: damaged at 8"
 
 # Standard error is full, or closed: the status and the output stay.
 messages() {
@@ -90,6 +95,8 @@ messages() {
 }
 messages "a whole log" 0 "$text" varnishlog -g raw -r one.log
 messages "a cut log" 1 "" varnishlog -g raw -r cut.log
+messages "a report" 0 "$counted" varnishtop -1 -g raw -r one.log
+messages "no report" 1 "" varnishtop -1 -g raw -r cut.log
 messages "a missing file" 1 "" varnishlog -g raw -r missing
 messages "a job that isn't built" 2 "" varnishncsa -r one.log
 messages "words that are refused" 2 "" varnishlog -g raw -r one.log -k0
@@ -204,6 +211,13 @@ run varnishlog -r open.log >open 2>err </dev/null
 grep -c '^-   VCL_Log        a*$' open | grep -qx 4096 || fail "memory for 16 MB: the lines differ"
 expect "memory for 16 MB" 0 ""
 
+# Its records are equal, so with the same address space there is memory to count them.
+(
+    ulimit -v 30000
+    run varnishtop -1 -g raw -r open.log >out 2>err </dev/null
+)
+expect "memory for equal records" 0 "" "      4096 VCL_Log        $(head -c 4000 /dev/zero | tr '\0' a)"
+
 # The real log is cut in its last unit, which has one record, of no transaction.
 head -c -4 "$log" >real.log
 begin=181044
@@ -213,5 +227,15 @@ expect "real traffic, cut" 1 "vtools: real.log: damaged at $begin"
 run varnishlog -r real.log >real 2>err </dev/null
 cmp -s "$transactions" real || fail "real traffic, cut: the transactions differ"
 expect "real traffic, cut, by transaction" 1 "vtools: real.log: damaged at $begin"
+
+# Of it there is no report, but of its 228 transactions, which are all complete before the cut, the one of the whole log.
+run varnishtop -1 -r real.log >out 2>err </dev/null
+expect "real traffic, cut, counted" 1 "vtools: real.log: damaged at $begin"
+run varnishtop -1 -r "$log" >whole 2>err </dev/null
+[ -s whole ] || fail "real traffic, counted: there is no report"
+expect "real traffic, counted" 0 ""
+run varnishtop -1 -k 228 -r real.log >real 2>err </dev/null
+cmp -s whole real || fail "real traffic, its transactions counted: the reports differ"
+expect "real traffic, cut, its transactions counted" 0 ""
 
 echo "edges: ok, $count of them"

@@ -1,6 +1,7 @@
 #!/bin/sh
 # Makes the texts of examples/ again by tools/group_listing.py, and compares them with the files there, and with what
 # the program prints that `rt ci` built, or another: check_examples.sh [PROGRAM]. Without a program the files alone.
+# The reports of varnishtop are compared with what `sort` and `uniq` make of the same texts.
 set -eu
 LC_ALL=C
 export LC_ALL
@@ -28,6 +29,31 @@ same() {
     }
 }
 
+# Prints the tag at the left of 14 columns, a space and the payload of each record of a text of examples/.
+records() {
+    case $1 in
+    raw) cut -b 12-26,29- "examples/real-1.$1" ;;
+    *) sed -n 's/^\(-\{1,3\} \{1,3\}\|-[0-9]*- \)//p' "examples/real-1.$1" ;;
+    esac
+}
+
+# Prints the report of such records: each once with its count, the highest count first. As in the program's order a name
+# that begins another comes first, because a space is the least byte of these lines.
+report() {
+    sort | uniq -c | sort -s -k 1,1nr | awk '{ count = $1; sub(/^ *[0-9]+ /, ""); printf "%10d %s\n", count, $0 }'
+}
+
+# Compares what varnishtop prints with the report of some records: same_report RECORDS OPTION..
+same_report() {
+    report <"$1" >"$work/wanted"
+    [ -s "$work/wanted" ] || fail "no record of examples/ is wanted"
+    shift
+    status=0
+    "$program" varnishtop -1 "$@" -r "$log" >"$work/printed" 2>"$work/errors" || status=$?
+    [ "$status" -eq 0 ] || fail "varnishtop -1 $*: the status is $status, not 0: $(head -n 1 "$work/errors")"
+    same "varnishtop -1 $* prints another report" "$work/wanted" "$work/printed"
+}
+
 [ -n "$program" ] || [ ! -x "$built" ] || program="$PWD/$built"
 [ -z "$program" ] || [ -x "$program" ] || fail "$program is missing"
 [ -f "$log" ] || fail "$log is missing"
@@ -46,5 +72,19 @@ for grouping in $groupings; do
         same "-g $grouping prints another text" "$wanted" "$work/printed"
     fi
 done
+
+if [ -n "$program" ]; then
+    for grouping in $groupings; do
+        records "$grouping" >"$work/records"
+        same_report "$work/records" -g "$grouping"
+    done
+    records vxid >"$work/records"
+    same_report "$work/records"
+    # the first field stands behind the name's columns, and nothing where the payload has none
+    awk '{ print substr($0, 1, 15) (NF > 1 ? $2 : "") }' "$work/records" >"$work/fields"
+    same_report "$work/fields" -f
+    grep '^ReqURL ' "$work/records" >"$work/urls"
+    same_report "$work/urls" -i ReqURL
+fi
 
 echo "examples: ok, $groupings: the files of examples/ and tools/group_listing.py${program:+ and $program}"

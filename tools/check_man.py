@@ -1,9 +1,9 @@
 #!/usr/bin/env python3
-"""Runs the examples of docs/man/vtools.1 that show what is printed, and compares it, from the page's own text.
+"""Runs the examples of docs/man/ that show what is printed, and compares it, from the pages' own text.
 
 Usage: tools/check_man.py [PROGRAM]; without one it is the program that `rt ci` built. The log `f` of the examples is that of
 a case, whole, without its last byte or not there, as the sentence before an example says. It also asks that each option of
-varnishlog stands in an example that was run.
+a page's tool stands in an example of the page that was run.
 """
 
 import pathlib
@@ -14,10 +14,10 @@ import sys
 import tempfile
 
 TOP = pathlib.Path(__file__).resolve().parent.parent
-PAGE = TOP / "docs/man/vtools.1"
+PAGES = TOP / "docs/man"
 LOG = TOP / "cases/a_log_is_written_to_standard_output/data/f"
 QUERIES = "Link\n"
-OPTIONS = "aAbcCdEgiIkLqQrTvwxX"
+OPTIONS = {"vtools.1": "aAbcCdEgiIkLqQrTvwxX", "vtools-varnishtop.1": "1bcCdEfgiIkLqQrTxX"}
 MARKS = {"\\(aq": "'", "\\(dq": '"', "\\(ti": "~", "\\(ha": "^", "\\-": "-", "\\ ": " ", "\\&": "", "\\e": "\\"}
 
 
@@ -59,11 +59,10 @@ def printed_by(program, command, folder):
     return (run.stdout + run.stderr).decode().split("\n")[:-1]
 
 
-def main():
-    program = str(pathlib.Path(sys.argv[1] if len(sys.argv) > 1 else TOP / "crates/vtools/out/vtools").resolve())
-    page = PAGE.read_text()
+def run_page(program, name):
+    """Runs the examples of a page, and answers how many there are."""
     ran = []
-    for before, lines in examples(page):
+    for before, lines in examples((PAGES / name).read_text()):
         with tempfile.TemporaryDirectory() as folder:
             log = log_for(before)
             (pathlib.Path(folder) / "queries").write_text(QUERIES)
@@ -72,12 +71,20 @@ def main():
             for command, wanted in list(commands(lines)):
                 got = printed_by(program, command, folder)
                 if got != wanted:
-                    sys.exit(f"man: {command}: {got}, not {wanted}")
+                    sys.exit(f"man: {name}: {command}: {got}, not {wanted}")
                 ran.append(command)
-    for option in OPTIONS:
-        if not any(re.search(rf" -[a-zA-Z]*{option}", command) for command in ran):
-            sys.exit(f"man: no example of -{option} is run")
-    print(f"man: ok, {len(ran)} examples")
+    for option in OPTIONS[name]:
+        if not any(re.search(rf" -[a-zA-Z1]*{option}", command) for command in ran):
+            sys.exit(f"man: {name}: no example of -{option} is run")
+    return len(ran)
+
+
+def main():
+    program = str(pathlib.Path(sys.argv[1] if len(sys.argv) > 1 else TOP / "crates/vtools/out/vtools").resolve())
+    if {page.name for page in PAGES.iterdir()} != set(OPTIONS):
+        sys.exit(f"man: the pages of {PAGES} are not {', '.join(OPTIONS)}")
+    count = sum(run_page(program, name) for name in OPTIONS)
+    print(f"man: ok, {count} examples")
 
 
 main()

@@ -13,6 +13,8 @@
 #[cfg(test)]
 mod byte_table;
 #[cfg(test)]
+mod consumers;
+#[cfg(test)]
 mod faults;
 #[cfg(test)]
 mod files;

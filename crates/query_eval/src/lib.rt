@@ -3,7 +3,7 @@
 //! A query and a group go in, and out comes whether the query holds for the group. All records of the group count, shown
 //! or not. Of a record of another level or tag nothing more is looked at, and a test that some record satisfies asks no
 //! further ones. A test takes memory only for a pattern, once a record has what it asks; the truths of tests take a little.
-//! An `Asker` keeps both from group to group.
+//! An `Asker` keeps both from group to group. A `Chosen` is a group with what several queries say of it.
 //!
 //! Start with `specs/Meaning.antt`. Source: vsl-query(7).
 #![tactic(auto)]
@@ -11,11 +11,13 @@
 mod asker;
 mod asking;
 mod check;
+mod chosen;
 mod eval;
 mod laws;
 mod selection;
 mod truths;
 
 pub use asker::Asker;
+pub use chosen::Chosen;
 pub use eval::holds;
 pub use laws::queries_of_trees;

@@ -1,11 +1,15 @@
 mod LayoutLemmas
+mod ConsumerLemmas
+mod OutputLemmas
 mod ObjectLemmas
+mod GivenLemmas
 mod PrinterLemmas
 mod LoopLemmas
 mod QueryLemmas
 mod TakenLemmas
 mod LogSourceLemmas
 mod RunLemmas
+mod JobPrinterLemmas
 mod LogFileLemmas
 mod JobLemmas
 mod ToolLemmas

@@ -1,5 +1,5 @@
 -- A job over a log: opening, creating, the header, and what is left after want of memory.
-use Rattle.std.proofs.Common.{length-append, ◌≡◌, ℕ, ◌+◌, ◌-◌, ◌<◌, ◌⊎◌, Bool, true, false, List, [], ◌∷◌, ◌++◌, length, take, Option, Some, refl, sym, ap, subst, ◌∙◌, inl, inr, append_assoc, arith, Result, Ok, Err}
+use Rattle.std.proofs.Common.{length-append, ◌≡◌, ℕ, ◌+◌, ◌-◌, ◌<◌, ◌⊎◌, Bool, true, false, List, [], ◌∷◌, ◌++◌, length, take, Some, refl, sym, ap, subst, ◌∙◌, inl, inr, append_assoc, arith, Result, Ok, Err}
 use Rattle.std.specs.Result.{IfOk, OnErr}
 use Rattle.std.proofs.lemmas.List.{append-nil}
 use Rattle.log_model.specs.Faults.{HasNewFault}
@@ -12,13 +12,11 @@ use Rattle.vio.proofs.WholeLemmas.{NoCountFalls-then}
 use Rattle.vio.proofs.TouchLemmas.{touches_wrote}
 use Rattle.vsl_record.specs.Unit.{Log}
 use Rattle.vsl_file.specs.File.{most_bytes}
-use Rattle.txn_rows.specs.declared.group.GroupOptions.{GroupOptions}
+use Rattle.txn_rows.specs.declared.group.Group.{Group}
 use Rattle.txn_rows.specs.Grouping.{groups_of}
 use Rattle.query_parser.specs.declared.query.Query.{Query}
-use Rattle.query_eval.specs.Meaning.{is_held}
 use Rattle.tool_words.specs.declared.job.Job.{Job}
 use Rattle.varnish_tools.specs.declared.fault.ToolFault.TheVariants.{NoOpen, WriteFault}
-use Rattle.varnish_tools.specs.declared.layout.Look.{Look}
 use Rattle.varnish_tools.specs.declared.outcome.Ran.{Ran}
 use Rattle.varnish_tools.specs.declared.outcome.RunRecord.TheVariants.{Nothing, Counted}
 use Rattle.varnish_tools.specs.declared.printer.PrintFault.TheVariants as print_faults
@@ -28,19 +26,21 @@ use Rattle.varnish_tools.specs.declared.source.SourceFault.{SourceFault}
 use Rattle.varnish_tools.specs.declared.source.SourceFault.TheVariants as source_faults
 use Rattle.varnish_tools.specs.Asked.{Asked, Work, options_of, file_of, write_of}
 use Rattle.varnish_tools.specs.Objects.{GivesAtMost, Object, OpenedFile, CreatedFile, source_of, sink_of, opened_of, created_of, SinkGained}
-use Rattle.varnish_tools.specs.Queries.{Ask, chosen}
+use Rattle.varnish_tools.specs.Queries.{Ask, chosen, is_asked}
 use Rattle.varnish_tools.specs.Run.{Ending, Faulted, no_run, run_of}
-use Rattle.varnish_tools.specs.Output.{head_text, kept, is_filled, laid_out, look_of, is_flushed, sink_text}
-use Rattle.varnish_tools.specs.Printer.{PrinterState, due}
+use Rattle.vsl_dispatch.specs.Groups.{kept, is_filled}
+use Rattle.vsl_dispatch.proofs.GroupLemmas.{kept_none}
+use Rattle.varnish_tools.specs.Output.{head_text, output_of, is_flushed, is_ended, sink_text}
+use Rattle.varnish_tools.specs.Printer.{Plan, IsOutput, due}
 use Rattle.varnish_tools.specs.Promise.{Input, IsInput, IsDue, ReadsOnce, HasFailed, HasFailedInput, WritesPrefix, whole_text, is_whole, ending_begun}
-use Rattle.varnish_tools.specs.inside.LogFile.{HasBegun, HoldsAsAsked, IsJobPrinter, SourceOpened, SinkCreated}
+use Rattle.varnish_tools.specs.inside.LogFile.{HasBegun, HoldsAsAsked, IsJobPlan, SourceOpened, SinkCreated, job_plan}
 use Rattle.varnish_tools.specs.inside.LogSource.{GaveUnits, GaveFirst, StoppedSo}
 use Rattle.varnish_tools.specs.inside.Works.{WorksFor, PrefixFor}
 use Rattle.varnish_tools.specs.inside.Loop.{Added, AddedSome, RanUntil}
 use Rattle.varnish_tools.proofs.LogSourceLemmas.{gave_as_first}
-use Rattle.varnish_tools.proofs.LoopLemmas.{none_laid}
 use Rattle.varnish_tools.proofs.ObjectLemmas.{source_name, sink_name, source_still, sink_still, holds_more, IsStill, untouched_none, untouched_still, still_counts, still_then, still_opened, is_open, is_made, sink_before, begins_before, holds_before, touches_opening, touches_making, is_source, are_sources, source_still_left, gives_then, gives_still, gives_none, gives_more, gives_opening, gives_making}
-use Rattle.varnish_tools.proofs.PrinterLemmas.{due_first}
+use Rattle.varnish_tools.proofs.OutputLemmas.{job_output}
+use Rattle.varnish_tools.proofs.PrinterLemmas.{due_first, tested_text}
 use Rattle.varnish_tools.proofs.RunLemmas.{each_one, run_began, works_by, sink_gained, given_first, given_all, whole_is}
 
 -- a file has fewer units than a count has values
@@ -50,8 +50,16 @@ few_units n = omega arith
 
 -- want of memory
 
+-- the plan of a job's printer is one of the job
+pub plan_is : (job : Job) (ask : Ask) (query : Query) (k : ℕ) (p : Plan) → p ≡ job_plan job query k → HoldsAsAsked query ask → IsJobPlan job ask k p
+plan_is job ask query k p e holds = subst (λ (q : Plan). IsJobPlan job ask k q) (sym e) (record { asks = holds; is_grouped = refl; keeps = refl; writes = refl; sink = refl; name = refl })
+
+-- what a plan of a job writes
+plan_output : (job : Job) (ask : Ask) (k : ℕ) (p : Plan) → IsJobPlan job ask k p → IsOutput p.writes
+plan_output job ask k p is = subst (λ (w : List Group → Bool → List ℕ). IsOutput w) (sym is.writes) (job_output job)
+
 -- the text that is due for what was given is a prefix of that of the input
-text_prefix : (job : Job) (ask : Ask) (k : ℕ) (p : PrinterState) (empty all : Bool) (units : Log) (input : Input) → IsJobPrinter job ask k p → input.sink_empty ≡ empty
+text_prefix : (job : Job) (ask : Ask) (k : ℕ) (p : Plan) (empty all : Bool) (units : Log) (input : Input) → IsJobPlan job ask k p → input.sink_empty ≡ empty
     → (all ≡ true → (units ≡ input.units) × (is_whole input.file_ending ≡ true)) → units ≡ take (length units) input.units → IsPrefix (head_text job empty ++ due p units all) (whole_text (Work job) ask input)
 text_prefix job ask k p empty true units input is same whole first =
     let all = whole refl in
@@ -59,10 +67,10 @@ text_prefix job ask k p empty true units input is same whole first =
     (rw (all.0, all.1) (prefix_same (head_text job empty ++ due p input.units true)))
 text_prefix job ask k p empty false units input is same whole first =
     subst (λ (x : List ℕ). IsPrefix (head_text job empty ++ due p units false) x) (whole_is job ask k p empty input is same)
-    (prefix_after (head_text job empty) (subst (λ (us : Log). IsPrefix (due p us false) (due p input.units (is_whole input.file_ending))) (sym first) (due_first p.look (is_held p.query) p.table.options input.units (length units) (is_whole input.file_ending))))
+    (prefix_after (head_text job empty) (subst (λ (us : Log). IsPrefix (due p us false) (due p input.units (is_whole input.file_ending))) (sym first) (due_first p (plan_output job ask k p is) input.units (length units) (is_whole input.file_ending))))
 
 -- a sink that gained a part of what is due for the units that were given
-prefix_by : {IsSo : List ℕ → Type 0} (job : Job) (ask : Ask) (source sink : ℕ) (empty all : Bool) (p : PrinterState) (units : Log) (r s t : Seen) → HasBegun job source sink empty (head_text job empty) r s → IsJobPrinter job ask sink p
+prefix_by : {IsSo : List ℕ → Type 0} (job : Job) (ask : Ask) (source sink : ℕ) (empty all : Bool) (p : Plan) (units : Log) (r s t : Seen) → HasBegun job source sink empty (head_text job empty) r s → IsJobPlan job ask sink p
     → Touches (source ∷ []) (sink ∷ []) [] [] s t → GaveFirst source s t units → ((input : Input) → IsInput (Work job) r input → all ≡ true → (units ≡ input.units) × (is_whole input.file_ending ≡ true))
     → ((text : List ℕ) → IsSo text → IsPrefix text (due p units all)) → AddedSome IsSo p.sink s t → PrefixFor ask (Work job) r t
 prefix_by job ask source sink empty all p units r s t begun is touched gave whole part added = λ input is_input o one.
@@ -71,13 +79,13 @@ prefix_by job ask source sink empty all p units r s t begun is touched gave whol
     inr (each_one (λ o. SinkGained (λ text. IsPrefix text (whole_text (Work job) ask input)) o r t) (sink_of job) (sink_gained job ask source sink empty p r s t begun is touched
     (λ text so. prefix_then (prefix_after (head_text job empty) (part text so)) (text_prefix job ask sink p empty all units input is same (whole input is_input) first.1)) added) o one)
 
-pub prefix_source : (job : Job) (ask : Ask) (source sink : ℕ) (empty : Bool) (p : PrinterState) (units : Log) (r s t : Seen) → IsJobPrinter job ask sink p → Touches (source ∷ []) (sink ∷ []) [] [] s t → GaveFirst source s t units
+pub prefix_source : (job : Job) (ask : Ask) (source sink : ℕ) (empty : Bool) (p : Plan) (units : Log) (r s t : Seen) → IsJobPlan job ask sink p → Touches (source ∷ []) (sink ∷ []) [] [] s t → GaveFirst source s t units
     → AddedSome (λ text. text ≡ due p units false) p.sink s t → HasBegun job source sink empty (head_text job empty) r s → PrefixFor ask (Work job) r t
 prefix_source job ask source sink empty p units r s t is touched gave added begun =
     prefix_by job ask source sink empty false p units r s t begun is touched gave (λ input is_input e. absurd cc) (λ text so. rw so (prefix_same (due p units false))) added
 
 -- the source had no memory
-pub prefix_stopped : (job : Job) (query : Query) (source sink : ℕ) (start now : LogFile) (fault : SourceFault) (n : ℕ) (p : PrinterState) (s t : Seen) → start.reader.handle ≡ source → ((ask : Ask) → HoldsAsAsked query ask → IsJobPrinter job ask sink p) → Touches (source ∷ []) (p.sink ∷ []) [] [] s t
+pub prefix_stopped : (job : Job) (query : Query) (source sink : ℕ) (start now : LogFile) (fault : SourceFault) (n : ℕ) (p : Plan) (s t : Seen) → start.reader.handle ≡ source → ((ask : Ask) → HoldsAsAsked query ask → IsJobPlan job ask sink p) → Touches (source ∷ []) (p.sink ∷ []) [] [] s t
     → fault ≡ source_faults.NoMemory → RanUntil (BySource fault n) (GaveUnits start now s t) (λ why units. StoppedSo start.reader.handle why s t units) p s t
     → (ask : Ask) (r : Seen) (empty : Bool) → HoldsAsAsked query ask → HasBegun job source sink empty (head_text job empty) r s → PrefixFor ask (Work job) r t
 prefix_stopped job query source sink start now fault n p s t handle is touched e ran = λ ask r empty holds begun.
@@ -91,7 +99,7 @@ all_given job source sink empty true start now r s t units handle begun gave = �
     let whole = given_all job source sink empty start now r s t units input handle begun gave is_input in (whole.0, ap is_whole whole.1)
 all_given job source sink empty false start now r s t units handle begun gave = λ input is_input e. absurd cc
 
-pub prefix_printer : (job : Job) (ask : Ask) (source sink : ℕ) (empty : Bool) (start now : LogFile) (n : ℕ) (p : PrinterState) (r s t : Seen) → start.reader.handle ≡ source → IsJobPrinter job ask sink p → Touches (source ∷ []) (sink ∷ []) [] [] s t
+pub prefix_printer : (job : Job) (ask : Ask) (source sink : ℕ) (empty : Bool) (start now : LogFile) (n : ℕ) (p : Plan) (r s t : Seen) → start.reader.handle ≡ source → IsJobPlan job ask sink p → Touches (source ∷ []) (sink ∷ []) [] [] s t
     → RanUntil (ByPrinter print_faults.NoMemory n) (GaveUnits start now s t) (λ fault units. StoppedSo start.reader.handle fault s t units) p s t → HasBegun job source sink empty (head_text job empty) r s → PrefixFor ask (Work job) r t
 prefix_printer job ask source sink empty start now n p r s t handle is touched ran begun =
     let run = ran.1.1 in
@@ -105,12 +113,15 @@ sink_begun job source sink empty head r s begun so = record { handle = sink; is_
 -- what an input's text begins with
 head_prefix : (job : Job) (ask : Ask) (empty : Bool) (input : Input) → input.sink_empty ≡ empty → IsPrefix (head_text job empty) (whole_text (Work job) ask input)
 head_prefix job ask empty input same = subst (λ (b : Bool). IsPrefix (head_text job b) (whole_text (Work job) ask input)) same
-    (prefix_append (head_text job input.sink_empty) (laid_out (look_of job) (kept job.keep (chosen ask (groups_of (options_of job) input.units (is_whole input.file_ending))))))
+    (prefix_append (head_text job input.sink_empty) (tested_text (output_of job) job.keep (is_asked ask) (options_of job) input.units (is_whole input.file_ending)))
 
 pub prefix_begun : (job : Job) (ask : Ask) (source sink : ℕ) (empty : Bool) (head : List ℕ) (r s : Seen) → IsPrefix head (head_text job empty) → HasBegun job source sink empty head r s → PrefixFor ask (Work job) r s
 prefix_begun job ask source sink empty head r s part begun = λ input is_input o one.
     inr (each_one (λ o. SinkGained (λ text. IsPrefix text (whole_text (Work job) ask input)) o r s) (sink_of job)
     (sink_begun job source sink empty head r s begun (prefix_then part (head_prefix job ask empty input (begun.begins input.sink_empty is_input.2)))) o one)
+
+pub prefix_headed : (job : Job) (query : Query) (source sink : ℕ) (s : Seen) → (ask : Ask) (r : Seen) (empty : Bool) → HoldsAsAsked query ask → HasBegun job source sink empty (head_text job empty) r s → PrefixFor ask (Work job) r s
+prefix_headed job query source sink s ask r empty holds begun = prefix_begun job ask source sink empty (head_text job empty) r s (prefix_same (head_text job empty)) begun
 
 pub prefix_still : (job : Job) (ask : Ask) (r t : Seen) → IsStill r t → PrefixFor ask (Work job) r t
 prefix_still job ask r t still = λ input is_input o one. inl (untouched_still o r t still)
@@ -138,13 +149,13 @@ begun_more job source sink empty text r s t begun w =
     }
 
 -- no unit, no text
-nothing_laid : (l : Look) (ask : Ask) (keep : Option ℕ) (options : GroupOptions) (b : Bool) → laid_out l (kept keep (chosen ask (groups_of options [] b))) ≡ []
-nothing_laid l ask keep options true = none_laid l keep
-nothing_laid l ask keep options false = none_laid l keep
+nothing_written : (job : Job) (ask : Ask) (ended flushed : Bool) → output_of job (kept job.keep (chosen ask (groups_of (options_of job) [] flushed))) ended ≡ []
+nothing_written job ask ended true = rw (kept_none job.keep) ((job_output job).none ended)
+nothing_written job ask ended false = rw (kept_none job.keep) ((job_output job).none ended)
 
 -- the text of a run that took no unit is the header
 headed : (job : Job) (ask : Ask) (empty : Bool) (ending : Ending) → sink_text (Work job) ask (run_of empty []) ending ≡ head_text job empty
-headed job ask empty ending = ap (λ (x : List ℕ). head_text job empty ++ x) (nothing_laid (look_of job) ask job.keep (options_of job) (is_flushed ending)) ∙ append-nil (head_text job empty)
+headed job ask empty ending = ap (λ (x : List ℕ). head_text job empty ++ x) (nothing_written job ask (is_ended ending) (is_flushed ending)) ∙ append-nil (head_text job empty)
 
 -- the write of the header failed
 pub works_headless : (job : Job) (ask : Ask) (source sink : ℕ) (empty : Bool) (r s t : Seen) → HasBegun job source sink empty [] r s → WroteOn sink [] (λ text. IsProperPrefix text (head_text job empty)) s t → FaultsRose Writing sink s t → is_filled job.keep [] ≡ false
@@ -167,7 +178,7 @@ works_headless job ask source sink empty r s t begun left rose keeps =
           ([], omega arith, record { handle = source; is_handle = more.is_source; rest = input.bytes; left = more.told input.bytes is_input.0; parts = refl });
       sinks = each_one (λ o. SinkGained (IsDue (Work job) ask input run (Faulted fault)) o r t) (sink_of job) (sink_begun job source sink empty left.added r t more (
         λ some. absurd (omega (arith, some)),
-        subst (λ (x : List ℕ). IsProperPrefix left.added x) (sym (headed job ask input.sink_empty (ending_begun input run (Faulted fault)) ∙ ap (λ (b : Bool). head_text job b) same)) left.is,
+        subst (λ (x : List ℕ). IsProperPrefix left.added x) (sym (headed job ask input.sink_empty (ending_begun (Work job) ask input run (Faulted fault)) ∙ ap (λ (b : Bool). head_text job b) same)) left.is,
       ));
     })
 

@@ -1,10 +1,10 @@
 -- What a run over a log comes to, by how it ended.
-use Rattle.std.proofs.Common.{◌≡◌, ◌≢◌, ◌⊎◌, ℕ, ◌+◌, ◌-◌, ◌<◌, ◌≤◌, Bool, true, false, cond, eqb, eq-eqb, ◌&&◌, List, [], ◌∷◌, ◌++◌, length, length-append, take, Some, None, refl, sym, ap, subst, ◌∙◌, inl, inr, append_assoc, arith}
+use Rattle.std.proofs.Common.{◌≡◌, ◌≢◌, ◌⊎◌, ℕ, ◌+◌, ◌-◌, ◌<◌, ◌≤◌, Bool, true, false, cond, eqb, eq-eqb, ◌&&◌, ◌||◌, Option, List, [], ◌∷◌, ◌++◌, length, length-append, take, Some, None, refl, sym, ap, subst, ◌∙◌, inl, inr, append_assoc, arith}
 use Rattle.std.specs.List.{AllByRecursion}
 use Rattle.std.proofs.lemmas.List.{append-nil, take_all, take-append-le}
 use Rattle.std.proofs.lemmas.List.Elements.{filter_agree}
 use Rattle.log_model.specs.Faults.{HasNewFault}
-use Rattle.log_model.specs.Prefix.{IsPrefix, IsProperPrefix}
+use Rattle.log_model.specs.Prefix.{IsPrefix}
 use Rattle.log_model.proofs.PrefixLemmas.{prefix_same, prefix_after, proper_after, proper_then}
 use Rattle.vio.specs.World.{Seen, Reading, Writing}
 use Rattle.vio.specs.Touches.{IsOneOf, Touches}
@@ -22,7 +22,6 @@ use Rattle.query_eval.specs.Meaning.{is_held}
 use Rattle.tool_words.specs.declared.job.Job.{Job}
 use Rattle.varnish_tools.specs.declared.fault.ToolFault.{ToolFault}
 use Rattle.varnish_tools.specs.declared.fault.ToolFault.TheVariants.{ReadFault, WriteFault, NotALog, Damaged, TooLarge}
-use Rattle.varnish_tools.specs.declared.layout.Look.{Look}
 use Rattle.varnish_tools.specs.declared.outcome.RunRecord.{RunRecord}
 use Rattle.varnish_tools.specs.declared.outcome.RunRecord.TheVariants.{Counted}
 use Rattle.varnish_tools.specs.declared.printer.PrintFault.TheVariants as print_faults
@@ -35,16 +34,19 @@ use Rattle.varnish_tools.specs.Faults.{FaultClass, BadInput, class_of}
 use Rattle.varnish_tools.specs.Objects.{IsSourceHandle, Object, source_of, sink_of, SinkGained}
 use Rattle.varnish_tools.specs.Queries.{Ask, chosen, is_asked}
 use Rattle.varnish_tools.specs.Run.{Ending, Whole, Kept, Faulted, run_of}
-use Rattle.varnish_tools.specs.Output.{head_text, kept, is_filled, laid_out, look_of, is_flushed, sink_text}
-use Rattle.varnish_tools.specs.Printer.{PrinterState, due, due_text, has_all, held_groups}
-use Rattle.varnish_tools.specs.Promise.{Input, SourceHolds, IsInput, RunBegan, TakesUntil, fills, ReadsOnceUntil, IsDueUntil, IsDue, ReadsOnce, Took, WritesFor, whole_text, whole_run, input_fault, is_whole, ending_begun}
-use Rattle.varnish_tools.specs.inside.LogFile.{HasBegun, IsJobPrinter, fault_as}
+use Rattle.vsl_dispatch.specs.Groups.{kept, is_filled}
+use Rattle.varnish_tools.specs.Output.{head_text, output_of, is_flushed, is_ended, sink_text}
+use Rattle.varnish_tools.specs.Printer.{Plan, IsOutput, asked_groups, due, has_all}
+use Rattle.varnish_tools.specs.Held.{held_groups}
+use Rattle.varnish_tools.specs.Promise.{Input, SourceHolds, IsInput, RunBegan, TakesUntil, fills, ReadsOnceUntil, IsDueUntil, IsDue, ReadsOnce, Took, WritesFor, whole_text, whole_run, input_fault, is_whole}
+use Rattle.varnish_tools.specs.inside.LogFile.{HasBegun, IsJobPlan, fault_as}
 use Rattle.varnish_tools.specs.inside.LogSource.{TookFrom, BeginsLog, GaveUnits, GaveFirst, EndsFile, FailedAfter, StoppedSo}
 use Rattle.varnish_tools.specs.inside.Works.{HasRunCause, RunLeavesUntil, WorksFor}
 use Rattle.varnish_tools.specs.inside.Loop.{AddedSome, IsOpen, RanToEnd, RanToKept, RanUntil}
 use Rattle.varnish_tools.proofs.LogSourceLemmas.{gave_as_first}
 use Rattle.varnish_tools.proofs.ObjectLemmas.{source_name, sink_name, source_still, gained_after}
-use Rattle.varnish_tools.proofs.PrinterLemmas.{due_flag}
+use Rattle.varnish_tools.proofs.OutputLemmas.{job_output}
+use Rattle.varnish_tools.proofs.PrinterLemmas.{due_flag, due_filled, tested_text}
 
 -- the units that were given, and the input
 
@@ -112,30 +114,41 @@ given_ending job source sink empty r s units ending input begun ends is_input = 
 
 -- the text that is due
 
--- the text that was due at the printer is that of the job
-due_is : (job : Job) (ask : Ask) (k : ℕ) (p : PrinterState) (units : Log) (b : Bool) → IsJobPrinter job ask k p → due p units b ≡ laid_out (look_of job) (kept job.keep (chosen ask (groups_of (options_of job) units b)))
-due_is job ask k p units b is = ap (λ (l : Look). due_text l p.query p.table.options units b) is.is_laid_out ∙ ap (λ (o : GroupOptions). due_text (look_of job) p.query o units b) is.is_grouped
-    ∙ ap (λ (gs : List Group). laid_out (look_of job) (kept job.keep gs)) (filter_agree (is_held p.query) (is_asked ask) is.asks.each (groups_of (options_of job) units b))
+-- the groups of the plan that are asked for are those of the job
+asked_are : (job : Job) (ask : Ask) (k : ℕ) (p : Plan) (units : Log) (b : Bool) → IsJobPlan job ask k p → asked_groups p units b ≡ chosen ask (groups_of (options_of job) units b)
+asked_are job ask k p units b is = ap (λ (o : GroupOptions). held_groups p.query (groups_of o units b)) is.is_grouped ∙ filter_agree (is_held p.query) (is_asked ask) is.asks.each (groups_of (options_of job) units b)
 
--- whether the printer's groups are as many as are kept, told of the job
-fills_is : (job : Job) (ask : Ask) (k : ℕ) (p : PrinterState) (units : Log) → IsJobPrinter job ask k p → fills (Work job) ask units ≡ has_all p units
-fills_is job ask k p units is = sym (
-    ap (λ (l : Look). is_filled l.keep (held_groups p.query (groups_of p.table.options units false))) is.is_laid_out
-    ∙ ap (λ (o : GroupOptions). is_filled job.keep (held_groups p.query (groups_of o units false))) is.is_grouped
-    ∙ ap (λ (gs : List Group). is_filled job.keep gs) (filter_agree (is_held p.query) (is_asked ask) is.asks.each (groups_of (options_of job) units false))
-    )
+-- whether the groups of the plan are as many as are kept, told of the job
+fills_is : (job : Job) (ask : Ask) (k : ℕ) (p : Plan) (units : Log) → IsJobPlan job ask k p → fills (Work job) ask units ≡ has_all p units
+fills_is job ask k p units is = sym (ap (λ (o : Option ℕ). is_filled o (asked_groups p units false)) is.keeps ∙ ap (λ (gs : List Group). is_filled job.keep gs) (asked_are job ask k p units false is))
 
--- the text of a run of units
-sink_is : (job : Job) (ask : Ask) (k : ℕ) (p : PrinterState) (empty : Bool) (units : Log) (ending : Ending) → IsJobPrinter job ask k p → head_text job empty ++ due p units (is_flushed ending) ≡ sink_text (Work job) ask (run_of empty units) ending
-sink_is job ask k p empty units ending is = ap (λ (x : List ℕ). head_text job empty ++ x)
-    (due_is job ask k p units (is_flushed ending) is ∙ ap (λ (us : Log). laid_out (look_of job) (kept job.keep (chosen ask (groups_of (options_of job) us (is_flushed ending))))) (sym (append-nil units)))
+-- the text that is due under the plan is that of the job
+due_is : (job : Job) (ask : Ask) (k : ℕ) (p : Plan) (units : Log) (b : Bool) → IsJobPlan job ask k p → due p units b ≡ tested_text (output_of job) job.keep (is_asked ask) (options_of job) units b
+due_is job ask k p units b is = ap (λ (w : List Group → Bool → List ℕ). w (kept p.keep (asked_groups p units b)) (b || has_all p units)) is.writes
+    ∙ ap (λ (f : Bool). output_of job (kept p.keep (asked_groups p units b)) (b || f)) (sym (fills_is job ask k p units is))
+    ∙ ap (λ (o : Option ℕ). output_of job (kept o (asked_groups p units b)) (b || fills (Work job) ask units)) is.keeps
+    ∙ ap (λ (gs : List Group). output_of job (kept job.keep gs) (b || fills (Work job) ask units)) (asked_are job ask k p units b is)
 
-pub whole_is : (job : Job) (ask : Ask) (k : ℕ) (p : PrinterState) (empty : Bool) (input : Input) → IsJobPrinter job ask k p → input.sink_empty ≡ empty → head_text job empty ++ due p input.units (is_whole input.file_ending) ≡ whole_text (Work job) ask input
+-- the text of a run of units, whose groups have ended where the ending says so
+pub run_text : (job : Job) (ask : Ask) (empty : Bool) (units : Log) (ending : Ending) → is_ended ending ≡ (is_flushed ending || fills (Work job) ask units)
+    → sink_text (Work job) ask (run_of empty units) ending ≡ head_text job empty ++ tested_text (output_of job) job.keep (is_asked ask) (options_of job) units (is_flushed ending)
+run_text job ask empty units ending ends = ap (λ (us : Log). head_text job empty ++ output_of job (kept job.keep (chosen ask (groups_of (options_of job) us (is_flushed ending)))) (is_ended ending)) (append-nil units)
+    ∙ ap (λ (b : Bool). head_text job empty ++ output_of job (kept job.keep (chosen ask (groups_of (options_of job) units (is_flushed ending)))) b) ends
+
+-- an ending that says whether the groups have ended, of the plan and of the job
+ends_as : (job : Job) (ask : Ask) (k : ℕ) (p : Plan) (units : Log) (ending : Ending) → IsJobPlan job ask k p → is_ended ending ≡ (is_flushed ending || has_all p units) → is_ended ending ≡ (is_flushed ending || fills (Work job) ask units)
+ends_as job ask k p units ending is ends = ends ∙ ap (λ (b : Bool). is_flushed ending || b) (sym (fills_is job ask k p units is))
+
+sink_is : (job : Job) (ask : Ask) (k : ℕ) (p : Plan) (empty : Bool) (units : Log) (ending : Ending) → IsJobPlan job ask k p → is_ended ending ≡ (is_flushed ending || has_all p units)
+    → head_text job empty ++ due p units (is_flushed ending) ≡ sink_text (Work job) ask (run_of empty units) ending
+sink_is job ask k p empty units ending is ends = ap (λ (x : List ℕ). head_text job empty ++ x) (due_is job ask k p units (is_flushed ending) is) ∙ sym (run_text job ask empty units ending (ends_as job ask k p units ending is ends))
+
+pub whole_is : (job : Job) (ask : Ask) (k : ℕ) (p : Plan) (empty : Bool) (input : Input) → IsJobPlan job ask k p → input.sink_empty ≡ empty → head_text job empty ++ due p input.units (is_whole input.file_ending) ≡ whole_text (Work job) ask input
 whole_is job ask k p empty input is e = ap (λ (x : List ℕ). head_text job empty ++ x) (due_is job ask k p input.units (is_whole input.file_ending) is)
-    ∙ ap (λ (b : Bool). head_text job b ++ laid_out (look_of job) (kept job.keep (chosen ask (groups_of (options_of job) input.units (is_whole input.file_ending))))) (sym e)
+    ∙ ap (λ (b : Bool). head_text job b ++ tested_text (output_of job) job.keep (is_asked ask) (options_of job) input.units (is_whole input.file_ending)) (sym e)
 
 -- what the sink gained since before the run
-pub sink_gained : {IsSo IsToo : List ℕ → Type 0} (job : Job) (ask : Ask) (source sink : ℕ) (empty : Bool) (p : PrinterState) (r s t : Seen) → HasBegun job source sink empty (head_text job empty) r s → IsJobPrinter job ask sink p → Touches (source ∷ []) (sink ∷ []) [] [] s t
+pub sink_gained : {IsSo IsToo : List ℕ → Type 0} (job : Job) (ask : Ask) (source sink : ℕ) (empty : Bool) (p : Plan) (r s t : Seen) → HasBegun job source sink empty (head_text job empty) r s → IsJobPlan job ask sink p → Touches (source ∷ []) (sink ∷ []) [] [] s t
     → ((text : List ℕ) → IsSo text → IsToo (head_text job empty ++ text)) → AddedSome IsSo p.sink s t → SinkGained IsToo (sink_of job) r t
 sink_gained {IsSo = IsSo} job ask source sink empty p r s t begun is touched also added =
     gained_after (sink_of job) sink (head_text job empty) (source ∷ []) (sink ∷ []) r s t begun.is_sink begun.sink_given begun.gains begun.holds touched also
@@ -157,12 +170,12 @@ all_taken n units all empty b count e same =
     let many : n ≡ length all = count ∙ ap length e in (omega arith, ap (λ (us : Log). run_of b us) (sym (take_all n all (omega arith))))
 
 -- the text of all units of the input
-text_of_all : (job : Job) (ask : Ask) (k : ℕ) (p : PrinterState) (empty : Bool) (units : Log) (input : Input) (ending : Ending) → IsJobPrinter job ask k p → units ≡ input.units → input.sink_empty ≡ empty
-    → head_text job empty ++ due p units (is_flushed ending) ≡ sink_text (Work job) ask (whole_run input) ending
-text_of_all job ask k p empty units input ending is same e = sink_is job ask k p empty units ending is ∙ ap (λ (b : Bool). sink_text (Work job) ask (run_of b units) ending) (sym e)
+text_of_all : (job : Job) (ask : Ask) (k : ℕ) (p : Plan) (empty : Bool) (units : Log) (input : Input) (ending : Ending) → IsJobPlan job ask k p → units ≡ input.units → input.sink_empty ≡ empty
+    → is_ended ending ≡ (is_flushed ending || has_all p units) → head_text job empty ++ due p units (is_flushed ending) ≡ sink_text (Work job) ask (whole_run input) ending
+text_of_all job ask k p empty units input ending is same e ends = sink_is job ask k p empty units ending is ends ∙ ap (λ (b : Bool). sink_text (Work job) ask (run_of b units) ending) (sym e)
     ∙ ap (λ (us : Log). sink_text (Work job) ask (run_of input.sink_empty us) ending) same
 
-works_whole : (job : Job) (ask : Ask) (source sink : ℕ) (empty : Bool) (start now : LogFile) (n : ℕ) (p : PrinterState) (r s t : Seen) → start.reader.handle ≡ source → IsJobPrinter job ask sink p
+works_whole : (job : Job) (ask : Ask) (source sink : ℕ) (empty : Bool) (start now : LogFile) (n : ℕ) (p : Plan) (r s t : Seen) → start.reader.handle ≡ source → IsJobPlan job ask sink p
     → Touches (source ∷ []) (sink ∷ []) [] [] s t → RanToEnd (GaveUnits start now s t) p n s t → HasBegun job source sink empty (head_text job empty) r s → WorksFor ask (Work job) None (Counted n 1) r t
 works_whole job ask source sink empty start now n p r s t handle is touched ran begun = record {
   causes = λ f e. absurd cc;
@@ -178,13 +191,13 @@ works_whole job ask source sink empty start now n p r s t handle is touched ran 
         takes = (all.1, refl, ap (λ (us : Log). fills (Work job) ask us) (sym all.0) ∙ fills_is job ask sink p ran.units is ∙ ran.cut.all);
         reads_once = λ o one. tt;
         sinks = each_one (λ o. SinkGained (IsDue (Work job) ask input (whole_run input) Whole) o r t) (sink_of job) (sink_gained job ask source sink empty p r s t begun is touched
-            (λ text so. ap (λ (x : List ℕ). head_text job empty ++ x) so ∙ text_of_all job ask sink p empty ran.units input Whole is all.0 same) ran.gains);
+            (λ text so. ap (λ (x : List ℕ). head_text job empty ++ x) so ∙ text_of_all job ask sink p empty ran.units input Whole is all.0 same refl) ran.gains);
       };
 }
 
 -- the log ended early
 
-pub works_ended : (job : Job) (ask : Ask) (source sink : ℕ) (empty : Bool) (n : ℕ) (p : PrinterState) (units : Log) (ending : FileEnding) (fault : ToolFault) (r s t : Seen) → IsJobPrinter job ask sink p → Touches (source ∷ []) (sink ∷ []) [] [] s t
+pub works_ended : (job : Job) (ask : Ask) (source sink : ℕ) (empty : Bool) (n : ℕ) (p : Plan) (units : Log) (ending : FileEnding) (fault : ToolFault) (r s t : Seen) → IsJobPlan job ask sink p → Touches (source ∷ []) (sink ∷ []) [] [] s t
     → n ≡ length units → class_of fault ≡ BadInput (file_of job) → input_fault (file_of job) ending ≡ Some fault → HasBegun job source sink empty (head_text job empty) r s → EndsFile source s units ending
     → AddedSome (λ text. text ≡ due p units false) p.sink s t → IsOpen p units → WorksFor ask (Work job) (Some fault) (Counted n 1) r t
 works_ended job ask source sink empty n p units ending fault r s t is touched count e blamed begun ends added fewer =
@@ -208,7 +221,7 @@ works_ended job ask source sink empty n p units ending fault r s t is touched co
       reads_once = λ o one. subst (λ (c : FaultClass). ReadsOnceUntil c o input (whole_run input) r t) (sym e) tt;
       sinks = each_one (λ o. SinkGained (IsDue (Work job) ask input (whole_run input) (Faulted fault)) o r t) (sink_of job) (sink_gained job ask source sink empty p r s t begun is touched
           (λ text so. subst (λ (c : FaultClass). IsDueUntil c (Work job) ask input (whole_run input) (Faulted fault) (head_text job empty ++ text)) (sym e)
-          (ap (λ (x : List ℕ). head_text job empty ++ x) so ∙ text_of_all job ask sink p empty units input (Faulted fault) is all.0 same)) added);
+          (ap (λ (x : List ℕ). head_text job empty ++ x) so ∙ text_of_all job ask sink p empty units input (Faulted fault) is all.0 same (sym fewer.all))) added);
     })
 
 -- the first units of the input, as many as were counted
@@ -216,12 +229,13 @@ first_taken : (n : ℕ) (units all : Log) (b : Bool) → n ≡ length units → 
 first_taken n units all b count first = (omega (arith, count, first.0), ap (λ (us : Log). run_of b us) (first.1 ∙ ap (λ (k : ℕ). take k all) (sym count)))
 
 -- the text of the first units
-text_of_first : (job : Job) (ask : Ask) (k : ℕ) (p : PrinterState) (empty b : Bool) (units : Log) (ending : Ending) → IsJobPrinter job ask k p → b ≡ empty → head_text job empty ++ due p units (is_flushed ending) ≡ sink_text (Work job) ask (run_of b units) ending
-text_of_first job ask k p empty b units ending is e = sink_is job ask k p empty units ending is ∙ ap (λ (x : Bool). sink_text (Work job) ask (run_of x units) ending) (sym e)
+text_of_first : (job : Job) (ask : Ask) (k : ℕ) (p : Plan) (empty b : Bool) (units : Log) (ending : Ending) → IsJobPlan job ask k p → b ≡ empty → is_ended ending ≡ (is_flushed ending || has_all p units)
+    → head_text job empty ++ due p units (is_flushed ending) ≡ sink_text (Work job) ask (run_of b units) ending
+text_of_first job ask k p empty b units ending is e ends = sink_is job ask k p empty units ending is ends ∙ ap (λ (x : Bool). sink_text (Work job) ask (run_of x units) ending) (sym e)
 
 -- a read failed
 
-pub works_unread : (job : Job) (ask : Ask) (source sink : ℕ) (empty : Bool) (n : ℕ) (p : PrinterState) (units : Log) (r s t : Seen) → IsJobPrinter job ask sink p → Touches (source ∷ []) (sink ∷ []) [] [] s t → n ≡ length units
+pub works_unread : (job : Job) (ask : Ask) (source sink : ℕ) (empty : Bool) (n : ℕ) (p : Plan) (units : Log) (r s t : Seen) → IsJobPlan job ask sink p → Touches (source ∷ []) (sink ∷ []) [] [] s t → n ≡ length units
     → HasBegun job source sink empty (head_text job empty) r s → FailedAfter source s t units → AddedSome (λ text. text ≡ due p units false) p.sink s t → IsOpen p units
     → WorksFor ask (Work job) (Some (ReadFault (file_of job))) (Counted n 1) r t
 works_unread job ask source sink empty n p units r s t is touched count begun stop added fewer =
@@ -239,7 +253,7 @@ works_unread job ask source sink empty n p units r s t is touched count begun st
       reads_once = each_one (λ o. ReadsOnce (Faulted (ReadFault (file_of job))) o input (run_of input.sink_empty units) r t) (source_of job)
           (inr (stop.given.taken, stop.holds, took job source sink empty r s t stop.given.taken input begun touched stop.given.took is_input));
       sinks = each_one (λ o. SinkGained (IsDue (Work job) ask input (run_of input.sink_empty units) (Faulted (ReadFault (file_of job)))) o r t) (sink_of job) (sink_gained job ask source sink empty p r s t begun is touched
-          (λ text so. ap (λ (x : List ℕ). head_text job empty ++ x) so ∙ text_of_first job ask sink p empty input.sink_empty units (Faulted (ReadFault (file_of job))) is same) added);
+          (λ text so. ap (λ (x : List ℕ). head_text job empty ++ x) so ∙ text_of_first job ask sink p empty input.sink_empty units (Faulted (ReadFault (file_of job))) is same (sym fewer.all)) added);
     })
 
 -- a log that is too large is bad input
@@ -249,7 +263,7 @@ large_class name = refl
 
 -- the source stopped, but for want of memory
 
-stopped_by : (job : Job) (ask : Ask) (source sink : ℕ) (empty : Bool) (fault : SourceFault) (n : ℕ) (p : PrinterState) (units : Log) (r s t : Seen) → IsJobPrinter job ask sink p → Touches (source ∷ []) (sink ∷ []) [] [] s t → fault ≢ source_faults.NoMemory
+stopped_by : (job : Job) (ask : Ask) (source sink : ℕ) (empty : Bool) (fault : SourceFault) (n : ℕ) (p : Plan) (units : Log) (r s t : Seen) → IsJobPlan job ask sink p → Touches (source ∷ []) (sink ∷ []) [] [] s t → fault ≢ source_faults.NoMemory
     → n ≡ length units → StoppedSo source fault s t units → AddedSome (λ text. text ≡ due p units false) p.sink s t → IsOpen p units → HasBegun job source sink empty (head_text job empty) r s → WorksFor ask (Work job) (Some (fault_as (file_of job) fault)) (Counted n 1) r t
 stopped_by job ask source sink empty (source_faults.NotALog at) n p units r s t is touched some count stop added fewer begun =
     works_ended job ask source sink empty n p units (file.NotALog at) (NotALog (file_of job) at) r s t is touched count refl refl begun stop added fewer
@@ -260,7 +274,7 @@ stopped_by job ask source sink empty source_faults.TooLarge n p units r s t is t
 stopped_by job ask source sink empty source_faults.ReadFault n p units r s t is touched some count stop added fewer begun = works_unread job ask source sink empty n p units r s t is touched count begun stop added fewer
 stopped_by job ask source sink empty source_faults.NoMemory n p units r s t is touched some count stop added fewer begun = absurd (some refl)
 
-pub works_stopped : (job : Job) (ask : Ask) (source sink : ℕ) (empty : Bool) (start now : LogFile) (fault : SourceFault) (name : List ℕ) (f : ToolFault) (n : ℕ) (p : PrinterState) (r s t : Seen) → start.reader.handle ≡ source → IsJobPrinter job ask sink p
+pub works_stopped : (job : Job) (ask : Ask) (source sink : ℕ) (empty : Bool) (start now : LogFile) (fault : SourceFault) (name : List ℕ) (f : ToolFault) (n : ℕ) (p : Plan) (r s t : Seen) → start.reader.handle ≡ source → IsJobPlan job ask sink p
     → Touches (source ∷ []) (sink ∷ []) [] [] s t → name ≡ file_of job → f ≡ fault_as name fault → fault ≢ source_faults.NoMemory
     → RanUntil (BySource fault n) (GaveUnits start now s t) (λ why units. StoppedSo start.reader.handle why s t units) p s t → HasBegun job source sink empty (head_text job empty) r s → WorksFor ask (Work job) (Some f) (Counted n 1) r t
 works_stopped job ask source sink empty start now fault name f n p r s t handle is touched named e some ran begun =
@@ -278,22 +292,45 @@ ahead : (r : ReaderState) (taken : List ℕ) (units : Log) → Represents r take
 ahead r taken units p = ahead_by r.begun taken r.rest units p.fresh p.parts p.short
 
 -- the text with the last unit, flushed where the whole log was given, is a prefix of that of the run's ending
-begun_flag : (p : PrinterState) (units : Log) (all whole : Bool) (count : ℕ) → (all ≡ true → (length units ≡ count) × (whole ≡ true)) → IsPrefix (due p units all) (due p units (whole && eqb (length units) count))
-begun_flag p units true whole count given = let g = given refl in rw (g.1, g.0, eq-eqb count count refl) (prefix_same (due p units true))
-begun_flag p units false whole count given = due_flag p.look (is_held p.query) p.table.options units (whole && eqb (length units) count)
+begun_on : (p : Plan) → IsOutput p.writes → (units : Log) (all ends filled : Bool) → (all ≡ true → ends ≡ true) → has_all p units ≡ filled → IsPrefix (due p units all) (due p units (cond filled false ends))
+begun_on p is units true ends true given filled = rw (due_filled p units filled) (prefix_same (due p units false))
+begun_on p is units false ends true given filled = prefix_same (due p units false)
+begun_on p is units true ends false given fewer = rw (given refl) (prefix_same (due p units true))
+begun_on p is units false ends false given fewer = due_flag p is units ends
 
-flushed_at : (b : Bool) (fault : ToolFault) → is_flushed (cond b Whole (Faulted fault)) ≡ b
-flushed_at true fault = refl
-flushed_at false fault = refl
+-- the ending of a text whose write failed, by whether the last group that is kept is complete, and else whether the whole log was given
+abbrev begun_ending : Bool → Bool → ToolFault → Ending
+begun_ending filled ends fault = cond filled Kept (cond ends Whole (Faulted fault))
+
+flushed_at : (filled ends : Bool) (fault : ToolFault) → is_flushed (begun_ending filled ends fault) ≡ cond filled false ends
+flushed_at true ends fault = refl
+flushed_at false true fault = refl
+flushed_at false false fault = refl
+
+ended_at : (filled ends : Bool) (fault : ToolFault) → is_ended (begun_ending filled ends fault) ≡ (is_flushed (begun_ending filled ends fault) || filled)
+ended_at true ends fault = refl
+ended_at false true fault = refl
+ended_at false false fault = refl
+
+-- the text whose write failed, told of the job
+begun_text : (job : Job) (ask : Ask) (k : ℕ) (p : Plan) (empty all ends : Bool) (units : Log) (input : Input) (fault : ToolFault) → IsJobPlan job ask k p → input.sink_empty ≡ empty → (all ≡ true → ends ≡ true)
+    → IsPrefix (head_text job empty ++ due p units all) (sink_text (Work job) ask (run_of input.sink_empty units) (begun_ending (fills (Work job) ask units) ends fault))
+begun_text job ask k p empty all ends units input fault is same given =
+    let filled = fills (Work job) ask units in
+    let told = fills_is job ask k p units is in
+    let output : IsOutput p.writes = subst (λ (w : List Group → Bool → List ℕ). IsOutput w) (sym is.writes) (job_output job) in
+    let text = text_of_first job ask k p empty input.sink_empty units (begun_ending filled ends fault) is same (ended_at filled ends fault ∙ ap (λ (b : Bool). is_flushed (begun_ending filled ends fault) || b) told) in
+    subst (λ (x : List ℕ). IsPrefix (head_text job empty ++ due p units all) x) text
+    (prefix_after (head_text job empty) (subst (λ (b : Bool). IsPrefix (due p units all) (due p units b)) (sym (flushed_at filled ends fault)) (begun_on p output units all ends filled given (sym told))))
 
 -- the units that were given, whole or not
 given_some : (job : Job) (source sink : ℕ) (empty all : Bool) (start now : LogFile) (r s t : Seen) (units : Log) (input : Input) → start.reader.handle ≡ source → HasBegun job source sink empty (head_text job empty) r s
-    → GaveUnits start now s t units all → IsInput (Work job) r input → all ≡ true → (length units ≡ length input.units) × (is_whole input.file_ending ≡ true)
+    → GaveUnits start now s t units all → IsInput (Work job) r input → all ≡ true → (is_whole input.file_ending && eqb (length units) (length input.units)) ≡ true
 given_some job source sink empty true start now r s t units input handle begun gave is_input e =
-    let whole = given_all job source sink empty start now r s t units input handle begun gave is_input in (ap length whole.0, ap is_whole whole.1)
+    let whole = given_all job source sink empty start now r s t units input handle begun gave is_input in rw (ap is_whole whole.1, ap length whole.0) (eq-eqb (length input.units) (length input.units) refl)
 given_some job source sink empty false start now r s t units input handle begun gave is_input e = absurd cc
 
-pub works_unwritten : (job : Job) (ask : Ask) (source sink : ℕ) (empty : Bool) (start now : LogFile) (name : List ℕ) (n : ℕ) (p : PrinterState) (r s t : Seen) → start.reader.handle ≡ source → IsJobPrinter job ask sink p
+pub works_unwritten : (job : Job) (ask : Ask) (source sink : ℕ) (empty : Bool) (start now : LogFile) (name : List ℕ) (n : ℕ) (p : Plan) (r s t : Seen) → start.reader.handle ≡ source → IsJobPlan job ask sink p
     → Touches (source ∷ []) (sink ∷ []) [] [] s t → RanUntil (ByPrinter (print_faults.WriteFault name) n) (GaveUnits start now s t) (λ fault units. StoppedSo start.reader.handle fault s t units) p s t
     → HasBegun job source sink empty (head_text job empty) r s → WorksFor ask (Work job) (Some (WriteFault name)) (Counted n 1) r t
 works_unwritten job ask source sink empty start now name n p r s t handle is touched ran begun =
@@ -319,17 +356,15 @@ works_unwritten job ask source sink empty start now name n p r s t handle is tou
           (run.given.taken, ahead now.reader run.given.taken units run.given.represents, took job source sink empty r s t run.given.taken input begun touched (subst (λ (h : ℕ). TookFrom h run.given.taken s t) handle run.given.took) is_input);
       sinks = each_one (λ o. SinkGained (IsDue (Work job) ask input (run_of input.sink_empty units) (Faulted fault)) o r t) (sink_of job) (sink_gained job ask source sink empty p r s t begun is touched
           (λ text so. (
-            λ some. subst (λ (x : List ℕ). IsPrefix x (head_text job empty ++ text)) (text_of_first job ask sink p empty input.sink_empty (take (length units - 1) units) (Faulted fault) is same) (prefix_after (head_text job empty) so.least),
-            subst (λ (x : List ℕ). IsProperPrefix (head_text job empty ++ text) x)
-                (ap (λ (b : Bool). head_text job empty ++ due p units b) (sym (flushed_at ends fault)) ∙ text_of_first job ask sink p empty input.sink_empty units (ending_begun input (run_of input.sink_empty units) (Faulted fault)) is same)
-                (proper_then (proper_after (head_text job empty) so.left) (prefix_after (head_text job empty) (begun_flag p units ran.1.0 (is_whole input.file_ending) (length input.units)
-                (given_some job source sink empty ran.1.0 start now r s t units input handle begun run.given is_input)))),
+            λ some. subst (λ (x : List ℕ). IsPrefix x (head_text job empty ++ text)) (text_of_first job ask sink p empty input.sink_empty (take (length units - 1) units) (Faulted fault) is same (sym run.cut)) (prefix_after (head_text job empty) so.least),
+            proper_then (proper_after (head_text job empty) so.left) (begun_text job ask sink p empty ran.1.0 ends units input fault is same
+                (given_some job source sink empty ran.1.0 start now r s t units input handle begun run.given is_input)),
           )) run.gains);
     })
 
 -- the last group that is kept was written
 
-works_kept : (job : Job) (ask : Ask) (source sink : ℕ) (empty : Bool) (start now : LogFile) (n : ℕ) (p : PrinterState) (r s t : Seen) → start.reader.handle ≡ source → IsJobPrinter job ask sink p
+works_kept : (job : Job) (ask : Ask) (source sink : ℕ) (empty : Bool) (start now : LogFile) (n : ℕ) (p : Plan) (r s t : Seen) → start.reader.handle ≡ source → IsJobPlan job ask sink p
     → Touches (source ∷ []) (sink ∷ []) [] [] s t → RanToKept (GaveUnits start now s t) p n s t → HasBegun job source sink empty (head_text job empty) r s → WorksFor ask (Work job) None (Counted n 1) r t
 works_kept job ask source sink empty start now n p r s t handle is touched run begun = record {
   causes = λ f e. absurd cc;
@@ -347,12 +382,12 @@ works_kept job ask source sink empty start now n p r s t handle is touched run b
         reads_once = each_one (λ o. ReadsOnce Kept o input (run_of input.sink_empty units) r t) (source_of job)
             (run.given.taken, ahead now.reader run.given.taken units run.given.represents, took job source sink empty r s t run.given.taken input begun touched (subst (λ (h : ℕ). TookFrom h run.given.taken s t) handle run.given.took) is_input);
         sinks = each_one (λ o. SinkGained (IsDue (Work job) ask input (run_of input.sink_empty units) Kept) o r t) (sink_of job) (sink_gained job ask source sink empty p r s t begun is touched
-            (λ text so. ap (λ (x : List ℕ). head_text job empty ++ x) so ∙ text_of_first job ask sink p empty input.sink_empty units Kept is same) run.gains);
+            (λ text so. ap (λ (x : List ℕ). head_text job empty ++ x) so ∙ text_of_first job ask sink p empty input.sink_empty units Kept is same (sym run.cut.all)) run.gains);
       };
 }
 
 -- the run ended, with the whole log or with the last group that is kept
-pub works_ran : (job : Job) (ask : Ask) (source sink : ℕ) (empty : Bool) (start now : LogFile) (n : ℕ) (p : PrinterState) (r s t : Seen) → start.reader.handle ≡ source → IsJobPrinter job ask sink p
+pub works_ran : (job : Job) (ask : Ask) (source sink : ℕ) (empty : Bool) (start now : LogFile) (n : ℕ) (p : Plan) (r s t : Seen) → start.reader.handle ≡ source → IsJobPlan job ask sink p
     → Touches (source ∷ []) (sink ∷ []) [] [] s t → RanToEnd (GaveUnits start now s t) p n s t ⊎ RanToKept (GaveUnits start now s t) p n s t → HasBegun job source sink empty (head_text job empty) r s
     → WorksFor ask (Work job) None (Counted n 1) r t
 works_ran job ask source sink empty start now n p r s t handle is touched (inl ran) begun = works_whole job ask source sink empty start now n p r s t handle is touched ran begun

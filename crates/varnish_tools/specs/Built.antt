@@ -4,11 +4,11 @@ use Rattle.tool_words.specs.declared.job.Job.{Job}
 use Rattle.tool_words.specs.declared.job.Tool.{Tool}
 use Rattle.tool_words.specs.declared.job.Tool.TheVariants.{Log, Ncsa, Top, Stat}
 
--- whether a tool is built: varnishlog is
+-- whether a tool is built: varnishlog and varnishtop are
 abbrev pub is_built_tool : Tool → Bool
 is_built_tool Log = true
 is_built_tool Ncsa = false
-is_built_tool Top = false
+is_built_tool Top = true
 is_built_tool Stat = false
 
 -- whether a job asks for nothing that isn't built: it has a log

@@ -6,6 +6,7 @@ pub mod QueryFiles
 pub mod Faults
 pub mod Run
 pub mod Output
+pub mod Held
 pub mod Printer
 pub mod Promise
 pub mod inside

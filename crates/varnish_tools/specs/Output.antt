@@ -1,5 +1,5 @@
--- What a job writes to its sink for a run and an ending (varnishlog(1)).
-use Rattle.std.specs.Prelude.{Bool, ℕ, ◌-◌, true, false, ◌&&◌, not, nat_le, is_some, if◌then◌else◌, List, [], ◌++◌, map, length, take, Option, Some, None}
+-- What a job writes to its sink for a run and an ending (varnishlog(1), varnishtop(1)).
+use Rattle.std.specs.Prelude.{Bool, ℕ, true, false, ◌&&◌, not, is_some, if◌then◌else◌, List, [], ◌++◌, map}
 use Rattle.std.specs.List.{flat_map}
 use Rattle.vsl_file.specs.File.{file_header, log_bytes}
 use Rattle.txn_rows.specs.declared.group.Group.{Group}
@@ -8,7 +8,11 @@ use Rattle.vsl_select.specs.Lines.{group_text}
 use Rattle.vsl_select.specs.Shown.{shown}
 use Rattle.vsl_select.specs.Showing.{Showing}
 use Rattle.vsl_select.specs.FileUnits.{file_units}
+use Rattle.vsl_dispatch.specs.Groups.{kept}
+use Rattle.vsl_top.specs.Report.{top_output}
 use Rattle.tool_words.specs.declared.job.Job.{Job}
+use Rattle.tool_words.specs.declared.job.Tool.{Tool}
+use Rattle.tool_words.specs.declared.job.Tool.TheVariants as tools
 use Rattle.varnish_tools.specs.declared.layout.Layout.{Layout}
 use Rattle.varnish_tools.specs.declared.layout.Look.{Look}
 use Rattle.varnish_tools.specs.declared.layout.Layout.TheVariants.{Lines, Units}
@@ -20,21 +24,6 @@ use Rattle.varnish_tools.specs.Run.{Run, Ending, Whole, Kept, Faulted, taken_uni
 abbrev pub written : Layout → Bool → List Group → List ℕ
 written Lines verbose groups = flat_map (group_text verbose) groups
 written Units verbose groups = log_bytes (flat_map file_units groups)
-
--- the first of some groups, at most as many as are kept; all where no number is given
-abbrev pub kept : Option ℕ → List Group → List Group
-kept None groups = groups
-kept (Some most) groups = take most groups
-
--- how many are still kept after so many groups
-abbrev pub left_after : Option ℕ → ℕ → Option ℕ
-left_after None count = None
-left_after (Some most) count = Some (most - count)
-
--- whether some groups are as many as are kept
-abbrev pub is_filled : Option ℕ → List Group → Bool
-is_filled None groups = false
-is_filled (Some most) groups = nat_le most (length groups)
 
 -- what groups look like: what of them is shown, as it is written
 abbrev pub laid_out : Look → List Group → List ℕ
@@ -54,7 +43,18 @@ showing_of job = record { sides = job.sides; rules = job.rules; caseless = job.c
 
 -- what groups look like in what a job writes
 abbrev pub look_of : Job → Look
-look_of job = record { layout = layout_of job; verbose = job.verbose; selection = showing_of job; keep = job.keep }
+look_of job = record { layout = layout_of job; verbose = job.verbose; selection = showing_of job }
+
+-- what a tool writes of a job's groups, ended or not: varnishlog what groups look like, varnishtop its report; the others aren't built
+abbrev pub tool_output : Tool → Job → List Group → Bool → List ℕ
+tool_output tools.Log job = λ groups ended. laid_out (look_of job) groups
+tool_output tools.Ncsa job = λ groups ended. []
+tool_output tools.Top job = λ groups ended. top_output (showing_of job) job.first_field groups ended
+tool_output tools.Stat job = λ groups ended. []
+
+-- what a job writes of groups, ended or not
+abbrev pub output_of : Job → List Group → Bool → List ℕ
+output_of job = tool_output job.tool job
 
 -- what a sink gains before any group: a log file that was empty begins with its header
 abbrev pub head_text : Job → Bool → List ℕ
@@ -66,9 +66,15 @@ is_flushed Whole = true
 is_flushed Kept = false
 is_flushed (Faulted fault) = false
 
--- the text for the sink: the header where one is due, and of the groups of the units that were taken those that are asked for, in the order in which they are
--- complete, at most as many as are kept; refused words have none
+-- the groups have ended where the input was taken whole, and with the last that is kept
+abbrev pub is_ended : Ending → Bool
+is_ended Whole = true
+is_ended Kept = true
+is_ended (Faulted fault) = false
+
+-- the text for the sink: the header where one is due, and what is written of those groups of the units that were taken that are asked for, in the order in
+-- which they are complete, at most as many as are kept; refused words have none
 abbrev pub sink_text : Asked → Ask → Run → Ending → List ℕ
 sink_text (Refuse fault) ask run ending = []
 sink_text (Work job) ask run ending =
-    head_text job run.sink_empty ++ laid_out (look_of job) (kept job.keep (chosen ask (groups_of (options_of job) (taken_units run.history) (is_flushed ending))))
+    head_text job run.sink_empty ++ output_of job (kept job.keep (chosen ask (groups_of (options_of job) (taken_units run.history) (is_flushed ending)))) (is_ended ending)

@@ -1,5 +1,5 @@
 -- What a printer represents: the units that it was given, whose text is due at its sink (this project's choice).
-use Rattle.std.specs.Prelude.{◌≡◌, ℕ, Bool, false, List, filter, length, Option, None, Some, ◌==◌}
+use Rattle.std.specs.Prelude.{◌≡◌, ℕ, ◌||◌, Bool, false, List, [], ◌∷◌, ◌++◌, Option, None}
 use Rattle.log_model.specs.Faults.{HasNewFault}
 use Rattle.log_model.specs.Prefix.{IsPrefix, IsProperPrefix}
 use Rattle.vio.specs.World.{Seen, Writing}
@@ -10,65 +10,88 @@ use Rattle.txn_rows.specs.Grouping.{no_state, unit_steps, groups_of}
 use Rattle.txn_rows.specs.TableState.{TableState}
 use Rattle.query_parser.specs.declared.query.Query.{Query}
 use Rattle.query_eval.specs.Asker.{asker_query}
-use Rattle.query_eval.specs.Meaning.{is_held}
+use Rattle.varnish_tools.specs.Held.{held_groups}
+use Rattle.vsl_dispatch.specs.Groups.{kept, is_filled}
+use Rattle.vsl_dispatch.specs.Entries.{Stands, entries_of}
+use Rattle.vsl_dispatch.specs.declared.dispatcher.Entry.{Entry}
+use Rattle.vsl_dispatch.specs.declared.dispatcher.Entry.TheVariants.{Live}
 use Rattle.varnish_tools.specs.declared.printer.PrintFault.{PrintFault}
 use Rattle.varnish_tools.specs.declared.printer.Printer.{Printer}
 use Rattle.varnish_tools.specs.declared.printer.PrintFault.TheVariants.{WriteFault, NoMemory}
-use Rattle.varnish_tools.specs.declared.layout.Look.{Look}
-use Rattle.varnish_tools.specs.Output.{laid_out, kept, left_after, is_filled}
 
--- what a printer tells: the table of what is pending, what groups look like, the query that they are asked, how many of them are still kept, and the handle of its sink and the name that faults give it
-pub record PrinterState : Type 0 where
-  pub table : TableState
-  pub look : Look
+-- what a printer is to write: how records are grouped, which groups are asked for, how many of them are kept, what is written of those, ended or not, and the
+-- handle to which it is written with the name that faults give it
+pub record Plan : Type 0 where
+  pub options : GroupOptions
   pub query : Query
-  pub left : Option ℕ
+  pub keep : Option ℕ
+  pub writes : List Group → Bool → List ℕ
+  pub sink : ℕ
+  pub name : List ℕ
+
+-- what is written of groups: nothing of none, and it goes on where more of them come, or their end
+pub record IsOutput (writes : List Group → Bool → List ℕ) : Type 0 where
+  pub none : (ended : Bool) → writes [] ended ≡ []
+  pub grows : (groups more : List Group) (ended : Bool) → IsPrefix (writes groups false) (writes (groups ++ more) ended)
+
+-- what a printer tells: the table of what is pending, the query that groups are asked, the entries of its dispatcher, and its sink
+pub record PrinterState (C : Type 0) : Type 0 where
+  pub table : TableState
+  pub query : Query
+  pub entries : List (Entry C)
   pub sink : ℕ
   pub name : List ℕ
 
 -- what a printer tells
-abbrev pub printer_state : Printer → PrinterState
-printer_state p = record { table = p.table; look = p.style.look.now; query = asker_query p.style.asker; left = p.style.left; sink = p.sink.handle; name = p.sink.name }
+abbrev pub printer_state : {C : Type 0} → Printer C → PrinterState C
+printer_state p = record { table = p.table; query = asker_query p.asker; entries = entries_of p.consumer.dispatch; sink = p.sink.handle; name = p.sink.name }
 
--- the groups for which a query holds, in their order
-abbrev pub held_groups : Query → List Group → List Group
-held_groups query groups = filter (is_held query) groups
+-- the groups of units that are asked for, where the units have ended or not
+abbrev pub asked_groups : Plan → Log → Bool → List Group
+asked_groups plan units ended = held_groups plan.query (groups_of plan.options units ended)
 
--- the printer was given these units, and no call was refused
-pub record Represents (p : PrinterState) (units : Log) : Type 0 where
-  pub state : p.table.state ≡ (unit_steps p.table.options units no_state).state
-  pub sound : p.table.failed ≡ false
-  pub left : p.left ≡ left_after p.look.keep (length (held_groups p.query (groups_of p.table.options units false)))
+-- whether the groups of units that are asked for are as many as are kept
+abbrev pub has_all : Plan → Log → Bool
+has_all plan units = is_filled plan.keep (asked_groups plan units false)
 
--- the text that is due for these units, where they have ended or not: that of the groups for which the query holds, at most as many as are kept
-abbrev pub due_text : Look → Query → GroupOptions → Log → Bool → List ℕ
-due_text look query options units ended = laid_out look (kept look.keep (held_groups query (groups_of options units ended)))
+-- the text that is due for units, where they have ended or not: what is written of the groups that are asked for, at most as many as are kept; with the last
+-- that is kept they have ended too
+abbrev pub due : Plan → Log → Bool → List ℕ
+due plan units ended = plan.writes (kept plan.keep (asked_groups plan units ended)) (ended || has_all plan units)
 
--- the text that is due at a printer's sink for these units, where they have ended or not
-abbrev pub due : PrinterState → Log → Bool → List ℕ
-due p units ended = due_text p.look p.query p.table.options units ended
+-- the printer was given these units under a plan, and no call was refused: its consumer received the groups that are asked for, fewer than are kept, and the
+-- text that is due was taken from it
+module _ {C : Type 0} (keep : C → Option ℕ) (output : C → List Group → Bool → List ℕ) (represents : C → List Group → Bool → List ℕ → Type 0) where
+  pub record Represents (plan : Plan) (p : PrinterState C) (units : Log) : Type 0 where
+    pub options : p.table.options ≡ plan.options
+    pub query : p.query ≡ plan.query
+    pub sink : p.sink ≡ plan.sink
+    pub name : p.name ≡ plan.name
+    pub is_output : IsOutput plan.writes
+    pub state : p.table.state ≡ (unit_steps plan.options units no_state).state
+    pub sound : p.table.failed ≡ false
+    pub consumer : C
+    pub live : p.entries ≡ Live consumer ∷ []
+    pub stands : Stands keep output represents plan.keep plan.writes (Live consumer) (asked_groups plan units false) (due plan units false)
 
--- whether none is still kept
-abbrev pub is_nothing_left : Option ℕ → Bool
-is_nothing_left None = false
-is_nothing_left (Some left) = left == 0
+-- how many groups the only consumer of a dispatcher keeps, where there is a limit
+abbrev pub only_keep : {C : Type 0} → (C → Option ℕ) → List (Entry C) → Option ℕ
+only_keep keep (Live c ∷ []) = keep c
+only_keep keep entries = None
 
--- the groups of these units for which the query holds are as many as are kept
-abbrev pub has_all : PrinterState → Log → Bool
-has_all p units = is_filled p.look.keep (held_groups p.query (groups_of p.table.options units false))
+-- what the only consumer of a dispatcher writes of groups, ended or not
+abbrev pub only_output : {C : Type 0} → (C → List Group → Bool → List ℕ) → List (Entry C) → List Group → Bool → List ℕ
+only_output output (Live c ∷ []) = output c
+only_output output entries = λ groups ended. []
 
--- a call keeps options, look, query and sink
-pub record IsSamePrinter (old new : PrinterState) : Type 0 where
-  pub options : new.table.options ≡ old.table.options
-  pub look : new.look ≡ old.look
-  pub query : new.query ≡ old.query
+-- the plan of a printer, whose only consumer is live
+abbrev pub plan_of : {C : Type 0} → (C → Option ℕ) → (C → List Group → Bool → List ℕ) → PrinterState C → Plan
+plan_of keep output p = record { options = p.table.options; query = p.query; keep = only_keep keep p.entries; writes = only_output output p.entries; sink = p.sink; name = p.name }
+
+-- a call keeps the sink
+pub record IsSameSink {C : Type 0} (old new : PrinterState C) : Type 0 where
   pub sink : new.sink ≡ old.sink
   pub name : new.name ≡ old.name
-
--- a handle and its name are these
-pub record IsSink (handle : ℕ) (name : List ℕ) (handle_now : ℕ) (name_now : List ℕ) : Type 0 where
-  pub same_handle : handle_now ≡ handle
-  pub same_name : name_now ≡ name
 
 -- why printing to a sink of this name stops: a failed write was counted for it
 abbrev pub HasPrintCause : PrintFault → List ℕ → Seen → Seen → Type 0

@@ -1,5 +1,5 @@
 -- The main theorem: what the top call writes, answers and leaves, for every command line, input and world (this project's choice).
-use Rattle.std.specs.Prelude.{◌≡◌, ◌⊎◌, ℕ, ◌+◌, ◌-◌, ◌<◌, ◌≤◌, Bool, true, false, List, [], ◌++◌, length, take, Option, Some, None, ◌==◌, ◌&&◌, if◌then◌else◌, codes}
+use Rattle.std.specs.Prelude.{◌≡◌, ◌⊎◌, ℕ, ◌+◌, ◌-◌, ◌<◌, ◌≤◌, Bool, true, false, List, [], ◌++◌, length, take, Option, Some, None, ◌==◌, ◌&&◌, ◌||◌, if◌then◌else◌, codes}
 use Rattle.log_model.specs.Faults.{HasNewFault}
 use Rattle.log_model.specs.Prefix.{IsPrefix, IsProperPrefix}
 use Rattle.vio.specs.declared.world.TheConstants.{ERRORS}
@@ -22,7 +22,8 @@ use Rattle.varnish_tools.specs.Objects.{Object, OpenedFile, CreatedFile, Stream,
 use Rattle.varnish_tools.specs.Queries.{Ask, AreAsked, chosen, TextsHold, texts_fault}
 use Rattle.varnish_tools.specs.QueryFiles.{AreTaken, StoppedByQuery}
 use Rattle.varnish_tools.specs.Run.{Run, Ending, Whole, Kept, Faulted, fault_of, no_run, run_of}
-use Rattle.varnish_tools.specs.Output.{head_text, kept, is_filled, laid_out, look_of, sink_text}
+use Rattle.vsl_dispatch.specs.Groups.{kept, is_filled}
+use Rattle.varnish_tools.specs.Output.{head_text, output_of, sink_text}
 
 -- what the sources of a job hold, and whether its sink has no bytes when it is created
 pub record Input : Type 0 where
@@ -115,11 +116,16 @@ HasCause asked fault before now = HasClassCause asked fault (class_of fault) bef
 abbrev pub whole_run : Input → Run
 whole_run input = run_of input.sink_empty input.units
 
+-- whether the groups that units complete and that are asked for are as many as are kept
+abbrev pub fills : Asked → Ask → Log → Bool
+fills (Refuse fault) ask units = false
+fills (Work job) ask units = is_filled job.keep (chosen ask (groups_of (options_of job) units false))
+
 -- the text that an input defines where no fault of the world comes
 abbrev pub whole_text : Asked → Ask → Input → List ℕ
 whole_text (Refuse fault) ask input = []
 whole_text (Work job) ask input =
-    head_text job input.sink_empty ++ laid_out (look_of job) (kept job.keep (chosen ask (groups_of (options_of job) input.units (is_whole input.file_ending))))
+    head_text job input.sink_empty ++ output_of job (kept job.keep (chosen ask (groups_of (options_of job) input.units (is_whole input.file_ending)))) (is_whole input.file_ending || fills (Work job) ask input.units)
 
 -- the record of a run over an input: it takes so many units, from the first on, without a gap; or nothing
 abbrev pub IsRunOf : RunRecord → Input → Run → Type 0
@@ -129,11 +135,6 @@ IsRunOf (Counted units items) input run = (units ≤ length input.units) × (ite
 -- the run takes the first units of its input
 abbrev pub TakesFirst : Input → Run → Type 0
 TakesFirst input run = (n : ℕ) × (n ≤ length input.units) × (run ≡ run_of input.sink_empty (take n input.units))
-
--- whether the groups that units complete and that are asked for are as many as are kept
-abbrev pub fills : Asked → Ask → Log → Bool
-fills (Refuse fault) ask units = false
-fills (Work job) ask units = is_filled job.keep (chosen ask (groups_of (options_of job) units false))
 
 -- the run without the last unit that it took
 abbrev pub without_last : Run → Run
@@ -188,9 +189,10 @@ ReadsOnce Whole source input run before now = Unit {0}
 ReadsOnce Kept source input run before now = TakesFew source input run before now
 ReadsOnce (Faulted fault) source input run before now = ReadsOnceUntil (class_of fault) source input run before now
 
--- the ending of the text whose write failed: whole where the run took all units of a whole input
-abbrev pub ending_begun : Input → Run → Ending → Ending
-ending_begun input run ending = if is_whole input.file_ending && (length run.log == length input.units) then Whole else ending
+-- the ending of the text whose write failed: with the last group that is kept where the run completed it, else whole where it took all units of a whole input
+abbrev pub ending_begun : Asked → Ask → Input → Run → Ending → Ending
+ending_begun asked ask input run ending =
+    if fills asked ask run.log then Kept else if is_whole input.file_ending && (length run.log == length input.units) then Whole else ending
 
 -- what a sink may gain until a fault of a class: its text; after a failed write not all of it, and where a unit was taken at least the text without the last
 abbrev pub IsDueUntil : FaultClass → Asked → Ask → Input → Run → Ending → List ℕ → Type 0
@@ -200,7 +202,7 @@ IsDueUntil LongQuery asked ask input run ending text = text ≡ sink_text asked 
 IsDueUntil (NotOpened name) asked ask input run ending text = text ≡ sink_text asked ask run ending
 IsDueUntil (NotRead name) asked ask input run ending text = text ≡ sink_text asked ask run ending
 IsDueUntil (NotWritten name) asked ask input run ending text =
-    (0 < length run.log → IsPrefix (sink_text asked ask (without_last run) ending) text) × IsProperPrefix text (sink_text asked ask run (ending_begun input run ending))
+    (0 < length run.log → IsPrefix (sink_text asked ask (without_last run) ending) text) × IsProperPrefix text (sink_text asked ask run (ending_begun asked ask input run ending))
 IsDueUntil (BadInput name) asked ask input run ending text = text ≡ sink_text asked ask run ending
 
 -- what a sink may gain, by how the run ends

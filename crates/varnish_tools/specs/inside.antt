@@ -1,5 +1,6 @@
 -- What private steps say of one another; no public contract cites these definitions.
-pub mod Printing
+pub mod Consumer
+pub mod Given
 pub mod Source
 pub mod Loop
 pub mod LogSource

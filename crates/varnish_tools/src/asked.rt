@@ -1,12 +1,13 @@
 //! What the words of a command line ask for.
 
-ghost use Rattle.std.specs.Prelude.{◌≡◌, ◌≢◌, [], false, map, Some, IfOk, OnOk, MatchResult, IfErr};
+ghost use Rattle.std.specs.Prelude.{◌≡◌, ◌≢◌, [], false, true, map, Some, IfOk, OnOk, MatchResult, IfErr};
 ghost use Rattle.std.specs.String.{string_bytes};
 ghost use Rattle.vsl_select.specs.Shown.{rules_fault};
 ghost use Rattle.varnish_tools.specs.Asked.{Refuse, Work, asked_by_rules, asked_of, options_of, file_of, write_of};
 ghost use Rattle.varnish_tools.specs.Faults.{Refused, class_of};
 ghost use Rattle.varnish_tools.specs.Built.{is_built, is_built_tool};
-ghost use Rattle.varnish_tools.specs.Output.{is_filled, layout_of, look_of, writes_log};
+ghost use Rattle.varnish_tools.specs.Output.{layout_of, look_of, showing_of, writes_log};
+ghost use Rattle.vsl_dispatch.specs.Groups.{is_filled};
 
 use crate::fault::ToolFault;
 use crate::layout::{Layout, Look};
@@ -23,7 +24,7 @@ fn has_tool(tool: Tool) -> bool
     match tool {
         Tool::Log => true,
         Tool::Ncsa => false,
-        Tool::Top => false,
+        Tool::Top => true,
         Tool::Stat => false,
     }
 }
@@ -116,17 +117,29 @@ fn rule_fault(fault: SelectFault) -> Result<ToolFault, NoMemory>
     }
 }
 
-/// What a job's words ask for: the job, and what groups look like in what it writes.
+/// What groups look like in what a job writes, of which this is shown.
+pub fn look_of(job: &Job, selection: Selection) -> Look
+    requires { selection ≡ showing_of job.now }
+    ensures { result ≡ look_of job.now }
+{
+    Look {
+        layout: layout_of(job),
+        verbose: job.verbose,
+        selection,
+    }
+}
+
+/// What a job's words ask for: the job, and what it shows.
 #[derive(Drop)]
 pub struct Task {
     pub job: Job,
-    pub look: Look,
+    pub selection: Selection,
 }
 
 /// The task of a job, where its rules are good and it is built, or the fault that refuses it.
 fn task_of(alloc: Global, job: Job) -> Result<Result<Task, ToolFault>, NoMemory>
     ensures asked { IfOk result (λ r. MatchResult r
-        (λ task. (asked_by_rules job (rules_fault job.caseless job.rules) ≡ Work task.job) × (task.look ≡ look_of task.job))
+        (λ task. (asked_by_rules job (rules_fault job.caseless job.rules) ≡ Work task.job) × (task.selection ≡ showing_of task.job) × (is_built_tool task.job.tool ≡ true))
         (λ fault. asked_by_rules job (rules_fault job.caseless job.rules) ≡ Refuse fault)) }
     ensures same { IfOk result (λ r. IfOk r (λ task. task.job.keep ≡ job.keep)) }
     ensures refused { IfOk result (λ r. IfErr r (λ fault. class_of fault ≡ Refused)) }
@@ -134,16 +147,11 @@ fn task_of(alloc: Global, job: Job) -> Result<Result<Task, ToolFault>, NoMemory>
     let rules = rules_of(alloc, &job)?;
     match Selection::new(alloc, job.sides, rules, job.caseless) {
         Ok(selection) => {
-            if !is_built_job(&job) {
-                return Ok(Err(ToolFault::NotBuilt));
+            if is_built_job(&job) {
+                Ok(Ok(Task { job, selection }))
+            } else {
+                Ok(Err(ToolFault::NotBuilt))
             }
-            let look = Look {
-                layout: layout_of(&job),
-                verbose: job.verbose,
-                selection,
-                keep: job.keep,
-            };
-            Ok(Ok(Task { job, look }))
         }
         Err(fault) => Ok(Err(rule_fault(fault)?)),
     }
@@ -152,7 +160,7 @@ fn task_of(alloc: Global, job: Job) -> Result<Result<Task, ToolFault>, NoMemory>
 /// The task that the words state, where it is built, or the fault that refuses them.
 pub fn read_task(alloc: Global, words: &[String]) -> Result<Result<Task, ToolFault>, NoMemory>
     ensures asked { IfOk result (λ r. MatchResult r
-        (λ task. (asked_of (map string_bytes words.now) ≡ Work task.job) × (task.look ≡ look_of task.job))
+        (λ task. (asked_of (map string_bytes words.now) ≡ Work task.job) × (task.selection ≡ showing_of task.job) × (is_built_tool task.job.tool ≡ true))
         (λ fault. asked_of (map string_bytes words.now) ≡ Refuse fault)) }
     ensures keeps { IfOk result (λ r. IfOk r (λ task. is_filled task.job.keep [] ≡ false)) }
     ensures refused { IfOk result (λ r. IfErr r (λ fault. class_of fault ≡ Refused)) }

@@ -1,21 +1,23 @@
 //! The tools, as one call: words in, a world of files and streams, and out comes what the tool wrote.
 //!
 //! `run_tools` reads the words and the rules in them, takes the queries that they give, opens the log that they name,
-//! creates what they write, reads the log in one pass, writes the text of what is shown of the groups for which a query
-//! holds, all where there is none, and the message of a fault, and answers the status. Its contract is the main theorem of
-//! this project, `IsFaithful` in `specs/Promise.antt`.
+//! creates what they write, reads the log in one pass, gives the groups for which a query holds, all where there is none, to
+//! the consumer of the tool, writes what that hands out and the message of a fault, and answers the status. Its contract is
+//! the main theorem of this project, `IsFaithful` in `specs/Promise.antt`.
 //!
 //! Start with `specs/Asked.antt`, `specs/Queries.antt`, `specs/Faults.antt` and `specs/Promise.antt`.
-//! Source: varnishlog(1); messages and statuses are this project's choice.
+//! Source: varnishlog(1), varnishtop(1); messages and statuses are this project's choice.
 #![tactic(auto)]
 
 mod asked;
 mod fault;
 mod layout;
+mod log_consumer;
 mod log_file;
 mod log_source;
 mod message;
 mod objects;
+mod one_consumer;
 mod outcome;
 mod printer;
 mod queries;

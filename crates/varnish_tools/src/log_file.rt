@@ -1,19 +1,24 @@
-//! A run over a log: it is opened, what is written is created, and the groups of its units are written.
+//! A run over a log: it is opened, what is written is created, and what a consumer makes of the groups of its units is written.
 
 ghost use Rattle.std.specs.Prelude.{◌≡◌, ◌≢◌, [], false, ◌∷◌, ◌++◌, length, Bool, true, IsTrue, IfOk, OnOk, OnErr};
 ghost use Rattle.vio.specs.World.{Seen, Writing, HasStreams};
 ghost use Rattle.vio.specs.Touches.{Touches};
 ghost use Rattle.varnish_tools.specs.Asked.{Work, file_of, write_of};
 ghost use Rattle.varnish_tools.specs.Objects.{GivesAtMost, created_of, opened_of, source_of, streams_of, sink_of};
-ghost use Rattle.varnish_tools.specs.Output.{head_text, is_filled, look_of};
-ghost use Rattle.varnish_tools.specs.Printer.{IsSink, Represents, has_all, printer_state};
+ghost use Rattle.varnish_tools.specs.Output.{head_text, laid_out, output_of, showing_of};
+ghost use Rattle.vsl_top.specs.Counting.{IsTop, keep_of};
+ghost use Rattle.vsl_top.specs.Counting as counting;
+ghost use Rattle.varnish_tools.specs.inside.Consumer.{IsLog};
+ghost use Rattle.varnish_tools.specs.Built.{is_built_tool};
+ghost use Rattle.varnish_tools.specs.Printer.{Represents, plan_of, printer_state};
+ghost use Rattle.vsl_dispatch.specs.Groups.{is_filled};
 ghost use Rattle.varnish_tools.specs.Queries.{Ask};
 ghost use Rattle.varnish_tools.specs.inside.Works.{WorksFor, PrefixFor};
-ghost use Rattle.varnish_tools.specs.inside.LogFile.{HasBegun, HoldsAsAsked, IsJobPrinter, SourceOpened, fault_as};
+ghost use Rattle.varnish_tools.specs.inside.LogFile.{HasBegun, HoldsAsAsked, IsJobConsumer, SourceOpened, fault_as, job_plan};
 
-use crate::asked::{file_name, options_of, writes_log, written_name};
+use crate::asked::{file_name, look_of, options_of, writes_log, written_name};
 use crate::fault::ToolFault;
-use crate::layout::Look;
+use crate::log_consumer::LogConsumer;
 use crate::log_source::LogFile;
 use crate::objects::{create_sink, open_source};
 use crate::outcome::{Ran, counted, refused};
@@ -22,10 +27,12 @@ use crate::run::{Stopped, print_source};
 use crate::source::SourceFault;
 use query_parser::Query;
 use std::alloc::Global;
-use tool_words::Job;
+use tool_words::{Job, Tool};
 use vio::{Created, NoMemory, World, WorldFault, write_all};
+use vsl_dispatch::{Consumer, Dispatcher};
 use vsl_file::put_header;
-use vsl_select::Text;
+use vsl_select::{Selection, Text};
+use vsl_top::TopConsumer;
 
 /// The most bytes of a log that are read: 2^40.
 const LOG_LIMIT: u64 = 1_099_511_627_776;
@@ -41,22 +48,26 @@ fn head_of(alloc: Global, job: &Job, empty: bool) -> Result<Vec<u8>, NoMemory>
     Ok(head)
 }
 
-/// The printer of a job to this handle.
-fn job_printer<'q>(
+/// The printer of a job's consumer to this handle.
+fn job_printer<'q, C: Consumer>(
     alloc: Global,
     job: &Job,
-    look: &'q Look,
+    consumer: C,
     query: &'q Query,
     sink: u32,
-) -> Result<Printer<'q>, NoMemory>
-    requires look { look.now ≡ look_of job.now }
-    ensures sink { IfOk result (λ p. IsSink sink (write_of job.now) (printer_state p).sink (printer_state p).name) }
-    ensures none { IfOk result (λ p. Represents (printer_state p) []) }
-    ensures kept { IfOk result (λ p. has_all (printer_state p) [] ≡ is_filled job.now.keep []) }
-    ensures asked { IfOk result (λ p. (ask : Ask) → HoldsAsAsked query.now ask → IsJobPrinter job.now ask sink (printer_state p)) }
+) -> Result<Printer<'q, C>, NoMemory>
+    requires consumer { IsJobConsumer C.keep C.output C.represents job.now consumer }
+    requires keeps { is_filled job.now.keep [] ≡ false }
+    ensures plan { IfOk result (λ p. plan_of C.keep C.output (printer_state p) ≡ job_plan job.now query.now sink) }
+    ensures new { IfOk result (λ p. Represents C.keep C.output C.represents (plan_of C.keep C.output (printer_state p)) (printer_state p) []) }
+    ensures sink { IfOk result (λ p. (printer_state p).sink ≡ sink) }
+    ensures name { IfOk result (λ p. (printer_state p).name ≡ write_of job.now) }
 {
     let name = Text::new(alloc, written_name(job))?;
-    Printer::new(alloc, options_of(job), look, query, sink, name)
+    let mut consumers = Vec::new(alloc);
+    consumers.push(consumer)?;
+    let dispatch = Dispatcher::new(alloc, consumers)?;
+    Printer::new(alloc, options_of(job), query, dispatch, sink, name)
 }
 
 /// The fault of a log of this name that stopped so; want of memory is none.
@@ -79,16 +90,16 @@ fn tool_fault(name: Text, fault: SourceFault) -> Result<ToolFault, NoMemory>
 }
 
 /// Writes the groups of the log of the handle `source` to the handle `sink`.
-fn print_log<W: World>(
+fn print_log<W: World, C: Consumer>(
     alloc: Global,
     job: &Job,
-    look: &Look,
+    consumer: C,
     query: &Query,
     source: u32,
     sink: u32,
     world: &mut W,
 ) -> Result<Ran, NoMemory>
-    requires look { look.now ≡ look_of job.now }
+    requires consumer { IsJobConsumer C.keep C.output C.represents job.now consumer }
     requires keeps { is_filled job.now.keep [] ≡ false }
     requires named { IsTrue ((W.seen world.old).names Writing sink (write_of job.now)) }
     requires given { (W.seen world.old).given sink ≡ true }
@@ -97,7 +108,7 @@ fn print_log<W: World>(
     ensures works { IfOk result (λ r. (ask : Ask) (before : Seen) (empty : Bool) → HoldsAsAsked query.now ask → HasBegun job.now source sink empty (head_text job.now empty) before (W.seen world.old) → WorksFor ask (Work job.now) r.fault r.run before (W.seen world.new)) }
 {
     let name = Text::new(alloc, file_name(job))?;
-    let mut printer = job_printer(alloc, job, look, query, sink)?;
+    let mut printer = job_printer(alloc, job, consumer, query, sink)?;
     let mut log = LogFile::new(alloc, source)?;
     match print_source(world, &mut log, &mut printer) {
         Ok(units) => Ok(counted(None, units)),
@@ -115,16 +126,16 @@ fn print_log<W: World>(
 }
 
 /// Writes the header where it is due, and then the groups of the log.
-fn print_created<W: World>(
+fn print_created<W: World, C: Consumer>(
     alloc: Global,
     job: &Job,
-    look: &Look,
+    consumer: C,
     query: &Query,
     source: u32,
     sink: Created,
     world: &mut W,
 ) -> Result<Ran, NoMemory>
-    requires look { look.now ≡ look_of job.now }
+    requires consumer { IsJobConsumer C.keep C.output C.represents job.now consumer }
     requires keeps { is_filled job.now.keep [] ≡ false }
     requires named { IsTrue ((W.seen world.old).names Writing sink.handle (write_of job.now)) }
     requires given { (W.seen world.old).given sink.handle ≡ true }
@@ -135,22 +146,22 @@ fn print_created<W: World>(
     let head = head_of(alloc, job, sink.empty)?;
     let name = Text::new(alloc, written_name(job))?;
     match write_all(world, sink.handle, &head) {
-        Ok(()) => print_log(alloc, job, look, query, source, sink.handle, world),
+        Ok(()) => print_log(alloc, job, consumer, query, source, sink.handle, world),
         Err(WorldFault::Failed) => Ok(counted(Some(ToolFault::WriteFault { name }), 0)),
         Err(WorldFault::NoMemory) => Err(NoMemory),
     }
 }
 
 /// Creates what the job writes, and writes it.
-fn print_opened<W: World>(
+fn print_opened<W: World, C: Consumer>(
     alloc: Global,
     job: &Job,
-    look: &Look,
+    consumer: C,
     query: &Query,
     source: u32,
     world: &mut W,
 ) -> Result<Ran, NoMemory>
-    requires look { look.now ≡ look_of job.now }
+    requires consumer { IsJobConsumer C.keep C.output C.represents job.now consumer }
     requires keeps { is_filled job.now.keep [] ≡ false }
     ensures touches { Touches (source ∷ []) (streams_of (sink_of job.now ∷ [])) [] (created_of (sink_of job.now ∷ [])) (W.seen world.old) (W.seen world.new) }
     ensures handles { GivesAtMost (length (created_of (sink_of job.now ∷ []))) (W.seen world.old) (W.seen world.new) }
@@ -159,21 +170,21 @@ fn print_opened<W: World>(
 {
     let name = Text::new(alloc, written_name(job))?;
     match create_sink(written_name(job), job.append, world) {
-        Ok(sink) => print_created(alloc, job, look, query, source, sink, world),
+        Ok(sink) => print_created(alloc, job, consumer, query, source, sink, world),
         Err(WorldFault::Failed) => Ok(refused(ToolFault::NoOpen { name })),
         Err(WorldFault::NoMemory) => Err(NoMemory),
     }
 }
 
-/// Works off a job: reads its log, and writes its groups.
-pub fn run_job<W: World>(
+/// Works off a job with its consumer: reads its log, and writes what the consumer hands out.
+fn run_consumer<W: World, C: Consumer>(
     alloc: Global,
     job: &Job,
-    look: &Look,
+    consumer: C,
     query: &Query,
     world: &mut W,
 ) -> Result<Ran, NoMemory>
-    requires look { look.now ≡ look_of job.now }
+    requires consumer { IsJobConsumer C.keep C.output C.represents job.now consumer }
     requires keeps { is_filled job.now.keep [] ≡ false }
     ensures touches { Touches (streams_of (source_of job.now ∷ [])) (streams_of (sink_of job.now ∷ [])) (opened_of (source_of job.now ∷ [])) (created_of (sink_of job.now ∷ [])) (W.seen world.old) (W.seen world.new) }
     ensures handles { GivesAtMost (length (opened_of (source_of job.now ∷ []) ++ created_of (sink_of job.now ∷ []))) (W.seen world.old) (W.seen world.new) }
@@ -182,8 +193,60 @@ pub fn run_job<W: World>(
 {
     let name = Text::new(alloc, file_name(job))?;
     match open_source(file_name(job), world) {
-        Ok(source) => print_opened(alloc, job, look, query, source, world),
+        Ok(source) => print_opened(alloc, job, consumer, query, source, world),
         Err(WorldFault::Failed) => Ok(refused(ToolFault::NoOpen { name })),
         Err(WorldFault::NoMemory) => Err(NoMemory),
+    }
+}
+
+/// The consumer of a job of varnishtop, which received nothing.
+fn top_consumer(alloc: Global, job: &Job, selection: Selection) -> Result<TopConsumer, NoMemory>
+    requires tool { job.now.tool ≡ Tool.Top }
+    requires selection { selection ≡ showing_of job.now }
+    ensures keeps { IfOk result (λ c. keep_of c ≡ job.now.keep) }
+    ensures writes { IfOk result (λ c. counting.output_of c ≡ output_of job.now) }
+    ensures new { IfOk result (λ c. IsTop c [] false []) }
+{
+    TopConsumer::new(alloc, selection, job.first_field, job.keep)
+}
+
+/// The consumer of a job of varnishlog, which received nothing.
+fn log_consumer(alloc: Global, job: &Job, selection: Selection) -> LogConsumer
+    requires tool { job.now.tool ≡ Tool.Log }
+    requires selection { selection ≡ showing_of job.now }
+    ensures keeps { result.received.keep ≡ job.now.keep }
+    ensures writes { (λ groups ended. laid_out result.look groups) ≡ output_of job.now }
+    ensures new { IsLog result [] false [] }
+{
+    LogConsumer::new(alloc, look_of(job, selection), job.keep)
+}
+
+/// Works off a job: reads its log, and writes what its tool makes of the groups.
+pub fn run_job<W: World>(
+    alloc: Global,
+    job: &Job,
+    selection: Selection,
+    query: &Query,
+    world: &mut W,
+) -> Result<Ran, NoMemory>
+    requires built { is_built_tool job.now.tool ≡ true }
+    requires selection { selection ≡ showing_of job.now }
+    requires keeps { is_filled job.now.keep [] ≡ false }
+    ensures touches { Touches (streams_of (source_of job.now ∷ [])) (streams_of (sink_of job.now ∷ [])) (opened_of (source_of job.now ∷ [])) (created_of (sink_of job.now ∷ [])) (W.seen world.old) (W.seen world.new) }
+    ensures handles { GivesAtMost (length (opened_of (source_of job.now ∷ []) ++ created_of (sink_of job.now ∷ []))) (W.seen world.old) (W.seen world.new) }
+    ensures prefix { OnErr result ((ask : Ask) → HoldsAsAsked query.now ask → PrefixFor ask (Work job.now) (W.seen world.old) (W.seen world.new)) }
+    ensures works { IfOk result (λ r. (ask : Ask) → HoldsAsAsked query.now ask → WorksFor ask (Work job.now) r.fault r.run (W.seen world.old) (W.seen world.new)) }
+{
+    match job.tool {
+        Tool::Top => {
+            let top = top_consumer(alloc, job, selection)?;
+            let consumer: Box<dyn Consumer> = Box::new(alloc, top)?;
+            run_consumer(alloc, job, consumer, query, world)
+        }
+        _ => {
+            let log = log_consumer(alloc, job, selection);
+            let consumer: Box<dyn Consumer> = Box::new(alloc, log)?;
+            run_consumer(alloc, job, consumer, query, world)
+        }
     }
 }

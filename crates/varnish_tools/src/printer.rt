@@ -1,23 +1,23 @@
-//! The printer: units in, and out comes the text of the groups that they complete and for which the query holds.
+//! The printer: units in, and out comes what a consumer writes of the groups that they complete and for which the query holds.
 
-ghost use Rattle.std.specs.Prelude.{◌≡◌, [], ◌∷◌, ◌++◌, false, true, IsTrue, IfOk, IfErr, OnOk, OnErr};
-ghost use Rattle.log_model.specs.Prefix.{IsPrefix};
+ghost use Rattle.std.specs.Prelude.{◌≡◌, [], ◌∷◌, ◌++◌, false, true, length, IsTrue, Ok, IfOk, IfErr, OnOk};
 ghost use Rattle.vio.specs.World.{Writing, Wrote};
 ghost use Rattle.vio.specs.Writes.{WroteOn};
 ghost use Rattle.vsl_record.specs.Unit.{Log};
-ghost use Rattle.query_eval.specs.Asker.{asker_query};
-ghost use Rattle.varnish_tools.specs.Output.{laid_out, kept};
-ghost use Rattle.varnish_tools.specs.Printer.{held_groups, is_nothing_left, printer_state, Represents, IsSamePrinter, HasPrintCause, IsLeft, due, IsSink};
-ghost use Rattle.varnish_tools.specs.inside.Printing.{PutUnit};
+ghost use Rattle.txn_rows.specs.Grouping.{no_state};
+ghost use Rattle.vsl_dispatch.specs.Entries.{entries_of};
+ghost use Rattle.varnish_tools.specs.Printer.{Plan, printer_state, Represents, IsSameSink, HasPrintCause, IsLeft, due, has_all};
+ghost use Rattle.varnish_tools.specs.inside.Given.{is_done};
 
-use crate::layout::{Layout, Look, Style, put_groups};
+use crate::one_consumer::OneConsumer;
 use query_eval::Asker;
 use query_parser::Query;
 use std::alloc::Global;
-use txn_rows::{Group, GroupOptions, Grouping, Table};
+use txn_rows::{GroupOptions, Table};
 use vio::{NoMemory, World, WorldFault, write_all};
+use vsl_dispatch::{Consumer, Dispatcher, Go};
 use vsl_record::Unit;
-use vsl_select::{Text, raw_lines};
+use vsl_select::Text;
 
 /// Why printing stopped.
 #[derive(Debug, Drop)]
@@ -41,64 +41,22 @@ impl From<NoMemory> for PrintFault {
     }
 }
 
-/// Where text is written: the handle, its name in faults, and a buffer.
+/// Where text is written: the handle, and its name in faults.
 #[derive(Drop)]
 struct Sink {
     alloc: Global,
     handle: u32,
     name: Text,
-    text: Vec<u8>,
 }
 
-/// Takes a unit, and adds the groups that it completed and for which the query holds.
-fn put_grouped(
-    out: &mut Vec<u8>,
-    table: &mut Table,
-    groups: &mut Vec<Group>,
-    style: &mut Style<'_>,
-    unit: &Unit,
-) -> Result<(), NoMemory>
-    ensures ok { OnOk result (PutUnit style.old.look.now (asker_query style.old.asker) unit.now table.old table.new style.old.left style.new.left out.old.items out.new.items) }
-    ensures options { table.new.options ≡ table.old.options }
-    ensures look { style.new.look ≡ style.old.look }
-    ensures query { asker_query style.new.asker ≡ asker_query style.old.asker }
+/// Writes a text.
+fn print_text<W: World>(world: &mut W, sink: &Sink, text: &[u8]) -> Result<(), PrintFault>
+    requires named { IsTrue ((W.seen world.old).names Writing sink.now.handle sink.now.name) }
+    ensures ok { OnOk result (Wrote sink.now.handle text.now (W.seen world.old) (W.seen world.new)) }
+    ensures refused { IfErr result (λ f. WroteOn sink.now.handle [] (IsLeft f text.now) (W.seen world.old) (W.seen world.new)) }
+    ensures cause { IfErr result (λ f. HasPrintCause f sink.now.name (W.seen world.old) (W.seen world.new)) }
 {
-    groups.clear();
-    table.step(unit, groups)?;
-    put_groups(out, groups, style)
-}
-
-/// Takes a unit, and adds the groups that it completed and for which the query holds. For raw lines of all records no group is made.
-fn put_unit(
-    out: &mut Vec<u8>,
-    table: &mut Table,
-    groups: &mut Vec<Group>,
-    style: &mut Style<'_>,
-    unit: &Unit,
-) -> Result<(), NoMemory>
-    ensures ok { OnOk result (PutUnit style.old.look.now (asker_query style.old.asker) unit.now table.old table.new style.old.left style.new.left out.old.items out.new.items) }
-    ensures options { table.new.options ≡ table.old.options }
-    ensures look { style.new.look ≡ style.old.look }
-    ensures query { asker_query style.new.asker ≡ asker_query style.old.asker }
-{
-    let shows_all = style.left.is_none()
-        && style.asker.always()
-        && style.look.selection.shows_everything();
-    match (table.grouping(), style.look.layout, shows_all) {
-        (Grouping::Raw, Layout::Lines, true) => raw_lines(unit, out),
-        _ => put_grouped(out, table, groups, style, unit),
-    }
-}
-
-/// Writes the buffer.
-fn print_text<W: World>(world: &mut W, sink: &mut Sink) -> Result<(), PrintFault>
-    requires named { IsTrue ((W.seen world.old).names Writing sink.old.handle sink.old.name) }
-    ensures same { IsSink sink.old.handle sink.old.name sink.new.handle sink.new.name }
-    ensures ok { OnOk result (Wrote sink.old.handle sink.old.text.items (W.seen world.old) (W.seen world.new)) }
-    ensures refused { IfErr result (λ f. WroteOn sink.old.handle [] (IsLeft f sink.old.text.items) (W.seen world.old) (W.seen world.new)) }
-    ensures cause { IfErr result (λ f. HasPrintCause f sink.old.name (W.seen world.old) (W.seen world.new)) }
-{
-    match write_all(world, sink.handle, &sink.text) {
+    match write_all(world, sink.handle, text) {
         Ok(()) => Ok(()),
         Err(WorldFault::Failed) => match Text::new(sink.alloc, sink.name.as_str()) {
             Ok(name) => Err(PrintFault::WriteFault { name }),
@@ -108,116 +66,77 @@ fn print_text<W: World>(world: &mut W, sink: &mut Sink) -> Result<(), PrintFault
     }
 }
 
-/// Writes the groups for which the query holds.
-fn print_groups<W: World>(
-    world: &mut W,
-    sink: &mut Sink,
-    groups: &[Group],
-    style: &mut Style<'_>,
-) -> Result<(), PrintFault>
-    requires named { IsTrue ((W.seen world.old).names Writing sink.old.handle sink.old.name) }
-    ensures same { IsSink sink.old.handle sink.old.name sink.new.handle sink.new.name }
-    ensures look { style.new.look ≡ style.old.look }
-    ensures query { asker_query style.new.asker ≡ asker_query style.old.asker }
-    ensures ok { OnOk result (Wrote sink.old.handle (laid_out style.old.look.now (kept style.old.left (held_groups (asker_query style.old.asker) groups.now))) (W.seen world.old) (W.seen world.new)) }
-    ensures refused { IfErr result (λ f. WroteOn sink.old.handle [] (IsLeft f (laid_out style.old.look.now (kept style.old.left (held_groups (asker_query style.old.asker) groups.now)))) (W.seen world.old) (W.seen world.new)) }
-    ensures cause { IfErr result (λ f. HasPrintCause f sink.old.name (W.seen world.old) (W.seen world.new)) }
-{
-    sink.text.clear();
-    put_groups(&mut sink.text, groups, style)?;
-    print_text(world, sink)
-}
-
-/// Groups units, and writes the text of each group for which the query holds when it is complete, at most as many as the look
-/// keeps. Contracts see the table
-/// of what is pending, the look and the query, which it borrows, and the sink; every list of units that it represents has a
-/// text that is due.
+/// Groups units, gives each group for which the query holds to a consumer when it is complete, and writes what that hands out.
+/// Contracts see the table of what is pending, the query, which it borrows, the entries of the dispatcher, and the sink; under a plan,
+/// every list of units that it represents has a text that is due.
 #[derive(Drop)]
-pub struct Printer<'q> {
+pub struct Printer<'q, C> {
     table: Table,
-    style: Style<'q>,
-    groups: Vec<Group>,
+    asker: Asker<'q>,
+    consumer: OneConsumer<C>,
     sink: Sink,
 }
 
-impl<'q> Printer<'q> {
-    /// A printer that was given no unit. It writes to the handle `sink`, whose name is `name`.
+impl<'q, C: Consumer> Printer<'q, C> {
+    /// A printer that was given no unit, for a dispatcher of one consumer. It writes to the handle `sink`, whose name is `name`.
     pub fn new(
         alloc: Global,
         options: GroupOptions,
-        look: &'q Look,
         query: &'q Query,
+        dispatch: Dispatcher<C>,
         sink: u32,
         name: Text,
-    ) -> Result<Printer<'q>, NoMemory>
-        ensures options { IfOk result (λ p. (printer_state p).table.options ≡ options) }
-        ensures look { IfOk result (λ p. (printer_state p).look ≡ look.now) }
-        ensures query { IfOk result (λ p. (printer_state p).query ≡ query.now) }
-        ensures sink { IfOk result (λ p. IsSink sink name (printer_state p).sink (printer_state p).name) }
-        ensures none { IfOk result (λ p. Represents (printer_state p) []) }
+    ) -> Result<Printer<'q, C>, NoMemory>
+        requires one { length (entries_of dispatch) ≡ 1 }
+        ensures { IfOk result (λ p. printer_state p ≡ record { table = record { options = options; state = no_state; failed = false }; query = query.now; entries = entries_of dispatch; sink = sink; name = name }) }
     {
         Ok(Printer {
             table: Table::new(alloc, options)?,
-            style: Style {
-                look,
-                asker: Asker::new(alloc, query)?,
-                left: look.keep,
-            },
-            groups: Vec::new(alloc),
+            asker: Asker::new(alloc, query)?,
+            consumer: OneConsumer::new(alloc, dispatch),
             sink: Sink {
                 alloc,
                 handle: sink,
                 name,
-                text: Vec::new(alloc),
             },
         })
     }
 
-    /// Takes a unit, and writes the text of the groups that it completed and for which the query holds.
-    pub fn unit<W: World>(&mut self, world: &mut W, unit: &Unit) -> Result<(), PrintFault>
+    /// Takes a unit, and writes what the consumer hands out of the groups that it completed and for which the query holds. It is
+    /// done with the unit that completes the last group that is kept; no more may follow then.
+    pub fn unit<W: World>(&mut self, world: &mut W, unit: &Unit) -> Result<Go, PrintFault>
         requires named { IsTrue ((W.seen world.old).names Writing (printer_state self.old).sink (printer_state self.old).name) }
-        ensures same { IsSamePrinter (printer_state self.old) (printer_state self.new) }
-        ensures takes { OnOk result ((units : Log) → Represents (printer_state self.old) units → Represents (printer_state self.new) (units ++ unit.now ∷ [])) }
-        ensures writes { OnOk result ((units : Log) → Represents (printer_state self.old) units →
-            WroteOn (printer_state self.old).sink (due (printer_state self.old) units false) (λ text. text ≡ due (printer_state self.old) (units ++ unit.now ∷ []) false) (W.seen world.old) (W.seen world.new)) }
-        ensures refused { IfErr result (λ f. (units : Log) → Represents (printer_state self.old) units →
-            WroteOn (printer_state self.old).sink (due (printer_state self.old) units false) (IsLeft f (due (printer_state self.old) (units ++ unit.now ∷ []) false)) (W.seen world.old) (W.seen world.new)) }
+        ensures same { IsSameSink (printer_state self.old) (printer_state self.new) }
+        ensures takes { result ≡ Ok Go.More → (plan : Plan) (units : Log) → Represents C.keep C.output C.represents plan (printer_state self.old) units → Represents C.keep C.output C.represents plan (printer_state self.new) (units ++ unit.now ∷ []) }
+        ensures done { IfOk result (λ go. (plan : Plan) (units : Log) → Represents C.keep C.output C.represents plan (printer_state self.old) units → has_all plan (units ++ unit.now ∷ []) ≡ is_done go) }
+        ensures writes { OnOk result ((plan : Plan) (units : Log) → Represents C.keep C.output C.represents plan (printer_state self.old) units →
+            WroteOn plan.sink (due plan units false) (λ text. text ≡ due plan (units ++ unit.now ∷ []) false) (W.seen world.old) (W.seen world.new)) }
+        ensures refused { IfErr result (λ f. (plan : Plan) (units : Log) → Represents C.keep C.output C.represents plan (printer_state self.old) units →
+            WroteOn plan.sink (due plan units false) (IsLeft f (due plan (units ++ unit.now ∷ []) false)) (W.seen world.old) (W.seen world.new)) }
         ensures cause { IfErr result (λ f. HasPrintCause f (printer_state self.old).name (W.seen world.old) (W.seen world.new)) }
     {
-        self.sink.text.clear();
-        if let Err(NoMemory) = put_unit(
-            &mut self.sink.text,
-            &mut self.table,
-            &mut self.groups,
-            &mut self.style,
-            unit,
-        ) {
+        if let Err(NoMemory) = self.consumer.unit(&mut self.table, &mut self.asker, unit) {
             return Err(PrintFault::NoMemory);
         }
-        print_text(world, &mut self.sink)
+        let text = self.consumer.text();
+        print_text(world, &self.sink, &text)?;
+        Ok(self.consumer.go())
     }
 
-    /// Whether as many groups were written as are kept.
-    pub fn is_done(&self) -> bool
-        ensures { result ≡ is_nothing_left (printer_state self.now).left }
-    {
-        self.style.left == Some(0)
-    }
-
-    /// The units have ended: completes what is pending, and writes the text of the groups for which the query holds.
+    /// The units have ended: completes what is pending, ends the consumer, and writes what it hands out.
     pub fn end<W: World>(&mut self, world: &mut W) -> Result<(), PrintFault>
         requires named { IsTrue ((W.seen world.old).names Writing (printer_state self.old).sink (printer_state self.old).name) }
-        ensures same { IsSamePrinter (printer_state self.old) (printer_state self.new) }
-        ensures writes { OnOk result ((units : Log) → Represents (printer_state self.old) units →
-            WroteOn (printer_state self.old).sink (due (printer_state self.old) units false) (λ text. text ≡ due (printer_state self.old) units true) (W.seen world.old) (W.seen world.new)) }
-        ensures refused { IfErr result (λ f. (units : Log) → Represents (printer_state self.old) units →
-            WroteOn (printer_state self.old).sink (due (printer_state self.old) units false) (IsLeft f (due (printer_state self.old) units true)) (W.seen world.old) (W.seen world.new)) }
+        ensures same { IsSameSink (printer_state self.old) (printer_state self.new) }
+        ensures writes { OnOk result ((plan : Plan) (units : Log) → Represents C.keep C.output C.represents plan (printer_state self.old) units →
+            WroteOn plan.sink (due plan units false) (λ text. text ≡ due plan units true) (W.seen world.old) (W.seen world.new)) }
+        ensures refused { IfErr result (λ f. (plan : Plan) (units : Log) → Represents C.keep C.output C.represents plan (printer_state self.old) units →
+            WroteOn plan.sink (due plan units false) (IsLeft f (due plan units true)) (W.seen world.old) (W.seen world.new)) }
         ensures cause { IfErr result (λ f. HasPrintCause f (printer_state self.old).name (W.seen world.old) (W.seen world.new)) }
     {
-        self.groups.clear();
-        if let Err(NoMemory) = self.table.flush(&mut self.groups) {
+        if let Err(NoMemory) = self.consumer.end(&mut self.table, &mut self.asker) {
             return Err(PrintFault::NoMemory);
         }
-        print_groups(world, &mut self.sink, &self.groups, &mut self.style)
+        let text = self.consumer.text();
+        print_text(world, &self.sink, &text)
     }
 }

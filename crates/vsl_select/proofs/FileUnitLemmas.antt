@@ -1,5 +1,5 @@
 -- Where the first unit of records ends.
-use Rattle.std.proofs.Common.{add-one, ℕ, zero, suc, ◌+◌, ◌<◌, ◌≤◌, ◌≡◌, ◌≢◌, true, false, List, [], ◌∷◌, ◌++◌, length, take, drop, get_or, refl, sym, ap, ◌∙◌, arith, drop-cons, leb}
+use Rattle.std.proofs.Common.{add-one, ℕ, zero, suc, ◌+◌, ◌<◌, ◌≤◌, ◌≡◌, true, false, List, [], ◌∷◌, ◌++◌, length, take, drop, get_or, refl, sym, ap, ◌∙◌, arith, drop-cons, leb}
 use Rattle.std.proofs.Math.Bool.{and-false}
 use Rattle.std.proofs.lemmas.Bool.{lt-leb, le-leb}
 use Rattle.std.proofs.lemmas.List.{append-nil, length-append, take_more}
@@ -26,17 +26,6 @@ same_mark : (a b : Mark) → a ≡ b → is_same_mark a b ≡ true
 same_mark Client b e = rw (← e) refl
 same_mark Backend b e = rw (← e) refl
 same_mark Plain b e = rw (← e) refl
-
-other_mark : (a b : Mark) → a ≢ b → is_same_mark a b ≡ false
-other_mark Client Client e = absurd (e refl)
-other_mark Client Backend e = refl
-other_mark Client Plain e = refl
-other_mark Backend Client e = refl
-other_mark Backend Backend e = absurd (e refl)
-other_mark Backend Plain e = refl
-other_mark Plain Client e = refl
-other_mark Plain Backend e = refl
-other_mark Plain Plain e = absurd (e refl)
 
 -- a payload has no more words than bytes
 packed_short : (p : List ℕ) → length (packed p) ≤ length p
@@ -113,12 +102,7 @@ is_begun_more size words n mark records rec begun lt is same words_are fits =
           (rw (begun.first, same_mark mark rec.mark (sym same)) (le-leb _ _ (omega (arith, fits, size_more size words vxid (take n records) rec (begun.words vxid) (words_are vxid)))));
     }
 
--- a record of another mark ends the unit
-pub ends_at_mark : (size n : ℕ) (mark : Mark) (records : List Record) (rec : Record) → IsBegun size n mark records → n < length records → rec ≡ get_or records n rec
-    → rec.mark ≢ mark → (vxid : ℕ) → units_of vxid records ≡ file_unit vxid (take n records) ∷ units_of vxid (drop n records)
-ends_at_mark size n mark records rec begun lt is other vxid = begun.units vxid ∙ unit_ends vxid n records rec lt is (rw (begun.first, other_mark mark rec.mark (λ e. other (sym e))) refl)
-
--- so does a record with which the words are too many
+-- a record with which the words are too many ends the unit
 pub ends_at_size : (size words n : ℕ) (mark : Mark) (records : List Record) (rec : Record) → IsBegun size n mark records → n < length records → rec ≡ get_or records n rec
     → ((vxid : ℕ) → words ≡ length (record_words vxid rec)) → most_file_words < size + words → (vxid : ℕ) → units_of vxid records ≡ file_unit vxid (take n records) ∷ units_of vxid (drop n records)
 ends_at_size size words n mark records rec begun lt is words_are over vxid =

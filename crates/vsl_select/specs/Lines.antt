@@ -1,9 +1,8 @@
 -- The text of a group (varnishlog(1)). Columns, escapes and the header's titles are this project's choice.
 use Rattle.std.specs.Prelude.{ℕ, ◌==◌, nat_le, if◌then◌else◌, Bool, true, false, List, [], ◌∷◌, ◌++◌, replicate, codes, decimal}
 use Rattle.std.specs.List.{flat_map, list_all, list_any}
-use Rattle.vsl_tags.specs.Tags.{tag_name}
 use Rattle.vsl_record.specs.declared.record_type.Record.{Record}
-use Rattle.vsl_select.specs.RawLine.{at_left, escaped, raw_line}
+use Rattle.vsl_select.specs.RawLine.{at_left, tag_line, raw_line}
 use Rattle.txn_rows.specs.declared.group.Kind.{Kind}
 use Rattle.txn_rows.specs.declared.group.Kind.TheVariants as kinds
 use Rattle.txn_rows.specs.declared.group.Member.{Member}
@@ -29,7 +28,7 @@ header m = level_field 42 m.level ++ title m.kind ++ codes " " ++ at_left 10 (de
 
 -- the text of a record: the tag left in 14 columns, and the payload
 abbrev pub record_text : Record → List ℕ
-record_text rec = at_left 14 (tag_name rec.tag) ++ codes " " ++ escaped rec.payload ++ codes "\n"
+record_text rec = tag_line rec.tag rec.payload
 
 -- the line of a record in its transaction: the level in dashes, and the record's text; verbose, the level and the raw line
 abbrev pub record_line : Bool → Member → Record → List ℕ

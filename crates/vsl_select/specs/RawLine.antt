@@ -27,6 +27,10 @@ escaped_byte b = if nat_lt b 32 || (b == 127) then codes "\\x" ++ hex_digit (b /
 abbrev pub escaped : List ℕ → List ℕ
 escaped payload = flat_map escaped_byte payload
 
+-- a tag at the left of 14 columns, a space, a text as it is printed, and a line feed
+abbrev pub tag_line : ℕ → List ℕ → List ℕ
+tag_line tag text = at_left 14 (tag_name tag) ++ codes " " ++ escaped text ++ codes "\n"
+
 -- the letter of a mark
 abbrev pub mark_letter : Mark → ℕ
 mark_letter Client = 99

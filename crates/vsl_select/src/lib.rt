@@ -19,7 +19,7 @@ mod vxid_columns;
 
 pub use file_units::first_unit;
 pub use lines::group_text;
-pub use raw::{raw_line, raw_lines};
+pub use raw::{raw_line, raw_lines, tag_line};
 pub use rule_text::{RuleText, SelectFault, Sides};
 pub use selection::Selection;
 pub use text::{Listed, Text};

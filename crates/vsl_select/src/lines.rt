@@ -9,7 +9,7 @@ ghost use Rattle.vsl_select.specs.Shown.{shown, shown_member, shown_members};
 
 use crate::level_field::LevelField;
 use crate::parts::{put_byte, put_text, put_vxid_left, title_of};
-use crate::raw::{put_payload, put_raw_line, put_tag};
+use crate::raw::{put_raw_line, put_tag_line};
 use crate::selection::Selection;
 use crate::vxid_columns::VxidColumns;
 use log_model::NoMemory;
@@ -79,9 +79,7 @@ fn put_record_text(out: &mut Vec<u8>, rec: &Record) -> Result<(), NoMemory>
     ensures ok { OnOk result (out.new.items ≡ out.old.items ++ record_text rec.now) }
     ensures keeps { IsPrefix out.old.items out.new.items }
 {
-    put_tag(out, rec.tag)?;
-    put_payload(out, &rec.payload)?;
-    Ok(())
+    put_tag_line(out, rec.tag, rec.payload.as_slice())
 }
 
 /// Adds the line of a record in a transaction of this level, in dashes, and VXID.

@@ -20,9 +20,14 @@ vtools: Varnish's logging tools as one program
 usage: vtools [OPTIONS] varnishlog [-g GROUPING] [-L N] [-T N] [-q TEXT]
               [-Q FILE] [-k N] [-b] [-c] [-E] [-i TAGLIST] [-x TAGLIST]
               [-I RULE] [-X RULE] [-C] [-v] [-w FILE [-a] [-A]] -r FILE
+       vtools [OPTIONS] varnishtop -1 [-f] [-g GROUPING] [-L N] [-T N]
+              [-q TEXT] [-Q FILE] [-k N] [-b] [-c] [-E] [-i TAGLIST]
+              [-x TAGLIST] [-I RULE] [-X RULE] [-C] -r FILE
 
-Prints the records of a log file, a group of them when it is complete, or
-writes them as a log file; all of them, or those that are chosen.
+varnishlog prints the records of a log file, a group of them when it is
+complete, or writes them as a log file. varnishtop counts equal records, and
+prints each once with its count when the log has ended. Both take all records,
+or those that are chosen.
 
   -r FILE           reads the log file FILE; - is standard input
   -g vxid           groups records by transaction; this is the default
@@ -50,11 +55,20 @@ writes them as a log file; all of them, or those that are chosen.
                     TAGLIST:PATTERN, as in -I 'ReqHeader:^Host:'
   -X RULE           hides records that RULE matches
   -C                asks patterns, and texts of queries, without regard to case
+
+Of varnishlog alone:
+
   -v                prints VXID and mark in the line of each record
   -w FILE           writes a log file, in place of lines on standard output;
                     - is standard output
   -A                writes lines to the file of -w, and no log file
   -a                appends to the file of -w, which is emptied otherwise
+
+Of varnishtop alone:
+
+  -1                counts to the end of the log and prints once; it has to be
+                    given
+  -f                counts only the first field of each payload
 
 The first -I or -X that matches a record decides, else the last -i or -x that
 names its tag. Other records are hidden where the first of -i and -x is -i, or
@@ -64,8 +78,8 @@ Taken too, and of no effect: -d; before the tool --ring N, --reclen N,
 --turns N and --feed-first. Options stand in any order, letters may share a
 word, and of -g, -k, -L, -T, -r and -w the last counts.
 
-The words of varnishncsa, varnishtop and varnishstat are read, but these tools
-are not built yet.
+The words of varnishncsa and varnishstat are read, but these tools are not built
+yet.
 
   vtools --help     prints this text
   vtools --version  prints the version
@@ -73,7 +87,8 @@ are not built yet.
 Exit status: 0 done, 1 the input or the outside failed, 2 the command line, a
 pattern or a query was refused, 3 out of memory.
 
-All options, and which are built: docs/FORMATS.md. Manual: docs/man/vtools.1.
+All options, and which are built: docs/FORMATS.md. Manuals: docs/man/vtools.1
+and docs/man/vtools-varnishtop.1.
 ";
 
 /// Prints a text, and answers 0, or 1 where a write failed, or 3 where there was no memory.

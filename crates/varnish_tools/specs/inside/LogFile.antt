@@ -1,5 +1,5 @@
 -- What opening what a job reads and creating what it writes come to.
-use Rattle.std.specs.Prelude.{◌≡◌, ℕ, Bool, true, List, [], Some}
+use Rattle.std.specs.Prelude.{◌≡◌, ℕ, Bool, true, false, List, [], Option, Some}
 use Rattle.vsl_file.specs.File.{most_bytes}
 use Rattle.varnish_tools.specs.declared.fault.ToolFault.{ToolFault}
 use Rattle.varnish_tools.specs.declared.fault.ToolFault.TheVariants.{ReadFault, NotALog, Damaged, TooLarge}
@@ -13,9 +13,9 @@ use Rattle.vio.specs.World.{Seen, Reading, Writing, Gains, NoCountFalls, Opened,
 use Rattle.tool_words.specs.declared.job.Job.{Job}
 use Rattle.varnish_tools.specs.Asked.{options_of, file_of, write_of}
 use Rattle.varnish_tools.specs.Objects.{Object, OpenedFile, CreatedFile, Stream, source_of, sink_of, IsSourceHandle, IsSinkHandle, HoldsText}
-use Rattle.varnish_tools.specs.Output.{look_of}
+use Rattle.varnish_tools.specs.Output.{output_of}
 use Rattle.varnish_tools.specs.Promise.{SourceHolds, SinkBegins}
-use Rattle.varnish_tools.specs.Printer.{PrinterState, Represents}
+use Rattle.varnish_tools.specs.Printer.{Plan}
 
 -- a source has this handle: a stream's own, with no call, or that of a file that was opened
 abbrev pub SourceOpened : Object → ℕ → Seen → Seen → Type 0
@@ -47,14 +47,24 @@ pub record HasBegun (job : Job) (source sink : ℕ) (empty : Bool) (head : List 
 pub record HoldsAsAsked (query : Query) (ask : Ask) : Type 0 where
   pub each : (group : Group) → is_held query group ≡ is_asked ask group
 
--- a new printer of a job and of what is asked to this handle
-pub record IsJobPrinter (job : Job) (ask : Ask) (handle : ℕ) (p : PrinterState) : Type 0 where
+-- the plan of a job's printer with a query, to this handle
+abbrev pub job_plan : Job → Query → ℕ → Plan
+job_plan job query handle = record { options = options_of job; query = query; keep = job.keep; writes = output_of job; sink = handle; name = write_of job }
+
+-- a plan of a job and of what is asked, to this handle
+pub record IsJobPlan (job : Job) (ask : Ask) (handle : ℕ) (p : Plan) : Type 0 where
   pub asks : HoldsAsAsked p.query ask
-  pub is_grouped : p.table.options ≡ options_of job
-  pub is_laid_out : p.look ≡ look_of job
+  pub is_grouped : p.options ≡ options_of job
+  pub keeps : p.keep ≡ job.keep
+  pub writes : p.writes ≡ output_of job
   pub sink : p.sink ≡ handle
   pub name : p.name ≡ write_of job
-  pub none : Represents p []
+
+-- a consumer of a job, which received nothing
+pub record IsJobConsumer {C : Type 0} (keep : C → Option ℕ) (output : C → List Group → Bool → List ℕ) (represents : C → List Group → Bool → List ℕ → Type 0) (job : Job) (c : C) : Type 0 where
+  pub keeps : keep c ≡ job.keep
+  pub writes : output c ≡ output_of job
+  pub new : represents c [] false []
 
 -- the fault of a log under this name whose source stopped so; want of memory is none
 abbrev pub fault_as : List ℕ → SourceFault → ToolFault

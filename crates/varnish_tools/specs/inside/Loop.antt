@@ -1,5 +1,6 @@
 -- What a run's loop did: it took units from a source and gave them to a printer.
-use Rattle.std.specs.Prelude.{◌≡◌, ℕ, ◌-◌, ◌<◌, Bool, true, false, List, [], ◌∷◌, length, take}
+use Rattle.std.specs.Prelude.{◌≡◌, ℕ, ◌-◌, ◌<◌, Bool, true, false, List, [], ◌∷◌, length, take, Option}
+use Rattle.txn_rows.specs.declared.group.Group.{Group}
 use Rattle.log_model.specs.Prefix.{IsPrefix, IsProperPrefix}
 use Rattle.vio.specs.World.{Seen, Writing, Gains}
 use Rattle.vio.specs.Touches.{Touches}
@@ -9,7 +10,7 @@ use Rattle.varnish_tools.specs.declared.printer.PrintFault.{PrintFault}
 use Rattle.varnish_tools.specs.declared.printer.PrintFault.TheVariants.{WriteFault, NoMemory}
 use Rattle.varnish_tools.specs.declared.run.Stopped.{Stopped}
 use Rattle.varnish_tools.specs.declared.run.Stopped.TheVariants.{BySource, ByPrinter}
-use Rattle.varnish_tools.specs.Printer.{PrinterState, Represents, IsSamePrinter, HasPrintCause, due, has_all}
+use Rattle.varnish_tools.specs.Printer.{Plan, PrinterState, Represents, HasPrintCause, due, has_all}
 
 -- a text was added to what a handle tells, and to a file that it names
 pub record Added (h : ℕ) (text : List ℕ) (before now : Seen) : Type 0 where
@@ -31,46 +32,46 @@ pub record Printed (IsGiven IsCut : Log → Type 0) (IsText : Log → List ℕ �
   pub gains : AddedSome (IsText units) sink before now
 
 -- the groups of these units, and those of all but the last, are not as many as are kept
-pub record IsOpen (p : PrinterState) (units : Log) : Type 0 where
+pub record IsOpen (p : Plan) (units : Log) : Type 0 where
   pub all : has_all p units ≡ false
   pub first : has_all p (take (length units - 1) units) ≡ false
 
 -- the last unit completed the last group that is kept
-pub record IsKept (p : PrinterState) (units : Log) : Type 0 where
+pub record IsKept (p : Plan) (units : Log) : Type 0 where
   pub all : has_all p units ≡ true
   pub first : has_all p (take (length units - 1) units) ≡ false
 
 -- each unit that was given was printed; the printer goes on
-pub record Running (IsGiven : Log → Type 0) (reads : List ℕ) (p q : PrinterState) (n : ℕ) (before now : Seen) : Type 0 where
-  pub units : Log
-  pub given : IsGiven units
-  pub count : n ≡ length units
-  pub same : IsSamePrinter p q
-  pub represents : Represents q units
-  pub gains : Added p.sink (due p units false) before now
-  pub touches : Touches reads (p.sink ∷ []) [] [] before now
+module _ {C : Type 0} (keep : C → Option ℕ) (output : C → List Group → Bool → List ℕ) (represents : C → List Group → Bool → List ℕ → Type 0) where
+  pub record Running (IsGiven : Log → Type 0) (reads : List ℕ) (p : Plan) (q : PrinterState C) (n : ℕ) (before now : Seen) : Type 0 where
+    pub units : Log
+    pub given : IsGiven units
+    pub count : n ≡ length units
+    pub represents_units : Represents keep output represents p q units
+    pub gains : Added p.sink (due p units false) before now
+    pub touches : Touches reads (p.sink ∷ []) [] [] before now
 
 -- a failed write left at least the text without the last unit, and not all with it
-pub record LeftOf (p : PrinterState) (units : Log) (all : Bool) (text : List ℕ) : Type 0 where
+pub record LeftOf (p : Plan) (units : Log) (all : Bool) (text : List ℕ) : Type 0 where
   pub some : 0 < length units
   pub least : IsPrefix (due p (take (length units - 1) units) false) text
   pub left : IsProperPrefix text (due p units all)
 
 -- what a printer that stopped left of the text of units, which have ended or not
-abbrev pub IsLeftOf : PrintFault → PrinterState → Log → Bool → List ℕ → Type 0
+abbrev pub IsLeftOf : PrintFault → Plan → Log → Bool → List ℕ → Type 0
 IsLeftOf (WriteFault name) p units all text = LeftOf p units all text
 IsLeftOf NoMemory p units all text = IsPrefix text (due p units all)
 
 -- all units were given, and all text was written
-abbrev pub RanToEnd : (Log → Bool → Type 0) → PrinterState → ℕ → Seen → Seen → Type 0
+abbrev pub RanToEnd : (Log → Bool → Type 0) → Plan → ℕ → Seen → Seen → Type 0
 RanToEnd gave p n before now = Printed (λ units. gave units true) (IsOpen p) (λ units text. text ≡ due p units true) p.sink n before now
 
 -- units were given up to the one that completes the last group that is kept, and their text was written
-abbrev pub RanToKept : (Log → Bool → Type 0) → PrinterState → ℕ → Seen → Seen → Type 0
+abbrev pub RanToKept : (Log → Bool → Type 0) → Plan → ℕ → Seen → Seen → Type 0
 RanToKept gave p n before now = Printed (λ units. gave units false) (IsKept p) (λ units text. text ≡ due p units false) p.sink n before now
 
 -- the run stopped early: where the source stopped, the text of its units was written; where the printer did, what it left
-abbrev pub RanUntil : Stopped → (Log → Bool → Type 0) → (SourceFault → Log → Type 0) → PrinterState → Seen → Seen → Type 0
+abbrev pub RanUntil : Stopped → (Log → Bool → Type 0) → (SourceFault → Log → Type 0) → Plan → Seen → Seen → Type 0
 RanUntil (BySource fault n) gave stopped p before now = Printed (stopped fault) (IsOpen p) (λ units text. text ≡ due p units false) p.sink n before now
 RanUntil (ByPrinter fault n) gave stopped p before now =
     HasPrintCause fault p.name before now × ((all : Bool) × Printed (λ units. gave units all) (λ units. has_all p (take (length units - 1) units) ≡ false) (λ units text. IsLeftOf fault p units all text) p.sink n before now)

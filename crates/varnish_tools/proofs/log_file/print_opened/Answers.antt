@@ -27,8 +27,8 @@ returns-in-Err-Failed-clause-works g c = λ ask before holds streams opened.
     let rose = rw c.written_name-2.ensures at (c.in-Err-Failed.ensures.failed (ap Err c.in-Err-Failed.field-0-is)) in
     rw (c.refused.ensures.fault, c.refused.ensures.run, c.in_ok-name.ensures, c.written_name.ensures) (works_unmade _ ask _ before _ _ streams is_file c.in-Err-Failed.ensures.err rose opened)
 
-pub returns-in-Err-NoMemory-clause-prefix : goal.returns-in-Err-NoMemory-clause-prefix
-returns-in-Err-NoMemory-clause-prefix g c = prefix_at c.args.job.now c.args.query.now c.args.source _ _ (still_counts _ _ c.in-Err-NoMemory.ensures.err)
+pub returns-clause-prefix : goal.returns-clause-prefix
+returns-clause-prefix g c = prefix_at c.args.job.now c.args.query.now c.args.source _ _ (still_counts _ _ c.in-Err-NoMemory.ensures.err)
 
 pub returns-in-Ok-clause-handles : goal.returns-in-Ok-clause-handles
 returns-in-Ok-clause-handles g c = let created = rw c.written_name-2.ensures at c.in-Ok.ensures.ok in created_handles c.args.job.now _ _ _ _ _ _ created c.print_created.ensures.touches

@@ -1,21 +1,22 @@
-use Rattle.std.proofs.Common.{List, ◌++◌, ap, ◌∙◌}
 use Rattle.std.proofs.lemmas.Result.{IfErr-weaker, on_ok_weaker}
-use Rattle.txn_rows.specs.Grouping.{flush, reported}
-use Rattle.txn_rows.specs.declared.group.Group.{Group}
-use Rattle.varnish_tools.specs.declared.printer.PrintFault.{PrintFault}
+use Rattle.vsl_dispatch.specs.Entries.{entries_of}
 use Rattle.varnish_tools.specs.Printer.{printer_state}
 use Rattle.varnish_tools.proofs.PrinterLemmas.{end_left, end_writes, none_left_at_end}
 use Rattle.varnish_tools.proofs.printer.Printer.end.Goals as goal
 
-pub returns-clause-refused : goal.returns-clause-refused
-returns-clause-refused g c = (IfErr-weaker c.print_groups.result _ _
-    (λ (f : PrintFault) left units old. end_left f (printer_state c.args.self.now) units _ _ _ old
-    (c.deref.ensures.value ∙ c.in_default.ensures.ok.groups ∙ ap (λ (hs : List Group). hs ++ reported c.args.self.now.table.options.grouping (flush c.args.self.now.table.state).groups) c.clear.ensures.items) left) c.print_groups.ensures.refused)
+pub returns-in-Err-clause-refused : goal.returns-in-Err-clause-refused
+returns-in-Err-clause-refused g c plan units old = none_left_at_end g.C.Consumer.keep g.C.Consumer.output g.C.Consumer.represents plan (printer_state c.args.self.now) units (g.W.World.seen c.args.world.now) old
 
 pub returns-clause-writes : goal.returns-clause-writes
-returns-clause-writes g c = (on_ok_weaker c.print_groups.result
-    (λ wrote units old. end_writes (printer_state c.args.self.now) units _ _ _ old
-    (c.deref.ensures.value ∙ c.in_default.ensures.ok.groups ∙ ap (λ (hs : List Group). hs ++ reported c.args.self.now.table.options.grouping (flush c.args.self.now.table.state).groups) c.clear.ensures.items) wrote) c.print_groups.ensures.ok)
+returns-clause-writes g c =
+    on_ok_weaker c.print_text.result
+    (λ wrote plan units old. end_writes g.C.Consumer.keep g.C.Consumer.output g.C.Consumer.represents plan (printer_state c.args.self.now) (entries_of c.end.new.self.dispatch) (entries_of c.text-text.new.self.dispatch) c.text-text.result.items units
+    (g.W.World.seen c.args.world.now) (g.W.World.seen c.print_text.new.world) old c.in_default.ensures c.text-text.ensures (rw c.deref.ensures.value at wrote))
+    c.print_text.ensures.ok
 
-pub returns-in-Err-clause-refused : goal.returns-in-Err-clause-refused
-returns-in-Err-clause-refused g c = λ units old. none_left_at_end (printer_state c.args.self.now) units _
+pub returns-clause-refused : goal.returns-clause-refused
+returns-clause-refused g c =
+    IfErr-weaker c.print_text.result _ _
+    (λ f left plan units old. end_left g.C.Consumer.keep g.C.Consumer.output g.C.Consumer.represents f plan (printer_state c.args.self.now) (entries_of c.end.new.self.dispatch) (entries_of c.text-text.new.self.dispatch) c.text-text.result.items units
+    (g.W.World.seen c.args.world.now) (g.W.World.seen c.print_text.new.world) old c.in_default.ensures c.text-text.ensures left)
+    (rw c.deref.ensures.value at c.print_text.ensures.refused)

@@ -1,0 +1,6 @@
+use Rattle.std.proofs.Common.{◌≡◌, map}
+use Rattle.vsl_dispatch.specs.declared.dispatcher.Entry.TheVariants.{Live}
+use Rattle.vsl_dispatch.proofs.dispatcher.Dispatcher.new.Given as goal
+
+abbrev pub invariant-loop-consumer : goal.invariant-loop-consumer
+invariant-loop-consumer g l = l.entries.items ≡ map Live l.yielded

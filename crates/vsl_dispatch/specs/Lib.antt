@@ -1,0 +1,4 @@
+pub mod Groups
+pub mod Received
+pub mod Entries
+pub mod inside

@@ -1,0 +1,6 @@
+mod ConsumerLemmas
+mod CountLemmas
+mod Examples
+mod LineLemmas
+mod LoopLemmas
+mod OrderLemmas

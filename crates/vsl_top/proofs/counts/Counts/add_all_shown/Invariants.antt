@@ -1,0 +1,9 @@
+-- the shown records so far were counted
+use Rattle.std.proofs.Common.{◌++◌, List, take}
+use Rattle.vsl_top.specs.Report.{Key}
+use Rattle.vsl_top.specs.Counting.{AreCounted}
+use Rattle.vsl_top.specs.inside.Keys.{shown_keys}
+use Rattle.vsl_top.proofs.counts.Counts.add_all_shown.Given as goal
+
+abbrev pub invariant-loop-rec : goal.invariant-loop-rec
+invariant-loop-rec l = (keys : List Key) → AreCounted keys l.initial.self → AreCounted (keys ++ shown_keys l.selection l.first_field (take l.rec-index l.records)) l.self
