@@ -20,7 +20,7 @@ fail() {
 find . -type f ! -path './.git/*' ! -path './bin/*' ! -path '*/out/*' ! -path './examples/*' ! -path './cases/*/*' ! -path './crates/*/data/*' >"$work/files"
 
 for file in README.md CHANGELOG.md CONTRIBUTING.md docs/ARCHITECTURE.md docs/PROOF.md docs/DEFINITIONS.md \
-    docs/FORMATS.md docs/DECISIONS.md docs/man/vtools.1 docs/man/vtools-varnishtop.1; do
+    docs/FORMATS.md docs/DECISIONS.md docs/man/vtools.1 docs/man/vtools-varnishncsa.1 docs/man/vtools-varnishtop.1; do
     [ -s "$file" ] || fail "$file is missing"
 done
 
@@ -81,7 +81,7 @@ options <"$work/help" | diff "$work/built" - >"$work/differ" ||
     fail "options that are built and not in --help, or the reverse ('<' is docs/FORMATS.md):" "$work/differ"
 while read -r tool page; do
     {
-        awk -v tool="$tool" '$1 == "vtools" || $1 == tool { print $2 }' "$work/options"
+        awk -v tool="$tool" '($1 == "vtools" || $1 == tool) && $3 != "absent" { print $2 }' "$work/options"
         printf '%s\n' --help --version
     } | sort -u | comm -12 "$work/built" - >"$work/wanted"
     sed -n '/^\.SH OPTIONS/,/^\.SH EXIT/p' "docs/man/$page" | grep -A 1 '^\.TP' | grep '^\.B' |
@@ -89,6 +89,7 @@ while read -r tool page; do
         fail "options of $tool that are built and not in its page $page, or the reverse ('<' is docs/FORMATS.md):" "$work/differ"
 done <<'PAGES'
 varnishlog vtools.1
+varnishncsa vtools-varnishncsa.1
 varnishtop vtools-varnishtop.1
 PAGES
 

@@ -10,6 +10,8 @@ lines="$PWD/examples/real-1.raw"
 transactions="$PWD/examples/real-1.vxid"
 one="$PWD/crates/vtools/data/f"
 long="$PWD/cases/a_payload_of_4000_bytes_is_printed/data/f"
+two="$PWD/cases/a_log_is_written_to_standard_output/data/f"
+access="$PWD/cases/real_traffic_has_access_lines/stdout"
 most_seconds=20
 
 work=$(mktemp -d)
@@ -20,7 +22,7 @@ fail() {
     exit 1
 }
 
-for file in "$log" "$lines" "$transactions" "$one" "$long"; do
+for file in "$log" "$lines" "$transactions" "$one" "$long" "$two" "$access"; do
     [ -f "$file" ] || fail "$file is missing"
 done
 [ -x "$program" ] || fail "$program is missing: run rt ci first"
@@ -30,6 +32,7 @@ count=0
 newline=$'\n'
 text='         0 CLI            - Rd ping'
 counted='         1 CLI            Rd ping'
+line='- - - - "- http://localhost HTTP/1.0" - - "-" "-"'
 unwritten='vtools: -: write failed'
 cp "$one" one.log
 head -c -1 one.log >cut.log
@@ -59,7 +62,8 @@ expect() {
 : >err
 
 # Standard output is a pipe whose reader has gone.
-for words in "varnishlog -r $log" "varnishlog -g raw -r one.log" "varnishtop -1 -r $log" --help --version; do
+for words in "varnishlog -r $log" "varnishlog -g raw -r one.log" "varnishncsa -r $log" "varnishtop -1 -r $log" \
+    --help --version; do
     exec 3<>pipe
     exec 4>pipe 3>&-
     # shellcheck disable=SC2086 # the words stand between spaces
@@ -69,7 +73,8 @@ for words in "varnishlog -r $log" "varnishlog -g raw -r one.log" "varnishtop -1 
 done
 
 # Standard output is full, or closed. A run that writes nothing doesn't see it.
-for words in "varnishlog -r $log" "varnishlog -g raw -r one.log" "varnishtop -1 -r $log" --help --version; do
+for words in "varnishlog -r $log" "varnishlog -g raw -r one.log" "varnishncsa -r $log" "varnishtop -1 -r $log" \
+    --help --version; do
     # shellcheck disable=SC2086
     run $words >/dev/full 2>err </dev/null
     expect "a full output: $words" 1 "$unwritten"
@@ -81,6 +86,8 @@ run varnishlog -r header.log >/dev/full 2>err </dev/null
 expect "a full output and nothing to write" 0 ""
 run varnishlog -r header.log >&- 2>err </dev/null
 expect "a closed output and nothing to write" 0 ""
+run varnishncsa -bE -r one.log >/dev/full 2>err </dev/null
+expect "a full output and no line" 0 ""
 run varnishtop -1 -r one.log >/dev/full 2>err </dev/null
 expect "a full output and nothing to count" 0 ""
 run varnishtop -1 -g raw -r cut.log >/dev/full 2>err </dev/null
@@ -95,10 +102,12 @@ messages() {
 }
 messages "a whole log" 0 "$text" varnishlog -g raw -r one.log
 messages "a cut log" 1 "" varnishlog -g raw -r cut.log
+messages "an access line" 0 "$line" varnishncsa -r "$two"
 messages "a report" 0 "$counted" varnishtop -1 -g raw -r one.log
 messages "no report" 1 "" varnishtop -1 -g raw -r cut.log
 messages "a missing file" 1 "" varnishlog -g raw -r missing
-messages "a job that isn't built" 2 "" varnishncsa -r one.log
+messages "a job that isn't built" 2 "" --feed one.log varnishlog
+messages "a format that is refused" 2 "" varnishncsa -F %Z -r one.log
 messages "words that are refused" 2 "" varnishlog -g raw -r one.log -k0
 messages "a word that is not UTF-8" 2 "" $'\xff'
 cmp -s cut.log <(head -c -1 "$one") || fail "closed errors: the log was written to"
@@ -110,8 +119,10 @@ run varnishlog -r header.log <&- >&- 2>&-
 expect "no stream and nothing to write" 0 ""
 run --help <&- >&- 2>&-
 expect "no stream for --help" 1 ""
-run varnishncsa -r one.log <&- >&- 2>&-
+run --feed one.log varnishlog <&- >&- 2>&-
 expect "no stream for a job that isn't built" 2 ""
+run varnishncsa -F %Z -r one.log <&- >&- 2>&-
+expect "no stream for a format that is refused" 2 ""
 run varnishlog -g raw -r one.log <&- >out 2>err
 expect "no input" 0 "" "$text"
 cmp -s one.log "$one" || fail "no stream: the log was written to"
@@ -125,8 +136,10 @@ cmp -s one.log "$one" || fail "no stream: the log was written to"
 run varnishlog -g raw -r pipe >out 2>err </dev/null
 wait
 expect "FILE a pipe" 0 "" "$text"
-run varnishncsa -r pipe >out 2>err </dev/null
+run --feed pipe varnishlog >out 2>err </dev/null
 expect "a job that isn't built opens no pipe" 2 "vtools: not built yet"
+run varnishncsa -F %Z -r pipe >out 2>err </dev/null
+expect "a format that is refused opens no pipe" 2 "vtools: format: syntax at 0"
 run varnishlog -g raw -r pipe -k0 >out 2>err </dev/null
 expect "words that are refused open no pipe" 2 "vtools: bad value: -k0"
 run varnishlog -g raw -r /dev/stdin >out 2>err <one.log
@@ -145,6 +158,20 @@ tail -c +9 one.log | head -c 9 >&5
 exec 5>&-
 wait
 expect "a pipe that ends inside a unit" 1 "vtools: -: damaged at 28" "$text"
+
+# So does the first access line.
+exec 5<>pipe
+run varnishncsa -b -r - >out 2>err <pipe 5>&- &
+head -c 50 "$two" >&5
+for _ in {1..50}; do
+    [ -s out ] && break
+    sleep 0.1
+done
+printf '%s\n' "$line" | cmp -s - out || fail "a pipe that goes on: the access line didn't come"
+tail -c +51 "$two" >&5
+exec 5>&-
+wait
+expect "a pipe that goes on, for access lines" 0 "" "$line"
 
 # FILE has more than 16 MiB: the units of the real log a hundred times. Zero bytes are no unit.
 tail -c +9 "$log" >units
@@ -171,6 +198,8 @@ expect "a file without end" 1 "vtools: /dev/zero: not a log at 0"
 # What is written is full, a folder, or a pipe whose reader has gone.
 run varnishlog -g raw -w /dev/full -r one.log >out 2>err </dev/null
 expect "a full file" 1 "vtools: /dev/full: write failed"
+run varnishncsa -w /dev/full -r "$log" >out 2>err </dev/null
+expect "a full file for access lines" 1 "vtools: /dev/full: write failed"
 run varnishlog -A -g raw -w /dev/full -r header.log >out 2>err </dev/null
 expect "a full file and nothing to write" 0 ""
 run varnishlog -w . -r one.log >out 2>err </dev/null
@@ -227,6 +256,9 @@ expect "real traffic, cut" 1 "vtools: real.log: damaged at $begin"
 run varnishlog -r real.log >real 2>err </dev/null
 cmp -s "$transactions" real || fail "real traffic, cut: the transactions differ"
 expect "real traffic, cut, by transaction" 1 "vtools: real.log: damaged at $begin"
+run varnishncsa -r real.log >real 2>err </dev/null
+cmp -s "$access" real || fail "real traffic, cut: the access lines differ"
+expect "real traffic, cut, its access lines" 1 "vtools: real.log: damaged at $begin"
 
 # Of it there is no report, but of its 228 transactions, which are all complete before the cut, the one of the whole log.
 run varnishtop -1 -r real.log >out 2>err </dev/null

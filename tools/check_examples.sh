@@ -1,7 +1,8 @@
 #!/bin/sh
 # Makes the texts of examples/ again by tools/group_listing.py, and compares them with the files there, and with what
 # the program prints that `rt ci` built, or another: check_examples.sh [PROGRAM]. Without a program the files alone.
-# The reports of varnishtop are compared with what `sort` and `uniq` make of the same texts.
+# The reports of varnishtop are compared with what `sort` and `uniq` make of the same texts, and the access lines of
+# varnishncsa with what tools/access_lines.py makes of the raw lines.
 set -eu
 LC_ALL=C
 export LC_ALL
@@ -54,6 +55,17 @@ same_report() {
     same "varnishtop -1 $* prints another report" "$work/wanted" "$work/printed"
 }
 
+# Compares what varnishncsa prints with lines that were made: same_lines LINES OPTION..
+same_lines() {
+    [ -s "$1" ] || fail "no access line is wanted"
+    wanted=$1
+    shift
+    status=0
+    "$program" varnishncsa "$@" -r "$log" >"$work/printed" 2>"$work/errors" || status=$?
+    [ "$status" -eq 0 ] || fail "varnishncsa $*: the status is $status, not 0: $(head -n 1 "$work/errors")"
+    same "varnishncsa $* prints other lines" "$wanted" "$work/printed"
+}
+
 [ -n "$program" ] || [ ! -x "$built" ] || program="$PWD/$built"
 [ -z "$program" ] || [ -x "$program" ] || fail "$program is missing"
 [ -f "$log" ] || fail "$log is missing"
@@ -85,6 +97,21 @@ if [ -n "$program" ]; then
     same_report "$work/fields" -f
     grep '^ReqURL ' "$work/records" >"$work/urls"
     same_report "$work/urls" -i ReqURL
+
+    for sides in -c -E -b -bc -bE; do
+        python3 tools/access_lines.py "$sides" examples/real-1.raw >"$work/lines"
+        same_lines "$work/lines" "$sides"
+        python3 tools/access_lines.py "$sides" -s examples/real-1.raw >"$work/lines"
+        same_lines "$work/lines" "$sides" -F '%h %{Varnish:hitmiss}x %s %b %D'
+    done
+    python3 tools/access_lines.py examples/real-1.raw >"$work/lines"
+    same_lines "$work/lines"
+    python3 tools/access_lines.py -s examples/real-1.raw >"$work/lines"
+    same_lines "$work/lines" -F '%h %{Varnish:hitmiss}x %s %b %D'
+    # by request the same lines stand in another order
+    python3 tools/access_lines.py -bE examples/real-1.raw | sort >"$work/lines"
+    "$program" varnishncsa -bE -g request -r "$log" 2>"$work/errors" | sort >"$work/printed"
+    same "varnishncsa -bE -g request prints other lines" "$work/lines" "$work/printed"
 fi
 
 echo "examples: ok, $groupings: the files of examples/ and tools/group_listing.py${program:+ and $program}"

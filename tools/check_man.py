@@ -2,8 +2,8 @@
 """Runs the examples of docs/man/ that show what is printed, and compares it, from the pages' own text.
 
 Usage: tools/check_man.py [PROGRAM]; without one it is the program that `rt ci` built. The log `f` of the examples is that of
-a case, whole, without its last byte or not there, as the sentence before an example says. It also asks that each option of
-a page's tool stands in an example of the page that was run.
+a case, of one or of another, whole, without its last byte or not there, as the sentence before an example says. It also
+asks that each option of a page's tool stands in an example of the page that was run.
 """
 
 import pathlib
@@ -16,8 +16,13 @@ import tempfile
 TOP = pathlib.Path(__file__).resolve().parent.parent
 PAGES = TOP / "docs/man"
 LOG = TOP / "cases/a_log_is_written_to_standard_output/data/f"
+ANSWERED = TOP / "cases/ncsa_prints_a_line_of_a_request/hex/f"
 QUERIES = "Link\n"
-OPTIONS = {"vtools.1": "aAbcCdEgiIkLqQrTvwxX", "vtools-varnishtop.1": "1bcCdEfgiIkLqQrTxX"}
+OPTIONS = {
+    "vtools.1": "aAbcCdEgiIkLqQrTvwxX",
+    "vtools-varnishncsa.1": "abcCdEFgkLqQrTw",
+    "vtools-varnishtop.1": "1bcCdEfgiIkLqQrTxX",
+}
 MARKS = {"\\(aq": "'", "\\(dq": '"', "\\(ti": "~", "\\(ha": "^", "\\-": "-", "\\ ": " ", "\\&": "", "\\e": "\\"}
 
 
@@ -31,6 +36,8 @@ def log_for(sentence):
     whole = LOG.read_bytes()
     if "no file of that name" in sentence:
         return None
+    if "request that was answered with 304" in sentence:
+        return bytes.fromhex("".join(line.split("#")[0] for line in ANSWERED.read_text().splitlines()))
     if "last byte of the log is missing" in sentence or "damage is not seen" in sentence:
         return whole[:-1]
     return whole

@@ -152,13 +152,13 @@ fn expect_cut_message(
 #[test]
 fn a_message_that_fails_changes_nothing_else(rt: HostRuntime) -> Result<(), Fail> {
     // messages of 22 and 23 bytes take eight writes; words that are refused make no other call
-    let access = ["varnishncsa", "-r", "f"];
+    let counters = ["--gen", "1,1", "varnishstat", "-1"];
     let no_groups = ["varnishlog", "-k0", "-r", "f"];
     for write in 0..8u8 {
         let written = usize::from(write) * PIECE;
         let call = u64::from(write) + 1;
         let not_built = Ending::NotBuilt;
-        expect_cut_message(&rt, rt.alloc(), &access, (call, call), not_built, written)?;
+        expect_cut_message(&rt, rt.alloc(), &counters, (call, call), not_built, written)?;
         let bad_value = Ending::BadValue;
         expect_cut_message(
             &rt,

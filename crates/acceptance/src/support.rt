@@ -1,6 +1,4 @@
-//! Log files whose text is known, what a whole run over one has to answer, and records and units of a client.
-
-ghost use Rattle.std.specs.Prelude.{◌≡◌, IfOk};
+//! Log files whose text is known, and what a whole run over one has to answer.
 
 use crate::byte_table::REQUEST_WITH_FETCH;
 use std::alloc::Global;
@@ -10,9 +8,6 @@ use tool_words::UsageFault;
 use varnish_tools::{Outcome, RunRecord, ToolFault, run_tools};
 use vio::{MemWorld, World};
 use vsl_file::{FileFault, FileReader, FileStep};
-use vsl_record::{Mark, Record};
-use vsl_select::{Selection, Sides};
-use vsl_tags::Tag;
 
 /// The bytes with which each log file begins.
 pub const HEADER: &[u8] = b"VSLOG-1\n";
@@ -243,6 +238,7 @@ fn variant_of(fault: &ToolFault) -> &'static str {
         ToolFault::NotBuilt => "NotBuilt",
         ToolFault::BadPattern { .. } => "BadPattern",
         ToolFault::BadQuery { .. } => "BadQuery",
+        ToolFault::BadFormat { .. } => "BadFormat",
         ToolFault::NoOpen { .. } => "NoOpen",
         ToolFault::ReadFault { .. } => "ReadFault",
         ToolFault::WriteFault { .. } => "WriteFault",
@@ -259,6 +255,7 @@ fn told_in(fault: &ToolFault) -> (&str, u64) {
         ToolFault::NotBuilt => ("", 0),
         ToolFault::BadPattern { word } => ("", u64::from(*word)),
         ToolFault::BadQuery { query, .. } => ("", u64::from(*query)),
+        ToolFault::BadFormat { at } => ("", *at),
         ToolFault::NoOpen { name } => (name.as_str(), 0),
         ToolFault::ReadFault { name } => (name.as_str(), 0),
         ToolFault::WriteFault { name } => (name.as_str(), 0),
@@ -367,25 +364,4 @@ pub fn expect_run(
     assert_eq!(rt; world.content(want.sink), want.output, "{what}, {at}");
     assert_eq!(rt; world.content(2), errors, "{what}, {at}");
     Ok(())
-}
-
-/// A client's record.
-pub fn record_of(alloc: Global, tag: Tag, payload: &[u8]) -> Result<Record, Fail>
-    ensures { IfOk result (λ r. r.mark ≡ Mark.Client) }
-{
-    Ok(Record::new(alloc, tag, Mark::Client, payload)?)
-}
-
-/// No side.
-pub fn no_sides() -> Sides {
-    Sides {
-        backend: false,
-        client: false,
-        esi: false,
-    }
-}
-
-/// A selection that shows all.
-pub fn all_shown(alloc: Global) -> Result<Selection, Fail> {
-    Ok(Selection::new(alloc, no_sides(), Vec::new(alloc), false)?)
 }

@@ -14,9 +14,10 @@ use Rattle.varnish_tools.specs.declared.outcome.Ran.{Ran}
 use Rattle.varnish_tools.specs.declared.outcome.RunRecord.{RunRecord}
 use Rattle.varnish_tools.specs.declared.outcome.RunRecord.TheVariants.{Nothing, Counted}
 use Rattle.varnish_tools.specs.Asked.{Asked, Work, file_of}
-use Rattle.varnish_tools.specs.Faults.{FaultClass, Refused, RefusedQuery, LongQuery, NotOpened, NotRead, NotWritten, BadInput, class_of}
+use Rattle.varnish_tools.specs.Faults.{FaultClass, Refused, RefusedQuery, RefusedFormat, LongQuery, NotOpened, NotRead, NotWritten, BadInput, class_of}
 use Rattle.varnish_tools.specs.Objects.{Object, OpenedFile, CreatedFile, Stream, source_of, sink_of, sources_of, sinks_of, query_files, opened_of, created_of, streams_of, calls_of, IsSourceHandle, SinkGained, SinkUntouched, SourceUntouched, GivesAtMost}
 use Rattle.varnish_tools.specs.Queries.{Ask}
+use Rattle.varnish_tools.specs.Formats.{StoppedByFormat, format_text, job_format_fault}
 use Rattle.varnish_tools.specs.QueryFiles.{AreTaken, StoppedByQuery}
 use Rattle.varnish_tools.specs.Run.{Run, Ending, Whole, Kept, Faulted, no_run}
 use Rattle.varnish_tools.specs.Promise.{Input, SourceHolds, IsInput, HasFailed, HasFailedInput, HasClassCause, HasCause, TakesQueries, RunBegan, LeavesAll, LeavesUntil, LeavesSinks, TakesUntil, TookSome, ReadsOnceUntil, ReadsOnce, IsDue, SinksLeft, WritesFor, WorksOff, WritesPrefix}
@@ -25,7 +26,7 @@ use Rattle.varnish_tools.specs.inside.QueryFiles.{OnlyReads, QueriesRead}
 use Rattle.varnish_tools.specs.inside.Works.{HasRunCause, RunLeavesUntil, RunLeaves, WorksFor, PrefixFor}
 use Rattle.varnish_tools.proofs.ObjectLemmas.{IsStill, IsSource, is_source, are_sources, last_opened, untouched_still, source_still_left, sink_before, begins_before, holds_before, gives_then, gives_more}
 use Rattle.varnish_tools.proofs.QueryLemmas.{taken_then, opened_append, texts_still}
-use Rattle.varnish_tools.proofs.TakenLemmas.{opened_first, stopped_class}
+use Rattle.varnish_tools.proofs.TakenLemmas.{format_class, opened_first, stopped_class}
 
 -- what reading the queries leaves as it is
 pub still_read : {opened : List (List ℕ)} (r s : Seen) → OnlyReads r s → Touches [] [] opened [] r s → IsStill r s
@@ -59,6 +60,7 @@ input_failed_since job kind name r s t n p = (p.0, let rose : HasNewFault (s.fau
 cause_since : (job : Job) (f : ToolFault) (c : FaultClass) (r s t : Seen) → HasStreams r → NoCountFalls r s → IsStill r s → HasRunCause (Work job) f c s t → HasClassCause (Work job) f c r t
 cause_since job f Refused r s t streams n still p = p
 cause_since job f RefusedQuery r s t streams n still p = absurd p
+cause_since job f RefusedFormat r s t streams n still p = absurd p
 cause_since job f LongQuery r s t streams n still p = absurd p
 cause_since job f (NotOpened name) r s t streams n still (inl p) = inl (input_failed_since job Opening name r s t n p)
 cause_since job f (NotOpened name) r s t streams n still (inr p) = inr (inl (failed_since job Creating name r s t n p))
@@ -106,6 +108,7 @@ began_since job recorded r s t touched p = (p.0, λ o one. let found = p.1 o one
 leaves_since : {opened : List (List ℕ)} (c : FaultClass) (job : Job) (recorded : RunRecord) (r s t : Seen) → HasStreams r → Touches [] [] opened [] r s → IsStill r s → RunLeavesUntil c (Work job) recorded s t → LeavesUntil c (Work job) recorded r t
 leaves_since Refused job recorded r s t streams touched still p = absurd p
 leaves_since RefusedQuery job recorded r s t streams touched still p = absurd p
+leaves_since RefusedFormat job recorded r s t streams touched still p = absurd p
 leaves_since LongQuery job recorded r s t streams touched still p = absurd p
 leaves_since (NotOpened name) job recorded r s t streams touched still p = all_since job recorded r s t streams touched still p
 leaves_since (NotRead name) job recorded r s t streams touched still p = inl (p.0, began_since job recorded r s t touched p.1)
@@ -125,6 +128,7 @@ took_since o input r s t touched p =
 once_since : {opened : List (List ℕ)} (c : FaultClass) (o : Object) (input : Input) (run : Run) (r s t : Seen) → Touches [] [] opened [] r s → ReadsOnceUntil c o input run s t → ReadsOnceUntil c o input run r t
 once_since Refused o input run r s t touched p = tt
 once_since RefusedQuery o input run r s t touched p = tt
+once_since RefusedFormat o input run r s t touched p = tt
 once_since LongQuery o input run r s t touched p = tt
 once_since (NotOpened name) o input run r s t touched p = tt
 once_since (NotRead name) o input run r s t touched (inl p) = inl p
@@ -157,34 +161,34 @@ writes_since job ask input fault recorded r s t streams touched still w = record
 
 -- queries that were taken before a run are taken at its end
 taken_since : {reads writes : List ℕ} {opened created : List (List ℕ)} (job other : Job) (query : Query) (r s t : Seen) → Touches reads writes opened created s t → QueriesRead job query r s → Work job ≡ Work other
-    → AreTaken other.caseless 0 other.queries r t
-taken_since job other query r s t touched read e =
-    let same : job ≡ other = cc in subst (λ (j : Job). AreTaken j.caseless 0 j.queries r t) same (taken_then job.caseless 0 job.queries r s t touched read.taken)
+    → job_format_fault job ≡ None → AreTaken other.caseless 0 other.queries r t × (job_format_fault other ≡ None)
+taken_since job other query r s t touched read e good =
+    let same : job ≡ other = cc in subst (λ (j : Job). AreTaken j.caseless 0 j.queries r t × (job_format_fault j ≡ None)) same (taken_then job.caseless 0 job.queries r s t touched read.taken, good)
 
 -- what a run touches
 abbrev TouchedByRun : Job → Seen → Seen → Type 0
 TouchedByRun job s t = Touches (streams_of (source_of job ∷ [])) (streams_of (sink_of job ∷ [])) (opened_of (source_of job ∷ [])) (created_of (sink_of job ∷ [])) s t
 
 pub works_since : (job : Job) (query : Query) (fault : Option ToolFault) (recorded : RunRecord) (r s t : Seen) → HasStreams r → OnlyReads r s → Touches [] [] (opened_of (query_files job.queries)) [] r s → QueriesRead job query r s
-    → TouchedByRun job s t → ((ask : Ask) → HoldsAsAsked query ask → WorksFor ask (Work job) fault recorded s t) → WorksOff (Work job) fault recorded r t
-works_since job query fault recorded r s t streams quiet touched read ran p =
+    → job_format_fault job ≡ None → TouchedByRun job s t → ((ask : Ask) → HoldsAsAsked query ask → WorksFor ask (Work job) fault recorded s t) → WorksOff (Work job) fault recorded r t
+works_since job query fault recorded r s t streams quiet touched read good ran p =
     let still = still_read r s quiet touched in
     let works = p read.ask read.holds in record {
       refused = λ f e. absurd cc;
       causes = λ f e. cause_since job f (class_of f) r s t streams touched.counts still (works.causes f e);
       leaves = sinks_since fault job recorded r s t streams touched still works.leaves;
-      queries = λ other e. inl (taken_since job other query r s t ran read e);
+      queries = λ other e. let taken = taken_since job other query r s t ran read e good in inl (taken.0, inl taken.1);
       writes = λ input is_input.
-          (read.ask, λ counted. read.told input.texts is_input.3, writes_since job read.ask input fault recorded r s t streams touched still (works.writes input (input_since job input r s streams quiet still is_input)));
+          (read.ask, λ counted. let told = read.told input.texts is_input.3 in ((told.0, good), told.1), writes_since job read.ask input fault recorded r s t streams touched still (works.writes input (input_since job input r s streams quiet still is_input)));
     }
 
-pub prefix_since : (job : Job) (query : Query) (r s t : Seen) → HasStreams r → OnlyReads r s → Touches [] [] (opened_of (query_files job.queries)) [] r s → QueriesRead job query r s → ((ask : Ask) → HoldsAsAsked query ask → PrefixFor ask (Work job) s t)
-    → WritesPrefix (Work job) r t
-prefix_since job query r s t streams quiet touched read p = λ input is_input o one.
+pub prefix_since : (job : Job) (query : Query) (r s t : Seen) → HasStreams r → OnlyReads r s → Touches [] [] (opened_of (query_files job.queries)) [] r s → QueriesRead job query r s → job_format_fault job ≡ None
+    → ((ask : Ask) → HoldsAsAsked query ask → PrefixFor ask (Work job) s t) → WritesPrefix (Work job) r t
+prefix_since job query r s t streams quiet touched read good p = λ input is_input o one.
     let still = still_read r s quiet touched in
     elim (p read.ask read.holds input (input_since job input r s streams quiet still is_input) o one) [
       | inl same ↦ inl (untouched_since o r s t streams touched still same)
-      | inr gained ↦ inr (read.ask, read.told input.texts is_input.3, gained_since o r s t streams touched still gained)
+      | inr gained ↦ inr (read.ask, (let told = read.told input.texts is_input.3 in ((told.0, good), told.1)), gained_since o r s t streams touched still gained)
     ]
 
 -- the queries were not read
@@ -193,11 +197,15 @@ stopped_of : (job other : Job) (fault : ToolFault) (r s : Seen) → StoppedByQue
 stopped_of job other fault r s p left e =
     let same : job ≡ other = cc in inr (fault, refl, subst (λ (j : Job). StoppedByQuery j fault r s) same p, subst (λ (j : Job). LeavesAll (Work j) Nothing r s) same left)
 
+-- nothing was taken or written
+nothing_left : (job : Job) (r s : Seen) → HasStreams r → IsStill r s → LeavesAll (Work job) Nothing r s
+nothing_left job r s streams still =
+    (refl, (λ o one. source_still_left o r s (are_sources job.queries (source_of job) o (is_source (file_of job)) one) streams still, λ o one. untouched_still o r s still))
+
 pub works_early : (job : Job) (fault : ToolFault) (r s : Seen) → HasStreams r → OnlyReads r s → Touches [] [] (opened_of (query_files job.queries)) [] r s → StoppedByQuery job fault r s → WorksOff (Work job) (Some fault) Nothing r s
 works_early job fault r s streams quiet touched p =
     let still = still_read r s quiet touched in
-    let left : LeavesAll (Work job) Nothing r s =
-    (refl, (λ o one. source_still_left o r s (are_sources job.queries (source_of job) o (is_source (file_of job)) one) streams still, λ o one. untouched_still o r s still)) in record {
+    let left = nothing_left job r s streams still in record {
       refused = λ f e. absurd cc;
       causes = λ f e. let same : fault ≡ f = cc in subst (λ (x : ToolFault). HasCause (Work job) x r s) same
           (stopped_class (λ c. HasClassCause (Work job) fault c r s) job fault r s p p p (λ name. inr (inr p)) (λ name read. inr p));
@@ -213,6 +221,52 @@ works_early job fault r s streams quiet touched p =
           is_ending = refl;
           takes = stopped_class (λ c. TakesUntil c (Work job) None input no_run) job fault r s p refl refl (λ name. refl) (λ name read. inl refl);
           reads_once = λ o one. stopped_class (λ c. ReadsOnceUntil c o input no_run r s) job fault r s p tt tt (λ name. tt) (λ name read. inl refl);
+          sinks = λ o one. untouched_still o r s still;
+        },
+      );
+    }
+
+format_stopped_of : (job other : Job) (fault : ToolFault) (r s : Seen) → StoppedByFormat job fault r s → LeavesAll (Work job) Nothing r s → Work job ≡ Work other → TakesQueries other (Some fault) Nothing r s
+format_stopped_of job other fault r s p left e =
+    let same : job ≡ other = cc in
+    inl (
+      subst (λ (j : Job). AreTaken j.caseless 0 j.queries r s) same p.taken,
+      inr (fault, refl, subst (λ (j : Job). StoppedByFormat j fault r s) same p, subst (λ (j : Job). LeavesAll (Work j) Nothing r s) same left),
+    )
+
+-- a format with a fault stops a job whose queries were taken
+pub format_stopped : (job : Job) (query : Query) (fault : ToolFault) (r s : Seen) → QueriesRead job query r s → job_format_fault job ≡ Some fault → Touches [] [] (opened_of (query_files job.queries)) [] r s
+    → GivesAtMost (length (opened_of (query_files job.queries))) r s → StoppedByFormat job fault r s
+format_stopped job query fault r s read fails touched few = record {
+  stops = fails;
+  taken = read.taken;
+  touches = touches_in [] [] [] (ERRORS ∷ []) _ _ [] [] r s (λ h one. one) (λ h one. absurd one) (λ name one. one) (λ name one. one) touched;
+  handles = few;
+}
+
+-- what is so of the class of a format's fault is so of the class of this one
+format_so : (IsSo : FaultClass → Type 0) (job : Job) (fault : ToolFault) (r s : Seen) → StoppedByFormat job fault r s → IsSo RefusedFormat → IsSo (class_of fault)
+format_so IsSo job fault r s p so = subst IsSo (format_class job.tool (format_text job) fault p.stops) so
+
+-- the format was refused
+pub works_unformatted : (job : Job) (fault : ToolFault) (r s : Seen) → HasStreams r → OnlyReads r s → Touches [] [] (opened_of (query_files job.queries)) [] r s → StoppedByFormat job fault r s → WorksOff (Work job) (Some fault) Nothing r s
+works_unformatted job fault r s streams quiet touched p =
+    let still = still_read r s quiet touched in
+    let left = nothing_left job r s streams still in record {
+      refused = λ f e. absurd cc;
+      causes = λ f e. let same : fault ≡ f = cc in subst (λ (x : ToolFault). HasCause (Work job) x r s) same (format_so (λ c. HasClassCause (Work job) fault c r s) job fault r s p p);
+      leaves = format_so (λ c. LeavesUntil c (Work job) Nothing r s) job fault r s p left;
+      queries = λ other e. format_stopped_of job other fault r s p left e;
+      writes = λ input is_input. (
+        None,
+        λ counted. absurd counted,
+        record {
+          run = no_run;
+          ending = Faulted fault;
+          is_run = refl;
+          is_ending = refl;
+          takes = format_so (λ c. TakesUntil c (Work job) None input no_run) job fault r s p refl;
+          reads_once = λ o one. format_so (λ c. ReadsOnceUntil c o input no_run r s) job fault r s p tt;
           sinks = λ o one. untouched_still o r s still;
         },
       );
@@ -261,13 +315,13 @@ gives_early job r s p = (p.0, omega (arith, p.1, calls_count job), p.2)
 
 -- what a run answered is what its caller answers
 
-pub run_works : {E : Type 0} (result : Result Ran E) (job : Job) (query : Query) (r s t : Seen) → HasStreams r → OnlyReads r s → Touches [] [] (opened_of (query_files job.queries)) [] r s → QueriesRead job query r s → TouchedByRun job s t
-    → IfOk result (λ ran. (ask : Ask) → HoldsAsAsked query ask → WorksFor ask (Work job) ran.fault ran.run s t)
+pub run_works : {E : Type 0} (result : Result Ran E) (job : Job) (query : Query) (r s t : Seen) → HasStreams r → OnlyReads r s → Touches [] [] (opened_of (query_files job.queries)) [] r s → QueriesRead job query r s → job_format_fault job ≡ None
+    → TouchedByRun job s t → IfOk result (λ ran. (ask : Ask) → HoldsAsAsked query ask → WorksFor ask (Work job) ran.fault ran.run s t)
     → IfOk result (λ ran. WorksOff (Work job) ran.fault ran.run r t)
-run_works (Ok ran) job query r s t streams quiet touched read touched_run p = works_since job query ran.fault ran.run r s t streams quiet touched read touched_run p
-run_works (Err e) job query r s t streams quiet touched read touched_run p = p
+run_works (Ok ran) job query r s t streams quiet touched read good touched_run p = works_since job query ran.fault ran.run r s t streams quiet touched read good touched_run p
+run_works (Err e) job query r s t streams quiet touched read good touched_run p = p
 
 pub run_prefix : {T E : Type 0} (result : Result T E) (job : Job) (query : Query) (r s t : Seen) → HasStreams r → OnlyReads r s → Touches [] [] (opened_of (query_files job.queries)) [] r s → QueriesRead job query r s
-    → OnErr result ((ask : Ask) → HoldsAsAsked query ask → PrefixFor ask (Work job) s t) → OnErr result (WritesPrefix (Work job) r t)
-run_prefix (Ok x) job query r s t streams quiet touched read p = p
-run_prefix (Err e) job query r s t streams quiet touched read p = prefix_since job query r s t streams quiet touched read p
+    → job_format_fault job ≡ None → OnErr result ((ask : Ask) → HoldsAsAsked query ask → PrefixFor ask (Work job) s t) → OnErr result (WritesPrefix (Work job) r t)
+run_prefix (Ok x) job query r s t streams quiet touched read good p = p
+run_prefix (Err e) job query r s t streams quiet touched read good p = prefix_since job query r s t streams quiet touched read good p

@@ -1,19 +1,23 @@
 -- Queries that were taken, and one that stops a job: what stays so over later calls, and what it says of the job.
-use Rattle.std.proofs.Common.{◌≡◌, ℕ, ◌+◌, Bool, true, false, cond, List, [], ◌∷◌, ◌++◌, length, Option, Some, None, refl, sym, subst, ◌∙◌, inl, inr, arith}
-use Rattle.std.specs.Option.{option_or}
+use Rattle.std.proofs.Common.{◌≡◌, ℕ, ◌+◌, Bool, true, false, cond, List, [], ◌∷◌, ◌++◌, length, Option, Some, None, refl, sym, ap, subst, ◌∙◌, inl, inr, arith}
+use Rattle.std.specs.Option.{option_map, option_or}
 use Rattle.vio.specs.declared.world.TheConstants.{ERRORS}
 use Rattle.vio.specs.World.{Seen, Opening, Reading}
 use Rattle.vio.specs.Touches.{IsOneOf, Touches}
 use Rattle.vio.proofs.TouchLemmas.{touches_in, touches_then}
 use Rattle.tool_words.specs.declared.job.Job.{Job}
 use Rattle.tool_words.specs.declared.job.QueryText.{QueryText}
+use Rattle.tool_words.specs.declared.job.Tool.{Tool}
+use Rattle.tool_words.specs.declared.job.Tool.TheVariants.{Log, Ncsa, Top, Stat}
+use Rattle.ncsa_format.specs.Reading.{format_fault}
 use Rattle.varnish_tools.specs.declared.fault.ToolFault.{ToolFault}
-use Rattle.varnish_tools.specs.declared.fault.ToolFault.TheVariants.{Usage, NotBuilt, BadPattern, BadQuery, NoOpen, ReadFault, WriteFault, NotALog, Damaged, TooLarge}
+use Rattle.varnish_tools.specs.declared.fault.ToolFault.TheVariants.{Usage, NotBuilt, BadPattern, BadQuery, BadFormat, NoOpen, ReadFault, WriteFault, NotALog, Damaged, TooLarge}
 use Rattle.varnish_tools.specs.declared.outcome.RunRecord.{RunRecord}
 use Rattle.varnish_tools.specs.Asked.{Asked, Work}
-use Rattle.varnish_tools.specs.Faults.{FaultClass, RefusedQuery, LongQuery, NotOpened, NotRead, class_of}
+use Rattle.varnish_tools.specs.Faults.{FaultClass, RefusedQuery, RefusedFormat, LongQuery, NotOpened, NotRead, class_of}
 use Rattle.varnish_tools.specs.Objects.{Object, OpenedFile, CreatedFile, Stream, source_of, query_files, names_of, opened_of, calls_of, IsSourceHandle}
 use Rattle.varnish_tools.specs.Queries.{TextHolds, TextsHold, text_fault, texts_fault, most_query_bytes}
+use Rattle.varnish_tools.specs.Formats.{StoppedByFormat, text_fault as text_fault_of}
 use Rattle.varnish_tools.specs.QueryFiles.{HasFault, IsQueryFault, StoppedByQuery}
 use Rattle.varnish_tools.specs.Promise.{Input, IsInput, AreGood, RunBegan, NoFaultOf}
 use Rattle.varnish_tools.proofs.ObjectLemmas.{gives_still, gives_none}
@@ -35,6 +39,7 @@ stops_then caseless n query (Usage why) s t u touched p = absurd p
 stops_then caseless n query NotBuilt s t u touched p = absurd p
 stops_then caseless n query (BadPattern word) s t u touched p = absurd p
 stops_then caseless n query (BadQuery number why) s t u touched p = (p.0, p.1, opened_then query s t u touched p.2, p.3)
+stops_then caseless n query (BadFormat at) s t u touched p = absurd p
 stops_then caseless n query (NoOpen name) s t u touched p = (p.0, p.1, omega (arith, touched.counts.each Opening name, p.2))
 stops_then caseless n query (ReadFault name) s t u touched p = (p.0, p.1, opened_then query s t u touched p.2, omega (arith, touched.counts.each Reading name, p.3))
 stops_then caseless n query (WriteFault name) s t u touched p = absurd p
@@ -54,6 +59,26 @@ stopped_then job fault s t u told p = record {
   touches = touches_then p.touches (touches_in [] [] (ERRORS ∷ []) (ERRORS ∷ []) [] _ [] [] t u (λ h one. one) (λ h one. one) (λ name one. absurd one) (λ name one. one) told);
   handles = gives_still _ s t u p.handles (gives_none t u told);
 }
+
+-- and a format that stopped one
+pub formatted_then : (job : Job) (fault : ToolFault) (s t u : Seen) → Touches [] (ERRORS ∷ []) [] [] t u → StoppedByFormat job fault s t → StoppedByFormat job fault s u
+formatted_then job fault s t u told p = record {
+  stops = p.stops;
+  taken = taken_then job.caseless 0 job.queries s t u told p.taken;
+  touches = touches_then p.touches (touches_in [] [] (ERRORS ∷ []) (ERRORS ∷ []) [] _ [] [] t u (λ h one. one) (λ h one. one) (λ name one. absurd one) (λ name one. one) told);
+  handles = gives_still _ s t u p.handles (gives_none t u told);
+}
+
+refused_class : (found : Option ℕ) (fault : ToolFault) → option_map BadFormat found ≡ Some fault → RefusedFormat ≡ class_of fault
+refused_class None fault e = absurd cc
+refused_class (Some at) fault e = let same : BadFormat at ≡ fault = cc in ap class_of same
+
+-- the fault of a format is one of its text
+pub format_class : (tool : Tool) (text : List ℕ) (fault : ToolFault) → text_fault_of tool text ≡ Some fault → RefusedFormat ≡ class_of fault
+format_class Log text fault e = absurd cc
+format_class Ncsa text fault e = refused_class (format_fault text) fault e
+format_class Top text fault e = absurd cc
+format_class Stat text fault e = absurd cc
 
 -- the file of a query is one of the job's
 
@@ -103,6 +128,7 @@ stopped_class IsSo job (Usage why) s t p refused long unopened unread = absurd p
 stopped_class IsSo job NotBuilt s t p refused long unopened unread = absurd p.stops
 stopped_class IsSo job (BadPattern word) s t p refused long unopened unread = absurd p.stops
 stopped_class IsSo job (BadQuery number why) s t p refused long unopened unread = refused
+stopped_class IsSo job (BadFormat at) s t p refused long unopened unread = absurd p.stops
 stopped_class IsSo job (NoOpen name) s t p refused long unopened unread = unopened name
 stopped_class IsSo job (ReadFault name) s t p refused long unopened unread = unread name p
 stopped_class IsSo job (WriteFault name) s t p refused long unopened unread = absurd p.stops
@@ -137,7 +163,7 @@ faultless_text caseless n s (first ∷ earlier) query later (text ∷ texts) hol
 none_faulty : (job : Job) (input : Input) (fault f : ToolFault) (s u : Seen) → IsInput (Work job) s input → AreGood job input → (p : StoppedByQuery job fault s u) → ¬ (HasFault job.caseless (length p.earlier) p.query f s)
 none_faulty job input fault f s u is_input clean p has =
     let holds = subst (λ (queries : List QueryText). TextsHold s queries input.texts) p.parts is_input.3 in
-    let none = subst (λ (queries : List QueryText). texts_fault job.caseless 0 queries input.texts ≡ None) p.parts clean in
+    let none = subst (λ (queries : List QueryText). texts_fault job.caseless 0 queries input.texts ≡ None) p.parts clean.0 in
     let start : 0 + length p.earlier ≡ length p.earlier = omega arith in
     let found = subst (λ (k : ℕ). FaultlessText job.caseless k p.query s) start (faultless_text job.caseless 0 s p.earlier p.query p.later input.texts holds none) in
     let wrong = has found.text found.holds in let right = found.none in absurd cc
@@ -147,6 +173,7 @@ none_stopped job input (Usage why) s u is_input clean none p = p.stops
 none_stopped job input NotBuilt s u is_input clean none p = p.stops
 none_stopped job input (BadPattern word) s u is_input clean none p = p.stops
 none_stopped job input (BadQuery number why) s u is_input clean none p = none_faulty job input (BadQuery number why) (BadQuery number why) s u is_input clean p (p.stops).3
+none_stopped job input (BadFormat at) s u is_input clean none p = p.stops
 none_stopped job input (NoOpen name) s u is_input clean none p = let stops = p.stops in none Opening name (stopped_opening job (NoOpen name) name s u p stops.0 stops.1) stops.2
 none_stopped job input (ReadFault name) s u is_input clean none p = let stops = p.stops in none Reading name (stopped_reading job (ReadFault name) name s u p stops.0 stops.1) stops.3
 none_stopped job input (WriteFault name) s u is_input clean none p = p.stops

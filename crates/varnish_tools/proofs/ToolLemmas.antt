@@ -22,20 +22,20 @@ use Rattle.varnish_tools.specs.declared.outcome.RunRecord.{RunRecord}
 use Rattle.varnish_tools.specs.declared.outcome.RunRecord.TheVariants.{Nothing, Counted}
 use Rattle.varnish_tools.specs.declared.outcome.Outcome.{Outcome}
 use Rattle.varnish_tools.specs.Asked.{Asked, Refuse, Work, asked_of, options_of, file_of, write_of}
-use Rattle.varnish_tools.specs.Faults.{FaultClass, Refused, RefusedQuery, LongQuery, NotOpened, NotRead, NotWritten, BadInput, class_of, message, fault_message, status_of}
+use Rattle.varnish_tools.specs.Faults.{FaultClass, Refused, RefusedQuery, RefusedFormat, LongQuery, NotOpened, NotRead, NotWritten, BadInput, class_of, message, fault_message, status_of}
 use Rattle.varnish_tools.specs.Objects.{Object, source_of, sink_of, inputs_of, sources_of, sinks_of, streams_of, query_files, name_of, calls_of, SinkGained, SinkUntouched, SinksGained, SinksUntouched, NothingTouched, GivesAtMost, TouchesJob}
 use Rattle.varnish_tools.specs.Queries.{Ask, is_asked, chosen}
 use Rattle.varnish_tools.specs.Run.{Run, Ending, Whole, Kept, Faulted, no_run, run_of, fault_of}
 use Rattle.vsl_dispatch.specs.Groups.{kept, is_filled}
 use Rattle.varnish_tools.specs.Output.{head_text, output_of, is_flushed, is_ended, sink_text}
-use Rattle.varnish_tools.specs.Promise.{Input, SourceHolds, IsInput, Asks, AreGood, IsStoppedByQuery, TakesQueries, IsCounted, LeavesAll, WritesFor, IsGood, HasFailed, HasFailedInput, HasClassCause, HasCause, IsRunOf, TakesUntil, Takes, TakesFirst, fills, TookSome, ReadsOnceUntil, ReadsOnce, IsDueUntil, IsDue, LeavesUntil, LeavesSinks, SinksLeft, WritesError, WorksOff, WritesPrefix, IsFaithful, IsComplete, IsCutShort, NoFaultOf, whole_run, whole_text, is_whole}
+use Rattle.varnish_tools.specs.Promise.{Input, SourceHolds, IsInput, Asks, AreGood, IsStoppedByQuery, IsStoppedByFormat, TakesFormat, TakesQueries, IsCounted, LeavesAll, WritesFor, IsGood, HasFailed, HasFailedInput, HasClassCause, HasCause, IsRunOf, TakesUntil, Takes, TakesFirst, fills, TookSome, ReadsOnceUntil, ReadsOnce, IsDueUntil, IsDue, LeavesUntil, LeavesSinks, SinksLeft, WritesError, WorksOff, WritesPrefix, IsFaithful, IsComplete, IsCutShort, NoFaultOf, whole_run, whole_text, is_whole}
 use Rattle.varnish_tools.specs.inside.Report.{ReportsPart}
 use Rattle.varnish_tools.proofs.ObjectLemmas.{last_name, last_opened, IsSink, is_sink, IsSource, is_source, are_sources, untouched_until, gained_until, gained_so, took_until, error_no_sink, source_until, gives_still, gives_none}
 use Rattle.varnish_tools.proofs.OutputLemmas.{job_output}
 use Rattle.varnish_tools.proofs.PrinterLemmas.{kept_first, tested_text, text_first}
 use Rattle.varnish_tools.proofs.RunLemmas.{run_text}
 use Rattle.varnish_tools.proofs.QueryLemmas.{taken_then}
-use Rattle.varnish_tools.proofs.TakenLemmas.{began_then, stopped_then, none_stopped}
+use Rattle.varnish_tools.proofs.TakenLemmas.{formatted_then, began_then, stopped_then, none_stopped}
 
 -- the words are refused
 pub works_refused : (f : ToolFault) (s : Seen) → class_of f ≡ Refused → WorksOff (Refuse f) (Some f) Nothing s s
@@ -79,9 +79,14 @@ stopped_until : (asked : Asked) (f : ToolFault) (s t u : Seen) → Told t u → 
 stopped_until (Refuse x) f s t u told p = p
 stopped_until (Work job) f s t u told p = stopped_then job f s t u told p
 
+format_until : (asked : Asked) (f : ToolFault) (s t u : Seen) → Told t u → IsStoppedByFormat asked f s t → IsStoppedByFormat asked f s u
+format_until (Refuse x) f s t u told p = p
+format_until (Work job) f s t u told p = formatted_then job f s t u told p
+
 cause_until : (asked : Asked) (f : ToolFault) (c : FaultClass) (s t u : Seen) → Told t u → HasClassCause asked f c s t → HasClassCause asked f c s u
 cause_until asked f Refused s t u told p = p
 cause_until asked f RefusedQuery s t u told p = stopped_until asked f s t u told p
+cause_until asked f RefusedFormat s t u told p = format_until asked f s t u told p
 cause_until asked f LongQuery s t u told p = stopped_until asked f s t u told p
 cause_until asked f (NotOpened name) s t u told (inl p) = inl (input_failed_until asked Opening name s t u told.counts p)
 cause_until asked f (NotOpened name) s t u told (inr (inl p)) = inr (inl (failed_until asked Creating name s t u told.counts p))
@@ -120,6 +125,7 @@ all_left asked recorded s t u streams touched told p = (p.0, nothing_touched ask
 leaves_until : (c : FaultClass) (asked : Asked) (recorded : RunRecord) (s t u : Seen) → HasStreams s → TouchedBy asked s t → Told t u → LeavesUntil c asked recorded s t → LeavesUntil c asked recorded s u
 leaves_until Refused asked recorded s t u streams touched told p = all_left asked recorded s t u streams touched told p
 leaves_until RefusedQuery asked recorded s t u streams touched told p = all_left asked recorded s t u streams touched told p
+leaves_until RefusedFormat asked recorded s t u streams touched told p = all_left asked recorded s t u streams touched told p
 leaves_until LongQuery asked recorded s t u streams touched told p = all_left asked recorded s t u streams touched told p
 leaves_until (NotOpened name) asked recorded s t u streams touched told p = all_left asked recorded s t u streams touched told p
 leaves_until (NotRead name) asked recorded s t u streams touched told (inl p) = inl (p.0, began_then asked recorded s t u told p.1)
@@ -138,6 +144,7 @@ once_class : (c : FaultClass) (asked : Asked) (o : Object) (input : Input) (run 
     → ReadsOnceUntil c o input run s u
 once_class Refused asked o input run s t u one streams touched told p = tt
 once_class RefusedQuery asked o input run s t u one streams touched told p = tt
+once_class RefusedFormat asked o input run s t u one streams touched told p = tt
 once_class LongQuery asked o input run s t u one streams touched told p = tt
 once_class (NotOpened name) asked o input run s t u one streams touched told p = tt
 once_class (NotRead name) asked o input run s t u one streams touched told (inl p) = inl p
@@ -150,8 +157,12 @@ once_until Whole asked o input run s t u one streams touched told p = tt
 once_until Kept asked o input run s t u one streams touched told p = some_until _ asked o input s t u one streams touched told p
 once_until (Faulted f) asked o input run s t u one streams touched told p = once_class (class_of f) asked o input run s t u one streams touched told p
 
+formats_until : (job : Job) (fault : Option ToolFault) (recorded : RunRecord) (s t u : Seen) → HasStreams s → TouchedBy (Work job) s t → Told t u → TakesFormat job fault recorded s t → TakesFormat job fault recorded s u
+formats_until job fault recorded s t u streams touched told (inl good) = inl good
+formats_until job fault recorded s t u streams touched told (inr p) = inr (p.0, p.1, formatted_then job p.0 s t u told p.2, all_left (Work job) recorded s t u streams touched told p.3)
+
 queries_until : (job : Job) (fault : Option ToolFault) (recorded : RunRecord) (s t u : Seen) → HasStreams s → TouchedBy (Work job) s t → Told t u → TakesQueries job fault recorded s t → TakesQueries job fault recorded s u
-queries_until job fault recorded s t u streams touched told (inl taken) = inl (taken_then job.caseless 0 job.queries s t u told taken)
+queries_until job fault recorded s t u streams touched told (inl p) = inl (taken_then job.caseless 0 job.queries s t u told p.0, formats_until job fault recorded s t u streams touched told p.1)
 queries_until job fault recorded s t u streams touched told (inr p) = inr (p.0, p.1, stopped_then job p.0 s t u told p.2, all_left (Work job) recorded s t u streams touched told p.3)
 
 writes_until : (asked : Asked) (ask : Ask) (input : Input) (fault : Option ToolFault) (recorded : RunRecord) (s t u : Seen) → HasStreams s → TouchedBy asked s t → Told t u → WritesFor ask asked input fault recorded s t
@@ -219,6 +230,7 @@ class_prefix : (c : FaultClass) (job : Job) (ask : Ask) (input : Input) (run : R
     → TakesUntil c (Work job) ask input run → IsDueUntil c (Work job) ask input run (Faulted f) text → IsPrefix text (whole_text (Work job) ask input)
 class_prefix Refused job ask input run f n items s t text left is takes due = let none = left.0 in absurd cc
 class_prefix RefusedQuery job ask input run f n items s t text left is takes due = let none = left.0 in absurd cc
+class_prefix RefusedFormat job ask input run f n items s t text left is takes due = let none = left.0 in absurd cc
 class_prefix LongQuery job ask input run f n items s t text left is takes due = let none = left.0 in absurd cc
 class_prefix (NotOpened name) job ask input run f n items s t text left is takes due = let none = left.0 in absurd cc
 class_prefix (NotRead name) job ask input run f n items s t text left is (inl none) due = absurd (some_run input run (take n input.units) is.2 none)
@@ -294,6 +306,7 @@ input_read job name one = subst (λ (x : List ℕ). IsOneOf x (calls_of (Work jo
 no_cause : (job : Job) (input : Input) (f : ToolFault) (c : FaultClass) (s u : Seen) → IsInput (Work job) s input → AreGood job input → IsGood input → NoFaultOf (Work job) s u → ¬ (HasClassCause (Work job) f c s u)
 no_cause job input f Refused s u is_input clean good none p = absurd cc
 no_cause job input f RefusedQuery s u is_input clean good none p = none_stopped job input f s u is_input clean none p
+no_cause job input f RefusedFormat s u is_input clean good none p = let stops = p.stops in let fine = clean.1 in absurd cc
 no_cause job input f LongQuery s u is_input clean good none p = none_stopped job input f s u is_input clean none p
 no_cause job input f (NotOpened name) s u is_input clean good none (inl p) = none Opening name (last_opened (query_files job.queries) (source_of job) name p.0) p.1
 no_cause job input f (NotOpened name) s u is_input clean good none (inr (inl p)) = none Creating name p.0 p.1

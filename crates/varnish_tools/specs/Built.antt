@@ -4,10 +4,10 @@ use Rattle.tool_words.specs.declared.job.Job.{Job}
 use Rattle.tool_words.specs.declared.job.Tool.{Tool}
 use Rattle.tool_words.specs.declared.job.Tool.TheVariants.{Log, Ncsa, Top, Stat}
 
--- whether a tool is built: varnishlog and varnishtop are
+-- whether a tool is built: all are that read a log file
 abbrev pub is_built_tool : Tool → Bool
 is_built_tool Log = true
-is_built_tool Ncsa = false
+is_built_tool Ncsa = true
 is_built_tool Top = true
 is_built_tool Stat = false
 

@@ -5,7 +5,7 @@ use Rattle.tool_words.specs.declared.fault.UsageFault.TheVariants.{UnknownTool, 
 use Rattle.query_parser.specs.declared.fault.QueryFault.{QueryFault}
 use Rattle.query_parser.specs.declared.fault.QueryFault.TheVariants.{Syntax, UnknownTag, Number, Pattern, Deep, NoMemory}
 use Rattle.varnish_tools.specs.declared.fault.ToolFault.{ToolFault}
-use Rattle.varnish_tools.specs.declared.fault.ToolFault.TheVariants.{Usage, NotBuilt, BadPattern, BadQuery, NoOpen, ReadFault, WriteFault, NotALog, Damaged, TooLarge}
+use Rattle.varnish_tools.specs.declared.fault.ToolFault.TheVariants.{Usage, NotBuilt, BadPattern, BadQuery, BadFormat, NoOpen, ReadFault, WriteFault, NotALog, Damaged, TooLarge}
 use Rattle.varnish_tools.specs.Queries.{most_query_bytes}
 
 -- the classes of faults; causes, what is taken and statuses are stated by class
@@ -14,6 +14,8 @@ pub data FaultClass : Type 0 where
   Refused : FaultClass
   -- a query's text was refused
   RefusedQuery : FaultClass
+  -- the text of a format was refused
+  RefusedFormat : FaultClass
   -- the file of a query is too long
   LongQuery : FaultClass
   -- a file of this name could not be opened, or not created
@@ -31,6 +33,7 @@ class_of (Usage fault) = Refused
 class_of NotBuilt = Refused
 class_of (BadPattern word) = Refused
 class_of (BadQuery query fault) = RefusedQuery
+class_of (BadFormat at) = RefusedFormat
 class_of (NoOpen name) = NotOpened name
 class_of (ReadFault name) = NotRead name
 class_of (WriteFault name) = NotWritten name
@@ -77,6 +80,7 @@ message words (Usage fault) = usage_message words fault
 message words NotBuilt = told (codes "not built yet")
 message words (BadPattern word) = told (codes "pattern refused: " ++ word_at words word)
 message words (BadQuery query fault) = told (numbered (codes "query ") query (codes ": ") ++ query_message fault)
+message words (BadFormat at) = told (numbered (codes "format: syntax at ") at [])
 message words (NoOpen name) = told (name ++ codes ": cannot open")
 message words (ReadFault name) = told (name ++ codes ": read failed")
 message words (WriteFault name) = told (name ++ codes ": write failed")
@@ -89,10 +93,11 @@ abbrev pub fault_message : List (List ℕ) → Option ToolFault → List ℕ
 fault_message words None = []
 fault_message words (Some fault) = message words fault
 
--- the status of a class of faults: 2 where the words or a query were refused, 1 where the input or the outside failed
+-- the status of a class of faults: 2 where the words, a query or a format were refused, 1 where the input or the outside failed
 abbrev pub class_status : FaultClass → ℕ
 class_status Refused = 2
 class_status RefusedQuery = 2
+class_status RefusedFormat = 2
 class_status LongQuery = 1
 class_status (NotOpened name) = 1
 class_status (NotRead name) = 1

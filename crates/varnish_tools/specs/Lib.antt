@@ -3,6 +3,7 @@ pub mod Queries
 pub mod Asked
 pub mod Objects
 pub mod QueryFiles
+pub mod Formats
 pub mod Faults
 pub mod Run
 pub mod Output

@@ -10,6 +10,8 @@ use Rattle.vsl_select.specs.Showing.{Showing}
 use Rattle.vsl_select.specs.FileUnits.{file_units}
 use Rattle.vsl_dispatch.specs.Groups.{kept}
 use Rattle.vsl_top.specs.Report.{top_output}
+use Rattle.ncsa_format.specs.Reading.{pieces_of}
+use Rattle.ncsa_format.specs.Line.{access_text}
 use Rattle.tool_words.specs.declared.job.Job.{Job}
 use Rattle.tool_words.specs.declared.job.Tool.{Tool}
 use Rattle.tool_words.specs.declared.job.Tool.TheVariants as tools
@@ -17,6 +19,7 @@ use Rattle.varnish_tools.specs.declared.layout.Layout.{Layout}
 use Rattle.varnish_tools.specs.declared.layout.Look.{Look}
 use Rattle.varnish_tools.specs.declared.layout.Layout.TheVariants.{Lines, Units}
 use Rattle.varnish_tools.specs.Asked.{Asked, Refuse, Work, options_of}
+use Rattle.varnish_tools.specs.Formats.{format_text}
 use Rattle.varnish_tools.specs.Queries.{Ask, chosen}
 use Rattle.varnish_tools.specs.Run.{Run, Ending, Whole, Kept, Faulted, taken_units}
 
@@ -29,9 +32,16 @@ written Units verbose groups = log_bytes (flat_map file_units groups)
 abbrev pub laid_out : Look → List Group → List ℕ
 laid_out look groups = written look.layout look.verbose (map (shown look.selection) groups)
 
+-- whether a tool can write a log file
+abbrev pub writes_units : Tool → Bool
+writes_units tools.Log = true
+writes_units tools.Ncsa = false
+writes_units tools.Top = false
+writes_units tools.Stat = false
+
 -- whether a job writes a log file: varnishlog does so with -w, unless -A asks for lines
 abbrev pub writes_log : Job → Bool
-writes_log job = is_some job.write && not job.text
+writes_log job = writes_units job.tool && is_some job.write && not job.text
 
 -- how a job writes groups
 abbrev pub layout_of : Job → Layout
@@ -45,10 +55,10 @@ showing_of job = record { sides = job.sides; rules = job.rules; caseless = job.c
 abbrev pub look_of : Job → Look
 look_of job = record { layout = layout_of job; verbose = job.verbose; selection = showing_of job }
 
--- what a tool writes of a job's groups, ended or not: varnishlog what groups look like, varnishtop its report; the others aren't built
+-- what a tool writes of a job's groups, ended or not: varnishlog what groups look like, varnishncsa their lines in the job's format, varnishtop its report; varnishstat isn't built
 abbrev pub tool_output : Tool → Job → List Group → Bool → List ℕ
 tool_output tools.Log job = λ groups ended. laid_out (look_of job) groups
-tool_output tools.Ncsa job = λ groups ended. []
+tool_output tools.Ncsa job = λ groups ended. access_text (pieces_of (format_text job)) job.sides groups
 tool_output tools.Top job = λ groups ended. top_output (showing_of job) job.first_field groups ended
 tool_output tools.Stat job = λ groups ended. []
 

@@ -17,10 +17,11 @@ use Rattle.varnish_tools.specs.declared.outcome.RunRecord.TheVariants.{Nothing, 
 use Rattle.varnish_tools.specs.declared.outcome.Outcome.{Outcome}
 use Rattle.tool_words.specs.declared.job.Job.{Job}
 use Rattle.varnish_tools.specs.Asked.{Asked, Refuse, Work, asked_of, options_of}
-use Rattle.varnish_tools.specs.Faults.{FaultClass, Refused, RefusedQuery, LongQuery, NotOpened, NotRead, NotWritten, BadInput, class_of, message, fault_message, status_of}
+use Rattle.varnish_tools.specs.Faults.{FaultClass, Refused, RefusedQuery, RefusedFormat, LongQuery, NotOpened, NotRead, NotWritten, BadInput, class_of, message, fault_message, status_of}
 use Rattle.varnish_tools.specs.Objects.{Object, OpenedFile, CreatedFile, Stream, source_of, sink_of, calls_of, IsSourceHandle, SinkGained, SinkUntouched, SinksGained, SinksUntouched, NothingTouched, name_of, names_of, sinks_of, inputs_of, input_calls}
 use Rattle.varnish_tools.specs.Queries.{Ask, AreAsked, chosen, TextsHold, texts_fault}
 use Rattle.varnish_tools.specs.QueryFiles.{AreTaken, StoppedByQuery}
+use Rattle.varnish_tools.specs.Formats.{StoppedByFormat, job_format_fault}
 use Rattle.varnish_tools.specs.Run.{Run, Ending, Whole, Kept, Faulted, fault_of, no_run, run_of}
 use Rattle.vsl_dispatch.specs.Groups.{kept, is_filled}
 use Rattle.varnish_tools.specs.Output.{head_text, output_of, sink_text}
@@ -55,11 +56,11 @@ IsInput (Work job) before input =
     SourceHolds (source_of job) before input.bytes × IsFile input.bytes input.units input.file_ending × SinkBegins (sink_of job) before input.sink_empty
     × TextsHold before job.queries input.texts
 
--- nothing is wrong with the texts of the queries
+-- nothing is wrong with the texts of the queries, and with the format
 abbrev pub AreGood : Job → Input → Type 0
-AreGood job input = texts_fault job.caseless 0 job.queries input.texts ≡ None
+AreGood job input = (texts_fault job.caseless 0 job.queries input.texts ≡ None) × (job_format_fault job ≡ None)
 
--- nothing is wrong with the texts of the queries, and they ask this; of refused words nothing is said
+-- nothing is wrong with the texts of the queries and with the format, and the queries ask this; of refused words nothing is said
 abbrev pub Asks : Asked → Input → Ask → Type 0
 Asks (Refuse fault) input ask = Unit {0}
 Asks (Work job) input ask = AreGood job input × AreAsked job.caseless None input.texts ask
@@ -95,11 +96,17 @@ abbrev pub IsStoppedByQuery : Asked → ToolFault → Seen → Seen → Type 0
 IsStoppedByQuery (Refuse f) fault before now = ⊥
 IsStoppedByQuery (Work job) fault before now = StoppedByQuery job fault before now
 
--- why a fault of a class may be answered: the words are refused with it; a query has it; the count of failed calls rose for the very name; the source of this name ends so,
+-- the format of the job has this fault, and no query has one
+abbrev pub IsStoppedByFormat : Asked → ToolFault → Seen → Seen → Type 0
+IsStoppedByFormat (Refuse f) fault before now = ⊥
+IsStoppedByFormat (Work job) fault before now = StoppedByFormat job fault before now
+
+-- why a fault of a class may be answered: the words are refused with it; a query has it; the format has it; the count of failed calls rose for the very name; the source of this name ends so,
 -- as far as the world tells it
 abbrev pub HasClassCause : Asked → ToolFault → FaultClass → Seen → Seen → Type 0
 HasClassCause asked fault Refused before now = asked ≡ Refuse fault
 HasClassCause asked fault RefusedQuery before now = IsStoppedByQuery asked fault before now
+HasClassCause asked fault RefusedFormat before now = IsStoppedByFormat asked fault before now
 HasClassCause asked fault LongQuery before now = IsStoppedByQuery asked fault before now
 HasClassCause asked fault (NotOpened name) before now = HasFailedInput asked Opening name before now ⊎ (HasFailed asked Creating name before now ⊎ IsStoppedByQuery asked fault before now)
 HasClassCause asked fault (NotRead name) before now = HasFailedInput asked Reading name before now ⊎ IsStoppedByQuery asked fault before now
@@ -144,6 +151,7 @@ without_last run = run_of run.sink_empty (take (length run.log - 1) run.log)
 abbrev pub TakesUntil : FaultClass → Asked → Ask → Input → Run → Type 0
 TakesUntil Refused asked ask input run = run ≡ no_run
 TakesUntil RefusedQuery asked ask input run = run ≡ no_run
+TakesUntil RefusedFormat asked ask input run = run ≡ no_run
 TakesUntil LongQuery asked ask input run = run ≡ no_run
 TakesUntil (NotOpened name) asked ask input run = run ≡ no_run
 TakesUntil (NotRead name) asked ask input run = (run ≡ no_run) ⊎ (TakesFirst input run × (fills asked ask run.log ≡ false))
@@ -177,6 +185,7 @@ TakesFew source input run before now = TookSome (λ taken. length taken < length
 abbrev pub ReadsOnceUntil : FaultClass → Object → Input → Run → Seen → Seen → Type 0
 ReadsOnceUntil Refused source input run before now = Unit {0}
 ReadsOnceUntil RefusedQuery source input run before now = Unit {0}
+ReadsOnceUntil RefusedFormat source input run before now = Unit {0}
 ReadsOnceUntil LongQuery source input run before now = Unit {0}
 ReadsOnceUntil (NotOpened name) source input run before now = Unit {0}
 ReadsOnceUntil (NotRead name) source input run before now = (run ≡ no_run) ⊎ TookSome (λ taken. HoldsWhole taken run.log) source input before now
@@ -198,6 +207,7 @@ ending_begun asked ask input run ending =
 abbrev pub IsDueUntil : FaultClass → Asked → Ask → Input → Run → Ending → List ℕ → Type 0
 IsDueUntil Refused asked ask input run ending text = text ≡ sink_text asked ask run ending
 IsDueUntil RefusedQuery asked ask input run ending text = text ≡ sink_text asked ask run ending
+IsDueUntil RefusedFormat asked ask input run ending text = text ≡ sink_text asked ask run ending
 IsDueUntil LongQuery asked ask input run ending text = text ≡ sink_text asked ask run ending
 IsDueUntil (NotOpened name) asked ask input run ending text = text ≡ sink_text asked ask run ending
 IsDueUntil (NotRead name) asked ask input run ending text = text ≡ sink_text asked ask run ending
@@ -225,10 +235,11 @@ RunBegan asked recorded before now =
 abbrev pub LeavesAll : Asked → RunRecord → Seen → Seen → Type 0
 LeavesAll asked recorded before now = (recorded ≡ Nothing) × NothingTouched asked before now
 
--- where the words or a query are refused, or an object can't be opened or created, or a query's file can't be read, no run began; else one did
+-- where the words, a query or the format are refused, or an object can't be opened or created, or a query's file can't be read, no run began; else one did
 abbrev pub LeavesUntil : FaultClass → Asked → RunRecord → Seen → Seen → Type 0
 LeavesUntil Refused asked recorded before now = LeavesAll asked recorded before now
 LeavesUntil RefusedQuery asked recorded before now = LeavesAll asked recorded before now
+LeavesUntil RefusedFormat asked recorded before now = LeavesAll asked recorded before now
 LeavesUntil LongQuery asked recorded before now = LeavesAll asked recorded before now
 LeavesUntil (NotOpened name) asked recorded before now = LeavesAll asked recorded before now
 LeavesUntil (NotRead name) asked recorded before now =
@@ -260,10 +271,16 @@ pub record WritesFor (ask : Ask) (asked : Asked) (input : Input) (fault : Option
 abbrev pub WritesSinks : Asked → Input → Option ToolFault → RunRecord → Seen → Seen → Type 0
 WritesSinks asked input fault recorded before now = (ask : Ask) × (IsCounted recorded → Asks asked input ask) × WritesFor ask asked input fault recorded before now
 
--- the queries of a job were taken, or the first that has a fault stops it before a run begins
+-- nothing is wrong with the format of a job, or it stops the job before a run begins
+abbrev pub TakesFormat : Job → Option ToolFault → RunRecord → Seen → Seen → Type 0
+TakesFormat job fault recorded before now =
+    (job_format_fault job ≡ None)
+    ⊎ ((f : ToolFault) × (fault ≡ Some f) × StoppedByFormat job f before now × LeavesAll (Work job) recorded before now)
+
+-- the queries of a job were taken, and then its format; or the first query that has a fault stops it before a run begins
 abbrev pub TakesQueries : Job → Option ToolFault → RunRecord → Seen → Seen → Type 0
 TakesQueries job fault recorded before now =
-    AreTaken job.caseless 0 job.queries before now
+    (AreTaken job.caseless 0 job.queries before now × TakesFormat job fault recorded before now)
     ⊎ ((f : ToolFault) × (fault ≡ Some f) × StoppedByQuery job f before now × LeavesAll (Work job) recorded before now)
 
 -- the words were worked off, but for the message
@@ -297,7 +314,7 @@ WritesPrefix asked before now = (input : Input) → IsInput asked before input �
 abbrev pub NoFaultOf : Asked → Seen → Seen → Type 0
 NoFaultOf asked before now = (kind : CallKind) (name : List ℕ) → IsOneOf name (calls_of asked kind) → ¬ (HasNewFault (before.faults kind name) (now.faults kind name))
 
--- a good input of a job, with good queries, is worked off without a fault where no call of the job failed
+-- a good input of a job, with good queries and a good format, is worked off without a fault where no call of the job failed
 abbrev pub IsComplete : List (List ℕ) → Outcome → Seen → Seen → Type 0
 IsComplete words outcome before now =
     (job : Job) (input : Input) → asked_of words ≡ Work job → IsInput (Work job) before input → AreGood job input → IsGood input → NoFaultOf (Work job) before now →

@@ -4,6 +4,7 @@ pub mod Given
 pub mod Source
 pub mod Loop
 pub mod LogSource
+pub mod JobFormat
 pub mod LogFile
 pub mod Works
 pub mod QueryFiles

@@ -6,7 +6,7 @@ ghost use Rattle.vsl_select.specs.Shown.{rules_fault};
 ghost use Rattle.varnish_tools.specs.Asked.{Refuse, Work, asked_by_rules, asked_of, options_of, file_of, write_of};
 ghost use Rattle.varnish_tools.specs.Faults.{Refused, class_of};
 ghost use Rattle.varnish_tools.specs.Built.{is_built, is_built_tool};
-ghost use Rattle.varnish_tools.specs.Output.{layout_of, look_of, showing_of, writes_log};
+ghost use Rattle.varnish_tools.specs.Output.{layout_of, look_of, showing_of, writes_log, writes_units};
 ghost use Rattle.vsl_dispatch.specs.Groups.{is_filled};
 
 use crate::fault::ToolFault;
@@ -23,7 +23,7 @@ fn has_tool(tool: Tool) -> bool
 {
     match tool {
         Tool::Log => true,
-        Tool::Ncsa => false,
+        Tool::Ncsa => true,
         Tool::Top => true,
         Tool::Stat => false,
     }
@@ -67,11 +67,23 @@ pub fn written_name(job: &Job) -> &str
     }
 }
 
+/// Whether a tool can write a log file.
+fn writes_units(tool: Tool) -> bool
+    ensures { result ≡ writes_units tool }
+{
+    match tool {
+        Tool::Log => true,
+        Tool::Ncsa => false,
+        Tool::Top => false,
+        Tool::Stat => false,
+    }
+}
+
 /// Whether a job writes a log file.
 pub fn writes_log(job: &Job) -> bool
     ensures { result ≡ writes_log job.now }
 {
-    job.write.is_some() && !job.text
+    writes_units(job.tool) && job.write.is_some() && !job.text
 }
 
 /// How a job writes groups.

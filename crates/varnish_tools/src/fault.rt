@@ -24,6 +24,11 @@ pub enum ToolFault {
         /// Why it is refused, and the byte.
         fault: QueryFault,
     },
+    /// The text of a format is refused.
+    BadFormat {
+        /// The byte of the first percent sign that begins no formatter, from 0.
+        at: u64,
+    },
     /// The file could not be opened, or not created.
     NoOpen {
         /// The file's name.

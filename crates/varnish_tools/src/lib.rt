@@ -11,6 +11,7 @@
 
 mod asked;
 mod fault;
+mod formats;
 mod layout;
 mod log_consumer;
 mod log_file;

@@ -21,7 +21,7 @@ pub(crate) struct LogConsumer {
     pub look: Look,
     pub received: Received,
     pub text: Vec<u8>,
-    /// How many bytes were taken last, or fewer: for as many there is room with the first group after that.
+    /// The most bytes that were taken at once, or fewer: for as many there is room with the first group after that.
     usual: usize,
 }
 
@@ -92,7 +92,7 @@ impl Consumer for LogConsumer {
     }
 
     fn take_text(&mut self) -> Vec<u8> {
-        self.usual = self.text.len().min(MOST_ROOM);
+        self.usual = self.usual.max(self.text.len()).min(MOST_ROOM);
         replace(&mut self.text, Vec::new(self.alloc))
     }
 }

@@ -8,7 +8,10 @@ ghost use Rattle.varnish_tools.specs.Objects.{GivesAtMost, created_of, opened_of
 ghost use Rattle.varnish_tools.specs.Output.{head_text, laid_out, output_of, showing_of};
 ghost use Rattle.vsl_top.specs.Counting.{IsTop, keep_of};
 ghost use Rattle.vsl_top.specs.Counting as counting;
+ghost use Rattle.ncsa_format.specs.Access.{IsAccessLog};
+ghost use Rattle.ncsa_format.specs.Access as access;
 ghost use Rattle.varnish_tools.specs.inside.Consumer.{IsLog};
+ghost use Rattle.varnish_tools.specs.inside.JobFormat.{HasFormat};
 ghost use Rattle.varnish_tools.specs.Built.{is_built_tool};
 ghost use Rattle.varnish_tools.specs.Printer.{Represents, plan_of, printer_state};
 ghost use Rattle.vsl_dispatch.specs.Groups.{is_filled};
@@ -25,6 +28,7 @@ use crate::outcome::{Ran, counted, refused};
 use crate::printer::{PrintFault, Printer};
 use crate::run::{Stopped, print_source};
 use crate::source::SourceFault;
+use ncsa_format::{Format, NcsaConsumer};
 use query_parser::Query;
 use std::alloc::Global;
 use tool_words::{Job, Tool};
@@ -221,16 +225,30 @@ fn log_consumer(alloc: Global, job: &Job, selection: Selection) -> LogConsumer
     LogConsumer::new(alloc, look_of(job, selection), job.keep)
 }
 
+/// The consumer of a job of varnishncsa, which received nothing.
+fn ncsa_consumer(alloc: Global, job: &Job, format: Option<Format>) -> Result<NcsaConsumer, NoMemory>
+    requires tool { job.now.tool ≡ Tool.Ncsa }
+    requires format { HasFormat job.now format }
+    ensures keeps { IfOk result (λ c. access.keep_of c ≡ job.now.keep) }
+    ensures writes { IfOk result (λ c. access.output_of c ≡ output_of job.now) }
+    ensures new { IfOk result (λ c. IsAccessLog c [] false []) }
+{
+    let Some(format) = format else { unreachable!() };
+    NcsaConsumer::new(alloc, format, job.sides, job.keep)
+}
+
 /// Works off a job: reads its log, and writes what its tool makes of the groups.
 pub fn run_job<W: World>(
     alloc: Global,
     job: &Job,
     selection: Selection,
+    format: Option<Format>,
     query: &Query,
     world: &mut W,
 ) -> Result<Ran, NoMemory>
     requires built { is_built_tool job.now.tool ≡ true }
     requires selection { selection ≡ showing_of job.now }
+    requires format { HasFormat job.now format }
     requires keeps { is_filled job.now.keep [] ≡ false }
     ensures touches { Touches (streams_of (source_of job.now ∷ [])) (streams_of (sink_of job.now ∷ [])) (opened_of (source_of job.now ∷ [])) (created_of (sink_of job.now ∷ [])) (W.seen world.old) (W.seen world.new) }
     ensures handles { GivesAtMost (length (opened_of (source_of job.now ∷ []) ++ created_of (sink_of job.now ∷ []))) (W.seen world.old) (W.seen world.new) }
@@ -238,15 +256,21 @@ pub fn run_job<W: World>(
     ensures works { IfOk result (λ r. (ask : Ask) → HoldsAsAsked query.now ask → WorksFor ask (Work job.now) r.fault r.run (W.seen world.old) (W.seen world.new)) }
 {
     match job.tool {
+        Tool::Ncsa => {
+            let ncsa = ncsa_consumer(alloc, job, format)?;
+            let consumer: Box<dyn Consumer> = Box::new(alloc, ncsa)?;
+            run_consumer(alloc, job, consumer, query, world)
+        }
         Tool::Top => {
             let top = top_consumer(alloc, job, selection)?;
             let consumer: Box<dyn Consumer> = Box::new(alloc, top)?;
             run_consumer(alloc, job, consumer, query, world)
         }
-        _ => {
+        Tool::Log => {
             let log = log_consumer(alloc, job, selection);
             let consumer: Box<dyn Consumer> = Box::new(alloc, log)?;
             run_consumer(alloc, job, consumer, query, world)
         }
+        Tool::Stat => unreachable!(),
     }
 }

@@ -122,6 +122,9 @@ pub fn message_of(alloc: Global, words: &[String], fault: &ToolFault) -> Result<
             let number = numbered(alloc, "query ", u64::from(*query), ": ")?;
             tell_both(alloc, &number, &query_message(alloc, *fault)?)
         }
+        ToolFault::BadFormat { at } => {
+            tell_bytes(alloc, "", &numbered(alloc, "format: syntax at ", *at, "")?)
+        }
         ToolFault::NoOpen { name } => tell(alloc, name.as_str(), ": cannot open"),
         ToolFault::ReadFault { name } => tell(alloc, name.as_str(), ": read failed"),
         ToolFault::WriteFault { name } => tell(alloc, name.as_str(), ": write failed"),
@@ -133,7 +136,7 @@ pub fn message_of(alloc: Global, words: &[String], fault: &ToolFault) -> Result<
     }
 }
 
-/// The exit status: 0 without a fault, 2 where the words, a pattern or the text of a query was refused, else 1.
+/// The exit status: 0 without a fault, 2 where the words, a pattern, a format or the text of a query was refused, else 1.
 pub fn status_of(fault: &Option<ToolFault>) -> u8
     ensures { result ≡ status_of fault.now }
 {
@@ -143,6 +146,7 @@ pub fn status_of(fault: &Option<ToolFault>) -> u8
         Some(ToolFault::NotBuilt) => 2,
         Some(ToolFault::BadPattern { .. }) => 2,
         Some(ToolFault::BadQuery { .. }) => 2,
+        Some(ToolFault::BadFormat { .. }) => 2,
         Some(_) => 1,
     }
 }

@@ -21,7 +21,7 @@ pub enum RunRecord {
 /// How a tool ended.
 #[derive(Debug, Drop)]
 pub struct Outcome {
-    /// The exit status: 0 done, 1 the input or the outside failed, 2 the words or the text of a query was refused.
+    /// The exit status: 0 done, 1 the input or the outside failed, 2 the words, a format or the text of a query was refused.
     pub status: u8,
     /// Why it stopped early, if it did.
     pub fault: Option<ToolFault>,

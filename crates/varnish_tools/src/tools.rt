@@ -12,6 +12,7 @@ ghost use Rattle.varnish_tools.specs.inside.Report.{ReportsPart};
 
 use crate::asked::{Task, read_task};
 use crate::fault::ToolFault;
+use crate::formats::read_format;
 use crate::log_file::run_job;
 use crate::message::{message_of, status_of};
 use crate::outcome::{Outcome, Ran, refused};
@@ -42,7 +43,7 @@ fn report<W: World>(
 }
 
 /// Works off the words, but for the message of a fault: reads them, with the rules of the job that they state, takes its
-/// queries, and runs it. No run begins where the words or a query has a fault.
+/// queries and its format, and runs it. No run begins where the words, a query or the format has a fault.
 fn run_words<W: World>(alloc: Global, words: &[String], world: &mut W) -> Result<Ran, NoMemory>
     ensures touches { let asked = asked_of (map string_bytes words.now) in
         Touches (streams_of (sources_of asked)) (streams_of (sinks_of asked)) (calls_of asked Opening) (calls_of asked Creating) (W.seen world.old) (W.seen world.new) }
@@ -53,7 +54,10 @@ fn run_words<W: World>(alloc: Global, words: &[String], world: &mut W) -> Result
 {
     match read_task(alloc, words)? {
         Ok(Task { job, selection }) => match read_queries(alloc, &job, world)? {
-            Ok(query) => run_job(alloc, &job, selection, &query, world),
+            Ok(query) => match read_format(alloc, &job)? {
+                Ok(format) => run_job(alloc, &job, selection, format, &query, world),
+                Err(fault) => Ok(refused(fault)),
+            },
             Err(fault) => Ok(refused(fault)),
         },
         Err(fault) => Ok(refused(fault)),
@@ -63,18 +67,20 @@ fn run_words<W: World>(alloc: Global, words: &[String], world: &mut W) -> Result
 /// Does what the words of a command line ask for, without the program's name.
 ///
 /// Words that state no job are refused, and so is a job of which a taglist or a pattern is, or that isn't built: built
-/// are varnishlog and varnishtop over a log. The queries are taken first, in the order of the words: the file of each is
-/// opened and read, and its text judged, before the next one's, and the first that has a fault ends the call. Then the
-/// log is opened, or it is standard input; then what is written is created, or it is standard output, and a log file
-/// that was empty gains its header. The log is read in pieces, in one pass. Of varnishlog, what is written gains what is
-/// shown of the groups for which a query holds, all where there is none: those that its units complete, and after the
-/// last unit of a whole log the pending ones, as lines, or with `-w` and without `-A` as the units of a log file. Of
-/// varnishtop it gains the report of what is shown of these groups, once they have ended. A fault's message goes to
-/// standard error. With `-k` no more is read after the unit that completes the last group that is kept. The status is 0
-/// without a fault, 2 where the words, a pattern or the text of a query is refused, and else 1. After `NoMemory` a
-/// prefix of the output was written.
+/// are varnishlog, varnishncsa and varnishtop over a log. The queries are taken first, in the order of the words: the
+/// file of each is opened and read, and its text judged, before the next one's, and the first that has a fault ends the
+/// call. Then the format of varnishncsa is read, and one with a fault ends the call. Then the log is opened, or it is
+/// standard input; then what is written is created, or it is standard output, and a log file that was empty gains its
+/// header. The log is read in pieces, in one pass. Of varnishlog, what is written gains what is shown of the groups for
+/// which a query holds, all where there is none: those that its units complete, and after the last unit of a whole log
+/// the pending ones, as lines, or with `-w` and without `-A` as the units of a log file. Of varnishncsa it gains a line
+/// for each request that is logged of these groups, in the format. Of varnishtop it gains the report of what is shown
+/// of these groups, once they have ended. A fault's message goes to standard error. With `-k` no more is read after the
+/// unit that completes the last group that is kept. The status is 0 without a fault, 2 where the words, a pattern, the
+/// text of a query or the format is refused, and else 1. After `NoMemory` a prefix of the output was written.
 ///
-/// Source: varnishlog(1), varnishtop(1); the order of the queries' faults, messages and statuses are this project's choice.
+/// Source: varnishlog(1), varnishncsa(1), varnishtop(1); the order of faults, messages and statuses are this project's
+/// choice.
 pub fn run_tools<W: World>(
     alloc: Global,
     words: &[String],

@@ -20,21 +20,27 @@ vtools: Varnish's logging tools as one program
 usage: vtools [OPTIONS] varnishlog [-g GROUPING] [-L N] [-T N] [-q TEXT]
               [-Q FILE] [-k N] [-b] [-c] [-E] [-i TAGLIST] [-x TAGLIST]
               [-I RULE] [-X RULE] [-C] [-v] [-w FILE [-a] [-A]] -r FILE
+       vtools [OPTIONS] varnishncsa [-F FORMAT] [-g GROUPING] [-L N] [-T N]
+              [-q TEXT] [-Q FILE] [-k N] [-b] [-c] [-E] [-C] [-w FILE [-a]]
+              -r FILE
        vtools [OPTIONS] varnishtop -1 [-f] [-g GROUPING] [-L N] [-T N]
               [-q TEXT] [-Q FILE] [-k N] [-b] [-c] [-E] [-i TAGLIST]
               [-x TAGLIST] [-I RULE] [-X RULE] [-C] -r FILE
 
 varnishlog prints the records of a log file, a group of them when it is
-complete, or writes them as a log file. varnishtop counts equal records, and
-prints each once with its count when the log has ended. Both take all records,
-or those that are chosen.
+complete, or writes them as a log file. varnishncsa prints a line for each
+request, as a web server does in its access log. varnishtop counts equal
+records, and prints each once with its count when the log has ended. They take
+all records, or those that are chosen.
 
   -r FILE           reads the log file FILE; - is standard input
   -g vxid           groups records by transaction; this is the default
   -g request        groups a request with all that it caused, as its fetch and
                     its ESI parts; sessions are left out
-  -g session        groups a client's session with all of its requests
-  -g raw            takes each record by itself, in the order of the file
+  -g session        groups a client's session with all of its requests; not of
+                    varnishncsa
+  -g raw            takes each record by itself, in the order of the file; not
+                    of varnishncsa
   -L N              keeps at most N transactions pending, 1 to 1000000; 1000
                     without it; past that the oldest is force-completed
   -T N              force-completes a transaction that began more than N seconds
@@ -47,22 +53,33 @@ or those that are chosen.
   -b                shows requests to a backend, and no other transactions but
                     those of -c and -E
   -c                shows clients' requests, and no other transactions but
-                    those of -b and -E
+                    those of -b and -E; varnishncsa does so without any of the
+                    three
   -E                the same as -c, with requests for ESI parts
+  -C                asks patterns, and texts of queries, without regard to case
+
+Of varnishlog and varnishtop:
+
   -i TAGLIST        shows records of these tags, as in -i 'Req*,End'
   -x TAGLIST        hides records of these tags
   -I RULE           shows records that RULE matches: a pattern, or
                     TAGLIST:PATTERN, as in -I 'ReqHeader:^Host:'
   -X RULE           hides records that RULE matches
-  -C                asks patterns, and texts of queries, without regard to case
+
+Of varnishlog and varnishncsa:
+
+  -w FILE           writes to FILE, varnishlog a log file and varnishncsa its
+                    lines, and not to standard output, which - is
+  -a                appends to the file of -w, which is emptied otherwise
 
 Of varnishlog alone:
 
   -v                prints VXID and mark in the line of each record
-  -w FILE           writes a log file, in place of lines on standard output;
-                    - is standard output
   -A                writes lines to the file of -w, and no log file
-  -a                appends to the file of -w, which is emptied otherwise
+
+Of varnishncsa alone:
+
+  -F FORMAT         prints lines of this format, as in -F '%h %{Host}i %s %b'
 
 Of varnishtop alone:
 
@@ -76,19 +93,19 @@ the first of -I and -X is -I.
 
 Taken too, and of no effect: -d; before the tool --ring N, --reclen N,
 --turns N and --feed-first. Options stand in any order, letters may share a
-word, and of -g, -k, -L, -T, -r and -w the last counts.
+word, and of -F, -g, -k, -L, -T, -r and -w the last counts.
 
-The words of varnishncsa and varnishstat are read, but these tools are not built
-yet.
+The words of varnishstat are read, but this tool is not built yet.
 
   vtools --help     prints this text
   vtools --version  prints the version
 
 Exit status: 0 done, 1 the input or the outside failed, 2 the command line, a
-pattern or a query was refused, 3 out of memory.
+pattern, a query or a format was refused, 3 out of memory.
 
-All options, and which are built: docs/FORMATS.md. Manuals: docs/man/vtools.1
-and docs/man/vtools-varnishtop.1.
+All options, and which are built, and formats: docs/FORMATS.md. Manuals:
+docs/man/vtools.1, docs/man/vtools-varnishncsa.1 and
+docs/man/vtools-varnishtop.1.
 ";
 
 /// Prints a text, and answers 0, or 1 where a write failed, or 3 where there was no memory.

@@ -1,0 +1,14 @@
+mod AddedLemmas
+mod CivilExamples
+mod CivilLemmas
+mod CutLemmas
+mod FieldLemmas
+mod FormatLemmas
+mod FormatterLemmas
+mod GivenLemmas
+mod PartLemmas
+mod ReadLemmas
+mod TagNameLemmas
+mod TextLemmas
+mod TimeLemmas
+mod WrittenLemmas

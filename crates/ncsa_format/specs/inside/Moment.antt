@@ -1,0 +1,12 @@
+-- The day of a moment.
+use Rattle.std.specs.Prelude.{◌≡◌, ◌≤◌}
+use Rattle.ncsa_format.specs.Civil.{day_of}
+use Rattle.ncsa_format.specs.declared.civil.Moment.{Moment}
+
+-- the moment has the day of its second; months count from 1 to 12
+pub record IsMoment (moment : Moment) : Type 0 where
+  pub year : moment.year ≡ (day_of moment.second).year
+  pub month : moment.month ≡ (day_of moment.second).month
+  pub day : moment.day ≡ (day_of moment.second).day
+  pub first : 1 ≤ moment.month
+  pub last : moment.month ≤ 12

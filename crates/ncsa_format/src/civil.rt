@@ -1,0 +1,204 @@
+//! Days and clocks, in UTC.
+
+ghost use Rattle.std.specs.Prelude.{◌≡◌, [], ◌∷◌, ◌++◌, ◌<◌, ◌≤◌, ◌/◌, ◌*◌, ◌-◌, replicate, decimal, codes, OnOk};
+ghost use Rattle.std.specs.List.{flat_map, slice_index_or};
+ghost use Rattle.log_model.specs.Prefix.{IsPrefix};
+ghost use Rattle.vsl_decimal.specs.Decimal.{scale};
+ghost use Rattle.vsl_select.specs.RawLine.{at_right};
+ghost use Rattle.ncsa_format.specs.Civil.{month_names, padded, part_text, time_text};
+ghost use Rattle.ncsa_format.specs.Value.{last_second};
+ghost use Rattle.ncsa_format.specs.Line.{quoted};
+ghost use Rattle.ncsa_format.specs.inside.Moment.{IsMoment};
+
+use crate::formatter::{TimeForm, TimePart};
+use crate::quoted::put_quoted;
+use itoa::Buffer;
+use jiff::Timestamp;
+use jiff::tz::Offset;
+use log_model::NoMemory;
+
+/// The last second that is printed.
+pub(crate) const LAST_SECOND: u64 = 253_402_000_000;
+
+/// Units of a time in a second.
+const SECOND: u128 = 1_000_000_000_000_000_000;
+
+/// Units in a millisecond.
+const MILLI: u128 = 1_000_000_000_000_000;
+
+/// Units in a microsecond.
+const MICRO: u128 = 1_000_000_000_000;
+
+/// As many zeros as are put before a number at most.
+const ZEROS: &[u8] = b"000000";
+
+/// As many spaces at most.
+const SPACES: &[u8] = b"  ";
+
+/// The names of the months, in order.
+static MONTHS: [&[u8]; 12] = [
+    b"Jan", b"Feb", b"Mar", b"Apr", b"May", b"Jun", b"Jul", b"Aug", b"Sep", b"Oct", b"Nov", b"Dec",
+];
+
+/// A second since the epoch, and its day.
+#[derive(Clone, Copy)]
+struct Moment {
+    second: u64,
+    year: u64,
+    month: u64,
+    day: u64,
+}
+
+/// The moment of a second.
+fn moment_of(second: u64) -> Moment
+    requires { second ≤ last_second }
+    ensures second { result.second ≡ second }
+    ensures day { IsMoment result }
+{
+    let Ok(timestamp) = Timestamp::from_second(second as i64) else {
+        unreachable!()
+    };
+    let civil = Offset::UTC.to_datetime(timestamp);
+    Moment {
+        second,
+        year: civil.year() as u64,
+        month: civil.month() as u64,
+        day: civil.day() as u64,
+    }
+}
+
+/// Adds a number.
+pub(crate) fn put_number(out: &mut Vec<u8>, n: u64) -> Result<(), NoMemory>
+    ensures ok { OnOk result (out.new.items ≡ out.old.items ++ quoted (decimal n)) }
+    ensures keeps { IsPrefix out.old.items out.new.items }
+{
+    let mut buffer = Buffer::new();
+    put_quoted(out, buffer.format(n).as_bytes())
+}
+
+/// This many zeros.
+fn zeros(count: usize) -> &'static [u8]
+    requires { count ≤ 6 }
+    ensures { result.now ≡ replicate count 48 }
+{
+    &ZEROS[..count]
+}
+
+/// Adds a number with zeros before it, as many as fill its columns.
+#[tactic(auto, using(crate::proofs::TextLemmas::putting))]
+fn put_padded(out: &mut Vec<u8>, columns: usize, n: u64) -> Result<(), NoMemory>
+    requires { columns ≤ 6 }
+    ensures ok { OnOk result (out.new.items ≡ out.old.items ++ quoted (padded columns n)) }
+    ensures keeps { IsPrefix out.old.items out.new.items }
+{
+    let mut buffer = Buffer::new();
+    let digits = buffer.format(n).as_bytes();
+    put_quoted(out, zeros(columns.saturating_sub(digits.len())))?;
+    put_quoted(out, digits)
+}
+
+/// Adds three numbers with a byte between them, the first in its columns and the others in two.
+fn put_three(
+    out: &mut Vec<u8>,
+    columns: usize,
+    first: u64,
+    between: u8,
+    second: u64,
+    third: u64,
+) -> Result<(), NoMemory>
+    requires { columns ≤ 6 }
+    ensures ok { OnOk result (out.new.items ≡ out.old.items ++ quoted (padded columns first ++ (between ∷ []) ++ padded 2 second ++ (between ∷ []) ++ padded 2 third)) }
+    ensures keeps { IsPrefix out.old.items out.new.items }
+{
+    put_padded(out, columns, first)?;
+    put_quoted(out, &[between])?;
+    put_padded(out, 2, second)?;
+    put_quoted(out, &[between])?;
+    put_padded(out, 2, third)
+}
+
+/// This many spaces.
+fn spaces(count: usize) -> &'static [u8]
+    requires { count ≤ 2 }
+    ensures { result.now ≡ replicate count 32 }
+{
+    &SPACES[..count]
+}
+
+/// Adds a number at the right of two columns.
+#[tactic(auto, using(crate::proofs::TextLemmas::putting))]
+fn put_spaced(out: &mut Vec<u8>, n: u64) -> Result<(), NoMemory>
+    ensures ok { OnOk result (out.new.items ≡ out.old.items ++ quoted (at_right 2 (decimal n))) }
+    ensures keeps { IsPrefix out.old.items out.new.items }
+{
+    let mut buffer = Buffer::new();
+    let digits = buffer.format(n).as_bytes();
+    put_quoted(out, spaces(2usize.saturating_sub(digits.len())))?;
+    put_quoted(out, digits)
+}
+
+/// The name of a month, as `Jan`.
+fn month_name(month: u64) -> &'static [u8]
+    requires { (1 ≤ month) × (month ≤ 12) }
+    ensures { result.now ≡ slice_index_or month_names (month - 1) [] }
+{
+    MONTHS[month as usize - 1]
+}
+
+/// Adds a part of a time.
+fn put_part(out: &mut Vec<u8>, moment: &Moment, part: TimePart) -> Result<(), NoMemory>
+    requires { IsMoment moment.now }
+    ensures ok { OnOk result (out.new.items ≡ out.old.items ++ quoted (part_text moment.now.second part)) }
+    ensures keeps { IsPrefix out.old.items out.new.items }
+{
+    match part {
+        TimePart::Byte(b) => put_quoted(out, &[b]),
+        TimePart::Year => put_padded(out, 4, moment.year),
+        TimePart::Month => put_padded(out, 2, moment.month),
+        TimePart::Day => put_padded(out, 2, moment.day),
+        TimePart::SpacedDay => put_spaced(out, moment.day),
+        TimePart::Hour => put_padded(out, 2, moment.second / 3600 % 24),
+        TimePart::Minute => put_padded(out, 2, moment.second / 60 % 60),
+        TimePart::Second => put_padded(out, 2, moment.second % 60),
+        TimePart::MonthName => put_quoted(out, month_name(moment.month)),
+        TimePart::Date => put_three(out, 4, moment.year, b'-', moment.month, moment.day),
+        TimePart::Clock => put_three(
+            out,
+            2,
+            moment.second / 3600 % 24,
+            b':',
+            moment.second / 60 % 60,
+            moment.second % 60,
+        ),
+        TimePart::Zone => put_quoted(out, b"+0000"),
+    }
+}
+
+/// Adds the parts of a time at a second.
+pub(crate) fn put_parts(out: &mut Vec<u8>, second: u64, parts: &[TimePart]) -> Result<(), NoMemory>
+    requires { second ≤ last_second }
+    ensures ok { OnOk result (out.new.items ≡ out.old.items ++ quoted (flat_map (part_text second) parts.now)) }
+    ensures keeps { IsPrefix out.old.items out.new.items }
+{
+    let moment = moment_of(second);
+    for part in parts {
+        put_part(out, &moment, *part)?;
+    }
+    Ok(())
+}
+
+/// Adds a time in a form. Times are counted in units of 10^-18 seconds.
+pub(crate) fn put_time(out: &mut Vec<u8>, time: u128, form: &TimeForm) -> Result<(), NoMemory>
+    requires { time ≤ last_second * scale }
+    ensures ok { OnOk result (out.new.items ≡ out.old.items ++ quoted (time_text form.now time)) }
+    ensures keeps { IsPrefix out.old.items out.new.items }
+{
+    match form {
+        TimeForm::Seconds => put_number(out, (time / SECOND) as u64),
+        TimeForm::Millis => put_number(out, (time / MILLI) as u64),
+        TimeForm::Micros => put_number(out, (time / MICRO) as u64),
+        TimeForm::MillisPart => put_padded(out, 3, (time / MILLI % 1_000) as u64),
+        TimeForm::MicrosPart => put_padded(out, 6, (time / MICRO % 1_000_000) as u64),
+        TimeForm::Text(parts) => put_parts(out, (time / SECOND) as u64, parts.as_slice()),
+    }
+}

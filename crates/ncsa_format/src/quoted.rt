@@ -1,0 +1,88 @@
+//! Values with their escapes.
+
+ghost use Rattle.std.specs.Prelude.{◌≡◌, ◌++◌, ◌∷◌, [], ◌≤◌, ◌<◌, length, take, true, OnOk};
+ghost use Rattle.std.specs.Option.{option_copied};
+ghost use Rattle.log_model.specs.Prefix.{IsPrefix};
+ghost use Rattle.vsl_select.specs.RawLine.{hex_digit};
+ghost use Rattle.ncsa_format.specs.Line.{printed, quoted, quoted_byte};
+
+use log_model::NoMemory;
+
+/// A hexadecimal digit, in lower case.
+fn digit_of(n: u8) -> u8
+    requires { n < 16 }
+    ensures { result ≡ hex_digit n }
+{
+    if n < 10 { 48 + n } else { 87 + n }
+}
+
+/// Whether a byte is printed as it is.
+fn is_plain(byte: u8) -> bool
+    ensures { result ≡ true → quoted_byte byte ≡ byte ∷ [] }
+{
+    32 <= byte && byte <= 126 && byte != b'"' && byte != b'\\'
+}
+
+/// Adds a byte of a value.
+#[tactic(auto, using(crate::proofs::AddedLemmas::adding))]
+fn put_byte(out: &mut Vec<u8>, byte: u8) -> Result<(), NoMemory>
+    ensures ok { OnOk result (out.new.items ≡ out.old.items ++ quoted_byte byte) }
+    ensures keeps { IsPrefix out.old.items out.new.items }
+{
+    match byte {
+        b'"' | b'\\' => out.extend_from_slice(&[b'\\', byte])?,
+        b'\n' => out.extend_from_slice(b"\\n")?,
+        b'\r' => out.extend_from_slice(b"\\r")?,
+        b'\t' => out.extend_from_slice(b"\\t")?,
+        32..=126 => out.push(byte)?,
+        _ => out.extend_from_slice(&[b'\\', b'x', digit_of(byte / 16), digit_of(byte % 16)])?,
+    }
+    Ok(())
+}
+
+/// How many bytes before the first escape are printed as they are.
+fn plain_length(bytes: &[u8]) -> usize
+    ensures within { result ≤ length bytes.now }
+    ensures plain { quoted (take result bytes.now) ≡ take result bytes.now }
+{
+    for at in 0..bytes.len() {
+        if !is_plain(bytes[at]) {
+            return at;
+        }
+    }
+    bytes.len()
+}
+
+/// Adds a value, or a part of it, run by run.
+#[tactic(auto, using(crate::proofs::AddedLemmas::adding))]
+pub(crate) fn put_quoted(out: &mut Vec<u8>, value: &[u8]) -> Result<(), NoMemory>
+    ensures ok { OnOk result (out.new.items ≡ out.old.items ++ quoted value.now) }
+    ensures keeps { IsPrefix out.old.items out.new.items }
+{
+    let mut rest = value;
+    while !rest.is_empty() {
+        let (plain, after) = rest.split_at(plain_length(rest));
+        out.extend_from_slice(plain)?;
+        let [byte, behind @ ..] = after else {
+            return Ok(());
+        };
+        put_byte(out, *byte)?;
+        rest = behind;
+    }
+    Ok(())
+}
+
+/// Adds a value where there is one, and else `-`.
+#[tactic(auto, using(crate::proofs::AddedLemmas::adding))]
+pub(crate) fn put_printed(out: &mut Vec<u8>, value: Option<&[u8]>) -> Result<(), NoMemory>
+    ensures ok { OnOk result (out.new.items ≡ out.old.items ++ printed (option_copied value.entry)) }
+    ensures keeps { IsPrefix out.old.items out.new.items }
+{
+    match value {
+        Some(value) => put_quoted(out, value),
+        None => {
+            out.push(b'-')?;
+            Ok(())
+        }
+    }
+}

@@ -1,0 +1,101 @@
+//! Reading which part of a record is asked for.
+
+ghost use Rattle.std.specs.Prelude.{◌≡◌, option_map, IfOk};
+ghost use Rattle.ncsa_format.specs.Reading.{before_last, field_asked, field_number, part_asked, prefix_asked, tag_called, tag_part};
+
+use crate::cut::cut;
+use crate::formatter::{Formatter, Label};
+use log_model::NoMemory;
+use std::alloc::Global;
+use std::str;
+use vsl_tags::{Tag, tag_of};
+
+/// The greatest field.
+const MOST_FIELD: u32 = 9_999;
+
+/// The tag of a name, in any case.
+fn tag_called(name: &[u8]) -> Option<Tag>
+    ensures { result ≡ tag_called name.now }
+{
+    match str::from_utf8(name) {
+        Ok(name) => tag_of(name),
+        Err(_) => None,
+    }
+}
+
+/// The number that decimal digits write, where it is from 1 to 9,999.
+fn field_number(digits: &[u8]) -> Option<u32>
+    ensures { result ≡ field_number digits.now }
+{
+    if digits.is_empty() {
+        return None;
+    }
+    let mut value: u32 = 0;
+    for digit in digits {
+        if !digit.is_ascii_digit() {
+            return None;
+        }
+        value = (10 * value + u32::from(*digit - b'0')).min(MOST_FIELD + 1);
+    }
+    if value == 0 || value > MOST_FIELD {
+        return None;
+    }
+    Some(value)
+}
+
+/// A text without its last byte, where that is this one.
+#[tactic(auto, using(crate::proofs::FieldLemmas::before_last_push))]
+fn before_last(text: &[u8], byte: u8) -> Option<&[u8]>
+    ensures { option_map (λ front. front.now) result ≡ before_last byte text.now }
+{
+    let (last, front) = text.split_last()?;
+    if *last == byte { Some(front) } else { None }
+}
+
+/// The field that what stands behind a prefix asks for: none where nothing stands there, or a number in brackets.
+fn field_asked(text: &[u8]) -> Option<Option<u32>>
+    ensures { result ≡ field_asked text.now }
+{
+    match text.split_first() {
+        Some((_, behind)) => Some(Some(field_number(before_last(behind, b']')?)?)),
+        None => Some(None),
+    }
+}
+
+/// The prefix that what stands behind a tag asks for: none where nothing stands there, or what follows its colon.
+fn prefix_asked(alloc: Global, text: &[u8]) -> Result<Option<Label>, NoMemory>
+    ensures { IfOk result (λ prefix. prefix ≡ prefix_asked text.now) }
+{
+    match text.split_first() {
+        Some((_, prefix)) => Ok(Some(Label::new(alloc, prefix)?)),
+        None => Ok(None),
+    }
+}
+
+/// The part of a record of which these are the parts, where they are good.
+fn tag_part(
+    alloc: Global,
+    name: &[u8],
+    prefix: &[u8],
+    field: &[u8],
+) -> Result<Option<Formatter>, NoMemory>
+    ensures { IfOk result (λ f. f ≡ tag_part (tag_called name.now) (prefix_asked prefix.now) (field_asked field.now)) }
+{
+    let Some(tag) = tag_called(name) else {
+        return Ok(None);
+    };
+    let Some(field) = field_asked(field) else {
+        return Ok(None);
+    };
+    let prefix = prefix_asked(alloc, prefix)?;
+    Ok(Some(Formatter::TagPart { tag, prefix, field }))
+}
+
+/// The part of a record that a text asks for, as `ReqHeader:Host[1]`.
+pub(crate) fn part_asked(alloc: Global, text: &[u8]) -> Result<Option<Formatter>, NoMemory>
+    ensures { IfOk result (λ f. f ≡ part_asked text.now) }
+{
+    let (named, field) = cut(text, b'[');
+    let (name, prefix) = cut(named, b':');
+    tag_part(alloc, name, prefix, field)
+}
