@@ -20,6 +20,7 @@ pub(crate) struct Tags {
 const TIMESTAMP: u8 = 41;
 
 /// What a record of a tag gives.
+#[inline]
 fn given<'a>(tag: u8, wanted: Wanted, rec: &'a Record) -> Option<&'a [u8]>
     ensures { option_copied result ≡ in_tag tag (part_of wanted.entry) rec.now }
 {

@@ -18,6 +18,9 @@ use vsl_select::Sides;
 /// For how many bytes there is room at first.
 const FIRST_BYTES: usize = 4_096;
 
+/// The most bytes for which room is made before they are there.
+const MOST_ROOM: usize = 65_536;
+
 /// Writes a line for each request among groups.
 ///
 /// Source: varnishncsa(1), `-b`, `-c`, `-E`, `-F` and `-k`.
@@ -28,6 +31,18 @@ pub struct NcsaConsumer {
     sides: Sides,
     received: Received,
     text: Vec<u8>,
+    /// The most bytes that were taken at once, or fewer: for as many there is room with the first group after that.
+    usual: usize,
+}
+
+/// Makes room for a text of this length where there is none yet.
+fn make_room(text: &mut Vec<u8>, usual: usize) -> Result<(), NoMemory>
+    ensures { text.new.items ≡ text.old.items }
+{
+    if text.is_empty() {
+        text.reserve(usual)?;
+    }
+    Ok(())
 }
 
 /// Whose transactions are logged: without -b, -c and -E those of clients.
@@ -107,6 +122,7 @@ impl NcsaConsumer {
             sides,
             received: Received::new(keep),
             text,
+            usual: 0,
         })
     }
 }
@@ -119,6 +135,7 @@ impl Consumer for NcsaConsumer {
     ghost represents = { λ c groups ended taken. IsAccessLog c groups ended taken };
 
     fn group(&mut self, group: &Group) -> Result<Go, NoMemory> {
+        make_room(&mut self.text, self.usual)?;
         put_lines(&mut self.text, &self.format, self.sides, group)?;
         self.received.add_one()
     }
@@ -132,6 +149,7 @@ impl Consumer for NcsaConsumer {
     }
 
     fn take_text(&mut self) -> Vec<u8> {
+        self.usual = self.usual.max(self.text.len()).min(MOST_ROOM);
         replace(&mut self.text, Vec::new(self.alloc))
     }
 }

@@ -5,7 +5,7 @@ ghost use Rattle.std.specs.List.{position};
 ghost use Rattle.ncsa_format.specs.inside.Cut.{IsCut};
 
 /// Where the first of these bytes stands.
-fn place_of(text: &[u8], byte: u8) -> Option<usize>
+pub(crate) fn place_of(text: &[u8], byte: u8) -> Option<usize>
     ensures { result ≡ position (λ b. b == byte) text.now }
 {
     text.iter().position(|b| *b == byte)

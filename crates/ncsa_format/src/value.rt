@@ -14,6 +14,7 @@ ghost use Rattle.ncsa_format.specs.declared.formatter.Formatter.TheVariants as f
 ghost use Rattle.ncsa_format.specs.declared.formatter.TimeForm.TheVariants as forms;
 
 use crate::civil::{LAST_SECOND, put_number, put_parts, put_time};
+use crate::cut::{cut, place_of};
 use crate::formatter::{Formatter, TimeForm, TimePart};
 use crate::member::{
     acct_field, address_of, first_byte_of, handling_of, header_of, logged, mark_of, method_of,
@@ -44,19 +45,6 @@ static STAMP: [TimePart; 11] = [
     TimePart::Byte(b']'),
 ];
 
-/// How many bytes stand before the first of these.
-fn length_before(bytes: &[u8], byte: u8) -> usize
-    ensures place { result ≡ position_or_len (λ b. b == byte) bytes.now }
-    ensures within { result ≤ length bytes.now }
-{
-    for at in 0..bytes.len() {
-        if bytes[at] == byte {
-            return at;
-        }
-    }
-    bytes.len()
-}
-
 /// Whether the first field of a header is `Basic`.
 fn is_basic(header: &[u8]) -> bool
     ensures { result ≡ is_word (codes "basic") (field_of header.now 1) }
@@ -82,10 +70,7 @@ fn decoded(alloc: Global, text: &[u8]) -> Result<Option<Vec<u8>>, NoMemory>
 fn before_colon(mut bytes: Vec<u8>) -> Option<Vec<u8>>
     ensures { option_map (λ b. b.items) result ≡ before_colon bytes.items }
 {
-    let at = length_before(&bytes, b':');
-    if at == bytes.len() {
-        return None;
-    }
+    let at = place_of(&bytes, b':')?;
     bytes.truncate(at);
     Some(bytes)
 }
@@ -209,30 +194,23 @@ fn put_seconds(out: &mut Vec<u8>, text: Option<&[u8]>) -> Result<(), NoMemory>
     }
 }
 
-/// Where the query of a URL begins, or where the URL ends.
-fn query_place(url: &[u8]) -> usize
-    ensures place { result ≡ query_place url.now }
-    ensures within { result ≤ length url.now }
-{
-    length_before(url, b'?')
-}
-
 /// A URL up to its query.
+#[tactic(auto, using(crate::proofs::CutLemmas::front_is))]
 fn path_of(url: Option<&[u8]>) -> Option<&[u8]>
     ensures { option_copied result ≡ option_map (λ u. take (query_place u) u) (option_copied url.entry) }
 {
-    let url = url?;
-    let (path, _) = url.split_at(query_place(url));
+    let (path, _) = cut(url?, b'?');
     Some(path)
 }
 
 /// The query of a URL, with its question mark; empty where there is none.
+#[tactic(auto, using(crate::proofs::CutLemmas::behind_is))]
 fn query_of(url: Option<&[u8]>) -> &[u8]
     ensures { result.now ≡ unwrap_or (option_map (λ u. drop (query_place u) u) (option_copied url.entry)) [] }
 {
     match url {
         Some(url) => {
-            let (_, query) = url.split_at(query_place(url));
+            let (_, query) = cut(url, b'?');
             query
         }
         None => b"",
