@@ -1,0 +1,8 @@
+mod Examples
+pub mod PushLemmas
+pub mod EntriesLemmas
+pub mod TakenLemmas
+pub mod AgreedLemmas
+pub mod ReadingLemmas
+pub mod ItemsLemmas
+pub mod CopiesLemmas

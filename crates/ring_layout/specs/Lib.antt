@@ -1,0 +1,4 @@
+pub mod Places
+pub mod Content
+pub mod History
+pub mod Copied

@@ -1,0 +1,25 @@
+//! Places of a ring: where units of a log lie, which words stand there, and what a reader takes of them.
+//!
+//! A ring has eight segments of as many words each, and its units lie on a line of places without an end, a word in
+//! the place's remainder. These definitions serve the ring on one thread and the ring that threads share: what a ring
+//! has for a log, what a put in progress has stored, and what a reader may have taken.
+//!
+//! Start with `specs/Places.antt`, then `specs/Content.antt` and `specs/History.antt`. All of it is this project's choice.
+#![tactic(auto)]
+
+ghost use Rattle.std.specs.Prelude.{◌≡◌};
+ghost use Rattle.ring_layout.specs.Places.{end_mark, wrap_mark};
+
+mod history;
+mod shape;
+mod steps;
+
+pub use history::{HistoryItem, Run};
+pub use shape::{Placed, Shape, place_after, segment_of};
+pub use steps::{PutFault, Sought, Step};
+
+/// The word behind the last unit.
+pub const END_MARK: u32 = 0x454E_444D;
+
+/// The word at a tail from which a unit wrapped.
+pub const WRAP_MARK: u32 = 0x5752_4150;
