@@ -5,9 +5,10 @@ Usage: tools/definitions.py            prints the text
        tools/definitions.py --write    writes docs/DEFINITIONS.md
        tools/definitions.py --unused   prints what no public call reaches, and what has no source
 
-A sentence is the comment above a definition; its source is what stands in parentheses at the comment's end, or else at
-the end of the first sentence of the file's head. A public call carries a definition if one of its clauses cites it, or
-cites another definition that does. A definition without a comment is an error. It proves nothing.
+A sentence is the comment above a definition, or above the module that it begins. Its source is what stands in
+parentheses at the comment's end, or else at the end of the first sentence of the file's head. A public call carries a
+definition if one of its clauses cites it, or cites another definition that does. A definition without a comment is an
+error. It proves nothing.
 """
 
 import re
@@ -147,10 +148,15 @@ def read_spec(crate, path):
     spec = Spec(crate, file, f"{crate}.{module}")
     text = path.read_text()
     read_imports(text, spec.imports, spec.modules, spec.passed_on)
-    comment = []
+    comment, above = [], []
     item = None
     is_head = True
+    in_module = False
     for line in text.splitlines():
+        if line[:1].strip():
+            in_module = line.startswith("module ")
+        elif in_module:
+            line = line.removeprefix("  ")
         if line.startswith("--"):
             comment.append(line.lstrip("-").strip())
             continue
@@ -158,6 +164,9 @@ def read_spec(crate, path):
             spec.head, comment, is_head = " ".join(comment), [], False
         if not line.strip():
             comment = []
+            continue
+        if line.startswith("module "):
+            above, comment, item = comment, [], None
             continue
         if re.match(r"(pub )?(use|mod) ", line):
             comment, item = [], None
@@ -174,9 +183,9 @@ def read_spec(crate, path):
             private = None if public else PRIVATE.match(line)
             if public or private:
                 name = public.group(1) if public else private.group(1) or private.group(2)
-                item = Definition(crate, file, name, " ".join(comment), bool(public))
+                item = Definition(crate, file, name, " ".join(comment or above), bool(public))
                 spec.items[name] = item
-                comment = []
+                comment, above = [], []
         if item:
             item.body += line + "\n"
     return spec

@@ -3,7 +3,8 @@ use Rattle.std.proofs.Common.{suc-mul, lt_of_not-le, ◌≡◌, ◌≢◌, ◌�
 use Rattle.std.proofs.lemmas.Nat.{le-div}
 use mathlib.Core.Logic.{dite}
 use native.Mathlib.Decide.{ℕ_discrete, dec_lt, dec_le}
-use Rattle.ring_layout.specs.Places.{stays, start_at, end_at, or_else, if_some, first_in, tail_from, placed_word, words_from, tail, word_at, segment_start, AreFit, end_mark, wrap_mark}
+use Rattle.std.specs.Option.{option_or}
+use Rattle.ring_layout.specs.Places.{stays, start_at, end_at, if_some, first_in, tail_from, placed_word, words_from, tail, word_at, segment_start, AreFit, end_mark, wrap_mark}
 use Rattle.ring_layout.specs.Content.{HoldsLog, first_word, HasStored, last_word}
 use Rattle.ring_layout.proofs.PushLemmas.{tail_push, words_push, start_push}
 use Rattle.ring_layout.proofs.EntriesLemmas.{at_stay, at_wrap, two_ahead, start_there}
@@ -42,7 +43,7 @@ div_up seg a b pos l = let c = div-mul-le_self a seg in le-div (a / seg) b seg p
 pub some_same : {x y : ℕ} → Some x ≡ Some y → x ≡ y
 some_same e = cc e
 
-pub or_some : {a b : Option ℕ} {x : ℕ} → or_else a b ≡ Some x → (a ≡ Some x) ⊎ (b ≡ Some x)
+pub or_some : {a b : Option ℕ} {x : ℕ} → option_or a b ≡ Some x → (a ≡ Some x) ⊎ (b ≡ Some x)
 or_some {a = Some y} e = inl e
 or_some {a = None} e = inr e
 
@@ -163,13 +164,13 @@ module _ {U : Type 0} (words : U → List ℕ) (seg : ℕ) (pos : 0 < seg) where
       let q_up : (q : ℕ) → q ≤ n → q / seg ≤ c = λ q l. (let z = div_up seg q n pos l in omega arith) in record {
         segment_starts = λ s p l m i. dite (dec_le s (t / seg))
             (λ old. let there = start_there words seg log s pos fit old in
-            let same : Some p ≡ Some there.0 = sym i ∙ (start_push words seg log u s ∙ ap (λ x. or_else x (first_in seg s (start_at seg t w ∷ n ∷ []))) there.1) in
+            let same : Some p ≡ Some there.0 = sym i ∙ (start_push words seg log u s ∙ ap (λ x. option_or x (first_in seg s (start_at seg t w ∷ n ∷ []))) there.1) in
             a.segment_starts s p old m (there.1 ∙ sym same))
             (λ new. let b = tail_push words seg log u in let l' : s ≤ c = subst (λ (z : ℕ). s ≤ z) (ap (λ (z : ℕ). z / seg) b ∙ sym level) l in g.segment_starts s p (omega arith) (omega arith) i);
         word_at = λ q x i m. ⊎_elim
             (λ (h : words_from words seg 0 (log ++ u ∷ []) q ≡ Some x). ⊎_elim
             (λ (k : words_from words seg 0 log q ≡ Some x). let below = body_below 0 log q x k in
-            st.else (q % (8 * seg)) (free_place seg q t pos below (omega arith)) ∙ a.word_at q x (ap (λ z. or_else z (if_some (eqb q t) end_mark)) k) m)
+            st.else (q % (8 * seg)) (free_place seg q t pos below (omega arith)) ∙ a.word_at q x (ap (λ z. option_or z (if_some (eqb q t) end_mark)) k) m)
             (λ (k : placed_word words seg t u q ≡ Some x). ⊎_elim
             (λ (z : (q ≡ t) × (stays seg t w ≡ false) × (x ≡ wrap_mark)). ap (λ (y : ℕ). word' (y % (8 * seg))) z.0 ∙ (st.here ∙ ((λ b. cond (z.1 b) (get_or (words u) 0 0) wrap_mark) ∙ sym z.2)))
             (λ (z : (start_at seg t w ≤ q) × (q < n) × (x ≡ get_or (words u) (q - start_at seg t w) 0)). let z0 = z.0 in let z1 = z.1 in dite (ℕ_discrete q t)

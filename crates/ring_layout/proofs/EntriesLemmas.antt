@@ -3,7 +3,8 @@ use Rattle.std.proofs.Common.{◌≡◌, ◌⊎◌, ℕ, ◌+◌, ◌-◌, ◌*�
 use Rattle.std.proofs.lemmas.Nat.{div-mul-add, div_below}
 use mathlib.Core.Logic.{dite}
 use native.Mathlib.Decide.{ℕ_discrete, dec_lt, dec_le}
-use Rattle.ring_layout.specs.Places.{start_at, end_at, or_else, if_some, first_in, tail_from, ends_from, tail, segment_start, AreFit}
+use Rattle.std.specs.Option.{option_or}
+use Rattle.ring_layout.specs.Places.{start_at, end_at, if_some, first_in, tail_from, ends_from, tail, segment_start, AreFit}
 
 pub at_stay : (seg t w : ℕ) → t % (8 * seg) + w < 8 * seg → start_at seg t w ≡ t
 at_stay seg t w l = rw (lt-ltb (t % (8 * seg) + w) (8 * seg) l) refl
@@ -49,11 +50,11 @@ abbrev Found : ℕ → ℕ → List ℕ → Type 0
 Found seg s ps = (p : ℕ) × (first_in seg s ps ≡ Some p)
 
 found_here : (seg s p : ℕ) (ps : List ℕ) → p / seg ≡ s → Found seg s (p ∷ ps)
-found_here seg s p ps e = (p, ap (λ (b : Bool). or_else (if_some b p) (first_in seg s ps)) (eq-eqb (p / seg) s e))
+found_here seg s p ps e = (p, ap (λ (b : Bool). option_or (if_some b p) (first_in seg s ps)) (eq-eqb (p / seg) s e))
 
 found_later : (seg s p : ℕ) (ps : List ℕ) → Found seg s ps → Found seg s (p ∷ ps)
 found_later seg s p ps f = dite (ℕ_discrete (p / seg) s) (λ e. found_here seg s p ps e)
-    (λ n. (f.0, ap (λ (b : Bool). or_else (if_some b p) (first_in seg s ps)) (ne_eqb (p / seg) s n) ∙ f.1))
+    (λ n. (f.0, ap (λ (b : Bool). option_or (if_some b p) (first_in seg s ps)) (ne_eqb (p / seg) s n) ∙ f.1))
 
 module _ {U : Type 0} (words : U → List ℕ) (seg : ℕ) where
   ends_there : (t : ℕ) (us : List U) (s : ℕ) → 0 < seg → AreFit words seg us → t / seg < s → s ≤ tail_from words seg t us / seg → Found seg s (ends_from words seg t us)

@@ -3,7 +3,8 @@ use Rattle.std.proofs.Common.{◌≡◌, ◌≢◌, ◌⊎◌, ℕ, suc, ◌+◌
 use Rattle.std.proofs.lemmas.Nat.{div_below}
 use mathlib.Core.Logic.{dite}
 use native.Mathlib.Decide.{ℕ_discrete, dec_le}
-use Rattle.ring_layout.specs.Places.{stays, start_at, end_at, or_else, if_some, first_in, tail_from, placed_word, words_from, ends_from, tail, word_at, segment_start, AreFit, end_mark, wrap_mark}
+use Rattle.std.specs.Option.{option_or}
+use Rattle.ring_layout.specs.Places.{stays, start_at, end_at, if_some, first_in, tail_from, placed_word, words_from, ends_from, tail, word_at, segment_start, AreFit, end_mark, wrap_mark}
 use Rattle.ring_layout.specs.History.{starts_below, first_number, UnitStarts}
 use Rattle.ring_layout.proofs.PushLemmas.{or_assoc}
 use Rattle.ring_layout.proofs.EntriesLemmas.{entered}
@@ -26,9 +27,9 @@ module _ {U : Type 0} (words : U → List ℕ) (seg : ℕ) (pos : 0 < seg) where
   zero_div : 0 / seg ≡ 0
   zero_div = let b : 0 / seg < 1 = div_below 0 seg 1 pos (omega arith) in omega arith
 
-  body_append : (t : ℕ) (us vs : List U) (q : ℕ) → words_from words seg t (us ++ vs) q ≡ or_else (words_from words seg t us q) (words_from words seg (tail_from words seg t us) vs q)
+  body_append : (t : ℕ) (us vs : List U) (q : ℕ) → words_from words seg t (us ++ vs) q ≡ option_or (words_from words seg t us q) (words_from words seg (tail_from words seg t us) vs q)
   body_append t [] vs q = refl
-  body_append t (x ∷ xs) vs q = ap (or_else (placed_word words seg t x q)) (body_append (end_at seg t (length (words x))) xs vs q)
+  body_append t (x ∷ xs) vs q = ap (option_or (placed_word words seg t x q)) (body_append (end_at seg t (length (words x))) xs vs q)
       ∙ sym (or_assoc (placed_word words seg t x q) (words_from words seg (end_at seg t (length (words x))) xs q) (words_from words seg (tail_from words seg (end_at seg t (length (words x))) xs) vs q))
 
   piece_none : (t : ℕ) (u : U) (q : ℕ) → end_at seg t (length (words u)) ≤ q → placed_word words seg t u q ≡ None
@@ -45,21 +46,21 @@ module _ {U : Type 0} (words : U → List ℕ) (seg : ℕ) (pos : 0 < seg) where
       (λ e. let near = stays_true words seg pos t w (omega arith) in (λ i. eqb (s + j) t && not (near i)) ∙ and_false (eqb (s + j) t))
       (λ ne. (λ i. ne_eqb (s + j) t ne i && not (stays seg t w))) in
       let within : (leb s (s + j) && ltb (s + j) (s + w)) ≡ true = (λ i. le-leb s (s + j) (omega arith) i && ltb (s + j) (s + w)) ∙ lt-ltb (s + j) (s + w) (omega arith) in
-      (λ i. or_else (if_some (no_wrap i) wrap_mark) (if_some (within i) (get_or (words u) ((s + j) - s) 0))) ∙ ap (λ (z : ℕ). Some (get_or (words u) z 0)) (omega arith)
+      (λ i. option_or (if_some (no_wrap i) wrap_mark) (if_some (within i) (get_or (words u) ((s + j) - s) 0))) ∙ ap (λ (z : ℕ). Some (get_or (words u) z 0)) (omega arith)
 
   -- the wrap mark where a unit left its lap
   piece_wraps : (t : ℕ) (u : U) → stays seg t (length (words u)) ≡ false → placed_word words seg t u t ≡ Some wrap_mark
   piece_wraps t u e = let w : ℕ = length (words u) in let b : ((eqb t t) && not (stays seg t w)) ≡ true = (λ i. eq-eqb t t refl i && not (e i)) in
-      (λ i. or_else (if_some (b i) wrap_mark) (if_some (leb (start_at seg t w) t && ltb t (end_at seg t w)) (get_or (words u) (t - start_at seg t w) 0)))
+      (λ i. option_or (if_some (b i) wrap_mark) (if_some (leb (start_at seg t w) t && ltb t (end_at seg t w)) (get_or (words u) (t - start_at seg t w) 0)))
 
   body_none : (t : ℕ) (us : List U) (q : ℕ) → tail_from words seg t us ≤ q → words_from words seg t us q ≡ None
   body_none t [] q l = refl
   body_none t (u ∷ us) q l = let n : ℕ = end_at seg t (length (words u)) in let up = tail_above words seg pos n us in
-      (λ i. or_else (piece_none t u q (omega arith) i) (words_from words seg n us q)) ∙ body_none n us q l
+      (λ i. option_or (piece_none t u q (omega arith) i) (words_from words seg n us q)) ∙ body_none n us q l
 
   -- the word_at of the log at a place of the unit that stands between us and vs
   text_of : (us vs : List U) (u : U) (q x : ℕ) → tail words seg us ≤ q → placed_word words seg (tail words seg us) u q ≡ Some x → word_at words seg (us ++ u ∷ vs) q ≡ Some x
-  text_of us vs u q x l e = ap (λ z. or_else z (if_some (eqb q (tail words seg (us ++ u ∷ vs))) end_mark)) (body_append 0 us (u ∷ vs) q ∙ ((λ i. or_else (body_none 0 us q l i) (or_else (e i) (words_from words seg (end_at seg (tail words seg us) (length (words u))) vs q)))))
+  text_of us vs u q x l e = ap (λ z. option_or z (if_some (eqb q (tail words seg (us ++ u ∷ vs))) end_mark)) (body_append 0 us (u ∷ vs) q ∙ ((λ i. option_or (body_none 0 us q l i) (option_or (e i) (words_from words seg (end_at seg (tail words seg us) (length (words u))) vs q)))))
 
   pub word_of_unit : (us vs : List U) (u : U) (j : ℕ) → j < length (words u) → word_at words seg (us ++ u ∷ vs) (start_at seg (tail words seg us) (length (words u)) + j) ≡ Some (get_or (words u) j 0)
   word_of_unit us vs u j l = let above = start_above seg (tail words seg us) (length (words u)) pos in text_of us vs u (start_at seg (tail words seg us) (length (words u)) + j) (get_or (words u) j 0) (omega arith) (piece_has (tail words seg us) u j l)
@@ -68,7 +69,7 @@ module _ {U : Type 0} (words : U → List ℕ) (seg : ℕ) (pos : 0 < seg) where
   wrap_word us vs u e = text_of us vs u (tail words seg us) wrap_mark (le_refl (tail words seg us)) (piece_wraps (tail words seg us) u e)
 
   pub end_word : (log : List U) → word_at words seg log (tail words seg log) ≡ Some end_mark
-  end_word log = (λ i. or_else (body_none 0 log (tail words seg log) (le_refl (tail words seg log)) i) (if_some (eq-eqb (tail words seg log) (tail words seg log) refl i) end_mark))
+  end_word log = (λ i. option_or (body_none 0 log (tail words seg log) (le_refl (tail words seg log)) i) (if_some (eq-eqb (tail words seg log) (tail words seg log) refl i) end_mark))
 
   below_zero : (t : ℕ) (us : List U) (p : ℕ) → p ≤ t → starts_below words seg t us p ≡ 0
   below_zero t [] p l = refl
@@ -81,8 +82,8 @@ module _ {U : Type 0} (words : U → List ℕ) (seg : ℕ) (pos : 0 < seg) where
 
   here_or : (s p : ℕ) (ps : List ℕ) (x : ℕ) → first_in seg s (p ∷ ps) ≡ Some x → ((p / seg ≡ s) × (x ≡ p)) ⊎ ((p / seg ≢ s) × (first_in seg s ps ≡ Some x))
   here_or s p ps x e = dite (ℕ_discrete (p / seg) s)
-      (λ h. inl (h, some_same (sym e ∙ ap (λ (b : Bool). or_else (if_some b p) (first_in seg s ps)) (eq-eqb (p / seg) s h))))
-      (λ n. inr (n, sym (ap (λ (b : Bool). or_else (if_some b p) (first_in seg s ps)) (ne_eqb (p / seg) s n)) ∙ e))
+      (λ h. inl (h, some_same (sym e ∙ ap (λ (b : Bool). option_or (if_some b p) (first_in seg s ps)) (eq-eqb (p / seg) s h))))
+      (λ n. inr (n, sym (ap (λ (b : Bool). option_or (if_some b p) (first_in seg s ps)) (ne_eqb (p / seg) s n)) ∙ e))
 
   leads : (t : ℕ) (us : List U) (s p : ℕ) → AreFit words seg us → t / seg < s → first_in seg s (ends_from words seg t us) ≡ Some p → Leads t us (starts_below words seg t us (s * seg)) p
   leads t [] s p fit low e = cc e

@@ -4,7 +4,8 @@ use Rattle.std.proofs.lemmas.List.{take-append-le, drop-append-le, length-drop}
 use Rattle.std.proofs.lemmas.Nat.{le-div}
 use native.Mathlib.Decide.{dec_lt}
 use mathlib.Core.Logic.{dite}
-use Rattle.ring_layout.specs.Places.{start_at, end_at, or_else, first_in, tail_from, tail, segment_start}
+use Rattle.std.specs.Option.{option_or}
+use Rattle.ring_layout.specs.Places.{start_at, end_at, first_in, tail_from, tail, segment_start}
 use Rattle.ring_layout.specs.History.{starts_below, first_number, RunStands, UnitStarts, IsRun, IsReadBack}
 use Rattle.ring_layout.specs.declared.history.Run.{Run}
 use Rattle.ring_layout.specs.declared.history.HistoryItem.{HistoryItem}
@@ -37,7 +38,7 @@ module _ {U : Type 0} (words : U → List ℕ) (seg : ℕ) (pos : 0 < seg) where
   number_stays log u s l = below_more 0 log u (s * seg) (let a : s * seg ≤ tail words seg log / seg * seg = mul-le-mul_right seg l in let b = div-mul-le_self (tail words seg log) seg in omega arith)
 
   entry_stays : (log : List U) (u : U) (s p : ℕ) → segment_start words seg log s ≡ Some p → segment_start words seg (log ++ u ∷ []) s ≡ Some p
-  entry_stays log u s p e = start_push words seg log u s ∙ ap (λ x. or_else x (first_in seg s (start_at seg (tail words seg log) (length (words u)) ∷ end_at seg (tail words seg log) (length (words u)) ∷ []))) e
+  entry_stays log u s p e = start_push words seg log u s ∙ ap (λ x. option_or x (first_in seg s (start_at seg (tail words seg log) (length (words u)) ∷ end_at seg (tail words seg log) (length (words u)) ∷ []))) e
 
   tail_grows : (log : List U) (u : U) → tail words seg log / seg ≤ tail words seg (log ++ u ∷ []) / seg
   tail_grows log u = let a = start_above seg (tail words seg log) (length (words u)) pos in let b = tail_push words seg log u in let c = div-mul-le_self (tail words seg log) seg in le-div (tail words seg log / seg) (tail words seg (log ++ u ∷ [])) seg pos (omega arith)

@@ -1,6 +1,7 @@
 -- Where the units of a log lie on the line of places (this project's choice). `seg` is the number of words of a segment; the ring's words are a lap, which is
 -- eight of them, and a place lies in the word of its remainder. All goes from the front, with the tail before the first unit.
 use Rattle.std.specs.Prelude.{ℕ, ◌+◌, ◌-◌, ◌*◌, ◌/◌, ◌%◌, ◌^◌, ◌==◌, ◌&&◌, ◌<◌, ◌≤◌, not, nat_lt, nat_le, if◌then◌else◌, Bool, true, false, List, [], ◌∷◌, length, slice_index, Option, Some, None}
+use Rattle.std.specs.Option.{option_or}
 
 -- a segment has from 64 to 1,048,576 words
 abbrev pub IsSegment : ℕ → Type 0
@@ -9,10 +10,6 @@ IsSegment seg = (64 ≤ seg) × (seg ≤ 1048576)
 -- the last tail that a ring has
 abbrev pub last_tail : ℕ
 last_tail = 2 ^ 62
-
--- the words of a lap
-abbrev pub lap : ℕ → ℕ
-lap seg = 8 * seg
 
 -- the word behind the last unit
 abbrev pub end_mark : ℕ
@@ -34,11 +31,6 @@ start_at seg t w = if stays seg t w then t else (t / (8 * seg) + 1) * (8 * seg)
 abbrev pub end_at : ℕ → ℕ → ℕ → ℕ
 end_at seg t w = start_at seg t w + w
 
--- the first that is there
-abbrev pub or_else : Option ℕ → Option ℕ → Option ℕ
-or_else (Some x) y = Some x
-or_else None y = y
-
 -- a number where a test holds
 abbrev pub if_some : Bool → ℕ → Option ℕ
 if_some true x = Some x
@@ -47,7 +39,7 @@ if_some false x = None
 -- the first place of a list that lies in a segment
 abbrev pub first_in : ℕ → ℕ → List ℕ → Option ℕ
 first_in seg s [] = None
-first_in seg s (p ∷ ps) = or_else (if_some (p / seg == s) p) (first_in seg s ps)
+first_in seg s (p ∷ ps) = option_or (if_some (p / seg == s) p) (first_in seg s ps)
 
 -- of a log of any kind of unit, by its words; where a tail is named, of the units behind it
 module _ {U : Type 0} (words : U → List ℕ) (seg : ℕ) where
@@ -58,13 +50,13 @@ module _ {U : Type 0} (words : U → List ℕ) (seg : ℕ) where
 
   -- what a unit that is put at a tail has at a place: the wrap mark at the tail where it wraps, or one of its words
   abbrev pub placed_word : ℕ → U → ℕ → Option ℕ
-  placed_word t u q = or_else (if_some ((q == t) && not (stays seg t (length (words u)))) wrap_mark)
+  placed_word t u q = option_or (if_some ((q == t) && not (stays seg t (length (words u)))) wrap_mark)
       (if_some (nat_le (start_at seg t (length (words u))) q && nat_lt q (end_at seg t (length (words u)))) (slice_index (words u) (q - start_at seg t (length (words u)))))
 
   -- what units that are put from a tail on have at a place
   abbrev pub words_from : ℕ → List U → ℕ → Option ℕ
   words_from t [] q = None
-  words_from t (u ∷ us) q = or_else (placed_word t u q) (words_from (end_at seg t (length (words u))) us q)
+  words_from t (u ∷ us) q = option_or (placed_word t u q) (words_from (end_at seg t (length (words u))) us q)
 
   -- their starts and ends, in order
   abbrev pub ends_from : ℕ → List U → List ℕ
@@ -77,7 +69,7 @@ module _ {U : Type 0} (words : U → List ℕ) (seg : ℕ) where
 
   -- the word that a log has at a place: that of a unit, or the end mark at its tail; other places have none
   abbrev pub word_at : List U → ℕ → Option ℕ
-  word_at log q = or_else (words_from 0 log q) (if_some (q == tail log) end_mark)
+  word_at log q = option_or (words_from 0 log q) (if_some (q == tail log) end_mark)
 
   -- the start of a segment: the first of 0 and of the starts and ends of units that lies in it
   abbrev pub segment_start : List U → ℕ → Option ℕ

@@ -7,9 +7,6 @@
 //! Start with `specs/Places.antt`, then `specs/Content.antt` and `specs/History.antt`. All of it is this project's choice.
 #![tactic(auto)]
 
-ghost use Rattle.std.specs.Prelude.{◌≡◌};
-ghost use Rattle.ring_layout.specs.Places.{end_mark, wrap_mark};
-
 mod history;
 mod shape;
 mod steps;
