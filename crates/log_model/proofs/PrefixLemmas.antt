@@ -1,6 +1,6 @@
 -- The laws of prefixes.
-use Rattle.std.proofs.Common.{◌≡◌, ◌<◌, ◌≤◌, List, [], ◌++◌, length, length-append, refl, sym, ap, ◌∙◌, append_assoc, arith}
-use Rattle.std.proofs.lemmas.List.{append-nil}
+use Rattle.std.proofs.Common.{◌≡◌, ◌<◌, ◌≤◌, List, [], ◌++◌, length, length-append, take, refl, sym, ap, ◌∙◌, append_assoc, arith}
+use Rattle.std.proofs.lemmas.List.{append-nil, take_at}
 use Rattle.log_model.specs.Prefix.{IsPrefix, IsProperPrefix}
 
 -- what is empty is a prefix of everything
@@ -30,6 +30,13 @@ prefix_then {xs = xs} p q = record { rest = p.rest ++ q.rest; is = q.is ∙ ap (
 -- the same, where the first is one by an equation
 pub prefix_past : {A : Type 0} (xs ys zs x : List A) → ys ≡ xs ++ x → IsPrefix ys zs → IsPrefix xs zs
 prefix_past xs ys zs x e q = prefix_then (prefix_by xs ys x e) q
+
+-- what steps that only add to a list leave of it
+pub ruleset adding = (prefix_then, prefix_by, prefix_equal, prefix_past)
+
+-- what was added to a list is cut off
+pub cut_back : {A : Type 0} (xs ys : List A) → IsPrefix xs ys → take (length xs) ys ≡ xs
+cut_back xs ys p = ap (λ l. take (length xs) l) p.is ∙ take_at xs p.rest (length xs) refl
 
 -- prefixes stay so after the same list
 pub prefix_after : {A : Type 0} (prefix : List A) {xs ys : List A} → IsPrefix xs ys → IsPrefix (prefix ++ xs) (prefix ++ ys)

@@ -1,4 +1,3 @@
-mod AddedLemmas
 mod CivilExamples
 mod CivilLemmas
 mod CutLemmas

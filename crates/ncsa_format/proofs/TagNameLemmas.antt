@@ -12,30 +12,12 @@ use Rattle.std.proofs.lemmas.List.Folds.{list_all-map, list_any_none}
 use Rattle.std.proofs.lemmas.List.Sums.{AllPass-from_list_all, passes_at_first}
 use Rattle.std.proofs.lemmas.Slice.Eq.{bytes_eq-Decides}
 use Rattle.std.proofs.lemmas.Str.Ascii.{IsAscii-from_all}
-use Rattle.std.proofs.lemmas.List.{get_or-map}
-use Rattle.std.proofs.lemmas.List.FromFn.{get_or-range_with_len}
-use Rattle.std.specs.List.{range_with_len}
-use Rattle.vsl_tags.specs.Tags.{IsTag, first_tag, last_tag, lower_names, number_of_lower, tag_name, tag_names}
+use Rattle.vsl_tags.specs.Tags.{IsTag, last_tag, lower_names, number_of_lower, tag_name, tag_names}
+use Rattle.vsl_tags.proofs.NameLemmas.{name_finds_tag}
 use Rattle.vsl_decimal.specs.Prefix.{colon}
 use Rattle.ncsa_format.specs.Formatter.{IsTagName, bracket}
 use Rattle.ncsa_format.specs.Reading.{tag_called}
 use Rattle.ncsa_format.proofs.GivenLemmas.{chosen, none_given}
-
--- the names in lower case find the numbers from 1 to 92, in order
-numbers_in_order : map number_of_lower lower_names ≡ range_with_len first_tag last_tag
-numbers_in_order = refl
-
--- a tag's name in lower case finds the tag's number
-name_finds_tag : (n : ℕ) → IsTag n → number_of_lower (str_to_ascii_lowercase (tag_name n)) ≡ n
-name_finds_tag n tag =
-    let inside : n - 1 < length lower_names = omega arith in
-    let place : n - 1 < last_tag = omega arith in
-    let number : first_tag + (n - 1) ≡ n = omega arith in
-    ap number_of_lower (sym (whole.get_or-map str_to_ascii_lowercase tag_names (n - 1) []))
-    ∙ sym (get_or-map number_of_lower lower_names (n - 1) [] 0 inside)
-    ∙ ap (λ numbers. get_or numbers (n - 1) 0) numbers_in_order
-    ∙ get_or-range_with_len first_tag last_tag (n - 1) 0 place
-    ∙ number
 
 -- the tag with this number, where there is one
 abbrev numbered : ℕ → Option ℕ

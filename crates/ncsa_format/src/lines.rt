@@ -47,7 +47,7 @@ fn has_line(member: &Member) -> bool
 }
 
 /// Adds a run of a format for a transaction, or a part of it.
-#[tactic(auto, using(crate::proofs::AddedLemmas::adding))]
+#[tactic(auto, using(log_model::proofs::PrefixLemmas::adding))]
 fn put_run(alloc: Global, out: &mut Vec<u8>, run: &Run, member: &Member) -> Result<(), NoMemory>
     ensures ok { OnOk result (out.new.items ≡ out.old.items ++ flat_map (piece_text member.now) (run_pieces run.now)) }
     ensures keeps { IsPrefix out.old.items out.new.items }
@@ -62,7 +62,7 @@ fn put_run(alloc: Global, out: &mut Vec<u8>, run: &Run, member: &Member) -> Resu
 }
 
 /// Adds runs of a format for a transaction, or a part of them.
-#[tactic(auto, using(crate::proofs::AddedLemmas::adding))]
+#[tactic(auto, using(log_model::proofs::PrefixLemmas::adding))]
 fn put_runs(alloc: Global, out: &mut Vec<u8>, runs: &[Run], member: &Member) -> Result<(), NoMemory>
     ensures ok { OnOk result (out.new.items ≡ out.old.items ++ flat_map (piece_text member.now) (pieces_in runs.now)) }
     ensures keeps { IsPrefix out.old.items out.new.items }
@@ -74,7 +74,7 @@ fn put_runs(alloc: Global, out: &mut Vec<u8>, runs: &[Run], member: &Member) -> 
 }
 
 /// Adds the line of a transaction, or a part of it.
-#[tactic(auto, using(crate::proofs::AddedLemmas::adding))]
+#[tactic(auto, using(log_model::proofs::PrefixLemmas::adding))]
 fn put_line(out: &mut Vec<u8>, format: &Format, member: &Member) -> Result<(), NoMemory>
     ensures ok { OnOk result (out.new.items ≡ out.old.items ++ line_of format.now member.now) }
     ensures keeps { IsPrefix out.old.items out.new.items }
@@ -91,7 +91,7 @@ fn put_line(out: &mut Vec<u8>, format: &Format, member: &Member) -> Result<(), N
 /// transaction, has none. After want of memory the list is as it was.
 ///
 /// Source: varnishncsa(1), "FORMAT".
-#[tactic(auto, using(crate::proofs::AddedLemmas::cut_back))]
+#[tactic(auto, using(log_model::proofs::PrefixLemmas::cut_back))]
 pub fn line(format: &Format, member: &Member, out: &mut Vec<u8>) -> Result<(), NoMemory>
     ensures ok { OnOk result (out.new.items ≡ out.old.items ++ line_of format.now member.now) }
     ensures err { OnErr result (out.new.items ≡ out.old.items) }

@@ -24,7 +24,7 @@ fn is_plain(byte: u8) -> bool
 }
 
 /// Adds a byte of a value.
-#[tactic(auto, using(crate::proofs::AddedLemmas::adding))]
+#[tactic(auto, using(log_model::proofs::PrefixLemmas::adding))]
 fn put_byte(out: &mut Vec<u8>, byte: u8) -> Result<(), NoMemory>
     ensures ok { OnOk result (out.new.items ≡ out.old.items ++ quoted_byte byte) }
     ensures keeps { IsPrefix out.old.items out.new.items }
@@ -54,7 +54,7 @@ fn plain_length(bytes: &[u8]) -> usize
 }
 
 /// Adds a value, or a part of it, run by run.
-#[tactic(auto, using(crate::proofs::AddedLemmas::adding))]
+#[tactic(auto, using(log_model::proofs::PrefixLemmas::adding))]
 pub(crate) fn put_quoted(out: &mut Vec<u8>, value: &[u8]) -> Result<(), NoMemory>
     ensures ok { OnOk result (out.new.items ≡ out.old.items ++ quoted value.now) }
     ensures keeps { IsPrefix out.old.items out.new.items }
@@ -73,7 +73,7 @@ pub(crate) fn put_quoted(out: &mut Vec<u8>, value: &[u8]) -> Result<(), NoMemory
 }
 
 /// Adds a value where there is one, and else `-`.
-#[tactic(auto, using(crate::proofs::AddedLemmas::adding))]
+#[tactic(auto, using(log_model::proofs::PrefixLemmas::adding))]
 pub(crate) fn put_printed(out: &mut Vec<u8>, value: Option<&[u8]>) -> Result<(), NoMemory>
     ensures ok { OnOk result (out.new.items ≡ out.old.items ++ printed (option_copied value.entry)) }
     ensures keeps { IsPrefix out.old.items out.new.items }

@@ -92,7 +92,7 @@ fn user_of(alloc: Global, header: &[u8]) -> Result<Option<Vec<u8>>, NoMemory>
 }
 
 /// Adds the user of an Authorization header.
-#[tactic(auto, using(crate::proofs::AddedLemmas::adding))]
+#[tactic(auto, using(log_model::proofs::PrefixLemmas::adding))]
 fn put_user(alloc: Global, out: &mut Vec<u8>, header: Option<&[u8]>) -> Result<(), NoMemory>
     ensures ok { OnOk result (out.new.items ≡ out.old.items ++ printed (option_and_then user_of (option_copied header.entry))) }
     ensures keeps { IsPrefix out.old.items out.new.items }
@@ -123,7 +123,7 @@ fn printed_time(text: Option<&[u8]>) -> Option<u128>
 }
 
 /// Adds the time that a text tells, as `%t` prints it.
-#[tactic(auto, using(crate::proofs::AddedLemmas::adding))]
+#[tactic(auto, using(log_model::proofs::PrefixLemmas::adding))]
 fn put_stamp(out: &mut Vec<u8>, text: Option<&[u8]>) -> Result<(), NoMemory>
     ensures ok { OnOk result (out.new.items ≡ out.old.items ++ printed (option_map (time_text (forms.Text stamp_parts)) (option_and_then printed_time (option_and_then decimal_of (option_copied text.entry))))) }
     ensures keeps { IsPrefix out.old.items out.new.items }
@@ -135,7 +135,7 @@ fn put_stamp(out: &mut Vec<u8>, text: Option<&[u8]>) -> Result<(), NoMemory>
 }
 
 /// Adds the time that a text tells, in a form.
-#[tactic(auto, using(crate::proofs::AddedLemmas::adding))]
+#[tactic(auto, using(log_model::proofs::PrefixLemmas::adding))]
 fn put_time_in(out: &mut Vec<u8>, text: Option<&[u8]>, form: &TimeForm) -> Result<(), NoMemory>
     ensures ok { OnOk result (out.new.items ≡ out.old.items ++ printed (option_map (time_text form.now) (option_and_then printed_time (option_and_then decimal_of (option_copied text.entry))))) }
     ensures keeps { IsPrefix out.old.items out.new.items }
@@ -147,7 +147,7 @@ fn put_time_in(out: &mut Vec<u8>, text: Option<&[u8]>, form: &TimeForm) -> Resul
 }
 
 /// Adds a number that may be below zero.
-#[tactic(auto, using(crate::proofs::AddedLemmas::adding))]
+#[tactic(auto, using(log_model::proofs::PrefixLemmas::adding))]
 fn put_signed(out: &mut Vec<u8>, n: i128) -> Result<(), NoMemory>
     ensures ok { OnOk result (out.new.items ≡ out.old.items ++ quoted (signed_decimal n)) }
     ensures keeps { IsPrefix out.old.items out.new.items }
@@ -171,7 +171,7 @@ fn decimal_in(text: Option<&[u8]>) -> Option<Decimal>
 }
 
 /// Adds the whole microseconds of a time.
-#[tactic(auto, using(crate::proofs::AddedLemmas::adding))]
+#[tactic(auto, using(log_model::proofs::PrefixLemmas::adding))]
 fn put_micros(out: &mut Vec<u8>, text: Option<&[u8]>) -> Result<(), NoMemory>
     ensures ok { OnOk result (out.new.items ≡ out.old.items ++ printed (option_map (λ time. signed_decimal (micros_of time)) (option_and_then decimal_of (option_copied text.entry)))) }
     ensures keeps { IsPrefix out.old.items out.new.items }
@@ -183,7 +183,7 @@ fn put_micros(out: &mut Vec<u8>, text: Option<&[u8]>) -> Result<(), NoMemory>
 }
 
 /// Adds the whole seconds of a time.
-#[tactic(auto, using(crate::proofs::AddedLemmas::adding))]
+#[tactic(auto, using(log_model::proofs::PrefixLemmas::adding))]
 fn put_seconds(out: &mut Vec<u8>, text: Option<&[u8]>) -> Result<(), NoMemory>
     ensures ok { OnOk result (out.new.items ≡ out.old.items ++ printed (option_map (λ time. signed_decimal (integral_part time)) (option_and_then decimal_of (option_copied text.entry)))) }
     ensures keeps { IsPrefix out.old.items out.new.items }
@@ -225,7 +225,7 @@ fn text_or<'a>(text: Option<&'a [u8]>, other: &'a [u8]) -> &'a [u8]
 }
 
 /// Adds the host of a request line.
-#[tactic(auto, using(crate::proofs::AddedLemmas::adding))]
+#[tactic(auto, using(log_model::proofs::PrefixLemmas::adding))]
 fn put_host(out: &mut Vec<u8>, host: Option<&[u8]>) -> Result<(), NoMemory>
     ensures ok { OnOk result (out.new.items ≡ out.old.items ++ quoted (host_of (option_copied host.entry))) }
     ensures keeps { IsPrefix out.old.items out.new.items }
@@ -241,7 +241,7 @@ fn put_host(out: &mut Vec<u8>, host: Option<&[u8]>) -> Result<(), NoMemory>
 }
 
 /// Adds a request line: the method, the host, the URL and the protocol.
-#[tactic(auto, using(crate::proofs::AddedLemmas::adding))]
+#[tactic(auto, using(log_model::proofs::PrefixLemmas::adding))]
 fn put_request_line(out: &mut Vec<u8>, member: &Member) -> Result<(), NoMemory>
     ensures ok { OnOk result (out.new.items ≡ out.old.items ++ printed (value_of formatters.RequestLine member.now)) }
     ensures keeps { IsPrefix out.old.items out.new.items }
@@ -279,7 +279,7 @@ fn hit_or_miss(word: Option<&[u8]>) -> Option<&[u8]>
 }
 
 /// Adds the value of a formatter for a transaction, or a part of it.
-#[tactic(auto, using(crate::proofs::AddedLemmas::adding))]
+#[tactic(auto, using(log_model::proofs::PrefixLemmas::adding))]
 pub(crate) fn put_value(
     alloc: Global,
     out: &mut Vec<u8>,

@@ -1,5 +1,5 @@
 -- What several calls touch.
-use Rattle.std.proofs.Common.{◌≡◌, ◌⊎◌, ℕ, Bool, true, false, List, [], ◌∷◌, Some, refl, sym, subst, ◌∙◌, inl, inr, ⊎_elim}
+use Rattle.std.proofs.Common.{◌≡◌, ◌⊎◌, ℕ, Bool, true, false, List, [], ◌∷◌, ◌++◌, Some, refl, sym, subst, ◌∙◌, inl, inr, ⊎_elim}
 use Rattle.std.proofs.lemmas.Bool.{cases_eq}
 use Rattle.vio.specs.World.{Seen, Reading, Writing, Read, Wrote, OnlyCounts, Opened, FileCreated}
 use Rattle.vio.proofs.WholeLemmas.{NoCountFalls-none, NoCountFalls-then}
@@ -7,6 +7,16 @@ use Rattle.vio.specs.Touches.{IsOneOf, IsNewHandle, Touches}
 
 pub only_one : {A : Type 0} (x y : A) → IsOneOf x (y ∷ []) → x ≡ y
 only_one x y o = ⊎_elim (λ (e : x ≡ y). e) (λ (none : ⊥). absurd none) o
+
+-- what is one of a list is one of that list and more
+pub one_of_left : {A : Type 0} (x : A) (xs ys : List A) → IsOneOf x xs → IsOneOf x (xs ++ ys)
+one_of_left x [] ys p = absurd p
+one_of_left x (y ∷ xs) ys (inl e) = inl e
+one_of_left x (y ∷ xs) ys (inr p) = inr (one_of_left x xs ys p)
+
+pub one_of_right : {A : Type 0} (x : A) (xs ys : List A) → IsOneOf x ys → IsOneOf x (xs ++ ys)
+one_of_right x [] ys p = p
+one_of_right x (y ∷ xs) ys p = inr (one_of_right x xs ys p)
 
 -- what one call touches
 

@@ -1,6 +1,7 @@
 pub mod World
 pub mod Writes
 pub mod Touches
+pub mod Named
 pub mod Sources
 pub mod Plan
 pub mod Memory

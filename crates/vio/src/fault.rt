@@ -38,6 +38,23 @@ pub enum WholeFault {
     NoMemory,
 }
 
+/// Why a file isn't read whole by its name.
+#[derive(Clone, Copy, Debug, PartialEq, Eq, Error)]
+pub enum NamedFault {
+    /// The file can't be opened, and the world counted it.
+    #[error("the file can't be opened")]
+    NoOpen,
+    /// A read failed, and the world counted it.
+    #[error("a read failed")]
+    Failed,
+    /// The file has more bytes than the limit.
+    #[error("more bytes than the limit")]
+    TooLarge,
+    /// There was no memory for the call or the bytes.
+    #[error("out of memory")]
+    NoMemory,
+}
+
 impl From<AllocError> for WorldFault {
     ghost from_gives = { λ _ e. e ≡ world_faults.NoMemory };
 

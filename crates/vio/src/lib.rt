@@ -2,7 +2,8 @@
 //!
 //! `World` has the calls that the tools make, with all rules that an implementation keeps. A world
 //! counts its faults by kind of call and by name, so that a caller who answers a fault can show its
-//! cause. `MemWorld` keeps files in memory, for tests. `write_all` and `read_whole` move a whole text.
+//! cause. `MemWorld` keeps files in memory, for tests. `write_all` and `read_whole` move a whole text,
+//! and `read_named` reads a whole file by its name.
 //!
 //! A world never says what a file holds unless it wants to: every byte that it tells is optional.
 //! Start with `specs/World.antt`. All rules are this project's choice.
@@ -11,11 +12,13 @@
 mod fault;
 mod file;
 mod memory;
+mod named;
 mod whole;
 mod world;
 
-pub use fault::{Failed, WholeFault, WorldFault};
+pub use fault::{Failed, NamedFault, WholeFault, WorldFault};
 pub use log_model::NoMemory;
 pub use memory::MemWorld;
+pub use named::read_named;
 pub use whole::{read_whole, write_all};
 pub use world::{Created, ERRORS, INPUT, OUTPUT, World};

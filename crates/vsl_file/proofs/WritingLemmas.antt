@@ -1,12 +1,10 @@
--- Writing a unit: what each step leaves of the list that it adds to, and the bytes of a record.
+-- Writing a unit: the bytes of a record and of its words.
 use Rattle.std.proofs.Common.{◌≡◌, ℕ, suc, ◌+◌, ◌-◌, ◌*◌, ◌/◌, ◌%◌, ◌^◌, ◌<◌, List, [], ◌∷◌, ◌++◌, length, length-append, take, get_or, refl, sym, ap, ◌∙◌, append_assoc, arith}
 use Rattle.std.specs.Int.{w32, w64, to_le_bytes}
 use Rattle.std.specs.List.{flat_map}
-use Rattle.std.proofs.lemmas.List.{take_at, take_more}
+use Rattle.std.proofs.lemmas.List.{take_more}
 use Rattle.std.proofs.lemmas.List.Concat.{flat_map-append, flat_map-cons}
 use Rattle.std.proofs.lemmas.Nat.{le_bytes_4}
-use Rattle.log_model.specs.Prefix.{IsPrefix}
-use Rattle.log_model.proofs.PrefixLemmas.{prefix_then, prefix_by, prefix_equal, prefix_past}
 use Rattle.vsl_record.specs.declared.mark.Mark.{Mark}
 use Rattle.vsl_record.specs.declared.record_type.Record.{Record}
 use Rattle.vsl_record.specs.Unit.{LogUnit}
@@ -14,12 +12,6 @@ use Rattle.vsl_record.specs.Words.{packed, header_mark, mark_bits, word_of, word
 use Rattle.vsl_record.proofs.Steps.{IsBytes, below_cons}
 use Rattle.vsl_file.specs.File.{unit_bytes}
 use Rattle.vsl_file.specs.inside.Writing.{record_bytes, filled}
-
-pub ruleset adding = (prefix_then, prefix_by, prefix_equal, prefix_past)
-
--- what was added is cut off
-pub cut_back : (a b : List ℕ) → IsPrefix a b → take (length a) b ≡ a
-cut_back a b p = ap (λ (x : List ℕ). take (length a) x) p.is ∙ take_at a p.rest (length a) refl
 
 -- the bytes of a word are those of the number modulo 2^32
 pub wrapped_bytes : (n : ℕ) → to_le_bytes w32 (n % 2 ^ 32) ≡ to_le_bytes w32 n

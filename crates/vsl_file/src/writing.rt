@@ -41,7 +41,7 @@ fn mark_bits(mark: Mark) -> u32
 }
 
 /// Adds a payload, and zero bytes up to a whole word.
-#[tactic(auto, using(crate::proofs::WritingLemmas::adding))]
+#[tactic(auto, using(log_model::proofs::PrefixLemmas::adding))]
 fn put_payload(payload: &Payload, out: &mut Vec<u8>) -> Result<(), NoMemory>
     ensures ok { OnOk result (out.new.items ≡ out.old.items ++ filled payload.now) }
     ensures keeps { IsPrefix out.old.items out.new.items }
@@ -54,7 +54,7 @@ fn put_payload(payload: &Payload, out: &mut Vec<u8>) -> Result<(), NoMemory>
 }
 
 /// Adds the bytes of a record.
-#[tactic(auto, using(crate::proofs::WritingLemmas::adding))]
+#[tactic(auto, using(log_model::proofs::PrefixLemmas::adding))]
 fn put_record(vxid: Vxid, rec: &Record, out: &mut Vec<u8>) -> Result<(), NoMemory>
     ensures ok { OnOk result (out.new.items ≡ out.old.items ++ record_bytes vxid rec.now) }
     ensures keeps { IsPrefix out.old.items out.new.items }
@@ -67,7 +67,7 @@ fn put_record(vxid: Vxid, rec: &Record, out: &mut Vec<u8>) -> Result<(), NoMemor
 }
 
 /// Adds the bytes of records.
-#[tactic(auto, using(crate::proofs::WritingLemmas::adding))]
+#[tactic(auto, using(log_model::proofs::PrefixLemmas::adding))]
 fn put_body(vxid: Vxid, records: &[Record], out: &mut Vec<u8>) -> Result<(), NoMemory>
     ensures ok { OnOk result (out.new.items ≡ out.old.items ++ flat_map (record_bytes vxid) records.now) }
     ensures keeps { IsPrefix out.old.items out.new.items }
@@ -90,7 +90,7 @@ fn count_words(records: &[Record]) -> u64
 }
 
 /// Adds the header and the records of a unit, or a part of them.
-#[tactic(auto, using(crate::proofs::WritingLemmas::adding))]
+#[tactic(auto, using(log_model::proofs::PrefixLemmas::adding))]
 fn put_words(vxid: Vxid, records: &[Record], out: &mut Vec<u8>) -> Result<(), NoMemory>
     requires { (mark : LogMark) → length (unit_words (record { vxid = vxid; mark = mark; records = records.now })) ≤ most_words }
     ensures ok { OnOk result ((mark : LogMark) → out.new.items ≡ out.old.items ++ unit_bytes (record { vxid = vxid; mark = mark; records = records.now })) }
@@ -105,7 +105,7 @@ fn put_words(vxid: Vxid, records: &[Record], out: &mut Vec<u8>) -> Result<(), No
 
 /// Adds the bytes of the unit of these records, whose marks they tell. After want of memory the list is as
 /// it was.
-#[tactic(auto, using(crate::proofs::WritingLemmas::cut_back))]
+#[tactic(auto, using(log_model::proofs::PrefixLemmas::cut_back))]
 pub fn put_records(vxid: Vxid, records: &[Record], out: &mut Vec<u8>) -> Result<(), NoMemory>
     requires { (mark : LogMark) → length (unit_words (record { vxid = vxid; mark = mark; records = records.now })) ≤ most_words }
     ensures ok { OnOk result ((mark : LogMark) → out.new.items ≡ out.old.items ++ unit_bytes (record { vxid = vxid; mark = mark; records = records.now })) }

@@ -7,3 +7,5 @@ mod RecordLemmas
 pub mod UnitReadingLemmas
 mod AnswerLemmas
 mod WritingLemmas
+mod WroteLemmas
+mod ViewLemmas

@@ -13,10 +13,10 @@ use Rattle.vsl_record.proofs.WordLemmas.{length-words_in, length-word_bytes, wor
 
 -- ---- the words of a payload are those of its bytes and the zero bytes that fill its last word
 
-abbrev zeros : ℕ → List ℕ
+abbrev pub zeros : ℕ → List ℕ
 zeros n = replicate n 0
 
-abbrev filling : List ℕ → List ℕ
+abbrev pub filling : List ℕ → List ℕ
 filling p = zeros (4 * payload_words (length p) - length p)
 
 word_is : (a b c d : ℕ) → word_of a b c d ≡ from_le_bytes w32 (a ∷ b ∷ c ∷ d ∷ [])
@@ -44,6 +44,10 @@ filled_small p fits = below_append 256 p (filling p) fits (zeros_small _)
 
 pub length-packed : (p : List ℕ) → length (packed p) ≡ payload_words (length p)
 length-packed p = omega (arith, ap length (packed_is p), length-words_in (p ++ filling p), length-filled p)
+
+-- the bytes of a payload's words are the payload and the zero bytes that fill the last
+pub word_bytes-packed : (p : List ℕ) → IsBytes p → word_bytes (packed p) ≡ p ++ filling p
+word_bytes-packed p fits = ap word_bytes (packed_is p) ∙ word_bytes-words_in (payload_words (length p)) (p ++ filling p) (length-filled p) (filled_small p fits)
 
 -- the words of bytes are words
 pub packed_small : (p : List ℕ) → IsBytes p → IsWords (packed p)
@@ -101,7 +105,7 @@ unfolding is_filled
 payload_again p rest fits =
     let k : ℕ = payload_words (length p) in
     let held_is : held (length p) (packed p ++ rest) ≡ p ++ filling p =
-    ap word_bytes (take_at (packed p) rest k (length-packed p) ∙ packed_is p) ∙ word_bytes-words_in k (p ++ filling p) (length-filled p) (filled_small p fits) in
+    ap word_bytes (take_at (packed p) rest k (length-packed p)) ∙ word_bytes-packed p fits in
     record {
       payload = ap (take (length p)) held_is ∙ take_at p (filling p) (length p) refl;
       filled = ap (λ (bytes : List ℕ). list_all (λ b. eqb b 0) (drop (length p) bytes)) held_is ∙ ap (list_all (λ b. eqb b 0)) (drop_at p (filling p) (length p) refl) ∙ zeros_all (4 * payload_words (length p) - length p);

@@ -1,5 +1,6 @@
 pub mod Payload
 pub mod Unit
+pub mod Views
 pub mod WordFaults
 pub mod Words
 pub mod inside

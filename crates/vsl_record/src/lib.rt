@@ -19,6 +19,7 @@ mod record_type;
 mod records;
 mod unit;
 mod units;
+mod views;
 mod words;
 mod writing;
 
@@ -31,5 +32,6 @@ pub use record_type::Record;
 pub use records::Records;
 pub use unit::{MAX_UNIT_WORDS, Unit, VXID_END, Vxid};
 pub use units::Units;
+pub use views::{RecordView, UnitView};
 pub use words::read_unit;
 pub use writing::unit_words;

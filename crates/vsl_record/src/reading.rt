@@ -40,14 +40,14 @@ fn first_word(bytes: &[u8]) -> Option<u32>
 }
 
 /// The first word of the bytes, or 0 where they have none.
-fn header_word(bytes: &[u8]) -> u32
+pub(crate) fn header_word(bytes: &[u8]) -> u32
     ensures { slice_index (words_in bytes.now) 0 ≡ result }
 {
     first_word(bytes).unwrap_or(0)
 }
 
 /// The second word of the bytes.
-fn second_word(bytes: &[u8]) -> u32
+pub(crate) fn second_word(bytes: &[u8]) -> u32
     requires { 2 ≤ length (words_in bytes.now) }
     ensures { slice_index (words_in bytes.now) 1 ≡ result }
 {

@@ -4,7 +4,8 @@ ghost use Rattle.std.specs.Prelude.{◌≡◌, ◌+◌, ◌*◌, ◌<◌, ◌≤
 ghost use Rattle.std.specs.List.{flat_map};
 ghost use Rattle.vsl_record.specs.Payload.{most_payload};
 ghost use Rattle.vsl_record.specs.Unit.{vxid_end};
-ghost use Rattle.vsl_record.specs.Words.{header_mark, mark_bits, most_words, packed, record_words, unit_words};
+ghost use Rattle.vsl_record.specs.inside.Writing.{Wrote};
+ghost use Rattle.vsl_record.specs.Words.{header_mark, mark_bits, most_words, packed, record_words, unit_words, word_bytes};
 
 use crate::reading::TOP_BYTE;
 use crate::record_type::Record;
@@ -33,6 +34,15 @@ impl Unit {
             return self.header_word();
         }
         body_word(self.vxid(), self.records(), place - 1)
+    }
+
+    /// Writes the bytes of the unit's words, the lowest byte of each word first. It takes no memory.
+    pub fn write_bytes(&self, out: &mut [u8])
+        requires { length out.old ≡ 4 * length (unit_words self.now) }
+        ensures { out.new ≡ word_bytes (unit_words self.now) }
+    {
+        write_at(out, 0, &self.header_word().to_le_bytes());
+        write_records(self.vxid(), self.records(), out, 4);
     }
 
     /// The first word, which counts all.
@@ -72,6 +82,22 @@ impl Record {
         }
     }
 
+    /// Writes the bytes of the record's words, in a unit of this VXID, from a place on, and answers how many they are.
+    fn write_bytes(&self, vxid: Vxid, out: &mut [u8], at: usize) -> usize
+        requires in_range { vxid < vxid_end }
+        requires room { at + 4 * length (record_words vxid self.now) ≤ length out.old }
+        ensures written { Wrote at (at + 4 * length (record_words vxid self.now)) (word_bytes (record_words vxid self.now)) out.old out.new }
+        ensures size { result ≡ 4 * length (record_words vxid self.now) }
+    {
+        let payload = self.payload.as_slice();
+        let padding = &[0; 3][..(4 - payload.len() % 4) % 4];
+        write_at(out, at, &self.head_word().to_le_bytes());
+        write_at(out, at + 4, &self.id_word(vxid).to_le_bytes());
+        write_at(out, at + 8, payload);
+        write_at(out, at + 8 + payload.len(), padding);
+        8 + payload.len() + padding.len()
+    }
+
     /// Adds the record's words, in a unit of this VXID.
     fn push_words(&self, vxid: Vxid, words: &mut Vec<u32>) -> Result<(), NoMemory>
         requires { vxid < vxid_end }
@@ -80,6 +106,28 @@ impl Record {
         words.push(self.head_word())?;
         words.push(self.id_word(vxid))?;
         push_payload(self.payload.as_slice(), words)
+    }
+}
+
+/// Writes bytes from a place on.
+fn write_at(out: &mut [u8], at: usize, bytes: &[u8])
+    requires { at + length bytes.now ≤ length out.old }
+    ensures { Wrote at (at + length bytes.now) bytes.now out.old out.new }
+{
+    let (_, behind) = out.split_at_mut(at);
+    let (here, _) = behind.split_at_mut(bytes.len());
+    here.copy_from_slice(bytes);
+}
+
+/// Writes the bytes of the records' words, in a unit of this VXID, from a place on.
+fn write_records(vxid: Vxid, records: &[Record], out: &mut [u8], at: usize)
+    requires in_range { vxid < vxid_end }
+    requires room { at + 4 * length (flat_map (record_words vxid) records.now) ≤ length out.old }
+    ensures { Wrote at (at + 4 * length (flat_map (record_words vxid) records.now)) (word_bytes (flat_map (record_words vxid) records.now)) out.old out.new }
+{
+    let mut place = at;
+    for rec in records {
+        place += rec.write_bytes(vxid, out, place);
     }
 }
 

@@ -1,4 +1,3 @@
-mod AddedLemmas
 mod FileUnitExamples
 mod FileUnitLemmas
 mod LineLemmas

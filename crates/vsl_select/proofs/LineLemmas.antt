@@ -4,12 +4,12 @@ use Rattle.std.specs.List.{filter, flat_map, list_all, list_any}
 use Rattle.std.proofs.Math.Bool.{or-false, or-true}
 use Rattle.std.proofs.lemmas.List.{append-nil, append_assoc}
 use Rattle.std.proofs.lemmas.List.Folds.{list_all-map}
+use Rattle.log_model.proofs.PrefixLemmas.{cut_back}
 use Rattle.vsl_record.specs.declared.record_type.Record.{Record}
 use Rattle.txn_rows.specs.declared.group.Member.{Member}
 use Rattle.vsl_select.specs.Showing.{Showing}
 use Rattle.vsl_select.specs.Shown.{is_shown_member, shown_member, shown_members}
 use Rattle.vsl_select.specs.Lines.{is_some_of, level_field, header, record_line, member_text, transactions_text}
-use Rattle.vsl_select.proofs.AddedLemmas.{cut_back}
 
 -- ---- whether anything was added
 

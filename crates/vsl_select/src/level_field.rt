@@ -45,7 +45,7 @@ impl LevelField {
     }
 
     /// Adds the text.
-    #[tactic(auto, using(crate::proofs::AddedLemmas::adding))]
+    #[tactic(auto, using(log_model::proofs::PrefixLemmas::adding))]
     pub(crate) fn put(&self, out: &mut Vec<u8>) -> Result<(), NoMemory>
         ensures ok { OnOk result (out.new.items ≡ out.old.items ++ self.now) }
         ensures keeps { IsPrefix out.old.items out.new.items }
@@ -72,7 +72,7 @@ fn low_field(character: u8, level: u32) -> [u8; 4]
 /// Adds a level above 3 between two of the character. It is kept out of line, since few lines have one.
 #[cold]
 #[inline(never)]
-#[tactic(auto, using(crate::proofs::AddedLemmas::adding))]
+#[tactic(auto, using(log_model::proofs::PrefixLemmas::adding))]
 fn put_high_level(out: &mut Vec<u8>, character: u8, level: u32) -> Result<(), NoMemory>
     ensures ok { OnOk result (out.new.items ≡ out.old.items ++ character ∷ decimal level ++ character ∷ 32 ∷ []) }
     ensures keeps { IsPrefix out.old.items out.new.items }

@@ -17,7 +17,7 @@ use txn_rows::{Group, Member};
 use vsl_record::{Record, Vxid};
 
 /// Adds the raw lines of the shown records of a member.
-#[tactic(auto, using(crate::proofs::AddedLemmas::adding))]
+#[tactic(auto, using(log_model::proofs::PrefixLemmas::adding))]
 fn put_raw_member(out: &mut Vec<u8>, selection: &Selection, member: &Member) -> Result<(), NoMemory>
     ensures ok { OnOk result (out.new.items ≡ out.old.items ++ member_raw_lines (shown_member selection.now member.now)) }
     ensures keeps { IsPrefix out.old.items out.new.items }
@@ -32,7 +32,7 @@ fn put_raw_member(out: &mut Vec<u8>, selection: &Selection, member: &Member) -> 
 }
 
 /// Adds the raw lines of what is shown of a group of records by themselves.
-#[tactic(auto, using(crate::proofs::AddedLemmas::adding))]
+#[tactic(auto, using(log_model::proofs::PrefixLemmas::adding))]
 fn put_raw_members(
     out: &mut Vec<u8>,
     selection: &Selection,
@@ -50,7 +50,7 @@ fn put_raw_members(
 }
 
 /// Adds the end of a header: the VXID and a line feed.
-#[tactic(auto, using(crate::proofs::AddedLemmas::adding))]
+#[tactic(auto, using(log_model::proofs::PrefixLemmas::adding))]
 fn put_header_end(out: &mut Vec<u8>, vxid: Vxid) -> Result<(), NoMemory>
     ensures ok { OnOk result (out.new.items ≡ out.old.items ++ (codes " " ++ at_left 10 (decimal vxid) ++ codes "\n")) }
     ensures keeps { IsPrefix out.old.items out.new.items }
@@ -62,7 +62,7 @@ fn put_header_end(out: &mut Vec<u8>, vxid: Vxid) -> Result<(), NoMemory>
 }
 
 /// Adds a transaction's header.
-#[tactic(auto, using(crate::proofs::AddedLemmas::adding))]
+#[tactic(auto, using(log_model::proofs::PrefixLemmas::adding))]
 fn put_header(out: &mut Vec<u8>, member: &Member) -> Result<(), NoMemory>
     ensures ok { OnOk result (out.new.items ≡ out.old.items ++ header member.now) }
     ensures keeps { IsPrefix out.old.items out.new.items }
@@ -74,7 +74,7 @@ fn put_header(out: &mut Vec<u8>, member: &Member) -> Result<(), NoMemory>
 }
 
 /// Adds the text of a record in its transaction, after the level.
-#[tactic(auto, using(crate::proofs::AddedLemmas::adding))]
+#[tactic(auto, using(log_model::proofs::PrefixLemmas::adding))]
 fn put_record_text(out: &mut Vec<u8>, rec: &Record) -> Result<(), NoMemory>
     ensures ok { OnOk result (out.new.items ≡ out.old.items ++ record_text rec.now) }
     ensures keeps { IsPrefix out.old.items out.new.items }
@@ -83,7 +83,7 @@ fn put_record_text(out: &mut Vec<u8>, rec: &Record) -> Result<(), NoMemory>
 }
 
 /// Adds the line of a record in a transaction of this level, in dashes, and VXID.
-#[tactic(auto, using(crate::proofs::AddedLemmas::adding))]
+#[tactic(auto, using(log_model::proofs::PrefixLemmas::adding))]
 fn put_record(
     out: &mut Vec<u8>,
     verbose: bool,
@@ -103,7 +103,7 @@ fn put_record(
 }
 
 /// Adds the lines of the shown records of a transaction.
-#[tactic(auto, using(crate::proofs::AddedLemmas::adding))]
+#[tactic(auto, using(log_model::proofs::PrefixLemmas::adding))]
 fn put_records(
     out: &mut Vec<u8>,
     verbose: bool,
@@ -124,7 +124,7 @@ fn put_records(
 }
 
 /// Adds a transaction's header and its shown records, if it has any: the header of one without is cut off again.
-#[tactic(auto, using(crate::proofs::AddedLemmas::adding))]
+#[tactic(auto, using(log_model::proofs::PrefixLemmas::adding))]
 fn put_member(
     out: &mut Vec<u8>,
     verbose: bool,
@@ -145,7 +145,7 @@ fn put_member(
 }
 
 /// Adds the texts of what is shown of transactions, in order.
-#[tactic(auto, using(crate::proofs::AddedLemmas::adding))]
+#[tactic(auto, using(log_model::proofs::PrefixLemmas::adding))]
 fn put_members(
     out: &mut Vec<u8>,
     verbose: bool,
@@ -173,7 +173,7 @@ fn are_raw(selection: &Selection, members: &[Member]) -> bool
 }
 
 /// Adds the texts of what is shown of transactions, and an empty line if anything was printed.
-#[tactic(auto, using(crate::proofs::AddedLemmas::adding))]
+#[tactic(auto, using(log_model::proofs::PrefixLemmas::adding))]
 fn put_transactions(
     out: &mut Vec<u8>,
     verbose: bool,
@@ -192,7 +192,7 @@ fn put_transactions(
 }
 
 /// Adds the text of what is shown of a group, or a part of it.
-#[tactic(auto, using(crate::proofs::AddedLemmas::adding))]
+#[tactic(auto, using(log_model::proofs::PrefixLemmas::adding))]
 fn put_group(
     out: &mut Vec<u8>,
     verbose: bool,
@@ -214,7 +214,7 @@ fn put_group(
 /// is shown, nothing is added. After want of memory the list is as it was.
 ///
 /// Source: varnishlog(1), `-v`.
-#[tactic(auto, using(crate::proofs::AddedLemmas::cut_back))]
+#[tactic(auto, using(log_model::proofs::PrefixLemmas::cut_back))]
 pub fn group_text(
     group: &Group,
     selection: &Selection,

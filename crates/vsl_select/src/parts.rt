@@ -20,7 +20,7 @@ const VXID_COLUMNS: usize = 10;
 const SPACES: &[u8] = b"                ";
 
 /// Adds a text as it is.
-#[tactic(auto, using(crate::proofs::AddedLemmas::adding))]
+#[tactic(auto, using(log_model::proofs::PrefixLemmas::adding))]
 pub(crate) fn put_text(out: &mut Vec<u8>, text: &[u8]) -> Result<(), NoMemory>
     ensures ok { OnOk result (out.new.items ≡ out.old.items ++ text.now) }
     ensures keeps { IsPrefix out.old.items out.new.items }
@@ -30,7 +30,7 @@ pub(crate) fn put_text(out: &mut Vec<u8>, text: &[u8]) -> Result<(), NoMemory>
 }
 
 /// Adds a byte as it is.
-#[tactic(auto, using(crate::proofs::AddedLemmas::adding))]
+#[tactic(auto, using(log_model::proofs::PrefixLemmas::adding))]
 pub(crate) fn put_byte(out: &mut Vec<u8>, byte: u8) -> Result<(), NoMemory>
     ensures ok { OnOk result (out.new.items ≡ out.old.items ++ byte ∷ []) }
     ensures keeps { IsPrefix out.old.items out.new.items }
@@ -40,7 +40,7 @@ pub(crate) fn put_byte(out: &mut Vec<u8>, byte: u8) -> Result<(), NoMemory>
 }
 
 /// Adds this many spaces.
-#[tactic(auto, using(crate::proofs::AddedLemmas::adding))]
+#[tactic(auto, using(log_model::proofs::PrefixLemmas::adding))]
 fn put_spaces(out: &mut Vec<u8>, count: usize) -> Result<(), NoMemory>
     requires { count ≤ 16 }
     ensures ok { OnOk result (out.new.items ≡ out.old.items ++ replicate count 32) }
@@ -51,7 +51,7 @@ fn put_spaces(out: &mut Vec<u8>, count: usize) -> Result<(), NoMemory>
 }
 
 /// Adds a text at the left of its columns.
-#[tactic(auto, using(crate::proofs::AddedLemmas::adding))]
+#[tactic(auto, using(log_model::proofs::PrefixLemmas::adding))]
 fn put_left(out: &mut Vec<u8>, columns: usize, text: &[u8]) -> Result<(), NoMemory>
     requires { columns ≤ 16 }
     ensures ok { OnOk result (out.new.items ≡ out.old.items ++ at_left columns text.now) }
@@ -63,7 +63,7 @@ fn put_left(out: &mut Vec<u8>, columns: usize, text: &[u8]) -> Result<(), NoMemo
 }
 
 /// Adds a VXID at the left of its columns.
-#[tactic(auto, using(crate::proofs::AddedLemmas::adding))]
+#[tactic(auto, using(log_model::proofs::PrefixLemmas::adding))]
 pub(crate) fn put_vxid_left(out: &mut Vec<u8>, vxid: Vxid) -> Result<(), NoMemory>
     ensures ok { OnOk result (out.new.items ≡ out.old.items ++ at_left 10 (decimal vxid)) }
     ensures keeps { IsPrefix out.old.items out.new.items }
@@ -112,7 +112,7 @@ fn has_escape(byte: u8) -> bool
 }
 
 /// Adds a byte of a payload.
-#[tactic(auto, using(crate::proofs::AddedLemmas::adding))]
+#[tactic(auto, using(log_model::proofs::PrefixLemmas::adding))]
 fn put_escaped_byte(out: &mut Vec<u8>, byte: u8) -> Result<(), NoMemory>
     ensures ok { OnOk result (out.new.items ≡ out.old.items ++ escaped_byte byte) }
     ensures keeps { IsPrefix out.old.items out.new.items }
@@ -144,7 +144,7 @@ fn plain_length(bytes: &[u8]) -> usize
 /// Adds a payload, run by run. It is kept out of line, since few payloads have an escape.
 #[cold]
 #[inline(never)]
-#[tactic(auto, using(crate::proofs::AddedLemmas::adding))]
+#[tactic(auto, using(log_model::proofs::PrefixLemmas::adding))]
 fn put_with_escapes(out: &mut Vec<u8>, payload: &[u8]) -> Result<(), NoMemory>
     ensures ok { OnOk result (out.new.items ≡ out.old.items ++ escaped payload.now) }
     ensures keeps { IsPrefix out.old.items out.new.items }
@@ -175,7 +175,7 @@ fn has_any_escape(payload: &[u8]) -> bool
 }
 
 /// Adds a payload; at once where no byte of it needs an escape, as in most.
-#[tactic(auto, using(crate::proofs::AddedLemmas::adding))]
+#[tactic(auto, using(log_model::proofs::PrefixLemmas::adding))]
 pub(crate) fn put_escaped(out: &mut Vec<u8>, payload: &[u8]) -> Result<(), NoMemory>
     ensures ok { OnOk result (out.new.items ≡ out.old.items ++ escaped payload.now) }
     ensures keeps { IsPrefix out.old.items out.new.items }

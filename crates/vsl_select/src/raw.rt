@@ -14,7 +14,7 @@ use vsl_tags::{Tag, name_columns};
 
 /// Adds a tag's name in its columns, and a space.
 #[inline]
-#[tactic(auto, using(crate::proofs::AddedLemmas::adding))]
+#[tactic(auto, using(log_model::proofs::PrefixLemmas::adding))]
 fn put_tag(out: &mut Vec<u8>, tag: Tag) -> Result<(), NoMemory>
     ensures ok { OnOk result (out.new.items ≡ out.old.items ++ name_columns tag) }
     ensures keeps { IsPrefix out.old.items out.new.items }
@@ -23,7 +23,7 @@ fn put_tag(out: &mut Vec<u8>, tag: Tag) -> Result<(), NoMemory>
 }
 
 /// Adds the end of a line: the text with its escapes, and a line feed.
-#[tactic(auto, using(crate::proofs::AddedLemmas::adding))]
+#[tactic(auto, using(log_model::proofs::PrefixLemmas::adding))]
 fn put_line_end(out: &mut Vec<u8>, text: &[u8]) -> Result<(), NoMemory>
     ensures ok { OnOk result (out.new.items ≡ out.old.items ++ (escaped text.now ++ codes "\n")) }
     ensures keeps { IsPrefix out.old.items out.new.items }
@@ -34,7 +34,7 @@ fn put_line_end(out: &mut Vec<u8>, text: &[u8]) -> Result<(), NoMemory>
 }
 
 /// Adds a tag in its columns and a text with its escapes, or a part of them.
-#[tactic(auto, using(crate::proofs::AddedLemmas::adding))]
+#[tactic(auto, using(log_model::proofs::PrefixLemmas::adding))]
 pub(crate) fn put_tag_line(out: &mut Vec<u8>, tag: Tag, text: &[u8]) -> Result<(), NoMemory>
     ensures ok { OnOk result (out.new.items ≡ out.old.items ++ tag_line tag text.now) }
     ensures keeps { IsPrefix out.old.items out.new.items }
@@ -45,7 +45,7 @@ pub(crate) fn put_tag_line(out: &mut Vec<u8>, tag: Tag, text: &[u8]) -> Result<(
 }
 
 /// Adds the raw line of a record, or a part of it.
-#[tactic(auto, using(crate::proofs::AddedLemmas::adding))]
+#[tactic(auto, using(log_model::proofs::PrefixLemmas::adding))]
 pub(crate) fn put_raw_line(
     out: &mut Vec<u8>,
     vxid: &VxidColumns,
@@ -62,7 +62,7 @@ pub(crate) fn put_raw_line(
 }
 
 /// Adds the raw lines of records, or a part of them.
-#[tactic(auto, using(crate::proofs::AddedLemmas::adding))]
+#[tactic(auto, using(log_model::proofs::PrefixLemmas::adding))]
 pub(crate) fn put_raw_lines(
     out: &mut Vec<u8>,
     vxid: Vxid,
@@ -79,7 +79,7 @@ pub(crate) fn put_raw_lines(
 }
 
 /// Adds a tag's name at the left of 14 columns, a space, the text with its escapes, and a line feed. After want of memory the list is as it was.
-#[tactic(auto, using(crate::proofs::AddedLemmas::cut_back))]
+#[tactic(auto, using(log_model::proofs::PrefixLemmas::cut_back))]
 pub fn tag_line(tag: Tag, text: &[u8], out: &mut Vec<u8>) -> Result<(), NoMemory>
     ensures ok { OnOk result (out.new.items ≡ out.old.items ++ tag_line tag text.now) }
     ensures err { OnErr result (out.new.items ≡ out.old.items) }
@@ -93,7 +93,7 @@ pub fn tag_line(tag: Tag, text: &[u8], out: &mut Vec<u8>) -> Result<(), NoMemory
 }
 
 /// Adds the raw line of a record (varnishlog(1), `-g raw`). After want of memory the list is as it was.
-#[tactic(auto, using(crate::proofs::AddedLemmas::cut_back))]
+#[tactic(auto, using(log_model::proofs::PrefixLemmas::cut_back))]
 pub fn raw_line(vxid: Vxid, rec: &Record, out: &mut Vec<u8>) -> Result<(), NoMemory>
     ensures ok { OnOk result (out.new.items ≡ out.old.items ++ raw_line vxid rec.now) }
     ensures err { OnErr result (out.new.items ≡ out.old.items) }
@@ -107,7 +107,7 @@ pub fn raw_line(vxid: Vxid, rec: &Record, out: &mut Vec<u8>) -> Result<(), NoMem
 }
 
 /// Adds the raw lines of a unit's records (varnishlog(1), `-g raw`). After want of memory the list is as it was.
-#[tactic(auto, using(crate::proofs::AddedLemmas::cut_back))]
+#[tactic(auto, using(log_model::proofs::PrefixLemmas::cut_back))]
 pub fn raw_lines(unit: &Unit, out: &mut Vec<u8>) -> Result<(), NoMemory>
     ensures ok { OnOk result (out.new.items ≡ out.old.items ++ raw_lines unit.now) }
     ensures err { OnErr result (out.new.items ≡ out.old.items) }

@@ -1,5 +1,5 @@
 mod TableChecks
-mod NameLemmas
+pub mod NameLemmas
 mod GlobLemmas
 mod TagSetLemmas
 mod Examples

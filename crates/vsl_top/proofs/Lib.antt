@@ -1,6 +1,5 @@
 mod ConsumerLemmas
 mod CountLemmas
 mod Examples
-mod LineLemmas
 mod LoopLemmas
 mod OrderLemmas

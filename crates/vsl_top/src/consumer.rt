@@ -55,7 +55,7 @@ impl TopConsumer {
     /// name, then by the text. After want of memory the list is as it was.
     ///
     /// Source: varnishtop(1), `-1`.
-    #[tactic(auto, using(crate::proofs::LineLemmas::cut_back))]
+    #[tactic(auto, using(log_model::proofs::PrefixLemmas::cut_back))]
     pub fn report(&self, out: &mut Vec<u8>) -> Result<(), NoMemory>
         ensures ok { OnOk result ((groups : List Group) (ended : Bool) (taken : List ℕ) → IsTop self.now groups ended taken → out.new.items ≡ out.old.items ++ output_of self.now groups true) }
         ensures err { OnErr result (out.new.items ≡ out.old.items) }

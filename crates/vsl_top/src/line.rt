@@ -47,7 +47,7 @@ impl<'a> Line<'a> {
     }
 
     /// Adds the text of the line, or a part of it.
-    #[tactic(auto, using(crate::proofs::LineLemmas::adding))]
+    #[tactic(auto, using(log_model::proofs::PrefixLemmas::adding))]
     pub(crate) fn put(&self, out: &mut Vec<u8>) -> Result<(), NoMemory>
         ensures ok { OnOk result (out.new.items ≡ out.old.items ++ line_text (line_in self.now)) }
         ensures keeps { IsPrefix out.old.items out.new.items }
@@ -58,7 +58,7 @@ impl<'a> Line<'a> {
 }
 
 /// Adds this many spaces.
-#[tactic(auto, using(crate::proofs::LineLemmas::adding))]
+#[tactic(auto, using(log_model::proofs::PrefixLemmas::adding))]
 fn put_spaces(count: usize, out: &mut Vec<u8>) -> Result<(), NoMemory>
     requires { count ≤ 10 }
     ensures ok { OnOk result (out.new.items ≡ out.old.items ++ replicate count 32) }
@@ -69,7 +69,7 @@ fn put_spaces(count: usize, out: &mut Vec<u8>) -> Result<(), NoMemory>
 }
 
 /// Adds a count at the right of its columns, and a space.
-#[tactic(auto, using(crate::proofs::LineLemmas::adding))]
+#[tactic(auto, using(log_model::proofs::PrefixLemmas::adding))]
 fn put_count(count: u64, out: &mut Vec<u8>) -> Result<(), NoMemory>
     ensures ok { OnOk result (out.new.items ≡ out.old.items ++ (at_right 10 (decimal count) ++ codes " ")) }
     ensures keeps { IsPrefix out.old.items out.new.items }
@@ -83,7 +83,7 @@ fn put_count(count: u64, out: &mut Vec<u8>) -> Result<(), NoMemory>
 }
 
 /// Adds the texts of lines, or a part of them.
-#[tactic(auto, using(crate::proofs::LineLemmas::adding))]
+#[tactic(auto, using(log_model::proofs::PrefixLemmas::adding))]
 pub(crate) fn put_lines(lines: &[Line<'_>], out: &mut Vec<u8>) -> Result<(), NoMemory>
     ensures ok { OnOk result (out.new.items ≡ out.old.items ++ flat_map line_text (map line_in lines.now)) }
     ensures keeps { IsPrefix out.old.items out.new.items }

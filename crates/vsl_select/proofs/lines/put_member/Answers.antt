@@ -1,6 +1,5 @@
 use Rattle.std.proofs.Common.{arith}
-use Rattle.log_model.proofs.PrefixLemmas.{prefix_equal, prefix_then}
-use Rattle.vsl_select.proofs.AddedLemmas.{cut_back}
+use Rattle.log_model.proofs.PrefixLemmas.{cut_back, prefix_equal, prefix_then}
 use Rattle.vsl_select.proofs.LineLemmas.{header_cut}
 use Rattle.vsl_select.proofs.lines.put_member.Goals as goal
 

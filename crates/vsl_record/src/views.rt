@@ -1,0 +1,136 @@
+//! A unit and its records, lent from a buffer of the unit's words.
+
+ghost use Rattle.std.specs.Prelude.{◌≡◌, ◌+◌, ◌*◌, ◌<◌, ◌≤◌, ℕ, List, [], length, slice_get, drop, Some, IfOk};
+ghost use Rattle.vsl_record.specs.declared.record_type.Record.{Record};
+ghost use Rattle.vsl_record.specs.Unit.{LogUnit};
+ghost use Rattle.vsl_record.specs.Views.{Spells, StartsWith};
+ghost use Rattle.vsl_record.specs.Words.{words_in};
+
+use crate::laws::are_bytes;
+use crate::mark::Mark;
+use crate::reading::{TOP_BYTE, header_word, read_unit_bytes, second_word};
+use crate::unit::{Unit, VXID_END, Vxid};
+use bytes::Bytes;
+use log_model::NoMemory;
+use std::alloc::Global;
+use std::marker::Model;
+use vsl_tags::Tag;
+
+/// A record that is lent: its tag, and the bytes of its payload.
+#[derive(Clone, Copy, Debug)]
+pub struct RecordView<'a> {
+    /// What the record is about.
+    pub tag: Tag,
+    /// What it says: at most 4,000 bytes.
+    pub payload: &'a [u8],
+}
+
+/// A unit that is lent from the bytes of its words. It copies nothing. Contracts see the words.
+#[derive(Debug)]
+pub struct UnitView<'a> {
+    bytes: &'a [u8],
+}
+
+impl<'a> Model for UnitView<'a> {
+    ghost use Rattle.std.specs.Prelude.{List, ℕ};
+    ghost use Rattle.vsl_record.specs.Unit.{LogUnit};
+    ghost use Rattle.vsl_record.specs.Views.{Spells};
+    ghost use Rattle.vsl_record.specs.Words.{words_in};
+
+    ghost Value = { List ℕ };
+
+    ghost view = { λ v. words_in v.bytes.now };
+
+    ghost invariant = { λ v. (u : LogUnit) × Spells (words_in v.bytes.now) u };
+}
+
+/// The record whose words begin these bytes, and the bytes behind them.
+fn first_view(bytes: &[u8]) -> (RecordView<'_>, &[u8])
+    requires { (rec : Record) × (rest : List ℕ) × StartsWith (words_in bytes.now) rec rest }
+    ensures tag { (rec : Record) (rest : List ℕ) → StartsWith (words_in bytes.now) rec rest → result.0.tag ≡ rec.tag }
+    ensures payload { (rec : Record) (rest : List ℕ) → StartsWith (words_in bytes.now) rec rest → result.0.payload.now ≡ rec.payload }
+    ensures shorter { length result.1.now < length bytes.now }
+    ensures rest { (rec : Record) (rest : List ℕ) → StartsWith (words_in bytes.now) rec rest → words_in result.1.now ≡ rest }
+{
+    are_bytes(bytes);
+    let head = header_word(bytes);
+    let Some(tag) = Tag::from_number((head / TOP_BYTE) as u8) else {
+        unreachable!()
+    };
+    let length = (head % TOP_BYTE) as usize;
+    let (_, behind) = bytes.split_at(8);
+    let (held, rest) = behind.split_at(4 * ((length + 3) / 4));
+    let (payload, _) = held.split_at(length);
+    (RecordView { tag, payload }, rest)
+}
+
+impl<'a> UnitView<'a> {
+    /// The unit whose words these bytes are, the lowest byte of each word first.
+    pub fn new(bytes: &'a [u8]) -> UnitView<'a>
+        requires { (u : LogUnit) × Spells (words_in bytes.now) u }
+        ensures { result ≡ words_in bytes.now }
+    {
+        UnitView { bytes }
+    }
+
+    /// The bytes behind the unit's header.
+    fn body(&self) -> &'a [u8]
+        ensures words { words_in result.now ≡ drop 1 self.now }
+        ensures unit { (u : LogUnit) × Spells self.now u }
+    {
+        let (_, body) = self.bytes.split_at(4);
+        body
+    }
+
+    /// The VXID.
+    pub fn vxid(&self) -> Vxid
+        ensures { (u : LogUnit) → Spells self.now u → result ≡ u.vxid }
+    {
+        second_word(self.body()) % VXID_END
+    }
+
+    /// The mark of every record.
+    pub fn mark(&self) -> Mark
+        ensures { (u : LogUnit) → Spells self.now u → result ≡ u.mark }
+    {
+        Mark::of_id(second_word(self.body()))
+    }
+
+    /// How many records the unit has: at least one. It walks over them.
+    pub fn len(&self) -> usize
+        ensures { (u : LogUnit) → Spells self.now u → result ≡ length u.records }
+    {
+        let mut count = 0;
+        let mut rest = self.body();
+        while rest.len() >= 4 {
+            count += 1;
+            (_, rest) = first_view(rest);
+        }
+        count
+    }
+
+    /// The record at this place, from 0. It walks over those before it.
+    pub fn item(&self, place: usize) -> RecordView<'a>
+        requires { (u : LogUnit) → Spells self.now u → place < length u.records }
+        ensures tag { (u : LogUnit) (rec : Record) → Spells self.now u → slice_get u.records place ≡ Some rec → result.tag ≡ rec.tag }
+        ensures payload { (u : LogUnit) (rec : Record) → Spells self.now u → slice_get u.records place ≡ Some rec → result.payload.now ≡ rec.payload }
+    {
+        let mut rest = self.body();
+        for _ in 0..place {
+            (_, rest) = first_view(rest);
+        }
+        let (view, _) = first_view(rest);
+        view
+    }
+
+    /// A copy of the unit.
+    pub fn to_unit(&self, alloc: Global) -> Result<Unit, NoMemory>
+        ensures { (u : LogUnit) → Spells self.now u → IfOk result (λ unit. unit ≡ u) }
+    {
+        let bytes = Bytes::copy_from_slice(alloc, self.bytes)?;
+        match read_unit_bytes(alloc, bytes) {
+            Ok((unit, _)) => Ok(unit),
+            Err(_) => Err(NoMemory),
+        }
+    }
+}
