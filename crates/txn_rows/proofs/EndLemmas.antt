@@ -9,7 +9,6 @@ use Rattle.std.proofs.lemmas.List.Elements.{All-nil, All-cons, All-head, All-tai
 use Rattle.std.proofs.lemmas.List.Sums.{AllPass-from_list_all}
 use Rattle.vsl_tags.specs.Tags.{timestamp_tag, begin_tag, link_tag, end_tag, vsl_tag}
 use Rattle.vsl_record.specs.declared.record_type.Record.{Record}
-use Rattle.vsl_record.specs.Unit.{Log}
 use Rattle.txn_rows.specs.declared.group.Grouping.{Grouping}
 use Rattle.txn_rows.specs.declared.group.GroupOptions.{GroupOptions}
 use Rattle.txn_rows.specs.declared.group.Cause.{Cause}
@@ -21,7 +20,7 @@ use Rattle.txn_rows.specs.inside.Steps.{test_of}
 use Rattle.txn_rows.specs.declared.force.Which.TheVariants.{Unfinished, Late}
 use Rattle.txn_rows.specs.Transaction.{Transaction, cause_text, empty_transaction, is_unknown, is_pending, is_open, newest, with_newest, with_record, claimed_kind, ended, forced, first_mark, oldest, with_oldest}
 use Rattle.txn_rows.specs.Links.{with_parent, can_join, children, root_of, tree_of, path_of, preorder, member_of, group_of}
-use Rattle.txn_rows.specs.Grouping.{State, Leaving, no_state, nothing_left, then_left, with_new, with_transaction, timed, left_by, forced_one, after_end, ended_one, after_timeouts, after_overflow, is_behind, flush, unfinished, with_all_told, grouped, is_raw, step, steps, passes_over, unit_step, unit_steps}
+use Rattle.txn_rows.specs.Grouping.{Taken, TakenUnit, Missed, State, Leaving, no_state, nothing_left, then_left, with_new, with_transaction, timed, left_by, forced_one, after_end, ended_one, after_timeouts, after_overflow, is_behind, flush, unfinished, with_all_told, grouped, is_raw, step, steps, passes_over, taken_step, taken_steps}
 use Rattle.txn_rows.specs.Ends.{HasNoEnd, IsEnded, TellsEnd, HasEnded}
 use Rattle.txn_rows.proofs.LineLemmas.{by_cases, either}
 use Rattle.txn_rows.proofs.KeepLemmas.{HoldsOn, often_holds, down_holds, timeouts_hold, Keeps, begun_kept, told_kept}
@@ -232,24 +231,29 @@ steps_end options vxid (rec ∷ records) state whole all =
     let first_ends : Ends first = rw whole (grouped_ends options vxid rec state all) in
     ends_then first (steps options vxid records) first_ends (steps_end options vxid records first.state whole)
 
-units_end : (options : GroupOptions) (units : Log) (state : State) → is_raw options.grouping ≡ false → AllTell state → Ends (unit_steps options units state)
-units_end options [] state whole all = nothing_ends state all
-units_end options (u ∷ units) state whole all =
-    let first : Leaving = unit_step options u state in
-    ends_then first (unit_steps options units)
-    (either Ends (passes_over options.grouping u.vxid) (nothing_left state) (steps options u.vxid u.records state) (nothing_ends state all) (steps_end options u.vxid u.records state whole all))
-    (units_end options units first.state whole)
+flush_ends : (state : State) → AllTell state → Ends (flush state)
+flush_ends state = often_holds (λ state r. AllTell state → Ends r) ends_on (unfinished state) Unfinished Flush state
 
-log_ends : (options : GroupOptions) (units : Log) → is_raw options.grouping ≡ false → Ends (unit_steps options units no_state)
-log_ends options units whole = units_end options units no_state whole (All-nil Tells)
+item_ends : (options : GroupOptions) (item : Taken) (state : State) → is_raw options.grouping ≡ false → AllTell state → Ends (taken_step options item state)
+item_ends options (TakenUnit u) state whole all = either Ends (passes_over options.grouping u.vxid) (nothing_left state) (steps options u.vxid u.records state) (nothing_ends state all) (steps_end options u.vxid u.records state whole all)
+item_ends options Missed state whole all = flush_ends state all
 
--- over every log a pending transaction tells its End
-pub each_pending_tells : (options : GroupOptions) (units : Log) → is_raw options.grouping ≡ false → All (λ t. TellsEnd t.ended t.records) (unit_steps options units no_state).state.pending
-each_pending_tells options units whole = (log_ends options units whole).pending
+items_end : (options : GroupOptions) (taken : List Taken) (state : State) → is_raw options.grouping ≡ false → AllTell state → Ends (taken_steps options taken state)
+items_end options [] state whole all = nothing_ends state all
+items_end options (item ∷ taken) state whole all =
+    let first : Leaving = taken_step options item state in
+    ends_then first (taken_steps options taken) (item_ends options item state whole all) (items_end options taken first.state whole)
 
--- over every log each member of a group has one End, its last record
-pub each_member_ended : (options : GroupOptions) (units : Log) → is_raw options.grouping ≡ false →
-    All HasEnded ((unit_steps options units no_state).groups ++ (flush (unit_steps options units no_state).state).groups)
-each_member_ended options units whole =
-    let run : Leaving = unit_steps options units no_state in
-    (ends_then run flush (log_ends options units whole) (often_holds (λ state r. AllTell state → Ends r) ends_on (unfinished run.state) Unfinished Flush run.state)).groups
+taken_ends : (options : GroupOptions) (taken : List Taken) → is_raw options.grouping ≡ false → Ends (taken_steps options taken no_state)
+taken_ends options taken whole = items_end options taken no_state whole (All-nil Tells)
+
+-- whatever was taken, a pending transaction tells its End
+pub each_pending_tells : (options : GroupOptions) (taken : List Taken) → is_raw options.grouping ≡ false → All (λ t. TellsEnd t.ended t.records) (taken_steps options taken no_state).state.pending
+each_pending_tells options taken whole = (taken_ends options taken whole).pending
+
+-- and each member of a group has one End, its last record
+pub each_member_ended : (options : GroupOptions) (taken : List Taken) → is_raw options.grouping ≡ false →
+    All HasEnded ((taken_steps options taken no_state).groups ++ (flush (taken_steps options taken no_state).state).groups)
+each_member_ended options taken whole =
+    let run : Leaving = taken_steps options taken no_state in
+    (ends_then run flush (taken_ends options taken whole) (flush_ends run.state)).groups

@@ -1,22 +1,25 @@
 -- After each record no more than the limit are pending.
-use Rattle.std.proofs.Common.{◌≡◌, ◌≤◌, ℕ, zero, suc, not, ltb, Some, List, [], ◌∷◌, length, map, refl, ap, sym, ◌∙◌, arith}
+use Rattle.std.proofs.Common.{◌≡◌, ◌≤◌, ℕ, zero, suc, false, true, not, ltb, Some, List, [], ◌∷◌, ◌++◌, length, map, refl, ap, sym, ◌∙◌, arith}
 use Rattle.std.specs.Prelude.{count_by}
 use Rattle.std.proofs.lemmas.Bool.{eq-eqb, ltb-false}
+use Rattle.std.proofs.lemmas.List.{append-nil}
 use Rattle.vsl_record.specs.declared.record_type.Record.{Record}
-use Rattle.vsl_record.specs.Unit.{LogUnit, Log}
+use Rattle.vsl_record.specs.Unit.{LogUnit}
 use Rattle.txn_rows.specs.declared.rows.Row.{Row}
+use Rattle.txn_rows.specs.declared.group.Group.{Group}
 use Rattle.txn_rows.specs.declared.group.GroupOptions.{GroupOptions}
 use Rattle.txn_rows.specs.declared.force.Which.TheVariants.{Unfinished}
 use Rattle.txn_rows.specs.declared.group.Cause.{Cause}
 use Rattle.txn_rows.specs.declared.group.Cause.TheVariants.{Overflow, Flush}
 use Rattle.txn_rows.specs.Transaction.{Transaction}
-use Rattle.txn_rows.specs.Grouping.{State, Leaving, nothing_left, forced_one, forced_often, forced_down, flush, is_unfinished, unfinished, grouped, after_end, after_timeouts, with_all_told, no_state, is_raw, raw_group, step, steps, passes_over, unit_step, unit_steps}
+use Rattle.txn_rows.specs.Grouping.{Taken, TakenUnit, Missed, State, Leaving, nothing_left, forced_one, forced_often, forced_down, flush, is_unfinished, unfinished, grouped, after_end, after_timeouts, with_all_told, no_state, is_raw, raw_group, step, steps, passes_over, unit_step, taken_step, taken_steps, left_of}
 use Rattle.txn_rows.specs.inside.Rows.{transaction_of, row_of}
 use Rattle.txn_rows.specs.inside.States.{HasOpen, Standing}
+use Rattle.txn_rows.proofs.GroupingLemmas.{steps_append}
 use Rattle.txn_rows.proofs.LineLemmas.{by_cases, either}
 use Rattle.txn_rows.proofs.JoinLemmas.{count_map, row_counted}
 use Rattle.txn_rows.proofs.ForceAllLemmas.{one_fewer}
-use Rattle.txn_rows.proofs.RunLemmas.{one_stands, told_stands, end_stands, timeouts_stand, step_stands, unit_stands, log_stands}
+use Rattle.txn_rows.proofs.RunLemmas.{one_stands, told_stands, end_stands, timeouts_stand, step_stands, item_stands, taken_stand}
 
 -- where all have ended, none is pending
 none_pending : (rows : List Row) → ((s : ℕ) (row : Row) → row_of s rows ≡ Some row → HasOpen rows row.root) → count_by is_unfinished (map transaction_of rows) ≡ 0 → length (map transaction_of rows) ≡ 0
@@ -63,10 +66,25 @@ steps_within options vxid (rec ∷ records) state s within =
 unit_within : (options : GroupOptions) (u : LogUnit) (state : State) → Standing state → length state.pending ≤ options.limit → length (unit_step options u state).state.pending ≤ options.limit
 unit_within options u state s within = either (λ r. length r.state.pending ≤ options.limit) (passes_over options.grouping u.vxid) (nothing_left state) (steps options u.vxid u.records state) within (steps_within options u.vxid u.records state s within)
 
-units_within : (options : GroupOptions) (units : Log) (state : State) → Standing state → length state.pending ≤ options.limit → length (unit_steps options units state).state.pending ≤ options.limit
-units_within options [] state s within = within
-units_within options (u ∷ units) state s within = units_within options units (unit_step options u state).state (unit_stands options u state s) (unit_within options u state s within)
+item_within : (options : GroupOptions) (item : Taken) (state : State) → Standing state → length state.pending ≤ options.limit → length (taken_step options item state).state.pending ≤ options.limit
+item_within options (TakenUnit u) state s within = unit_within options u state s within
+item_within options Missed state s within = omega (arith, flush_empties state s)
 
--- over every log no more than the limit are pending after each unit
-pub log_within : (options : GroupOptions) (units : Log) → length (unit_steps options units no_state).state.pending ≤ options.limit
-log_within options units = units_within options units no_state (log_stands options []) (omega arith)
+items_within : (options : GroupOptions) (taken : List Taken) (state : State) → Standing state → length state.pending ≤ options.limit → length (taken_steps options taken state).state.pending ≤ options.limit
+items_within options [] state s within = within
+items_within options (item ∷ taken) state s within =
+    items_within options taken (taken_step options item state).state (item_stands options item state s) (item_within options item state s within)
+
+-- whatever was taken, no more than the limit are pending after each item
+pub taken_within : (options : GroupOptions) (taken : List Taken) → length (taken_steps options taken no_state).state.pending ≤ options.limit
+taken_within options taken = items_within options taken no_state (taken_stand options []) (omega arith)
+
+-- after an overrun none is pending, and what left up to there is what a flush there leaves
+pub overrun_empties : (options : GroupOptions) (taken : List Taken) → length (taken_steps options (taken ++ Missed ∷ []) no_state).state.pending ≡ 0
+overrun_empties options taken =
+    ap (λ (s : State). length s.pending) (steps_append options taken (Missed ∷ []) no_state).0 ∙ flush_empties (taken_steps options taken no_state).state (taken_stand options taken)
+
+pub overrun_leaves : (options : GroupOptions) (taken : List Taken) → left_of options (taken ++ Missed ∷ []) false ≡ left_of options taken true
+overrun_leaves options taken =
+    let run : Leaving = taken_steps options taken no_state in
+    (steps_append options taken (Missed ∷ []) no_state).1 ∙ ap (λ (gs : List Group). run.groups ++ gs) (append-nil (flush run.state).groups)

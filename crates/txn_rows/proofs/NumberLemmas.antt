@@ -1,4 +1,4 @@
--- Over every log the children of one parent have different numbers, and a link tells its parent's VXID.
+-- The children of one parent have different numbers, whatever was taken, and a link tells its parent's VXID.
 use Rattle.std.proofs.Common.{◌≡◌, ◌+◌, ◌<◌, ◌≤◌, ⊎_elim, ℕ, Bool, true, false, not, eqb, cond, ◌&&◌, Option, Some, None, List, [], ◌∷◌, ◌++◌, map, refl, ap, sym, ◌∙◌, subst, arith}
 use Rattle.std.specs.Prelude.{count_by, is_none}
 use Rattle.std.specs.List.{All, Contains, filter}

@@ -8,21 +8,23 @@ use Rattle.std.proofs.lemmas.List.{map-append}
 use Rattle.std.proofs.lemmas.List.Elements.{All-nil, All-cons}
 use Rattle.vsl_tags.specs.Tags.{end_tag}
 use Rattle.vsl_record.specs.declared.record_type.Record.{Record}
-use Rattle.vsl_record.specs.Unit.{LogUnit, Log}
+use Rattle.vsl_record.specs.Unit.{LogUnit}
 use Rattle.txn_rows.specs.declared.rows.Row.{Row}
 use Rattle.txn_rows.specs.declared.join.Join.{Join}
 use Rattle.txn_rows.specs.declared.group.ParentLink.{ParentLink}
 use Rattle.txn_rows.specs.declared.group.Grouping.{Grouping}
 use Rattle.txn_rows.specs.declared.group.GroupOptions.{GroupOptions}
 use Rattle.txn_rows.specs.declared.group.Cause.{Cause}
+use Rattle.txn_rows.specs.declared.group.Cause.TheVariants.{Flush}
+use Rattle.txn_rows.specs.declared.force.Which.TheVariants.{Unfinished}
 use Rattle.txn_rows.specs.Transaction.{Transaction, empty_transaction, is_pending, newest, with_newest, claimed_kind, ended, forced, oldest, with_oldest}
 use Rattle.txn_rows.specs.Links.{with_parent, with_link, leads_to, line_of, root_of}
-use Rattle.txn_rows.specs.Grouping.{State, Leaving, no_state, nothing_left, with_new, with_transaction, timed, left_by, forced_one, after_end, after_timeouts, unfinished, with_all_told, grouped, is_raw, raw_group, step, steps, passes_over, unit_step, unit_steps}
+use Rattle.txn_rows.specs.Grouping.{Taken, TakenUnit, Missed, State, Leaving, no_state, nothing_left, with_new, with_transaction, timed, left_by, forced_one, after_end, after_timeouts, unfinished, with_all_told, grouped, is_raw, raw_group, step, steps, passes_over, unit_step, flush, taken_step, taken_steps}
 use Rattle.txn_rows.specs.inside.Rows.{transaction_of, row_of, Rising, AreTrees, Each, joined, Rows, left_rows, rows_below, rows_beside, row_timed}
 use Rattle.txn_rows.specs.inside.Steps.{state_with, test_of}
 use Rattle.txn_rows.specs.inside.States.{HasOpen, OpenTrees, Standing}
 use Rattle.txn_rows.proofs.LineLemmas.{by_cases, either, row_of_serial, Line}
-use Rattle.txn_rows.proofs.KeepLemmas.{HoldsOn, down_holds, timeouts_hold, claimed_same, Keeps, begun_kept, told_kept}
+use Rattle.txn_rows.proofs.KeepLemmas.{HoldsOn, often_holds, down_holds, timeouts_hold, claimed_same, Keeps, begun_kept, told_kept}
 use Rattle.txn_rows.proofs.JoinLemmas.{Pair, link_refused, link_joins, row_of_map, before_map, joined_serial, joined_root}
 use Rattle.txn_rows.proofs.TreeLemmas.{each_found, each_weaker, each_line}
 use Rattle.txn_rows.proofs.StandLemmas.{KeepsPlaces, trees_kept, trees_push, trees_after, left_is, found_push, found_still, found_filter, kept_filter}
@@ -490,13 +492,20 @@ steps_stand options vxid (rec ∷ records) state s = steps_stand options vxid re
 pub unit_stands : (options : GroupOptions) (u : LogUnit) (state : State) → Standing state → Standing (unit_step options u state).state
 unit_stands options u state s = either (λ r. Standing r.state) (passes_over options.grouping u.vxid) (nothing_left state) (steps options u.vxid u.records state) s (steps_stand options u.vxid u.records state s)
 
-units_stand : (options : GroupOptions) (units : Log) (state : State) → Standing state → Standing (unit_steps options units state).state
-units_stand options [] state s = s
-units_stand options (u ∷ units) state s = units_stand options units (unit_step options u state).state (unit_stands options u state s)
+pub flush_stands : (state : State) → Standing state → Standing (flush state).state
+flush_stands state = often_holds (λ state r. Standing state → Standing r.state) stands_on (unfinished state) Unfinished Flush state
 
--- over every log the pending transactions stand in trees
-pub log_stands : (options : GroupOptions) (units : Log) → Standing (unit_steps options units no_state).state
-log_stands options units = units_stand options units no_state (record {
+pub item_stands : (options : GroupOptions) (item : Taken) (state : State) → Standing state → Standing (taken_step options item state).state
+item_stands options (TakenUnit u) state s = unit_stands options u state s
+item_stands options Missed state s = flush_stands state s
+
+items_stand : (options : GroupOptions) (taken : List Taken) (state : State) → Standing state → Standing (taken_steps options taken state).state
+items_stand options [] state s = s
+items_stand options (item ∷ taken) state s = items_stand options taken (taken_step options item state).state (item_stands options item state s)
+
+-- over whatever was taken the pending transactions stand in trees
+pub taken_stand : (options : GroupOptions) (taken : List Taken) → Standing (taken_steps options taken no_state).state
+taken_stand options taken = items_stand options taken no_state (record {
   rows = [];
   trees = record { rising = omega arith; forest = record { linked = λ s row e. absurd (cc); shallow = λ s row e. absurd (cc) } };
   told = refl;
@@ -508,12 +517,12 @@ pub all_told : (P : Transaction → Type 0) (rows : List Row) → Each (λ row. 
 all_told P [] e = All-nil P
 all_told P (row ∷ rows) e = All-cons P (transaction_of row) (map transaction_of rows) e.0 (all_told P rows e.1)
 
--- over every log each line ends at a transaction without a parent
-pub log_lines_end : (options : GroupOptions) (units : Log) → All (λ t. (root_of (unit_steps options units no_state).state.pending t).parent ≡ None) (unit_steps options units no_state).state.pending
-log_lines_end options units =
-    let s = log_stands options units in
+-- and each line ends at a transaction without a parent
+pub taken_lines_end : (options : GroupOptions) (taken : List Taken) → All (λ t. (root_of (taken_steps options taken no_state).state.pending t).parent ≡ None) (taken_steps options taken no_state).state.pending
+taken_lines_end options taken =
+    let s = taken_stand options taken in
     let P : List Transaction → Transaction → Type 0 = λ pending t. (root_of pending t).parent ≡ None in
     subst (λ (pending : List Transaction). All (P pending) pending) s.told
     (all_told (P (map transaction_of s.rows)) s.rows
     (each_weaker (λ row. Line s.rows row (line_of (map transaction_of s.rows) (transaction_of row))) (λ row. P (map transaction_of s.rows) (transaction_of row)) (λ row line. line.ends (transaction_of row)) s.rows
-    (each_line (unit_steps options units no_state).state.begun s.rows s.trees.rising s.trees.forest)))
+    (each_line (taken_steps options taken no_state).state.begun s.rows s.trees.rising s.trees.forest)))

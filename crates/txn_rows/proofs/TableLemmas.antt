@@ -10,17 +10,14 @@ use Rattle.txn_rows.specs.declared.group.GroupOptions.{GroupOptions}
 use Rattle.txn_rows.specs.declared.group.Grouping.{Grouping}
 use Rattle.txn_rows.specs.declared.group.Group.{Group}
 use Rattle.txn_rows.specs.declared.group.Cause.{Cause}
-use Rattle.txn_rows.specs.declared.group.Cause.TheVariants.{Flush}
-use Rattle.txn_rows.specs.declared.force.Which.TheVariants.{Unfinished}
 use Rattle.txn_rows.specs.declared.pending.Pending.{Pending}
 use Rattle.txn_rows.specs.Transaction.{Transaction, forced, oldest, with_oldest}
 use Rattle.txn_rows.specs.Links.{root_of, tree_of}
-use Rattle.txn_rows.specs.Grouping.{State, Leaving, left_by, is_unfinished, unfinished, steps, force, flush}
+use Rattle.txn_rows.specs.Grouping.{State, Leaving, left_by, is_unfinished, steps, force, flush}
 use Rattle.txn_rows.specs.inside.Rows.{transaction_of}
 use Rattle.txn_rows.specs.inside.States.{state_of, WentReported, Standing, IsSound}
 use Rattle.txn_rows.proofs.LineLemmas.{by_cases}
-use Rattle.txn_rows.proofs.RunLemmas.{one_stands, stands_on, steps_stand}
-use Rattle.txn_rows.proofs.KeepLemmas.{often_holds}
+use Rattle.txn_rows.proofs.RunLemmas.{one_stands, steps_stand, flush_stands}
 use Rattle.txn_rows.proofs.LimitLemmas.{flush_empties, steps_within}
 
 -- what holds where there is no error
@@ -62,9 +59,6 @@ force_sound limit grouping cause p now out_before out_now sound went =
     let after : State = record state { pending = with_oldest is_unfinished (forced cause) state.pending } in
     went_sound limit grouping (force cause state) now out_before out_now went (one_stands is_unfinished cause state sound.standing)
     (omega (arith, sound.within, length-map p.rows.items transaction_of, oldest_length is_unfinished (forced cause) state.pending, left_length (option_map (forced cause) (oldest is_unfinished state.pending)) after))
-
-flush_stands : (state : State) → Standing state → Standing (flush state).state
-flush_stands state = often_holds (λ state r. Standing state → Standing r.state) stands_on (unfinished state) Unfinished Flush state
 
 -- after a flush none is pending
 pub flushed_none : (limit : ℕ) (grouping : Grouping) (p now : Pending) (out_before out_now : List Group) → IsSound limit p → WentReported grouping (flush (state_of p)) now out_before out_now → length (map transaction_of now.rows.items) ≡ 0

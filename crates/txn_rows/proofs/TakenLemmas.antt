@@ -10,7 +10,7 @@ use Rattle.std.proofs.lemmas.List.Sums.{sum_by-append, sum_by-cons, sum_by_push}
 use Rattle.std.proofs.lemmas.List.Filters.{sum_by-filter_both}
 use Rattle.vsl_tags.specs.Tags.{end_tag, vsl_tag}
 use Rattle.vsl_record.specs.declared.record_type.Record.{Record}
-use Rattle.vsl_record.specs.Unit.{LogUnit, Log}
+use Rattle.vsl_record.specs.Unit.{LogUnit}
 use Rattle.txn_rows.specs.declared.group.Grouping.{Grouping}
 use Rattle.txn_rows.specs.declared.group.GroupOptions.{GroupOptions}
 use Rattle.txn_rows.specs.declared.group.Cause.{Cause}
@@ -21,13 +21,13 @@ use Rattle.txn_rows.specs.inside.Steps.{test_of}
 use Rattle.txn_rows.specs.declared.force.Which.TheVariants.{Unfinished}
 use Rattle.txn_rows.specs.Transaction.{Transaction, cause_text, empty_transaction, is_pending, is_open, newest, with_newest, with_record, claimed_kind, ended, forced, first_mark, oldest, with_oldest}
 use Rattle.txn_rows.specs.Links.{with_parent, can_join, children, root_of, tree_of, others, path_of, preorder, member_of, group_of}
-use Rattle.txn_rows.specs.Grouping.{State, Leaving, no_state, nothing_left, then_left, with_new, with_transaction, timed, left_by, forced_one, after_end, after_timeouts, after_overflow, flush, unfinished, with_all_told, grouped, is_raw, raw_group, step, steps, passes_over, unit_step, unit_steps}
+use Rattle.txn_rows.specs.Grouping.{Taken, TakenUnit, Missed, State, Leaving, no_state, nothing_left, then_left, with_new, with_transaction, timed, left_by, forced_one, after_end, after_timeouts, after_overflow, flush, unfinished, with_all_told, grouped, is_raw, raw_group, step, steps, passes_over, unit_step, taken_step, taken_steps}
 use Rattle.txn_rows.specs.Taken.{count_in_groups, count_in_pending, count_members, count_taken, Forcing, synthesized, count_synthesized}
 use Rattle.txn_rows.proofs.LineLemmas.{by_cases, either}
 use Rattle.txn_rows.proofs.KeepLemmas.{HoldsOn, often_holds, down_holds, timeouts_hold, claimed_same, Keeps, begun_kept, told_kept}
 use Rattle.txn_rows.proofs.JoinLemmas.{pending_in}
 use Rattle.txn_rows.proofs.OrderLemmas.{preorder_sum}
-use Rattle.txn_rows.proofs.RunLemmas.{log_stands}
+use Rattle.txn_rows.proofs.RunLemmas.{taken_stand}
 use Rattle.txn_rows.proofs.LimitLemmas.{flush_empties}
 
 -- a measure of VXID and records: each transaction that begins and each record adds its own
@@ -266,7 +266,7 @@ steps_counts options vxid (rec ∷ records) state =
     counts_then options.grouping (step options vxid rec state) (steps options vxid records) state (λ m. m.more vxid rec) (λ m. sum_by (m.more vxid) records) (λ m. sum_by (m.more vxid) (rec ∷ records))
     (λ m. sum_by-cons (m.more vxid) rec records) (step_counts options vxid rec state) (steps_counts options vxid records (step options vxid rec state).state)
 
--- the measure of the records that are taken
+-- the measure of the records that are taken of a unit
 abbrev size_unit : Grouping → (ℕ → Record → ℕ) → LogUnit → ℕ
 size_unit grouping more u = cond (passes_over grouping u.vxid) 0 (sum_by (more u.vxid) u.records)
 
@@ -276,16 +276,28 @@ unit_counts options u state =
     (λ e. rw e (counts_nothing options.grouping state))
     (λ e. rw e (steps_counts options u.vxid u.records state))
 
-units_counts : (options : GroupOptions) (units : Log) (state : State) → Counts options.grouping (unit_steps options units state) state (λ m. sum_by (size_unit options.grouping m.more) units)
-units_counts options [] state = counts_nothing options.grouping state
-units_counts options (u ∷ units) state =
-    counts_then options.grouping (unit_step options u state) (unit_steps options units) state (λ m. size_unit options.grouping m.more u) (λ m. sum_by (size_unit options.grouping m.more) units) (λ m. sum_by (size_unit options.grouping m.more) (u ∷ units))
-    (λ m. sum_by-cons (size_unit options.grouping m.more) u units) (unit_counts options u state) (units_counts options units (unit_step options u state).state)
+-- of an item
+abbrev size_item : Grouping → (ℕ → Record → ℕ) → Taken → ℕ
+size_item grouping more (TakenUnit u) = size_unit grouping more u
+size_item grouping more Missed = 0
 
-flushed_counts : (options : GroupOptions) (units : Log) → Counts options.grouping (then_left (unit_steps options units no_state) flush) no_state (λ m. sum_by (size_unit options.grouping m.more) units)
-flushed_counts options units =
-    let run : Leaving = unit_steps options units no_state in
-    counts_after options.grouping run flush no_state (λ m. sum_by (size_unit options.grouping m.more) units) (units_counts options units no_state) (often_holds (λ state r. Counts options.grouping r state (λ m. 0)) (counts_on options.grouping) (unfinished run.state) Unfinished Flush run.state)
+flush_counts : (grouping : Grouping) (state : State) → Counts grouping (flush state) state (λ m. 0)
+flush_counts grouping state = often_holds (λ state r. Counts grouping r state (λ m. 0)) (counts_on grouping) (unfinished state) Unfinished Flush state
+
+item_counts : (options : GroupOptions) (item : Taken) (state : State) → Counts options.grouping (taken_step options item state) state (λ m. size_item options.grouping m.more item)
+item_counts options (TakenUnit u) state = unit_counts options u state
+item_counts options Missed state = flush_counts options.grouping state
+
+items_counts : (options : GroupOptions) (taken : List Taken) (state : State) → Counts options.grouping (taken_steps options taken state) state (λ m. sum_by (size_item options.grouping m.more) taken)
+items_counts options [] state = counts_nothing options.grouping state
+items_counts options (item ∷ taken) state =
+    counts_then options.grouping (taken_step options item state) (taken_steps options taken) state (λ m. size_item options.grouping m.more item) (λ m. sum_by (size_item options.grouping m.more) taken) (λ m. sum_by (size_item options.grouping m.more) (item ∷ taken))
+    (λ m. sum_by-cons (size_item options.grouping m.more) item taken) (item_counts options item state) (items_counts options taken (taken_step options item state).state)
+
+flushed_counts : (options : GroupOptions) (taken : List Taken) → Counts options.grouping (then_left (taken_steps options taken no_state) flush) no_state (λ m. sum_by (size_item options.grouping m.more) taken)
+flushed_counts options taken =
+    let run : Leaving = taken_steps options taken no_state in
+    counts_after options.grouping run flush no_state (λ m. sum_by (size_item options.grouping m.more) taken) (items_counts options taken no_state) (flush_counts options.grouping run.state)
 
 -- how many records pass a test is a measure
 abbrev counted : (grouping : Grouping) → (ℕ → Record → Bool) → Measure grouping
@@ -299,20 +311,20 @@ counted grouping test = record {
 }
 
 -- each record that is taken, and the two of each force-completion, are in one group or pending, once
-pub each_taken_once : (options : GroupOptions) (units : Log) → (forcings : List Forcing) × ((test : ℕ → Record → Bool) →
-    count_in_groups test (unit_steps options units no_state).groups + count_in_pending test (unit_steps options units no_state).state.pending ≡ count_taken test options.grouping units + count_synthesized test forcings)
-each_taken_once options units =
-    let counts = units_counts options units no_state in
+pub each_taken_once : (options : GroupOptions) (taken : List Taken) → (forcings : List Forcing) × ((test : ℕ → Record → Bool) →
+    count_in_groups test (taken_steps options taken no_state).groups + count_in_pending test (taken_steps options taken no_state).state.pending ≡ count_taken test options.grouping taken + count_synthesized test forcings)
+each_taken_once options taken =
+    let counts = items_counts options taken no_state in
     (counts.forcings, λ test. omega (arith, counts.same (counted options.grouping test)))
 
 -- and after a flush in one group, once
-pub each_flushed_once : (options : GroupOptions) (units : Log) → (length (flush (unit_steps options units no_state).state).state.pending ≡ 0) × ((forcings : List Forcing) × ((test : ℕ → Record → Bool) →
-    count_in_groups test ((unit_steps options units no_state).groups ++ (flush (unit_steps options units no_state).state).groups) ≡ count_taken test options.grouping units + count_synthesized test forcings))
-each_flushed_once options units =
-    let run : Leaving = unit_steps options units no_state in
+pub each_flushed_once : (options : GroupOptions) (taken : List Taken) → (length (flush (taken_steps options taken no_state).state).state.pending ≡ 0) × ((forcings : List Forcing) × ((test : ℕ → Record → Bool) →
+    count_in_groups test ((taken_steps options taken no_state).groups ++ (flush (taken_steps options taken no_state).state).groups) ≡ count_taken test options.grouping taken + count_synthesized test forcings))
+each_flushed_once options taken =
+    let run : Leaving = taken_steps options taken no_state in
     let last : Leaving = flush run.state in
-    let counts = flushed_counts options units in
-    let empties = flush_empties run.state (log_stands options units) in
+    let counts = flushed_counts options taken in
+    let empties = flush_empties run.state (taken_stand options taken) in
     (empties, (counts.forcings, λ test. omega (arith, counts.same (counted options.grouping test), ap (count_in_pending test) (nil_from_length last.state.pending empties))))
 
 sum_by_same : {X : Type 0} (f g : X → ℕ) → ((x : X) → f x ≡ g x) → (xs : List X) → sum_by f xs ≡ sum_by g xs
@@ -334,26 +346,27 @@ each_one grouping whole = record {
   alone = λ raw vxid rec. absurd (both_ways (is_raw grouping) whole raw);
 }
 
-unit_nothing : (grouping : Grouping) (u : LogUnit) → size_unit grouping (λ vxid rec. 0) u ≡ 0
-unit_nothing grouping u =
+item_nothing : (grouping : Grouping) (item : Taken) → size_item grouping (λ vxid rec. 0) item ≡ 0
+item_nothing grouping Missed = refl
+item_nothing grouping (TakenUnit u) =
     by_cases (size_unit grouping (λ vxid rec. 0) u ≡ 0) (passes_over grouping u.vxid) (λ e. rw e refl) (λ e. rw e (omega (arith, sum_by_constant 0 u.records)))
 
-members_counted : (grouping : Grouping) (units : Log) (r : Leaving) → is_raw grouping ≡ false → Counts grouping r no_state (λ m. sum_by (size_unit grouping m.more) units) → count_members r.groups + length r.state.pending ≡ r.state.begun
-members_counted grouping units r whole counts =
+members_counted : (grouping : Grouping) (taken : List Taken) (r : Leaving) → is_raw grouping ≡ false → Counts grouping r no_state (λ m. sum_by (size_item grouping m.more) taken) → count_members r.groups + length r.state.pending ≡ r.state.begun
+members_counted grouping taken r whole counts =
     let members = sum_by_same (size_group (λ vxid records. 1)) (λ (g : Group). length g.members) (λ g. omega (arith, sum_by_constant 1 g.members)) r.groups in
-    let records = sum_by_same (size_unit grouping (λ vxid rec. 0)) (λ u. 0) (unit_nothing grouping) units in
-    omega (arith, counts.same (each_one grouping whole), members, sum_by_constant 1 r.state.pending, records, sum_by_constant 0 units, sum_by_constant 0 counts.forcings)
+    let records = sum_by_same (size_item grouping (λ vxid rec. 0)) (λ item. 0) (item_nothing grouping) taken in
+    omega (arith, counts.same (each_one grouping whole), members, sum_by_constant 1 r.state.pending, records, sum_by_constant 0 taken, sum_by_constant 0 counts.forcings)
 
 -- each transaction that began is a member of one group or pending, once
-pub each_member_once : (options : GroupOptions) (units : Log) → is_raw options.grouping ≡ false →
-    count_members (unit_steps options units no_state).groups + length (unit_steps options units no_state).state.pending ≡ (unit_steps options units no_state).state.begun
-each_member_once options units whole = members_counted options.grouping units (unit_steps options units no_state) whole (units_counts options units no_state)
+pub each_member_once : (options : GroupOptions) (taken : List Taken) → is_raw options.grouping ≡ false →
+    count_members (taken_steps options taken no_state).groups + length (taken_steps options taken no_state).state.pending ≡ (taken_steps options taken no_state).state.begun
+each_member_once options taken whole = members_counted options.grouping taken (taken_steps options taken no_state) whole (items_counts options taken no_state)
 
 -- and after a flush, in which none begins, a member of one group, once
-pub each_flushed_member_once : (options : GroupOptions) (units : Log) → is_raw options.grouping ≡ false →
-    ((flush (unit_steps options units no_state).state).state.begun ≡ (unit_steps options units no_state).state.begun)
-    × (count_members ((unit_steps options units no_state).groups ++ (flush (unit_steps options units no_state).state).groups) ≡ (unit_steps options units no_state).state.begun)
-each_flushed_member_once options units whole =
-    let run : Leaving = unit_steps options units no_state in
+pub each_flushed_member_once : (options : GroupOptions) (taken : List Taken) → is_raw options.grouping ≡ false →
+    ((flush (taken_steps options taken no_state).state).state.begun ≡ (taken_steps options taken no_state).state.begun)
+    × (count_members ((taken_steps options taken no_state).groups ++ (flush (taken_steps options taken no_state).state).groups) ≡ (taken_steps options taken no_state).state.begun)
+each_flushed_member_once options taken whole =
+    let run : Leaving = taken_steps options taken no_state in
     let same : (flush run.state).state.begun ≡ run.state.begun = often_holds (λ state r. r.state.begun ≡ state.begun) begun_on (unfinished run.state) Unfinished Flush run.state in
-    (same, omega (arith, members_counted options.grouping units (then_left run flush) whole (flushed_counts options units), flush_empties run.state (log_stands options units), same))
+    (same, omega (arith, members_counted options.grouping taken (then_left run flush) whole (flushed_counts options taken), flush_empties run.state (taken_stand options taken), same))

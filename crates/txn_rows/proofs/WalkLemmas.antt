@@ -1,4 +1,4 @@
--- Over every log each group is a walk of its tree.
+-- Each group is a walk of its tree, whatever was taken.
 use Rattle.std.proofs.Common.{◌≡◌, ◌+◌, ◌<◌, ◌≤◌, ◌⊎◌, ⊎_elim, inl, inr, ℕ, zero, suc, Bool, true, false, eqb, cond, Option, Some, List, [], ◌∷◌, ◌++◌, length, map, refl, ap, sym, ◌∙◌, subst, append_assoc, get_or, take, drop, arith}
 use Rattle.std.specs.Prelude.{◌≢◌, count_by}
 use Rattle.std.specs.List.{sum_by, All, Contains, list_all}
@@ -8,7 +8,7 @@ use Rattle.std.proofs.lemmas.List.Sums.{sum_by-append, sum_by-cons}
 use Rattle.std.proofs.lemmas.List.Elements.{All-nil, All-cons, All-head, All-tail, All-weaker, All-append, All-map, All-contains, All-contains_itself, Contains-append_left, Contains-append_cases}
 use Rattle.vsl_tags.specs.Tags.{end_tag}
 use Rattle.vsl_record.specs.declared.record_type.Record.{Record}
-use Rattle.vsl_record.specs.Unit.{LogUnit, Log}
+use Rattle.vsl_record.specs.Unit.{LogUnit}
 use Rattle.txn_rows.specs.declared.rows.Row.{Row}
 use Rattle.txn_rows.specs.declared.group.ParentLink.{ParentLink}
 use Rattle.txn_rows.specs.declared.group.GroupOptions.{GroupOptions}
@@ -19,7 +19,7 @@ use Rattle.txn_rows.specs.declared.group.Group.{Group}
 use Rattle.txn_rows.specs.declared.force.Which.TheVariants.{Unfinished}
 use Rattle.txn_rows.specs.Transaction.{Transaction, newest, with_newest, with_oldest, ended, forced, oldest}
 use Rattle.txn_rows.specs.Links.{line_of, root_of, tree_of, path_of, is_path_before, preorder, parent_vxid, member_of, group_of}
-use Rattle.txn_rows.specs.Grouping.{State, Leaving, no_state, nothing_left, then_left, left_by, forced_one, after_end, after_timeouts, after_overflow, unfinished, with_all_told, grouped, is_raw, step, steps, passes_over, unit_step, unit_steps, flush}
+use Rattle.txn_rows.specs.Grouping.{Taken, TakenUnit, Missed, State, Leaving, no_state, nothing_left, then_left, left_by, forced_one, after_end, after_timeouts, after_overflow, unfinished, with_all_told, grouped, is_raw, step, steps, passes_over, unit_step, taken_step, taken_steps, flush}
 use Rattle.txn_rows.specs.Walk.{FollowsParent, FollowParents, IsWalk}
 use Rattle.txn_rows.specs.inside.Rows.{transaction_of, row_of, Rising, IsTop, IsBelow, IsForest, AreTrees, Each, rows_below}
 use Rattle.txn_rows.specs.inside.Steps.{state_with, test_of}
@@ -30,7 +30,7 @@ use Rattle.txn_rows.proofs.TreeLemmas.{line_whole, each_weaker, each_found, tree
 use Rattle.txn_rows.proofs.JoinLemmas.{around, count_map, row_contained, row_counted}
 use Rattle.txn_rows.proofs.StandLemmas.{rising_filter, kept_filter}
 use Rattle.txn_rows.proofs.ForceAllLemmas.{filter_fewer}
-use Rattle.txn_rows.proofs.RunLemmas.{EndedIn, all_told, ended_by, forced_by, one_stands, told_stands, end_stands, step_stands, unit_stands, log_stands}
+use Rattle.txn_rows.proofs.RunLemmas.{EndedIn, all_told, ended_by, forced_by, one_stands, told_stands, end_stands, step_stands, item_stands, taken_stand}
 use Rattle.txn_rows.proofs.OrderLemmas.{preorder_sum, siblings_ordered, path_total, path_then, path_same, path_both, path_longer, path_between, InOrder, all_left, all_right, contains_here, order_at, Sorts, all_preorder, all_unsorted, preorder_sorted}
 use Rattle.txn_rows.proofs.NumberLemmas.{Place, place_of, has_number, IsNamed, Numbered, IsNumbered, places_of, row_links, each_place, newest_kept, oldest_kept, told_numbered, numbered_left}
 
@@ -326,6 +326,9 @@ grouped_walks options vxid rec state s n =
     let late_w = timeouts_hold WalksFrom walks_on options.timeout state.time first.state first_s first_w.numbered in
     walks_then late (after_overflow options.limit) (walks_then first (after_timeouts options.timeout state.time) first_w late_w.1) (down_holds WalksFrom walks_on options.limit (unfinished late.state) late.state late_w.0 late_w.1.numbered).1
 
+flush_walks : (state : State) → Standing state → IsNumbered state → Walks (flush state)
+flush_walks state s n = (often_holds WalksFrom walks_on (unfinished state) Unfinished Flush state s n).1
+
 -- all but raw grouping
 module _ (options : GroupOptions) (tree : is_raw options.grouping ≡ false) where
   step_walks : (vxid : ℕ) (rec : Record) (state : State) → Standing state → IsNumbered state → Walks (step options vxid rec state)
@@ -340,27 +343,31 @@ module _ (options : GroupOptions) (tree : is_raw options.grouping ≡ false) whe
   unit_walks : (u : LogUnit) (state : State) → Standing state → IsNumbered state → Walks (unit_step options u state)
   unit_walks u state s n = cond_both (passes_over options.grouping u.vxid) (nothing_left state) (steps options u.vxid u.records state) Walks (λ e. nothing_walks state n) (λ e. steps_walk u.vxid u.records state s n)
 
-  units_walk : (units : Log) (state : State) → Standing state → IsNumbered state → Walks (unit_steps options units state)
-  units_walk [] state s n = nothing_walks state n
-  units_walk (u ∷ units) state s n =
-      let first = unit_walks u state s n in
-      walks_then (unit_step options u state) (unit_steps options units) first (units_walk units (unit_step options u state).state (unit_stands options u state s) first.numbered)
+  item_walks : (item : Taken) (state : State) → Standing state → IsNumbered state → Walks (taken_step options item state)
+  item_walks (TakenUnit u) state s n = unit_walks u state s n
+  item_walks Missed state s n = flush_walks state s n
 
-  log_walk : (units : Log) → Walks (unit_steps options units no_state)
-  log_walk units = units_walk units no_state (log_stands options []) (record { vxids = λ s. 0; named = All-nil (IsNamed 0 (λ s. 0)); few = λ s m. omega arith; below = λ s m le. refl })
+  items_walk : (taken : List Taken) (state : State) → Standing state → IsNumbered state → Walks (taken_steps options taken state)
+  items_walk [] state s n = nothing_walks state n
+  items_walk (item ∷ taken) state s n =
+      let first = item_walks item state s n in
+      walks_then (taken_step options item state) (taken_steps options taken) first (items_walk taken (taken_step options item state).state (item_stands options item state s) first.numbered)
 
--- over every log, and after a flush
-pub log_walks : (options : GroupOptions) (units : Log) → is_raw options.grouping ≡ false → All (λ (g : Group). IsWalk g.members) ((unit_steps options units no_state).groups ++ (flush (unit_steps options units no_state).state).groups)
-log_walks options units tree =
-    let run : Leaving = unit_steps options units no_state in
-    let walks = log_walk options tree units in
-    (walks_then run flush walks (often_holds WalksFrom walks_on (unfinished run.state) Unfinished Flush run.state (log_stands options units) walks.numbered).1).walks
+  taken_walk : (taken : List Taken) → Walks (taken_steps options taken no_state)
+  taken_walk taken = items_walk taken no_state (taken_stand options []) (record { vxids = λ s. 0; named = All-nil (IsNamed 0 (λ s. 0)); few = λ s m. omega arith; below = λ s m le. refl })
 
--- over every log no two children of one parent have one number
-pub siblings_apart : (options : GroupOptions) (units : Log) → is_raw options.grouping ≡ false → (root : Transaction) (before : List Transaction) (a : Transaction) (between : List Transaction) (b : Transaction) (behind : List Transaction) (p q : ParentLink) →
-    preorder (path_of (unit_steps options units no_state).state.pending) (tree_of (unit_steps options units no_state).state.pending root) ≡ before ++ a ∷ between ++ b ∷ behind → a.parent ≡ Some p → b.parent ≡ Some q → p.serial ≡ q.serial → p.number < q.number
-siblings_apart options units trees root before a between b behind p q is linked_a linked_b same =
-    let pending : List Transaction = (unit_steps options units no_state).state.pending in
+-- whatever was taken, and after a flush
+pub taken_walks : (options : GroupOptions) (taken : List Taken) → is_raw options.grouping ≡ false → All (λ (g : Group). IsWalk g.members) ((taken_steps options taken no_state).groups ++ (flush (taken_steps options taken no_state).state).groups)
+taken_walks options taken tree =
+    let run : Leaving = taken_steps options taken no_state in
+    let walks = taken_walk options tree taken in
+    (walks_then run flush walks (flush_walks run.state (taken_stand options taken) walks.numbered)).walks
+
+-- whatever was taken, no two pending children of one parent have one number
+pub siblings_apart : (options : GroupOptions) (taken : List Taken) → is_raw options.grouping ≡ false → (root : Transaction) (before : List Transaction) (a : Transaction) (between : List Transaction) (b : Transaction) (behind : List Transaction) (p q : ParentLink) →
+    preorder (path_of (taken_steps options taken no_state).state.pending) (tree_of (taken_steps options taken no_state).state.pending root) ≡ before ++ a ∷ between ++ b ∷ behind → a.parent ≡ Some p → b.parent ≡ Some q → p.serial ≡ q.serial → p.number < q.number
+siblings_apart options taken trees root before a between b behind p q is linked_a linked_b same =
+    let pending : List Transaction = (taken_steps options taken no_state).state.pending in
     let ordered = siblings_ordered pending root before a between b behind p q is linked_a linked_b same in
     by_cases (p.number < q.number) (eqb p.number q.number)
     (λ e. let has : Option ParentLink → Bool = has_number q.serial q.number in
@@ -379,6 +386,6 @@ siblings_apart options units trees root before a between b behind p q is linked_
       preorder_sum c (path_of pending) (tree_of pending root),
       filter_fewer (λ t. has t.parent) (λ t. eqb (root_of pending t).serial root.serial) pending,
       count_map (λ (x : Place). has x.parent) place_of pending,
-      (log_walk options trees units).numbered.few q.serial q.number,
+      (taken_walk options trees taken).numbered.few q.serial q.number,
     )))
     (λ e. let other : p.number ≢ q.number = eqb-false p.number q.number e in omega (arith, ordered, other))

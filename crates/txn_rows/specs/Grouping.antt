@@ -1,4 +1,4 @@
--- The groups that a log gives (vsl-query(7), "Grouping"). Groups are in the order in which they are complete.
+-- The groups that what a reader took of a log gives (vsl-query(7), "Grouping"). Groups are in the order in which they are complete.
 use Rattle.std.specs.Prelude.{ℕ, zero, suc, ◌+◌, ◌*◌, ◌==◌, ◌&&◌, not, nat_lt, if◌then◌else◌, Bool, true, false, List, [], ◌∷◌, ◌++◌, length, map, Option, Some, None, count_by}
 use Rattle.std.specs.List.{filter, list_all}
 use Rattle.std.specs.Option.{option_map}
@@ -21,6 +21,15 @@ use Rattle.txn_rows.specs.Claim.{claim_of}
 use Rattle.txn_rows.specs.Time.{second, time_of}
 use Rattle.txn_rows.specs.Transaction.{Transaction, empty_transaction, is_pending, is_open, newest, with_newest, with_record, with_kind, ended, forced, oldest, with_oldest}
 use Rattle.txn_rows.specs.Links.{with_link, root_of, tree_of, others, group_of}
+
+-- what a reader took: a unit, or that it was overrun and missed some (this project's choice)
+pub data Taken : Type 0 where
+  TakenUnit : LogUnit → Taken
+  Missed : Taken
+
+-- what is taken of a log without a gap: each of its units
+abbrev pub all_taken : Log → List Taken
+all_taken units = map TakenUnit units
 
 -- what stands between two records
 pub record State : Type 0 where
@@ -233,11 +242,6 @@ passes_over grouping vxid = not (is_raw grouping) && vxid == 0
 abbrev pub unit_step : GroupOptions → LogUnit → State → Leaving
 unit_step options u state = if passes_over options.grouping u.vxid then nothing_left state else steps options u.vxid u.records state
 
--- units one after another
-abbrev pub unit_steps : GroupOptions → Log → State → Leaving
-unit_steps options [] state = nothing_left state
-unit_steps options (u ∷ units) state = then_left (unit_step options u state) (unit_steps options units)
-
 -- the oldest transaction that has not ended is force-completed
 abbrev pub force : Cause → State → Leaving
 force cause state = forced_one is_unfinished cause state
@@ -245,6 +249,16 @@ force cause state = forced_one is_unfinished cause state
 -- all that have not ended are force-completed, the oldest first
 abbrev pub flush : State → Leaving
 flush state = forced_all is_unfinished Flush state
+
+-- one item that was taken: at an overrun all that have not ended are force-completed, the oldest first (this project's choice)
+abbrev pub taken_step : GroupOptions → Taken → State → Leaving
+taken_step options (TakenUnit u) state = unit_step options u state
+taken_step options Missed state = flush state
+
+-- items one after another
+abbrev pub taken_steps : GroupOptions → List Taken → State → Leaving
+taken_steps options [] state = nothing_left state
+taken_steps options (item ∷ taken) state = then_left (taken_step options item state) (taken_steps options taken)
 
 -- whether a group is led by a session
 abbrev pub is_led_by_session : List Member → Bool
@@ -260,12 +274,12 @@ is_reported grouping group = true
 abbrev pub reported : Grouping → List Group → List Group
 reported grouping groups = filter (is_reported grouping) groups
 
--- the groups that leave for units that follow one another, in the order in which they leave, flushed at their end or not
-abbrev pub left_of : GroupOptions → Log → Bool → List Group
-left_of options units flushed =
-    let run = unit_steps options units no_state in
+-- the groups that leave for what was taken, in the order in which they leave, flushed at its end or not
+abbrev pub left_of : GroupOptions → List Taken → Bool → List Group
+left_of options taken flushed =
+    let run = taken_steps options taken no_state in
     if flushed then run.groups ++ (flush run.state).groups else run.groups
 
--- the groups that are reported for units that follow one another, flushed at their end or not
-abbrev pub groups_of : GroupOptions → Log → Bool → List Group
-groups_of options units flushed = reported options.grouping (left_of options units flushed)
+-- the groups that are reported for what was taken, flushed at its end or not
+abbrev pub groups_of : GroupOptions → List Taken → Bool → List Group
+groups_of options taken flushed = reported options.grouping (left_of options taken flushed)

@@ -1,16 +1,15 @@
--- Counting members and records: how many stand in groups, in a state, and in the units that a grouping takes.
+-- Counting members and records: how many stand in groups, in a state, and in what was taken.
 use Rattle.std.specs.Prelude.{ℕ, if◌then◌else◌, Bool, List, [], ◌∷◌, length, count_by, codes}
 use Rattle.std.specs.List.{sum_by}
 use Rattle.vsl_tags.specs.Tags.{end_tag, vsl_tag}
 use Rattle.vsl_record.specs.declared.mark.Mark.{Mark}
 use Rattle.vsl_record.specs.declared.record_type.Record.{Record}
-use Rattle.vsl_record.specs.Unit.{LogUnit, Log}
 use Rattle.txn_rows.specs.declared.group.Grouping.{Grouping}
 use Rattle.txn_rows.specs.declared.group.Cause.{Cause}
 use Rattle.txn_rows.specs.declared.group.Member.{Member}
 use Rattle.txn_rows.specs.declared.group.Group.{Group}
 use Rattle.txn_rows.specs.Transaction.{Transaction, cause_text}
-use Rattle.txn_rows.specs.Grouping.{passes_over}
+use Rattle.txn_rows.specs.Grouping.{Taken, TakenUnit, Missed, passes_over}
 
 -- how many members groups have
 abbrev pub count_members : List Group → ℕ
@@ -28,9 +27,14 @@ count_in_groups test groups = sum_by (count_in_group test) groups
 abbrev pub count_in_pending : (ℕ → Record → Bool) → List Transaction → ℕ
 count_in_pending test pending = sum_by (λ (t : Transaction). count_by (test t.vxid) t.records) pending
 
--- how many records of a log pass, in the units that a grouping doesn't pass over
-abbrev pub count_taken : (ℕ → Record → Bool) → Grouping → Log → ℕ
-count_taken test grouping units = sum_by (λ (u : LogUnit). if passes_over grouping u.vxid then 0 else count_by (test u.vxid) u.records) units
+-- how many records of an item pass: those of a unit that the grouping doesn't pass over
+abbrev pub count_in_item : (ℕ → Record → Bool) → Grouping → Taken → ℕ
+count_in_item test grouping (TakenUnit u) = if passes_over grouping u.vxid then 0 else count_by (test u.vxid) u.records
+count_in_item test grouping Missed = 0
+
+-- how many records of what was taken pass
+abbrev pub count_taken : (ℕ → Record → Bool) → Grouping → List Taken → ℕ
+count_taken test grouping taken = sum_by (count_in_item test grouping) taken
 
 -- a force-completion: the VXID, the mark and the cause
 pub record Forcing : Type 0 where

@@ -1,9 +1,10 @@
 //! Grouping the records of a log by transaction.
 //!
 //! Units go in, in the order of the log; groups come out, each once, when all its transactions have ended or
-//! were force-completed, with records that say so. Raw grouping makes each record a group by itself. A table
-//! never shows a group before it is complete. Until it finds no memory, each record that it takes is in one
-//! group or pending, once; from then on it answers that alone. Request grouping does not report sessions.
+//! were force-completed, with records that say so. A flush completes all that is pending: where the reader was
+//! overrun, and at the end. Raw grouping makes each record a group by itself. A table never shows a group
+//! before it is complete. Until it finds no memory, each record that it takes is in one group or pending, once;
+//! from then on it answers that alone. Request grouping does not report sessions.
 //!
 //! Start with `specs/Transaction.antt`, `specs/Links.antt` and `specs/Grouping.antt`.
 //! Source: vsl(7), vsl-query(7) "Grouping", varnishlog(1); what is this project's choice is said there.
@@ -28,7 +29,7 @@ pub use claim::{Claim, read_claim};
 pub use group::{Cause, Group, GroupOptions, Grouping, Kind, Member, Members, ParentLink, Reason};
 pub use laws::{
     each_member_ends, each_record_once, each_transaction_once, every_line_ends, groups_are_walks,
-    limit_holds, siblings_stand_in_order,
+    limit_holds, overrun_leaves_none, siblings_stand_in_order,
 };
 pub use table::Table;
 pub use time::read_time;

@@ -105,7 +105,7 @@ impl Table {
     }
 
     /// Force-completes every transaction that has not ended, the oldest first, and adds the groups that they
-    /// complete. Nothing stays pending.
+    /// complete. Nothing stays pending. It serves an overrun and the end of a log.
     pub fn flush(&mut self, out: &mut Vec<Group>) -> Result<(), NoMemory>
         ensures ok { OnOk result (TableStepped (flush self.old.state) self.old self.new out.old.items out.new.items) }
         ensures none { OnOk result (length self.new.state.pending ≡ 0) }

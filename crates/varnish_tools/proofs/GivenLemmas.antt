@@ -7,7 +7,7 @@ use Rattle.txn_rows.specs.declared.group.Group.{Group}
 use Rattle.txn_rows.specs.declared.group.Grouping.{Grouping}
 use Rattle.txn_rows.specs.declared.group.Grouping.TheVariants.{Raw}
 use Rattle.txn_rows.specs.declared.group.GroupOptions.{GroupOptions}
-use Rattle.txn_rows.specs.Grouping.{State, Leaving, nothing_left, reported, steps, passes_over, unit_step}
+use Rattle.txn_rows.specs.Grouping.{Taken, TakenUnit, State, Leaving, nothing_left, reported, steps, passes_over, unit_step, taken_step}
 use Rattle.txn_rows.specs.Table.{TableStepped}
 use Rattle.txn_rows.specs.TableState.{TableState}
 use Rattle.vsl_select.proofs.RawLemmas.{raw_groups_left}
@@ -20,7 +20,7 @@ use Rattle.vsl_dispatch.specs.declared.dispatcher.Entry.TheVariants.{Live, Gone}
 use Rattle.vsl_dispatch.proofs.GroupLemmas.{kept_filled, filled_more}
 use Rattle.vsl_dispatch.proofs.StandsLemmas.{stands_handed, stands_offered, ended_finished}
 use Rattle.varnish_tools.specs.Held.{held_groups}
-use Rattle.varnish_tools.specs.inside.Given.{EndedOnly, GaveOnly, TookOnly, TookUnit}
+use Rattle.varnish_tools.specs.inside.Given.{EndedOnly, GaveOnly, TookItem, TookOnly}
 
 -- a list as long as one of one element has one
 one_of : {A : Type 0} (xs : List A) → length xs ≡ 1 → (x : A) × (xs ≡ x ∷ [])
@@ -116,7 +116,7 @@ module _ {C : Type 0} (keep : C → Option ℕ) (output : C → List Group → B
   -- the records of a unit were taken, each as a group by itself
   pub offered_all : (query : Query) (u : LogUnit) (table : TableState) (old new : List (Entry C)) → query.always ≡ true → table.options.grouping ≡ Raw
       → ((c : C) → old ≡ Live c ∷ [] → (d : C) × (new ≡ Live d ∷ []) × Offered keep output represents u true c d)
-      → (((c : C) → old ≢ Live c ∷ []) → (true ≡ false) × (new ≡ old)) → TookUnit keep output represents query u table table old new
+      → (((c : C) → old ≢ Live c ∷ []) → (true ≡ false) × (new ≡ old)) → TookItem keep output represents query (TakenUnit u) table table old new
   offered_all query u table old new always raw only others = record {
     options = refl;
     state = sym (raw_unit table.options raw u table.state).0;
@@ -147,11 +147,11 @@ module _ {C : Type 0} (keep : C → Option ℕ) (output : C → List Group → B
   offered_none u old new only others most writes (Gone bytes) before taken is stands =
       (Gone bytes, (others (λ c e. cc (is, e))).1 ∙ is, rw (append-nil before) stands)
 
-  -- the groups that a unit completed were given
-  pub took_step : (query : Query) (u : LogUnit) (table_old table_new : TableState) (groups : List Group) (old middle new : List (Entry C)) → GaveOnly keep output represents [] old middle
-      → TableStepped (unit_step table_old.options u table_old.state) table_old table_new [] groups → GaveOnly keep output represents (held_groups query groups) middle new
-      → TookUnit keep output represents query u table_old table_new old new
-  took_step query u table_old table_new groups old middle new none stepped gave = record {
+  -- the groups that an item completed were given
+  pub took_step : (query : Query) (item : Taken) (table_old table_new : TableState) (groups : List Group) (old middle new : List (Entry C)) → GaveOnly keep output represents [] old middle
+      → TableStepped (taken_step table_old.options item table_old.state) table_old table_new [] groups → GaveOnly keep output represents (held_groups query groups) middle new
+      → TookItem keep output represents query item table_old table_new old new
+  took_step query item table_old table_new groups old middle new none stepped gave = record {
     options = ap (λ (t : TableState). t.options) stepped.state;
     state = ap (λ (t : TableState). t.state) stepped.state;
     sound = λ was. ap (λ (t : TableState). t.failed) stepped.state;

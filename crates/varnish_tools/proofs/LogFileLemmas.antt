@@ -13,7 +13,7 @@ use Rattle.vio.proofs.TouchLemmas.{touches_wrote}
 use Rattle.vsl_record.specs.Unit.{Log}
 use Rattle.vsl_file.specs.File.{most_bytes}
 use Rattle.txn_rows.specs.declared.group.Group.{Group}
-use Rattle.txn_rows.specs.Grouping.{groups_of}
+use Rattle.txn_rows.specs.Grouping.{all_taken, groups_of}
 use Rattle.query_parser.specs.declared.query.Query.{Query}
 use Rattle.tool_words.specs.declared.job.Job.{Job}
 use Rattle.varnish_tools.specs.declared.fault.ToolFault.TheVariants.{NoOpen, WriteFault}
@@ -60,19 +60,19 @@ plan_output job ask k p is = subst (λ (w : List Group → Bool → List ℕ). I
 
 -- the text that is due for what was given is a prefix of that of the input
 text_prefix : (job : Job) (ask : Ask) (k : ℕ) (p : Plan) (empty all : Bool) (units : Log) (input : Input) → IsJobPlan job ask k p → input.sink_empty ≡ empty
-    → (all ≡ true → (units ≡ input.units) × (is_whole input.file_ending ≡ true)) → units ≡ take (length units) input.units → IsPrefix (head_text job empty ++ due p units all) (whole_text (Work job) ask input)
+    → (all ≡ true → (units ≡ input.units) × (is_whole input.file_ending ≡ true)) → units ≡ take (length units) input.units → IsPrefix (head_text job empty ++ due p (all_taken units) all) (whole_text (Work job) ask input)
 text_prefix job ask k p empty true units input is same whole first =
     let all = whole refl in
-    subst (λ (x : List ℕ). IsPrefix (head_text job empty ++ due p units true) x) (whole_is job ask k p empty input is same)
-    (rw (all.0, all.1) (prefix_same (head_text job empty ++ due p input.units true)))
+    subst (λ (x : List ℕ). IsPrefix (head_text job empty ++ due p (all_taken units) true) x) (whole_is job ask k p empty input is same)
+    (rw (all.0, all.1) (prefix_same (head_text job empty ++ due p (all_taken input.units) true)))
 text_prefix job ask k p empty false units input is same whole first =
-    subst (λ (x : List ℕ). IsPrefix (head_text job empty ++ due p units false) x) (whole_is job ask k p empty input is same)
-    (prefix_after (head_text job empty) (subst (λ (us : Log). IsPrefix (due p us false) (due p input.units (is_whole input.file_ending))) (sym first) (due_first p (plan_output job ask k p is) input.units (length units) (is_whole input.file_ending))))
+    subst (λ (x : List ℕ). IsPrefix (head_text job empty ++ due p (all_taken units) false) x) (whole_is job ask k p empty input is same)
+    (prefix_after (head_text job empty) (subst (λ (us : Log). IsPrefix (due p (all_taken us) false) (due p (all_taken input.units) (is_whole input.file_ending))) (sym first) (due_first p (plan_output job ask k p is) input.units (length units) (is_whole input.file_ending))))
 
 -- a sink that gained a part of what is due for the units that were given
 prefix_by : {IsSo : List ℕ → Type 0} (job : Job) (ask : Ask) (source sink : ℕ) (empty all : Bool) (p : Plan) (units : Log) (r s t : Seen) → HasBegun job source sink empty (head_text job empty) r s → IsJobPlan job ask sink p
     → Touches (source ∷ []) (sink ∷ []) [] [] s t → GaveFirst source s t units → ((input : Input) → IsInput (Work job) r input → all ≡ true → (units ≡ input.units) × (is_whole input.file_ending ≡ true))
-    → ((text : List ℕ) → IsSo text → IsPrefix text (due p units all)) → AddedSome IsSo p.sink s t → PrefixFor ask (Work job) r t
+    → ((text : List ℕ) → IsSo text → IsPrefix text (due p (all_taken units) all)) → AddedSome IsSo p.sink s t → PrefixFor ask (Work job) r t
 prefix_by job ask source sink empty all p units r s t begun is touched gave whole part added = λ input is_input o one.
     let same = begun.begins input.sink_empty is_input.2 in
     let first = given_first job source sink empty r s t units input begun gave is_input in
@@ -80,9 +80,9 @@ prefix_by job ask source sink empty all p units r s t begun is touched gave whol
     (λ text so. prefix_then (prefix_after (head_text job empty) (part text so)) (text_prefix job ask sink p empty all units input is same (whole input is_input) first.1)) added) o one)
 
 pub prefix_source : (job : Job) (ask : Ask) (source sink : ℕ) (empty : Bool) (p : Plan) (units : Log) (r s t : Seen) → IsJobPlan job ask sink p → Touches (source ∷ []) (sink ∷ []) [] [] s t → GaveFirst source s t units
-    → AddedSome (λ text. text ≡ due p units false) p.sink s t → HasBegun job source sink empty (head_text job empty) r s → PrefixFor ask (Work job) r t
+    → AddedSome (λ text. text ≡ due p (all_taken units) false) p.sink s t → HasBegun job source sink empty (head_text job empty) r s → PrefixFor ask (Work job) r t
 prefix_source job ask source sink empty p units r s t is touched gave added begun =
-    prefix_by job ask source sink empty false p units r s t begun is touched gave (λ input is_input e. absurd cc) (λ text so. rw so (prefix_same (due p units false))) added
+    prefix_by job ask source sink empty false p units r s t begun is touched gave (λ input is_input e. absurd cc) (λ text so. rw so (prefix_same (due p (all_taken units) false))) added
 
 -- the source had no memory
 pub prefix_stopped : (job : Job) (query : Query) (source sink : ℕ) (start now : LogFile) (fault : SourceFault) (n : ℕ) (p : Plan) (s t : Seen) → start.reader.handle ≡ source → ((ask : Ask) → HoldsAsAsked query ask → IsJobPlan job ask sink p) → Touches (source ∷ []) (p.sink ∷ []) [] [] s t
@@ -113,7 +113,7 @@ sink_begun job source sink empty head r s begun so = record { handle = sink; is_
 -- what an input's text begins with
 head_prefix : (job : Job) (ask : Ask) (empty : Bool) (input : Input) → input.sink_empty ≡ empty → IsPrefix (head_text job empty) (whole_text (Work job) ask input)
 head_prefix job ask empty input same = subst (λ (b : Bool). IsPrefix (head_text job b) (whole_text (Work job) ask input)) same
-    (prefix_append (head_text job input.sink_empty) (tested_text (output_of job) job.keep (is_asked ask) (options_of job) input.units (is_whole input.file_ending)))
+    (prefix_append (head_text job input.sink_empty) (tested_text (output_of job) job.keep (is_asked ask) (options_of job) (all_taken input.units) (is_whole input.file_ending)))
 
 pub prefix_begun : (job : Job) (ask : Ask) (source sink : ℕ) (empty : Bool) (head : List ℕ) (r s : Seen) → IsPrefix head (head_text job empty) → HasBegun job source sink empty head r s → PrefixFor ask (Work job) r s
 prefix_begun job ask source sink empty head r s part begun = λ input is_input o one.

@@ -17,7 +17,7 @@ use Rattle.vsl_file.specs.ReaderState.{ReaderState, Represents, used}
 use Rattle.vsl_file.proofs.FileLemmas.{one_content_of, first_units}
 use Rattle.txn_rows.specs.declared.group.Group.{Group}
 use Rattle.txn_rows.specs.declared.group.GroupOptions.{GroupOptions}
-use Rattle.txn_rows.specs.Grouping.{groups_of}
+use Rattle.txn_rows.specs.Grouping.{Taken, all_taken, groups_of}
 use Rattle.query_eval.specs.Meaning.{is_held}
 use Rattle.tool_words.specs.declared.job.Job.{Job}
 use Rattle.varnish_tools.specs.declared.fault.ToolFault.{ToolFault}
@@ -33,7 +33,7 @@ use Rattle.varnish_tools.specs.Asked.{Work, options_of, file_of, write_of}
 use Rattle.varnish_tools.specs.Faults.{FaultClass, BadInput, class_of}
 use Rattle.varnish_tools.specs.Objects.{IsSourceHandle, Object, source_of, sink_of, SinkGained}
 use Rattle.varnish_tools.specs.Queries.{Ask, chosen, is_asked}
-use Rattle.varnish_tools.specs.Run.{Ending, Whole, Kept, Faulted, run_of}
+use Rattle.varnish_tools.specs.Run.{Ending, Whole, Kept, Faulted, run_of, taken_of}
 use Rattle.vsl_dispatch.specs.Groups.{kept, is_filled}
 use Rattle.varnish_tools.specs.Output.{head_text, output_of, is_flushed, is_ended, sink_text}
 use Rattle.varnish_tools.specs.Printer.{Plan, IsOutput, asked_groups, due, has_all}
@@ -115,37 +115,45 @@ given_ending job source sink empty r s units ending input begun ends is_input = 
 -- the text that is due
 
 -- the groups of the plan that are asked for are those of the job
-asked_are : (job : Job) (ask : Ask) (k : ℕ) (p : Plan) (units : Log) (b : Bool) → IsJobPlan job ask k p → asked_groups p units b ≡ chosen ask (groups_of (options_of job) units b)
-asked_are job ask k p units b is = ap (λ (o : GroupOptions). held_groups p.query (groups_of o units b)) is.is_grouped ∙ filter_agree (is_held p.query) (is_asked ask) is.asks.each (groups_of (options_of job) units b)
+asked_are : (job : Job) (ask : Ask) (k : ℕ) (p : Plan) (taken : List Taken) (b : Bool) → IsJobPlan job ask k p → asked_groups p taken b ≡ chosen ask (groups_of (options_of job) taken b)
+asked_are job ask k p taken b is = ap (λ (o : GroupOptions). held_groups p.query (groups_of o taken b)) is.is_grouped ∙ filter_agree (is_held p.query) (is_asked ask) is.asks.each (groups_of (options_of job) taken b)
 
 -- whether the groups of the plan are as many as are kept, told of the job
-fills_is : (job : Job) (ask : Ask) (k : ℕ) (p : Plan) (units : Log) → IsJobPlan job ask k p → fills (Work job) ask units ≡ has_all p units
-fills_is job ask k p units is = sym (ap (λ (o : Option ℕ). is_filled o (asked_groups p units false)) is.keeps ∙ ap (λ (gs : List Group). is_filled job.keep gs) (asked_are job ask k p units false is))
+fills_is : (job : Job) (ask : Ask) (k : ℕ) (p : Plan) (taken : List Taken) → IsJobPlan job ask k p → fills (Work job) ask taken ≡ has_all p taken
+fills_is job ask k p taken is = sym (ap (λ (o : Option ℕ). is_filled o (asked_groups p taken false)) is.keeps ∙ ap (λ (gs : List Group). is_filled job.keep gs) (asked_are job ask k p taken false is))
 
 -- the text that is due under the plan is that of the job
-due_is : (job : Job) (ask : Ask) (k : ℕ) (p : Plan) (units : Log) (b : Bool) → IsJobPlan job ask k p → due p units b ≡ tested_text (output_of job) job.keep (is_asked ask) (options_of job) units b
-due_is job ask k p units b is = ap (λ (w : List Group → Bool → List ℕ). w (kept p.keep (asked_groups p units b)) (b || has_all p units)) is.writes
-    ∙ ap (λ (f : Bool). output_of job (kept p.keep (asked_groups p units b)) (b || f)) (sym (fills_is job ask k p units is))
-    ∙ ap (λ (o : Option ℕ). output_of job (kept o (asked_groups p units b)) (b || fills (Work job) ask units)) is.keeps
-    ∙ ap (λ (gs : List Group). output_of job (kept job.keep gs) (b || fills (Work job) ask units)) (asked_are job ask k p units b is)
+due_is : (job : Job) (ask : Ask) (k : ℕ) (p : Plan) (taken : List Taken) (b : Bool) → IsJobPlan job ask k p → due p taken b ≡ tested_text (output_of job) job.keep (is_asked ask) (options_of job) taken b
+due_is job ask k p taken b is = ap (λ (w : List Group → Bool → List ℕ). w (kept p.keep (asked_groups p taken b)) (b || has_all p taken)) is.writes
+    ∙ ap (λ (f : Bool). output_of job (kept p.keep (asked_groups p taken b)) (b || f)) (sym (fills_is job ask k p taken is))
+    ∙ ap (λ (o : Option ℕ). output_of job (kept o (asked_groups p taken b)) (b || fills (Work job) ask taken)) is.keeps
+    ∙ ap (λ (gs : List Group). output_of job (kept job.keep gs) (b || fills (Work job) ask taken)) (asked_are job ask k p taken b is)
+
+-- a run of units took these units
+pub run_taken : (empty : Bool) (units : Log) → taken_of (run_of empty units).history ≡ all_taken units
+run_taken empty units = append-nil (all_taken units)
+
+-- whether its groups are as many as are kept, told of the plan
+run_fills : (job : Job) (ask : Ask) (k : ℕ) (p : Plan) (empty : Bool) (units : Log) → IsJobPlan job ask k p → fills (Work job) ask (taken_of (run_of empty units).history) ≡ has_all p (all_taken units)
+run_fills job ask k p empty units is = ap (λ (taken : List Taken). fills (Work job) ask taken) (run_taken empty units) ∙ fills_is job ask k p (all_taken units) is
 
 -- the text of a run of units, whose groups have ended where the ending says so
-pub run_text : (job : Job) (ask : Ask) (empty : Bool) (units : Log) (ending : Ending) → is_ended ending ≡ (is_flushed ending || fills (Work job) ask units)
-    → sink_text (Work job) ask (run_of empty units) ending ≡ head_text job empty ++ tested_text (output_of job) job.keep (is_asked ask) (options_of job) units (is_flushed ending)
-run_text job ask empty units ending ends = ap (λ (us : Log). head_text job empty ++ output_of job (kept job.keep (chosen ask (groups_of (options_of job) us (is_flushed ending)))) (is_ended ending)) (append-nil units)
-    ∙ ap (λ (b : Bool). head_text job empty ++ output_of job (kept job.keep (chosen ask (groups_of (options_of job) units (is_flushed ending)))) b) ends
+pub run_text : (job : Job) (ask : Ask) (empty : Bool) (units : Log) (ending : Ending) → is_ended ending ≡ (is_flushed ending || fills (Work job) ask (all_taken units))
+    → sink_text (Work job) ask (run_of empty units) ending ≡ head_text job empty ++ tested_text (output_of job) job.keep (is_asked ask) (options_of job) (all_taken units) (is_flushed ending)
+run_text job ask empty units ending ends = ap (λ (taken : List Taken). head_text job empty ++ output_of job (kept job.keep (chosen ask (groups_of (options_of job) taken (is_flushed ending)))) (is_ended ending)) (run_taken empty units)
+    ∙ ap (λ (b : Bool). head_text job empty ++ output_of job (kept job.keep (chosen ask (groups_of (options_of job) (all_taken units) (is_flushed ending)))) b) ends
 
 -- an ending that says whether the groups have ended, of the plan and of the job
-ends_as : (job : Job) (ask : Ask) (k : ℕ) (p : Plan) (units : Log) (ending : Ending) → IsJobPlan job ask k p → is_ended ending ≡ (is_flushed ending || has_all p units) → is_ended ending ≡ (is_flushed ending || fills (Work job) ask units)
-ends_as job ask k p units ending is ends = ends ∙ ap (λ (b : Bool). is_flushed ending || b) (sym (fills_is job ask k p units is))
+ends_as : (job : Job) (ask : Ask) (k : ℕ) (p : Plan) (taken : List Taken) (ending : Ending) → IsJobPlan job ask k p → is_ended ending ≡ (is_flushed ending || has_all p taken) → is_ended ending ≡ (is_flushed ending || fills (Work job) ask taken)
+ends_as job ask k p taken ending is ends = ends ∙ ap (λ (b : Bool). is_flushed ending || b) (sym (fills_is job ask k p taken is))
 
-sink_is : (job : Job) (ask : Ask) (k : ℕ) (p : Plan) (empty : Bool) (units : Log) (ending : Ending) → IsJobPlan job ask k p → is_ended ending ≡ (is_flushed ending || has_all p units)
-    → head_text job empty ++ due p units (is_flushed ending) ≡ sink_text (Work job) ask (run_of empty units) ending
-sink_is job ask k p empty units ending is ends = ap (λ (x : List ℕ). head_text job empty ++ x) (due_is job ask k p units (is_flushed ending) is) ∙ sym (run_text job ask empty units ending (ends_as job ask k p units ending is ends))
+sink_is : (job : Job) (ask : Ask) (k : ℕ) (p : Plan) (empty : Bool) (units : Log) (ending : Ending) → IsJobPlan job ask k p → is_ended ending ≡ (is_flushed ending || has_all p (all_taken units))
+    → head_text job empty ++ due p (all_taken units) (is_flushed ending) ≡ sink_text (Work job) ask (run_of empty units) ending
+sink_is job ask k p empty units ending is ends = ap (λ (x : List ℕ). head_text job empty ++ x) (due_is job ask k p (all_taken units) (is_flushed ending) is) ∙ sym (run_text job ask empty units ending (ends_as job ask k p (all_taken units) ending is ends))
 
-pub whole_is : (job : Job) (ask : Ask) (k : ℕ) (p : Plan) (empty : Bool) (input : Input) → IsJobPlan job ask k p → input.sink_empty ≡ empty → head_text job empty ++ due p input.units (is_whole input.file_ending) ≡ whole_text (Work job) ask input
-whole_is job ask k p empty input is e = ap (λ (x : List ℕ). head_text job empty ++ x) (due_is job ask k p input.units (is_whole input.file_ending) is)
-    ∙ ap (λ (b : Bool). head_text job b ++ tested_text (output_of job) job.keep (is_asked ask) (options_of job) input.units (is_whole input.file_ending)) (sym e)
+pub whole_is : (job : Job) (ask : Ask) (k : ℕ) (p : Plan) (empty : Bool) (input : Input) → IsJobPlan job ask k p → input.sink_empty ≡ empty → head_text job empty ++ due p (all_taken input.units) (is_whole input.file_ending) ≡ whole_text (Work job) ask input
+whole_is job ask k p empty input is e = ap (λ (x : List ℕ). head_text job empty ++ x) (due_is job ask k p (all_taken input.units) (is_whole input.file_ending) is)
+    ∙ ap (λ (b : Bool). head_text job b ++ tested_text (output_of job) job.keep (is_asked ask) (options_of job) (all_taken input.units) (is_whole input.file_ending)) (sym e)
 
 -- what the sink gained since before the run
 pub sink_gained : {IsSo IsToo : List ℕ → Type 0} (job : Job) (ask : Ask) (source sink : ℕ) (empty : Bool) (p : Plan) (r s t : Seen) → HasBegun job source sink empty (head_text job empty) r s → IsJobPlan job ask sink p → Touches (source ∷ []) (sink ∷ []) [] [] s t
@@ -165,13 +173,13 @@ works_by job ask fault taken s t cause leaves writes = record {
 
 -- the whole log was written
 
-all_taken : (n : ℕ) (units all : Log) (empty b : Bool) → n ≡ length units → units ≡ all → b ≡ empty → (n ≤ length all) × (run_of b all ≡ run_of b (take n all))
-all_taken n units all empty b count e same =
+whole_counted : (n : ℕ) (units all : Log) (empty b : Bool) → n ≡ length units → units ≡ all → b ≡ empty → (n ≤ length all) × (run_of b all ≡ run_of b (take n all))
+whole_counted n units all empty b count e same =
     let many : n ≡ length all = count ∙ ap length e in (omega arith, ap (λ (us : Log). run_of b us) (sym (take_all n all (omega arith))))
 
 -- the text of all units of the input
 text_of_all : (job : Job) (ask : Ask) (k : ℕ) (p : Plan) (empty : Bool) (units : Log) (input : Input) (ending : Ending) → IsJobPlan job ask k p → units ≡ input.units → input.sink_empty ≡ empty
-    → is_ended ending ≡ (is_flushed ending || has_all p units) → head_text job empty ++ due p units (is_flushed ending) ≡ sink_text (Work job) ask (whole_run input) ending
+    → is_ended ending ≡ (is_flushed ending || has_all p (all_taken units)) → head_text job empty ++ due p (all_taken units) (is_flushed ending) ≡ sink_text (Work job) ask (whole_run input) ending
 text_of_all job ask k p empty units input ending is same e ends = sink_is job ask k p empty units ending is ends ∙ ap (λ (b : Bool). sink_text (Work job) ask (run_of b units) ending) (sym e)
     ∙ ap (λ (us : Log). sink_text (Work job) ask (run_of input.sink_empty us) ending) same
 
@@ -183,12 +191,12 @@ works_whole job ask source sink empty start now n p r s t handle is touched ran 
   writes = λ input is_input.
       let all = given_all job source sink empty start now r s t ran.units input handle begun ran.given is_input in
       let same = begun.begins input.sink_empty is_input.2 in
-      let many = all_taken n ran.units input.units empty input.sink_empty ran.count all.0 same in record {
+      let many = whole_counted n ran.units input.units empty input.sink_empty ran.count all.0 same in record {
         run = whole_run input;
         ending = Whole;
         is_run = (many.0, refl, many.1);
         is_ending = refl;
-        takes = (all.1, refl, ap (λ (us : Log). fills (Work job) ask us) (sym all.0) ∙ fills_is job ask sink p ran.units is ∙ ran.cut.all);
+        takes = (all.1, refl, ap (λ (us : Log). fills (Work job) ask (taken_of (run_of input.sink_empty us).history)) (sym all.0) ∙ run_fills job ask sink p input.sink_empty ran.units is ∙ ran.cut.all);
         reads_once = λ o one. tt;
         sinks = each_one (λ o. SinkGained (IsDue (Work job) ask input (whole_run input) Whole) o r t) (sink_of job) (sink_gained job ask source sink empty p r s t begun is touched
             (λ text so. ap (λ (x : List ℕ). head_text job empty ++ x) so ∙ text_of_all job ask sink p empty ran.units input Whole is all.0 same refl) ran.gains);
@@ -199,7 +207,7 @@ works_whole job ask source sink empty start now n p r s t handle is touched ran 
 
 pub works_ended : (job : Job) (ask : Ask) (source sink : ℕ) (empty : Bool) (n : ℕ) (p : Plan) (units : Log) (ending : FileEnding) (fault : ToolFault) (r s t : Seen) → IsJobPlan job ask sink p → Touches (source ∷ []) (sink ∷ []) [] [] s t
     → n ≡ length units → class_of fault ≡ BadInput (file_of job) → input_fault (file_of job) ending ≡ Some fault → HasBegun job source sink empty (head_text job empty) r s → EndsFile source s units ending
-    → AddedSome (λ text. text ≡ due p units false) p.sink s t → IsOpen p units → WorksFor ask (Work job) (Some fault) (Counted n 1) r t
+    → AddedSome (λ text. text ≡ due p (all_taken units) false) p.sink s t → IsOpen p units → WorksFor ask (Work job) (Some fault) (Counted n 1) r t
 works_ended job ask source sink empty n p units ending fault r s t is touched count e blamed begun ends added fewer =
     works_by job ask fault (Counted n 1) r t
     (subst (λ (c : FaultClass). HasRunCause (Work job) fault c r t) (sym e) (
@@ -212,12 +220,12 @@ works_ended job ask source sink empty n p units ending fault r s t is touched co
     (λ input is_input.
     let all = given_ending job source sink empty r s units ending input begun ends is_input in
     let same = begun.begins input.sink_empty is_input.2 in
-    let many = all_taken n units input.units empty input.sink_empty count all.0 same in record {
+    let many = whole_counted n units input.units empty input.sink_empty count all.0 same in record {
       run = whole_run input;
       ending = Faulted fault;
       is_run = (many.0, refl, many.1);
       is_ending = refl;
-      takes = subst (λ (c : FaultClass). TakesUntil c (Work job) ask input (whole_run input)) (sym e) (refl, ap (λ (us : Log). fills (Work job) ask us) (sym all.0) ∙ fills_is job ask sink p units is ∙ fewer.all);
+      takes = subst (λ (c : FaultClass). TakesUntil c (Work job) ask input (whole_run input)) (sym e) (refl, ap (λ (us : Log). fills (Work job) ask (taken_of (run_of input.sink_empty us).history)) (sym all.0) ∙ run_fills job ask sink p input.sink_empty units is ∙ fewer.all);
       reads_once = λ o one. subst (λ (c : FaultClass). ReadsOnceUntil c o input (whole_run input) r t) (sym e) tt;
       sinks = each_one (λ o. SinkGained (IsDue (Work job) ask input (whole_run input) (Faulted fault)) o r t) (sink_of job) (sink_gained job ask source sink empty p r s t begun is touched
           (λ text so. subst (λ (c : FaultClass). IsDueUntil c (Work job) ask input (whole_run input) (Faulted fault) (head_text job empty ++ text)) (sym e)
@@ -229,14 +237,14 @@ first_taken : (n : ℕ) (units all : Log) (b : Bool) → n ≡ length units → 
 first_taken n units all b count first = (omega (arith, count, first.0), ap (λ (us : Log). run_of b us) (first.1 ∙ ap (λ (k : ℕ). take k all) (sym count)))
 
 -- the text of the first units
-text_of_first : (job : Job) (ask : Ask) (k : ℕ) (p : Plan) (empty b : Bool) (units : Log) (ending : Ending) → IsJobPlan job ask k p → b ≡ empty → is_ended ending ≡ (is_flushed ending || has_all p units)
-    → head_text job empty ++ due p units (is_flushed ending) ≡ sink_text (Work job) ask (run_of b units) ending
+text_of_first : (job : Job) (ask : Ask) (k : ℕ) (p : Plan) (empty b : Bool) (units : Log) (ending : Ending) → IsJobPlan job ask k p → b ≡ empty → is_ended ending ≡ (is_flushed ending || has_all p (all_taken units))
+    → head_text job empty ++ due p (all_taken units) (is_flushed ending) ≡ sink_text (Work job) ask (run_of b units) ending
 text_of_first job ask k p empty b units ending is e ends = sink_is job ask k p empty units ending is ends ∙ ap (λ (x : Bool). sink_text (Work job) ask (run_of x units) ending) (sym e)
 
 -- a read failed
 
 pub works_unread : (job : Job) (ask : Ask) (source sink : ℕ) (empty : Bool) (n : ℕ) (p : Plan) (units : Log) (r s t : Seen) → IsJobPlan job ask sink p → Touches (source ∷ []) (sink ∷ []) [] [] s t → n ≡ length units
-    → HasBegun job source sink empty (head_text job empty) r s → FailedAfter source s t units → AddedSome (λ text. text ≡ due p units false) p.sink s t → IsOpen p units
+    → HasBegun job source sink empty (head_text job empty) r s → FailedAfter source s t units → AddedSome (λ text. text ≡ due p (all_taken units) false) p.sink s t → IsOpen p units
     → WorksFor ask (Work job) (Some (ReadFault (file_of job))) (Counted n 1) r t
 works_unread job ask source sink empty n p units r s t is touched count begun stop added fewer =
     works_by job ask (ReadFault (file_of job)) (Counted n 1) r t
@@ -249,7 +257,7 @@ works_unread job ask source sink empty n p units r s t is touched count begun st
       ending = Faulted (ReadFault (file_of job));
       is_run = (first.0, refl, first.1);
       is_ending = refl;
-      takes = inr ((n, first.0, first.1), fills_is job ask sink p units is ∙ fewer.all);
+      takes = inr ((n, first.0, first.1), run_fills job ask sink p input.sink_empty units is ∙ fewer.all);
       reads_once = each_one (λ o. ReadsOnce (Faulted (ReadFault (file_of job))) o input (run_of input.sink_empty units) r t) (source_of job)
           (inr (stop.given.taken, stop.holds, took job source sink empty r s t stop.given.taken input begun touched stop.given.took is_input));
       sinks = each_one (λ o. SinkGained (IsDue (Work job) ask input (run_of input.sink_empty units) (Faulted (ReadFault (file_of job)))) o r t) (sink_of job) (sink_gained job ask source sink empty p r s t begun is touched
@@ -264,7 +272,7 @@ large_class name = refl
 -- the source stopped, but for want of memory
 
 stopped_by : (job : Job) (ask : Ask) (source sink : ℕ) (empty : Bool) (fault : SourceFault) (n : ℕ) (p : Plan) (units : Log) (r s t : Seen) → IsJobPlan job ask sink p → Touches (source ∷ []) (sink ∷ []) [] [] s t → fault ≢ source_faults.NoMemory
-    → n ≡ length units → StoppedSo source fault s t units → AddedSome (λ text. text ≡ due p units false) p.sink s t → IsOpen p units → HasBegun job source sink empty (head_text job empty) r s → WorksFor ask (Work job) (Some (fault_as (file_of job) fault)) (Counted n 1) r t
+    → n ≡ length units → StoppedSo source fault s t units → AddedSome (λ text. text ≡ due p (all_taken units) false) p.sink s t → IsOpen p units → HasBegun job source sink empty (head_text job empty) r s → WorksFor ask (Work job) (Some (fault_as (file_of job) fault)) (Counted n 1) r t
 stopped_by job ask source sink empty (source_faults.NotALog at) n p units r s t is touched some count stop added fewer begun =
     works_ended job ask source sink empty n p units (file.NotALog at) (NotALog (file_of job) at) r s t is touched count refl refl begun stop added fewer
 stopped_by job ask source sink empty (source_faults.Damaged at) n p units r s t is touched some count stop added fewer begun =
@@ -292,11 +300,11 @@ ahead : (r : ReaderState) (taken : List ℕ) (units : Log) → Represents r take
 ahead r taken units p = ahead_by r.begun taken r.rest units p.fresh p.parts p.short
 
 -- the text with the last unit, flushed where the whole log was given, is a prefix of that of the run's ending
-begun_on : (p : Plan) → IsOutput p.writes → (units : Log) (all ends filled : Bool) → (all ≡ true → ends ≡ true) → has_all p units ≡ filled → IsPrefix (due p units all) (due p units (cond filled false ends))
-begun_on p is units true ends true given filled = rw (due_filled p units filled) (prefix_same (due p units false))
-begun_on p is units false ends true given filled = prefix_same (due p units false)
-begun_on p is units true ends false given fewer = rw (given refl) (prefix_same (due p units true))
-begun_on p is units false ends false given fewer = due_flag p is units ends
+begun_on : (p : Plan) → IsOutput p.writes → (taken : List Taken) (all ends filled : Bool) → (all ≡ true → ends ≡ true) → has_all p taken ≡ filled → IsPrefix (due p taken all) (due p taken (cond filled false ends))
+begun_on p is taken true ends true given filled = rw (due_filled p taken filled) (prefix_same (due p taken false))
+begun_on p is taken false ends true given filled = prefix_same (due p taken false)
+begun_on p is taken true ends false given fewer = rw (given refl) (prefix_same (due p taken true))
+begun_on p is taken false ends false given fewer = due_flag p is taken ends
 
 -- the ending of a text whose write failed, by whether the last group that is kept is complete, and else whether the whole log was given
 abbrev begun_ending : Bool → Bool → ToolFault → Ending
@@ -314,14 +322,14 @@ ended_at false false fault = refl
 
 -- the text whose write failed, told of the job
 begun_text : (job : Job) (ask : Ask) (k : ℕ) (p : Plan) (empty all ends : Bool) (units : Log) (input : Input) (fault : ToolFault) → IsJobPlan job ask k p → input.sink_empty ≡ empty → (all ≡ true → ends ≡ true)
-    → IsPrefix (head_text job empty ++ due p units all) (sink_text (Work job) ask (run_of input.sink_empty units) (begun_ending (fills (Work job) ask units) ends fault))
+    → IsPrefix (head_text job empty ++ due p (all_taken units) all) (sink_text (Work job) ask (run_of input.sink_empty units) (begun_ending (fills (Work job) ask (taken_of (run_of input.sink_empty units).history)) ends fault))
 begun_text job ask k p empty all ends units input fault is same given =
-    let filled = fills (Work job) ask units in
-    let told = fills_is job ask k p units is in
+    let filled = fills (Work job) ask (taken_of (run_of input.sink_empty units).history) in
+    let told = run_fills job ask k p input.sink_empty units is in
     let output : IsOutput p.writes = subst (λ (w : List Group → Bool → List ℕ). IsOutput w) (sym is.writes) (job_output job) in
     let text = text_of_first job ask k p empty input.sink_empty units (begun_ending filled ends fault) is same (ended_at filled ends fault ∙ ap (λ (b : Bool). is_flushed (begun_ending filled ends fault) || b) told) in
-    subst (λ (x : List ℕ). IsPrefix (head_text job empty ++ due p units all) x) text
-    (prefix_after (head_text job empty) (subst (λ (b : Bool). IsPrefix (due p units all) (due p units b)) (sym (flushed_at filled ends fault)) (begun_on p output units all ends filled given (sym told))))
+    subst (λ (x : List ℕ). IsPrefix (head_text job empty ++ due p (all_taken units) all) x) text
+    (prefix_after (head_text job empty) (subst (λ (b : Bool). IsPrefix (due p (all_taken units) all) (due p (all_taken units) b)) (sym (flushed_at filled ends fault)) (begun_on p output (all_taken units) all ends filled given (sym told))))
 
 -- the units that were given, whole or not
 given_some : (job : Job) (source sink : ℕ) (empty all : Bool) (start now : LogFile) (r s t : Seen) (units : Log) (input : Input) → start.reader.handle ≡ source → HasBegun job source sink empty (head_text job empty) r s
@@ -351,7 +359,7 @@ works_unwritten job ask source sink empty start now name n p r s t handle is tou
       ending = Faulted fault;
       is_run = (first.0, refl, first.1);
       is_ending = refl;
-      takes = ((n, first.0, first.1), fills_is job ask sink p (take (length units - 1) units) is ∙ run.cut);
+      takes = ((n, first.0, first.1), run_fills job ask sink p input.sink_empty (take (length units - 1) units) is ∙ run.cut);
       reads_once = each_one (λ o. ReadsOnce (Faulted fault) o input (run_of input.sink_empty units) r t) (source_of job)
           (run.given.taken, ahead now.reader run.given.taken units run.given.represents, took job source sink empty r s t run.given.taken input begun touched (subst (λ (h : ℕ). TookFrom h run.given.taken s t) handle run.given.took) is_input);
       sinks = each_one (λ o. SinkGained (IsDue (Work job) ask input (run_of input.sink_empty units) (Faulted fault)) o r t) (sink_of job) (sink_gained job ask source sink empty p r s t begun is touched
@@ -378,7 +386,7 @@ works_kept job ask source sink empty start now n p r s t handle is touched run b
         ending = Kept;
         is_run = (first.0, refl, first.1);
         is_ending = refl;
-        takes = ((n, first.0, first.1), fills_is job ask sink p units is ∙ run.cut.all, fills_is job ask sink p (take (length units - 1) units) is ∙ run.cut.first);
+        takes = ((n, first.0, first.1), run_fills job ask sink p input.sink_empty units is ∙ run.cut.all, run_fills job ask sink p input.sink_empty (take (length units - 1) units) is ∙ run.cut.first);
         reads_once = each_one (λ o. ReadsOnce Kept o input (run_of input.sink_empty units) r t) (source_of job)
             (run.given.taken, ahead now.reader run.given.taken units run.given.represents, took job source sink empty r s t run.given.taken input begun touched (subst (λ (h : ℕ). TookFrom h run.given.taken s t) handle run.given.took) is_input);
         sinks = each_one (λ o. SinkGained (IsDue (Work job) ask input (run_of input.sink_empty units) Kept) o r t) (sink_of job) (sink_gained job ask source sink empty p r s t begun is touched

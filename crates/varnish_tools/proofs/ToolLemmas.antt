@@ -1,7 +1,7 @@
 -- The main theorem from its steps: the run, and then the message of its fault.
 use Rattle.std.proofs.Common.{◌≡◌, ◌⊎◌, ℕ, ◌≤◌, Bool, true, false, cond, eqb, ◌&&◌, ◌||◌, List, [], ◌∷◌, ◌++◌, length, take, Option, Some, None, refl, sym, ap, subst, ◌∙◌, inl, inr, ⊎_elim, arith}
 use Rattle.std.specs.Prelude.{codes}
-use Rattle.std.proofs.lemmas.List.{append-nil, take_all, length-take}
+use Rattle.std.proofs.lemmas.List.{take_all, length-take}
 use Rattle.std.proofs.lemmas.Bool.{eqb-true}
 use Rattle.log_model.specs.Faults.{HasNewFault}
 use Rattle.log_model.specs.Prefix.{IsPrefix}
@@ -14,7 +14,7 @@ use Rattle.vio.proofs.WholeLemmas.{some_since}
 use Rattle.vio.proofs.TouchLemmas.{only_one, touches_in, touches_then}
 use Rattle.vsl_record.specs.Unit.{Log}
 use Rattle.tool_words.specs.declared.job.Job.{Job}
-use Rattle.txn_rows.specs.Grouping.{groups_of}
+use Rattle.txn_rows.specs.Grouping.{Taken, all_taken, groups_of}
 use Rattle.varnish_tools.specs.declared.fault.ToolFault.{ToolFault}
 use Rattle.txn_rows.specs.declared.group.Group.{Group}
 use Rattle.varnish_tools.specs.declared.fault.ToolFault.TheVariants.{ReadFault}
@@ -25,7 +25,7 @@ use Rattle.varnish_tools.specs.Asked.{Asked, Refuse, Work, asked_of, options_of,
 use Rattle.varnish_tools.specs.Faults.{FaultClass, Refused, RefusedQuery, RefusedFormat, LongQuery, NotOpened, NotRead, NotWritten, BadInput, class_of, message, fault_message, status_of}
 use Rattle.varnish_tools.specs.Objects.{Object, source_of, sink_of, inputs_of, sources_of, sinks_of, streams_of, query_files, name_of, calls_of, SinkGained, SinkUntouched, SinksGained, SinksUntouched, NothingTouched, GivesAtMost, TouchesJob}
 use Rattle.varnish_tools.specs.Queries.{Ask, is_asked, chosen}
-use Rattle.varnish_tools.specs.Run.{Run, Ending, Whole, Kept, Faulted, no_run, run_of, fault_of}
+use Rattle.varnish_tools.specs.Run.{Run, Ending, Whole, Kept, Faulted, no_run, run_of, taken_of, fault_of}
 use Rattle.vsl_dispatch.specs.Groups.{kept, is_filled}
 use Rattle.varnish_tools.specs.Output.{head_text, output_of, is_flushed, is_ended, sink_text}
 use Rattle.varnish_tools.specs.Promise.{Input, SourceHolds, IsInput, Asks, AreGood, IsStoppedByQuery, IsStoppedByFormat, TakesFormat, TakesQueries, IsCounted, LeavesAll, WritesFor, IsGood, HasFailed, HasFailedInput, HasClassCause, HasCause, IsRunOf, TakesUntil, Takes, TakesFirst, fills, TookSome, ReadsOnceUntil, ReadsOnce, IsDueUntil, IsDue, LeavesUntil, LeavesSinks, SinksLeft, WritesError, WorksOff, WritesPrefix, IsFaithful, IsComplete, IsCutShort, NoFaultOf, whole_run, whole_text, is_whole}
@@ -33,7 +33,7 @@ use Rattle.varnish_tools.specs.inside.Report.{ReportsPart}
 use Rattle.varnish_tools.proofs.ObjectLemmas.{last_name, last_opened, IsSink, is_sink, IsSource, is_source, are_sources, untouched_until, gained_until, gained_so, took_until, error_no_sink, source_until, gives_still, gives_none}
 use Rattle.varnish_tools.proofs.OutputLemmas.{job_output}
 use Rattle.varnish_tools.proofs.PrinterLemmas.{kept_first, tested_text, text_first}
-use Rattle.varnish_tools.proofs.RunLemmas.{run_text}
+use Rattle.varnish_tools.proofs.RunLemmas.{run_taken, run_text}
 use Rattle.varnish_tools.proofs.QueryLemmas.{taken_then}
 use Rattle.varnish_tools.proofs.TakenLemmas.{formatted_then, began_then, stopped_then, none_stopped}
 
@@ -195,15 +195,17 @@ prefix_until asked s t u streams touched told p = λ input is_input o one. elim 
 -- what was worked off wrote a prefix of the input's text
 
 -- the text of the first units of the input is a prefix of its text
-first_prefix : (job : Job) (ask : Ask) (input : Input) (run : Run) (n : ℕ) (ending : Ending) → is_flushed ending ≡ false → is_ended ending ≡ fills (Work job) ask run.log → run ≡ run_of input.sink_empty (take n input.units)
+first_prefix : (job : Job) (ask : Ask) (input : Input) (run : Run) (n : ℕ) (ending : Ending) → is_flushed ending ≡ false → is_ended ending ≡ fills (Work job) ask (taken_of run.history) → run ≡ run_of input.sink_empty (take n input.units)
     → IsPrefix (sink_text (Work job) ask run ending) (whole_text (Work job) ask input)
 first_prefix job ask input run n ending flushed ends e =
-    let told : is_ended ending ≡ (is_flushed ending || fills (Work job) ask (take n input.units)) = ends ∙ ap (λ (r : Run). fills (Work job) ask r.log) e ∙ ap (λ (b : Bool). b || fills (Work job) ask (take n input.units)) (sym flushed) in
+    let filled : Bool = fills (Work job) ask (all_taken (take n input.units)) in
+    let told : is_ended ending ≡ (is_flushed ending || filled) =
+    ends ∙ ap (λ (r : Run). fills (Work job) ask (taken_of r.history)) e ∙ ap (λ (taken : List Taken). fills (Work job) ask taken) (run_taken input.sink_empty (take n input.units)) ∙ ap (λ (b : Bool). b || filled) (sym flushed) in
     rw (e, run_text job ask input.sink_empty (take n input.units) ending told, flushed)
     (prefix_after (head_text job input.sink_empty) (text_first (output_of job) (job_output job) job.keep (is_asked ask) (options_of job) input.units n (is_whole input.file_ending)))
 
 whole_prefix : (job : Job) (ask : Ask) (input : Input) (run : Run) → is_whole input.file_ending ≡ true → run ≡ whole_run input → IsPrefix (sink_text (Work job) ask run Whole) (whole_text (Work job) ask input)
-whole_prefix job ask input run whole e = rw (e, run_text job ask input.sink_empty input.units Whole refl, whole) (prefix_same (head_text job input.sink_empty ++ tested_text (output_of job) job.keep (is_asked ask) (options_of job) input.units true))
+whole_prefix job ask input run whole e = rw (e, run_text job ask input.sink_empty input.units Whole refl, whole) (prefix_same (head_text job input.sink_empty ++ tested_text (output_of job) job.keep (is_asked ask) (options_of job) (all_taken input.units) true))
 
 both : (a b : Bool) → (a && b) ≡ true → (a ≡ true) × (b ≡ true)
 both true b e = (refl, e)
@@ -216,7 +218,7 @@ all_first input run n e same =
     let enough : length input.units ≤ n = omega (arith, long, length-take n input.units) in
     e ∙ ap (λ (us : Log). run_of input.sink_empty us) (take_all n input.units enough)
 
-begun_prefix : (job : Job) (ask : Ask) (input : Input) (run : Run) (n : ℕ) (f : ToolFault) (filled ends : Bool) → fills (Work job) ask run.log ≡ filled → (ends ≡ true → (is_whole input.file_ending && eqb (length run.log) (length input.units)) ≡ true)
+begun_prefix : (job : Job) (ask : Ask) (input : Input) (run : Run) (n : ℕ) (f : ToolFault) (filled ends : Bool) → fills (Work job) ask (taken_of run.history) ≡ filled → (ends ≡ true → (is_whole input.file_ending && eqb (length run.log) (length input.units)) ≡ true)
     → run ≡ run_of input.sink_empty (take n input.units) → IsPrefix (sink_text (Work job) ask run (cond filled Kept (cond ends Whole (Faulted f)))) (whole_text (Work job) ask input)
 begun_prefix job ask input run n f true ends filled is e = first_prefix job ask input run n Kept refl (sym filled) e
 begun_prefix job ask input run n f false true fewer is e = let tests = both _ _ (is refl) in whole_prefix job ask input run tests.0 (all_first input run n e (eqb-true _ _ tests.1))
@@ -236,7 +238,7 @@ class_prefix (NotOpened name) job ask input run f n items s t text left is takes
 class_prefix (NotRead name) job ask input run f n items s t text left is (inl none) due = absurd (some_run input run (take n input.units) is.2 none)
 class_prefix (NotRead name) job ask input run f n items s t text left is (inr takes) due = rw due (first_prefix job ask input run n (Faulted f) refl (sym takes.1) is.2)
 class_prefix (NotWritten name) job ask input run f n items s t text left is takes due =
-    prefix_then due.1.prefix (begun_prefix job ask input run n f (fills (Work job) ask run.log) (is_whole input.file_ending && eqb (length run.log) (length input.units)) refl (λ e. e) is.2)
+    prefix_then due.1.prefix (begun_prefix job ask input run n f (fills (Work job) ask (taken_of run.history)) (is_whole input.file_ending && eqb (length run.log) (length input.units)) refl (λ e. e) is.2)
 class_prefix (BadInput name) job ask input run f n items s t text left is takes due = rw due (first_prefix job ask input run n (Faulted f) refl (sym takes.1) is.2)
 
 due_is_prefix : (fault : Option ToolFault) (job : Job) (ask : Ask) (input : Input) (run : Run) (ending : Ending) (n items : ℕ) (s t : Seen) (text : List ℕ) → fault_of ending ≡ fault → LeavesSinks fault (Work job) (Counted n items) s t
@@ -324,11 +326,13 @@ no_fault job input None s u is_input clean good none causes = refl
 no_fault job input (Some f) s u is_input clean good none causes = absurd (no_cause job input f (class_of f) s u is_input clean good none (causes f refl))
 
 -- the text of the groups that are kept is that of the whole input
-kept_whole : (job : Job) (ask : Ask) (input : Input) (run : Run) → TakesFirst input run → fills (Work job) ask run.log ≡ true → sink_text (Work job) ask run Kept ≡ sink_text (Work job) ask (whole_run input) Whole
+kept_whole : (job : Job) (ask : Ask) (input : Input) (run : Run) → TakesFirst input run → fills (Work job) ask (taken_of run.history) ≡ true → sink_text (Work job) ask run Kept ≡ sink_text (Work job) ask (whole_run input) Whole
 kept_whole job ask input run first filled =
-    let all : is_filled job.keep (chosen ask (groups_of (options_of job) (take first.0 input.units) false)) ≡ true = subst (λ (r : Run). fills (Work job) ask r.log ≡ true) first.2 filled in
+    let units : Log = take first.0 input.units in
+    let took : taken_of run.history ≡ all_taken units = ap (λ (r : Run). taken_of r.history) first.2 ∙ run_taken input.sink_empty units in
+    let all : is_filled job.keep (chosen ask (groups_of (options_of job) (all_taken units) false)) ≡ true = subst (λ (taken : List Taken). fills (Work job) ask taken ≡ true) took filled in
     ap (λ (r : Run). sink_text (Work job) ask r Kept) first.2
-    ∙ ap (λ (us : Log). head_text job input.sink_empty ++ output_of job (kept job.keep (chosen ask (groups_of (options_of job) us false))) true) (append-nil (take first.0 input.units))
+    ∙ ap (λ (taken : List Taken). head_text job input.sink_empty ++ output_of job (kept job.keep (chosen ask (groups_of (options_of job) taken false))) true) (run_taken input.sink_empty units)
     ∙ ap (λ (gs : List Group). head_text job input.sink_empty ++ output_of job gs true) (sym (kept_first job.keep (is_asked ask) (options_of job) input.units first.0 true all))
     ∙ sym (run_text job ask input.sink_empty input.units Whole refl)
 

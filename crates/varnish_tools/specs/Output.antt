@@ -21,7 +21,7 @@ use Rattle.varnish_tools.specs.declared.layout.Layout.TheVariants.{Lines, Units}
 use Rattle.varnish_tools.specs.Asked.{Asked, Refuse, Work, options_of}
 use Rattle.varnish_tools.specs.Formats.{format_text}
 use Rattle.varnish_tools.specs.Queries.{Ask, chosen}
-use Rattle.varnish_tools.specs.Run.{Run, Ending, Whole, Kept, Faulted, taken_units}
+use Rattle.varnish_tools.specs.Run.{Run, Ending, Whole, Kept, Faulted, taken_of}
 
 -- what groups are written as, one after another: their lines, verbose or not, or the units of a log file
 abbrev pub written : Layout → Bool → List Group → List ℕ
@@ -82,9 +82,9 @@ is_ended Whole = true
 is_ended Kept = true
 is_ended (Faulted fault) = false
 
--- the text for the sink: the header where one is due, and what is written of those groups of the units that were taken that are asked for, in the order in
+-- the text for the sink: the header where one is due, and what is written of those groups of what was taken that are asked for, in the order in
 -- which they are complete, at most as many as are kept; refused words have none
 abbrev pub sink_text : Asked → Ask → Run → Ending → List ℕ
 sink_text (Refuse fault) ask run ending = []
 sink_text (Work job) ask run ending =
-    head_text job run.sink_empty ++ output_of job (kept job.keep (chosen ask (groups_of (options_of job) (taken_units run.history) (is_flushed ending)))) (is_ended ending)
+    head_text job run.sink_empty ++ output_of job (kept job.keep (chosen ask (groups_of (options_of job) (taken_of run.history) (is_flushed ending)))) (is_ended ending)

@@ -1,12 +1,11 @@
--- What a printer represents: the units that it was given, whose text is due at its sink (this project's choice).
+-- What a printer represents: what it was given, units and overruns, whose text is due at its sink (this project's choice).
 use Rattle.std.specs.Prelude.{◌≡◌, ℕ, ◌||◌, Bool, false, List, [], ◌∷◌, ◌++◌, Option, None}
 use Rattle.log_model.specs.Faults.{HasNewFault}
 use Rattle.log_model.specs.Prefix.{IsPrefix, IsProperPrefix}
 use Rattle.vio.specs.World.{Seen, Writing}
-use Rattle.vsl_record.specs.Unit.{Log}
 use Rattle.txn_rows.specs.declared.group.Group.{Group}
 use Rattle.txn_rows.specs.declared.group.GroupOptions.{GroupOptions}
-use Rattle.txn_rows.specs.Grouping.{no_state, unit_steps, groups_of}
+use Rattle.txn_rows.specs.Grouping.{Taken, no_state, taken_steps, groups_of}
 use Rattle.txn_rows.specs.TableState.{TableState}
 use Rattle.query_parser.specs.declared.query.Query.{Query}
 use Rattle.query_eval.specs.Asker.{asker_query}
@@ -46,33 +45,33 @@ pub record PrinterState (C : Type 0) : Type 0 where
 abbrev pub printer_state : {C : Type 0} → Printer C → PrinterState C
 printer_state p = record { table = p.table; query = asker_query p.asker; entries = entries_of p.consumer.dispatch; sink = p.sink.handle; name = p.sink.name }
 
--- the groups of units that are asked for, where the units have ended or not
-abbrev pub asked_groups : Plan → Log → Bool → List Group
-asked_groups plan units ended = held_groups plan.query (groups_of plan.options units ended)
+-- the groups of what was taken that are asked for, where that has ended or not
+abbrev pub asked_groups : Plan → List Taken → Bool → List Group
+asked_groups plan taken ended = held_groups plan.query (groups_of plan.options taken ended)
 
--- whether the groups of units that are asked for are as many as are kept
-abbrev pub has_all : Plan → Log → Bool
-has_all plan units = is_filled plan.keep (asked_groups plan units false)
+-- whether the groups of what was taken that are asked for are as many as are kept
+abbrev pub has_all : Plan → List Taken → Bool
+has_all plan taken = is_filled plan.keep (asked_groups plan taken false)
 
--- the text that is due for units, where they have ended or not: what is written of the groups that are asked for, at most as many as are kept; with the last
+-- the text that is due for what was taken, where that has ended or not: what is written of the groups that are asked for, at most as many as are kept; with the last
 -- that is kept they have ended too
-abbrev pub due : Plan → Log → Bool → List ℕ
-due plan units ended = plan.writes (kept plan.keep (asked_groups plan units ended)) (ended || has_all plan units)
+abbrev pub due : Plan → List Taken → Bool → List ℕ
+due plan taken ended = plan.writes (kept plan.keep (asked_groups plan taken ended)) (ended || has_all plan taken)
 
--- the printer was given these units under a plan, and no call was refused: its consumer received the groups that are asked for, fewer than are kept, and the
+-- the printer was given this under a plan, and no call was refused: its consumer received the groups that are asked for, fewer than are kept, and the
 -- text that is due was taken from it
 module _ {C : Type 0} (keep : C → Option ℕ) (output : C → List Group → Bool → List ℕ) (represents : C → List Group → Bool → List ℕ → Type 0) where
-  pub record Represents (plan : Plan) (p : PrinterState C) (units : Log) : Type 0 where
+  pub record Represents (plan : Plan) (p : PrinterState C) (taken : List Taken) : Type 0 where
     pub options : p.table.options ≡ plan.options
     pub query : p.query ≡ plan.query
     pub sink : p.sink ≡ plan.sink
     pub name : p.name ≡ plan.name
     pub is_output : IsOutput plan.writes
-    pub state : p.table.state ≡ (unit_steps plan.options units no_state).state
+    pub state : p.table.state ≡ (taken_steps plan.options taken no_state).state
     pub sound : p.table.failed ≡ false
     pub consumer : C
     pub live : p.entries ≡ Live consumer ∷ []
-    pub stands : Stands keep output represents plan.keep plan.writes (Live consumer) (asked_groups plan units false) (due plan units false)
+    pub stands : Stands keep output represents plan.keep plan.writes (Live consumer) (asked_groups plan taken false) (due plan taken false)
 
 -- how many groups the only consumer of a dispatcher keeps, where there is a limit
 abbrev pub only_keep : {C : Type 0} → (C → Option ℕ) → List (Entry C) → Option ℕ

@@ -9,7 +9,7 @@ use Rattle.vio.specs.Touches.{IsOneOf}
 use Rattle.vsl_record.specs.Unit.{Log}
 use Rattle.vsl_file.specs.File.{FileEnding, IsFile, HoldsWhole, file_header, log_bytes, most_bytes}
 use Rattle.vsl_file.specs.File as file
-use Rattle.txn_rows.specs.Grouping.{groups_of}
+use Rattle.txn_rows.specs.Grouping.{Taken, all_taken, groups_of}
 use Rattle.varnish_tools.specs.declared.fault.ToolFault.{ToolFault}
 use Rattle.varnish_tools.specs.declared.fault.ToolFault.TheVariants as faults
 use Rattle.varnish_tools.specs.declared.outcome.RunRecord.{RunRecord}
@@ -22,7 +22,7 @@ use Rattle.varnish_tools.specs.Objects.{Object, OpenedFile, CreatedFile, Stream,
 use Rattle.varnish_tools.specs.Queries.{Ask, AreAsked, chosen, TextsHold, texts_fault}
 use Rattle.varnish_tools.specs.QueryFiles.{AreTaken, StoppedByQuery}
 use Rattle.varnish_tools.specs.Formats.{StoppedByFormat, job_format_fault}
-use Rattle.varnish_tools.specs.Run.{Run, Ending, Whole, Kept, Faulted, fault_of, no_run, run_of}
+use Rattle.varnish_tools.specs.Run.{Run, Ending, Whole, Kept, Faulted, fault_of, taken_of, no_run, run_of}
 use Rattle.vsl_dispatch.specs.Groups.{kept, is_filled}
 use Rattle.varnish_tools.specs.Output.{head_text, output_of, sink_text}
 
@@ -123,16 +123,16 @@ HasCause asked fault before now = HasClassCause asked fault (class_of fault) bef
 abbrev pub whole_run : Input → Run
 whole_run input = run_of input.sink_empty input.units
 
--- whether the groups that units complete and that are asked for are as many as are kept
-abbrev pub fills : Asked → Ask → Log → Bool
-fills (Refuse fault) ask units = false
-fills (Work job) ask units = is_filled job.keep (chosen ask (groups_of (options_of job) units false))
+-- whether the groups that are complete by what was taken and that are asked for are as many as are kept
+abbrev pub fills : Asked → Ask → List Taken → Bool
+fills (Refuse fault) ask taken = false
+fills (Work job) ask taken = is_filled job.keep (chosen ask (groups_of (options_of job) taken false))
 
 -- the text that an input defines where no fault of the world comes
 abbrev pub whole_text : Asked → Ask → Input → List ℕ
 whole_text (Refuse fault) ask input = []
 whole_text (Work job) ask input =
-    head_text job input.sink_empty ++ output_of job (kept job.keep (chosen ask (groups_of (options_of job) input.units (is_whole input.file_ending)))) (is_whole input.file_ending || fills (Work job) ask input.units)
+    head_text job input.sink_empty ++ output_of job (kept job.keep (chosen ask (groups_of (options_of job) (all_taken input.units) (is_whole input.file_ending)))) (is_whole input.file_ending || fills (Work job) ask (all_taken input.units))
 
 -- the record of a run over an input: it takes so many units, from the first on, without a gap; or nothing
 abbrev pub IsRunOf : RunRecord → Input → Run → Type 0
@@ -154,14 +154,14 @@ TakesUntil RefusedQuery asked ask input run = run ≡ no_run
 TakesUntil RefusedFormat asked ask input run = run ≡ no_run
 TakesUntil LongQuery asked ask input run = run ≡ no_run
 TakesUntil (NotOpened name) asked ask input run = run ≡ no_run
-TakesUntil (NotRead name) asked ask input run = (run ≡ no_run) ⊎ (TakesFirst input run × (fills asked ask run.log ≡ false))
-TakesUntil (NotWritten name) asked ask input run = TakesFirst input run × (fills asked ask (without_last run).log ≡ false)
-TakesUntil (BadInput name) asked ask input run = (run ≡ whole_run input) × (fills asked ask run.log ≡ false)
+TakesUntil (NotRead name) asked ask input run = (run ≡ no_run) ⊎ (TakesFirst input run × (fills asked ask (taken_of run.history) ≡ false))
+TakesUntil (NotWritten name) asked ask input run = TakesFirst input run × (fills asked ask (taken_of (without_last run).history) ≡ false)
+TakesUntil (BadInput name) asked ask input run = (run ≡ whole_run input) × (fills asked ask (taken_of run.history) ≡ false)
 
 -- what a run takes of its input, by how it ends: all of a whole log; or the first units, up to the one that completes the last group that is kept
 abbrev pub Takes : Asked → Ask → Input → Run → Ending → Type 0
-Takes asked ask input run Whole = IsGood input × (run ≡ whole_run input) × (fills asked ask run.log ≡ false)
-Takes asked ask input run Kept = TakesFirst input run × (fills asked ask run.log ≡ true) × (fills asked ask (without_last run).log ≡ false)
+Takes asked ask input run Whole = IsGood input × (run ≡ whole_run input) × (fills asked ask (taken_of run.history) ≡ false)
+Takes asked ask input run Kept = TakesFirst input run × (fills asked ask (taken_of run.history) ≡ true) × (fills asked ask (taken_of (without_last run).history) ≡ false)
 Takes asked ask input run (Faulted fault) = TakesUntil (class_of fault) asked ask input run
 
 -- the first bytes of a source were taken, and the rest is left
@@ -201,7 +201,7 @@ ReadsOnce (Faulted fault) source input run before now = ReadsOnceUntil (class_of
 -- the ending of the text whose write failed: with the last group that is kept where the run completed it, else whole where it took all units of a whole input
 abbrev pub ending_begun : Asked → Ask → Input → Run → Ending → Ending
 ending_begun asked ask input run ending =
-    if fills asked ask run.log then Kept else if is_whole input.file_ending && (length run.log == length input.units) then Whole else ending
+    if fills asked ask (taken_of run.history) then Kept else if is_whole input.file_ending && (length run.log == length input.units) then Whole else ending
 
 -- what a sink may gain until a fault of a class: its text; after a failed write not all of it, and where a unit was taken at least the text without the last
 abbrev pub IsDueUntil : FaultClass → Asked → Ask → Input → Run → Ending → List ℕ → Type 0

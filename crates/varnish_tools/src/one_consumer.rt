@@ -1,11 +1,11 @@
 //! The only consumer of a printer: groups are given to it while it takes any, and its text is taken.
 
 ghost use Rattle.std.specs.Prelude.{◌≡◌, ◌==◌, [], ◌∷◌, false, true, length, Ok, IfOk, OnOk};
-ghost use Rattle.txn_rows.specs.Grouping.{flush, reported};
+ghost use Rattle.txn_rows.specs.Grouping.{TakenUnit, Missed, flush, reported};
 ghost use Rattle.query_eval.specs.Asker.{asker_query};
 ghost use Rattle.vsl_dispatch.specs.Entries.{count_live, entries_of};
 ghost use Rattle.varnish_tools.specs.Held.{held_groups};
-ghost use Rattle.varnish_tools.specs.inside.Given.{EndedOnly, GaveOnly, TookOnly, TookUnit, is_done};
+ghost use Rattle.varnish_tools.specs.inside.Given.{EndedOnly, GaveOnly, TookItem, TookOnly, is_done};
 
 use query_eval::{Asker, Chosen};
 use std::alloc::Global;
@@ -69,7 +69,7 @@ impl<C: Consumer> OneConsumer<C> {
     /// Offers it the records of a unit, each as a group by itself, where they are so grouped and the query holds for all; whether
     /// it took them.
     fn offer(&mut self, table: &Table, asker: &Asker<'_>, unit: &Unit) -> Result<bool, NoMemory>
-        ensures took { result ≡ Ok true → TookUnit C.keep C.output C.represents (asker_query asker.now) unit.now table.now table.now (entries_of self.old.dispatch) (entries_of self.new.dispatch) }
+        ensures took { result ≡ Ok true → TookItem C.keep C.output C.represents (asker_query asker.now) (TakenUnit unit.now) table.now table.now (entries_of self.old.dispatch) (entries_of self.new.dispatch) }
         ensures none { result ≡ Ok false → GaveOnly C.keep C.output C.represents [] (entries_of self.old.dispatch) (entries_of self.new.dispatch) }
     {
         if !asker.always() {
@@ -89,7 +89,7 @@ impl<C: Consumer> OneConsumer<C> {
         unit: &Unit,
     ) -> Result<(), NoMemory>
         ensures query { asker_query asker.new ≡ asker_query asker.old }
-        ensures took { OnOk result (TookUnit C.keep C.output C.represents (asker_query asker.old) unit.now table.old table.new (entries_of self.old.dispatch) (entries_of self.new.dispatch)) }
+        ensures took { OnOk result (TookItem C.keep C.output C.represents (asker_query asker.old) (TakenUnit unit.now) table.old table.new (entries_of self.old.dispatch) (entries_of self.new.dispatch)) }
     {
         if self.offer(table, asker, unit)? {
             return Ok(());
@@ -99,13 +99,22 @@ impl<C: Consumer> OneConsumer<C> {
         self.give(asker, groups)
     }
 
+    /// Completes what is pending in the table, as where the reader was overrun, and gives it those of these groups for which
+    /// the query holds. It takes more.
+    pub fn missed(&mut self, table: &mut Table, asker: &mut Asker<'_>) -> Result<(), NoMemory>
+        ensures query { asker_query asker.new ≡ asker_query asker.old }
+        ensures took { OnOk result (TookItem C.keep C.output C.represents (asker_query asker.old) Missed table.old table.new (entries_of self.old.dispatch) (entries_of self.new.dispatch)) }
+    {
+        let mut groups = Vec::new(self.alloc);
+        table.flush(&mut groups)?;
+        self.give(asker, groups)
+    }
+
     /// Completes what is pending in the table, gives it those of these groups for which the query holds, and ends it.
     pub fn end(&mut self, table: &mut Table, asker: &mut Asker<'_>) -> Result<(), NoMemory>
         ensures { OnOk result (EndedOnly C.keep C.output C.represents (held_groups (asker_query asker.old) (reported table.old.options.grouping (flush table.old.state).groups)) (entries_of self.old.dispatch) (entries_of self.new.dispatch)) }
     {
-        let mut groups = Vec::new(self.alloc);
-        table.flush(&mut groups)?;
-        self.give(asker, groups)?;
+        self.missed(table, asker)?;
         self.dispatch.finish()
     }
 

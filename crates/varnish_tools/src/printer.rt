@@ -1,10 +1,10 @@
-//! The printer: units in, and out comes what a consumer writes of the groups that they complete and for which the query holds.
+//! The printer: units and overruns in, and out comes what a consumer writes of the groups that they complete and for which the
+//! query holds.
 
-ghost use Rattle.std.specs.Prelude.{◌≡◌, [], ◌∷◌, ◌++◌, false, true, length, IsTrue, Ok, IfOk, IfErr, OnOk};
+ghost use Rattle.std.specs.Prelude.{◌≡◌, List, [], ◌∷◌, ◌++◌, false, true, length, IsTrue, Ok, IfOk, IfErr, OnOk};
 ghost use Rattle.vio.specs.World.{Writing, Wrote};
 ghost use Rattle.vio.specs.Writes.{WroteOn};
-ghost use Rattle.vsl_record.specs.Unit.{Log};
-ghost use Rattle.txn_rows.specs.Grouping.{no_state};
+ghost use Rattle.txn_rows.specs.Grouping.{Taken, TakenUnit, Missed, no_state};
 ghost use Rattle.vsl_dispatch.specs.Entries.{entries_of};
 ghost use Rattle.varnish_tools.specs.Printer.{Plan, printer_state, Represents, IsSameSink, HasPrintCause, IsLeft, due, has_all};
 ghost use Rattle.varnish_tools.specs.inside.Given.{is_done};
@@ -68,7 +68,7 @@ fn print_text<W: World>(world: &mut W, sink: &Sink, text: &[u8]) -> Result<(), P
 
 /// Groups units, gives each group for which the query holds to a consumer when it is complete, and writes what that hands out.
 /// Contracts see the table of what is pending, the query, which it borrows, the entries of the dispatcher, and the sink; under a plan,
-/// every list of units that it represents has a text that is due.
+/// every list of units and overruns that it represents has a text that is due.
 #[derive(Drop)]
 pub struct Printer<'q, C> {
     table: Table,
@@ -78,7 +78,7 @@ pub struct Printer<'q, C> {
 }
 
 impl<'q, C: Consumer> Printer<'q, C> {
-    /// A printer that was given no unit, for a dispatcher of one consumer. It writes to the handle `sink`, whose name is `name`.
+    /// A printer that was given nothing, for a dispatcher of one consumer. It writes to the handle `sink`, whose name is `name`.
     pub fn new(
         alloc: Global,
         options: GroupOptions,
@@ -107,12 +107,12 @@ impl<'q, C: Consumer> Printer<'q, C> {
     pub fn unit<W: World>(&mut self, world: &mut W, unit: &Unit) -> Result<Go, PrintFault>
         requires named { IsTrue ((W.seen world.old).names Writing (printer_state self.old).sink (printer_state self.old).name) }
         ensures same { IsSameSink (printer_state self.old) (printer_state self.new) }
-        ensures takes { result ≡ Ok Go.More → (plan : Plan) (units : Log) → Represents C.keep C.output C.represents plan (printer_state self.old) units → Represents C.keep C.output C.represents plan (printer_state self.new) (units ++ unit.now ∷ []) }
-        ensures done { IfOk result (λ go. (plan : Plan) (units : Log) → Represents C.keep C.output C.represents plan (printer_state self.old) units → has_all plan (units ++ unit.now ∷ []) ≡ is_done go) }
-        ensures writes { OnOk result ((plan : Plan) (units : Log) → Represents C.keep C.output C.represents plan (printer_state self.old) units →
-            WroteOn plan.sink (due plan units false) (λ text. text ≡ due plan (units ++ unit.now ∷ []) false) (W.seen world.old) (W.seen world.new)) }
-        ensures refused { IfErr result (λ f. (plan : Plan) (units : Log) → Represents C.keep C.output C.represents plan (printer_state self.old) units →
-            WroteOn plan.sink (due plan units false) (IsLeft f (due plan (units ++ unit.now ∷ []) false)) (W.seen world.old) (W.seen world.new)) }
+        ensures takes { result ≡ Ok Go.More → (plan : Plan) (taken : List Taken) → Represents C.keep C.output C.represents plan (printer_state self.old) taken → Represents C.keep C.output C.represents plan (printer_state self.new) (taken ++ TakenUnit unit.now ∷ []) }
+        ensures done { IfOk result (λ go. (plan : Plan) (taken : List Taken) → Represents C.keep C.output C.represents plan (printer_state self.old) taken → has_all plan (taken ++ TakenUnit unit.now ∷ []) ≡ is_done go) }
+        ensures writes { OnOk result ((plan : Plan) (taken : List Taken) → Represents C.keep C.output C.represents plan (printer_state self.old) taken →
+            WroteOn plan.sink (due plan taken false) (λ text. text ≡ due plan (taken ++ TakenUnit unit.now ∷ []) false) (W.seen world.old) (W.seen world.new)) }
+        ensures refused { IfErr result (λ f. (plan : Plan) (taken : List Taken) → Represents C.keep C.output C.represents plan (printer_state self.old) taken →
+            WroteOn plan.sink (due plan taken false) (IsLeft f (due plan (taken ++ TakenUnit unit.now ∷ []) false)) (W.seen world.old) (W.seen world.new)) }
         ensures cause { IfErr result (λ f. HasPrintCause f (printer_state self.old).name (W.seen world.old) (W.seen world.new)) }
     {
         if let Err(NoMemory) = self.consumer.unit(&mut self.table, &mut self.asker, unit) {
@@ -123,14 +123,36 @@ impl<'q, C: Consumer> Printer<'q, C> {
         Ok(self.consumer.go())
     }
 
-    /// The units have ended: completes what is pending, ends the consumer, and writes what it hands out.
+    /// The reader was overrun and missed units: completes what is pending, and writes what the consumer hands out of these groups,
+    /// where the query holds for them. It is done with the overrun that completes the last group that is kept; no more may
+    /// follow then.
+    pub fn lost<W: World>(&mut self, world: &mut W) -> Result<Go, PrintFault>
+        requires named { IsTrue ((W.seen world.old).names Writing (printer_state self.old).sink (printer_state self.old).name) }
+        ensures same { IsSameSink (printer_state self.old) (printer_state self.new) }
+        ensures takes { result ≡ Ok Go.More → (plan : Plan) (taken : List Taken) → Represents C.keep C.output C.represents plan (printer_state self.old) taken → Represents C.keep C.output C.represents plan (printer_state self.new) (taken ++ Missed ∷ []) }
+        ensures done { IfOk result (λ go. (plan : Plan) (taken : List Taken) → Represents C.keep C.output C.represents plan (printer_state self.old) taken → has_all plan (taken ++ Missed ∷ []) ≡ is_done go) }
+        ensures writes { OnOk result ((plan : Plan) (taken : List Taken) → Represents C.keep C.output C.represents plan (printer_state self.old) taken →
+            WroteOn plan.sink (due plan taken false) (λ text. text ≡ due plan (taken ++ Missed ∷ []) false) (W.seen world.old) (W.seen world.new)) }
+        ensures refused { IfErr result (λ f. (plan : Plan) (taken : List Taken) → Represents C.keep C.output C.represents plan (printer_state self.old) taken →
+            WroteOn plan.sink (due plan taken false) (IsLeft f (due plan (taken ++ Missed ∷ []) false)) (W.seen world.old) (W.seen world.new)) }
+        ensures cause { IfErr result (λ f. HasPrintCause f (printer_state self.old).name (W.seen world.old) (W.seen world.new)) }
+    {
+        if let Err(NoMemory) = self.consumer.missed(&mut self.table, &mut self.asker) {
+            return Err(PrintFault::NoMemory);
+        }
+        let text = self.consumer.text();
+        print_text(world, &self.sink, &text)?;
+        Ok(self.consumer.go())
+    }
+
+    /// The log has ended: completes what is pending, ends the consumer, and writes what it hands out.
     pub fn end<W: World>(&mut self, world: &mut W) -> Result<(), PrintFault>
         requires named { IsTrue ((W.seen world.old).names Writing (printer_state self.old).sink (printer_state self.old).name) }
         ensures same { IsSameSink (printer_state self.old) (printer_state self.new) }
-        ensures writes { OnOk result ((plan : Plan) (units : Log) → Represents C.keep C.output C.represents plan (printer_state self.old) units →
-            WroteOn plan.sink (due plan units false) (λ text. text ≡ due plan units true) (W.seen world.old) (W.seen world.new)) }
-        ensures refused { IfErr result (λ f. (plan : Plan) (units : Log) → Represents C.keep C.output C.represents plan (printer_state self.old) units →
-            WroteOn plan.sink (due plan units false) (IsLeft f (due plan units true)) (W.seen world.old) (W.seen world.new)) }
+        ensures writes { OnOk result ((plan : Plan) (taken : List Taken) → Represents C.keep C.output C.represents plan (printer_state self.old) taken →
+            WroteOn plan.sink (due plan taken false) (λ text. text ≡ due plan taken true) (W.seen world.old) (W.seen world.new)) }
+        ensures refused { IfErr result (λ f. (plan : Plan) (taken : List Taken) → Represents C.keep C.output C.represents plan (printer_state self.old) taken →
+            WroteOn plan.sink (due plan taken false) (IsLeft f (due plan taken true)) (W.seen world.old) (W.seen world.new)) }
         ensures cause { IfErr result (λ f. HasPrintCause f (printer_state self.old).name (W.seen world.old) (W.seen world.new)) }
     {
         if let Err(NoMemory) = self.consumer.end(&mut self.table, &mut self.asker) {

@@ -1,8 +1,7 @@
 -- What is given to the only consumer of a dispatcher, and taken from it.
 use Rattle.std.specs.Prelude.{◌≡◌, ℕ, Bool, true, false, List, [], ◌∷◌, ◌++◌, Option}
-use Rattle.vsl_record.specs.Unit.{LogUnit}
 use Rattle.txn_rows.specs.declared.group.Group.{Group}
-use Rattle.txn_rows.specs.Grouping.{unit_step, reported}
+use Rattle.txn_rows.specs.Grouping.{Taken, taken_step, reported}
 use Rattle.txn_rows.specs.TableState.{TableState}
 use Rattle.query_parser.specs.declared.query.Query.{Query}
 use Rattle.vsl_dispatch.specs.Entries.{Stands, HasEnded, TextTaken}
@@ -33,9 +32,9 @@ module _ {C : Type 0} (keep : C → Option ℕ) (output : C → List Group → B
   abbrev pub TookOnly : List ℕ → List (Entry C) → List (Entry C) → Type 0
   TookOnly text old new = (entry : Entry C) → old ≡ entry ∷ [] → (now : Entry C) × (new ≡ now ∷ []) × TextTaken keep output represents text entry now
 
-  -- the table took a unit, and the only consumer was given the groups that it completed and for which the query holds
-  pub record TookUnit (query : Query) (u : LogUnit) (old new : TableState) (entries_old entries_new : List (Entry C)) : Type 0 where
+  -- the table took an item, and the only consumer was given the groups that it completed and for which the query holds
+  pub record TookItem (query : Query) (item : Taken) (old new : TableState) (entries_old entries_new : List (Entry C)) : Type 0 where
     pub options : new.options ≡ old.options
-    pub state : new.state ≡ (unit_step old.options u old.state).state
+    pub state : new.state ≡ (taken_step old.options item old.state).state
     pub sound : old.failed ≡ false → new.failed ≡ false
-    pub gave : GaveOnly (held_groups query (reported old.options.grouping (unit_step old.options u old.state).groups)) entries_old entries_new
+    pub gave : GaveOnly (held_groups query (reported old.options.grouping (taken_step old.options item old.state).groups)) entries_old entries_new

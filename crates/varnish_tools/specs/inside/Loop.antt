@@ -5,6 +5,7 @@ use Rattle.log_model.specs.Prefix.{IsPrefix, IsProperPrefix}
 use Rattle.vio.specs.World.{Seen, Writing, Gains}
 use Rattle.vio.specs.Touches.{Touches}
 use Rattle.vsl_record.specs.Unit.{Log}
+use Rattle.txn_rows.specs.Grouping.{all_taken}
 use Rattle.varnish_tools.specs.declared.source.SourceFault.{SourceFault}
 use Rattle.varnish_tools.specs.declared.printer.PrintFault.{PrintFault}
 use Rattle.varnish_tools.specs.declared.printer.PrintFault.TheVariants.{WriteFault, NoMemory}
@@ -33,13 +34,13 @@ pub record Printed (IsGiven IsCut : Log → Type 0) (IsText : Log → List ℕ �
 
 -- the groups of these units, and those of all but the last, are not as many as are kept
 pub record IsOpen (p : Plan) (units : Log) : Type 0 where
-  pub all : has_all p units ≡ false
-  pub first : has_all p (take (length units - 1) units) ≡ false
+  pub all : has_all p (all_taken units) ≡ false
+  pub first : has_all p (all_taken (take (length units - 1) units)) ≡ false
 
 -- the last unit completed the last group that is kept
 pub record IsKept (p : Plan) (units : Log) : Type 0 where
-  pub all : has_all p units ≡ true
-  pub first : has_all p (take (length units - 1) units) ≡ false
+  pub all : has_all p (all_taken units) ≡ true
+  pub first : has_all p (all_taken (take (length units - 1) units)) ≡ false
 
 -- each unit that was given was printed; the printer goes on
 module _ {C : Type 0} (keep : C → Option ℕ) (output : C → List Group → Bool → List ℕ) (represents : C → List Group → Bool → List ℕ → Type 0) where
@@ -47,31 +48,31 @@ module _ {C : Type 0} (keep : C → Option ℕ) (output : C → List Group → B
     pub units : Log
     pub given : IsGiven units
     pub count : n ≡ length units
-    pub represents_units : Represents keep output represents p q units
-    pub gains : Added p.sink (due p units false) before now
+    pub represents_units : Represents keep output represents p q (all_taken units)
+    pub gains : Added p.sink (due p (all_taken units) false) before now
     pub touches : Touches reads (p.sink ∷ []) [] [] before now
 
 -- a failed write left at least the text without the last unit, and not all with it
 pub record LeftOf (p : Plan) (units : Log) (all : Bool) (text : List ℕ) : Type 0 where
   pub some : 0 < length units
-  pub least : IsPrefix (due p (take (length units - 1) units) false) text
-  pub left : IsProperPrefix text (due p units all)
+  pub least : IsPrefix (due p (all_taken (take (length units - 1) units)) false) text
+  pub left : IsProperPrefix text (due p (all_taken units) all)
 
 -- what a printer that stopped left of the text of units, which have ended or not
 abbrev pub IsLeftOf : PrintFault → Plan → Log → Bool → List ℕ → Type 0
 IsLeftOf (WriteFault name) p units all text = LeftOf p units all text
-IsLeftOf NoMemory p units all text = IsPrefix text (due p units all)
+IsLeftOf NoMemory p units all text = IsPrefix text (due p (all_taken units) all)
 
 -- all units were given, and all text was written
 abbrev pub RanToEnd : (Log → Bool → Type 0) → Plan → ℕ → Seen → Seen → Type 0
-RanToEnd gave p n before now = Printed (λ units. gave units true) (IsOpen p) (λ units text. text ≡ due p units true) p.sink n before now
+RanToEnd gave p n before now = Printed (λ units. gave units true) (IsOpen p) (λ units text. text ≡ due p (all_taken units) true) p.sink n before now
 
 -- units were given up to the one that completes the last group that is kept, and their text was written
 abbrev pub RanToKept : (Log → Bool → Type 0) → Plan → ℕ → Seen → Seen → Type 0
-RanToKept gave p n before now = Printed (λ units. gave units false) (IsKept p) (λ units text. text ≡ due p units false) p.sink n before now
+RanToKept gave p n before now = Printed (λ units. gave units false) (IsKept p) (λ units text. text ≡ due p (all_taken units) false) p.sink n before now
 
 -- the run stopped early: where the source stopped, the text of its units was written; where the printer did, what it left
 abbrev pub RanUntil : Stopped → (Log → Bool → Type 0) → (SourceFault → Log → Type 0) → Plan → Seen → Seen → Type 0
-RanUntil (BySource fault n) gave stopped p before now = Printed (stopped fault) (IsOpen p) (λ units text. text ≡ due p units false) p.sink n before now
+RanUntil (BySource fault n) gave stopped p before now = Printed (stopped fault) (IsOpen p) (λ units text. text ≡ due p (all_taken units) false) p.sink n before now
 RanUntil (ByPrinter fault n) gave stopped p before now =
-    HasPrintCause fault p.name before now × ((all : Bool) × Printed (λ units. gave units all) (λ units. has_all p (take (length units - 1) units) ≡ false) (λ units text. IsLeftOf fault p units all text) p.sink n before now)
+    HasPrintCause fault p.name before now × ((all : Bool) × Printed (λ units. gave units all) (λ units. has_all p (all_taken (take (length units - 1) units)) ≡ false) (λ units text. IsLeftOf fault p units all text) p.sink n before now)

@@ -1,5 +1,5 @@
-use Rattle.txn_rows.proofs.WalkLemmas.{log_walks}
+use Rattle.txn_rows.proofs.WalkLemmas.{taken_walks}
 use Rattle.txn_rows.proofs.laws.groups_are_walks.Goals as goal
 
 pub returns : goal.returns
-returns c = log_walks
+returns c = taken_walks

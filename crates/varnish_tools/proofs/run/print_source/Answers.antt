@@ -1,5 +1,6 @@
 use Rattle.std.proofs.Common.{◌∙◌, ap, Bool, false, refl, inl, inr, rules, arith}
 use Rattle.vsl_record.specs.Unit.{Log}
+use Rattle.txn_rows.specs.Grouping.{all_taken}
 use Rattle.varnish_tools.specs.inside.Given.{is_done}
 use Rattle.varnish_tools.specs.Printer.{plan_of, printer_state}
 use Rattle.varnish_tools.proofs.LoopLemmas.{running_more, running_none, open_more, printer_stopped, end_stopped, ran_to_end, ran_to_kept, source_stopped, touches_printed, named_still, unit_given}
@@ -24,7 +25,7 @@ loop-units-preserved g c =
     (λ bytes wrote. g.met.S.Source.stays _ _ _ _ _ _ _ _ _ (unit_given (λ us. g.S.Source.gave c.args.source.now c.advance.new.self (g.W.World.seen c.args.world.now) (g.W.World.seen c.advance.new.world) us false) _ run.units c.unit.result.now next c.unit.ensures) wrote)
     (c.in-Ok-More.ensures.takes (search rules)) c.in-Ok-More.ensures.writes in record {
       running = more.0;
-      fewer = open_more _ run.units _ c.unit.result.now more.1 c.loop-units.invariant.fewer (c.in-Ok-More.ensures.done _ run.units run.represents_units ∙ ap is_done c.in-Ok-More.field-0-is);
+      fewer = open_more _ run.units _ c.unit.result.now more.1 c.loop-units.invariant.fewer (c.in-Ok-More.ensures.done _ (all_taken run.units) run.represents_units ∙ ap is_done c.in-Ok-More.field-0-is);
       same = c.in-Ok-true.ensures.same ∙ c.loop-units.invariant.same;
       few = omega (arith, c.loop-units.invariant.few, c.in-Ok-true.ensures.fewer c.in-Ok-true.field-0-test);
     }
@@ -62,7 +63,7 @@ returns-in-Ok-Done-clause-ran g c =
     let gave : Log → Bool → Type 0 = λ us all. g.S.Source.gave c.args.source.now c.advance.new.self (g.W.World.seen c.args.world.now) (g.W.World.seen c.unit-in-Ok-true.new.world) us all in
     inr (ran_to_kept _ _ _ _ gave _ _ _ _ c.unit.result.now _ _ _ _ run c.requires.given read
     (λ bytes wrote. g.met.S.Source.stays _ _ _ _ _ _ _ _ _ (unit_given (λ us. g.S.Source.gave c.args.source.now c.advance.new.self (g.W.World.seen c.args.world.now) (g.W.World.seen c.advance.new.world) us false) _ run.units c.unit.result.now next c.unit.ensures) wrote)
-    c.in-Ok-Done.ensures.writes (λ plan us old. c.in-Ok-Done.ensures.done plan us old ∙ ap is_done c.in-Ok-Done.field-0-is) c.loop-units.invariant.fewer)
+    c.in-Ok-Done.ensures.writes (λ plan taken old. c.in-Ok-Done.ensures.done plan taken old ∙ ap is_done c.in-Ok-Done.field-0-is) c.loop-units.invariant.fewer)
 
 pub loop-units-init : goal.loop-units-init
 loop-units-init g c =
@@ -75,25 +76,25 @@ pub returns-in-Ok-Done-clause-touches : goal.returns-in-Ok-Done-clause-touches
 returns-in-Ok-Done-clause-touches g c =
     let run = c.loop-units.invariant.running in
     let read = rw c.loop-units.invariant.same at c.in-Ok-true.ensures.touches in
-    touches_printed _ _ _ _ _ _ _ _ run.touches read (c.in-Ok-Done.ensures.writes _ run.units run.represents_units)
+    touches_printed _ _ _ _ _ _ _ _ run.touches read (c.in-Ok-Done.ensures.writes _ (all_taken run.units) run.represents_units)
 
 pub returns-in-Err-unit-clause-touches : goal.returns-in-Err-unit-clause-touches
 returns-in-Err-unit-clause-touches g c =
     let run = c.loop-units.invariant.running in
     let read = rw c.loop-units.invariant.same at c.in-Ok-true.ensures.touches in
-    touches_printed _ _ _ _ _ _ _ _ run.touches read (c.in-Err-unit.ensures.refused _ run.units run.represents_units)
+    touches_printed _ _ _ _ _ _ _ _ run.touches read (c.in-Err-unit.ensures.refused _ (all_taken run.units) run.represents_units)
 
 pub returns-in-Err-end-clause-touches : goal.returns-in-Err-end-clause-touches
 returns-in-Err-end-clause-touches g c =
     let run = c.loop-units.invariant.running in
     let read = rw c.loop-units.invariant.same at c.in-Ok-false.ensures.touches in
-    touches_printed _ _ _ _ _ _ _ _ run.touches read (c.in-Err-end.ensures.refused _ run.units run.represents_units)
+    touches_printed _ _ _ _ _ _ _ _ run.touches read (c.in-Err-end.ensures.refused _ (all_taken run.units) run.represents_units)
 
 pub returns-in-Ok-false-clause-touches : goal.returns-in-Ok-false-clause-touches
 returns-in-Ok-false-clause-touches g c =
     let run = c.loop-units.invariant.running in
     let read = rw c.loop-units.invariant.same at c.in-Ok-false.ensures.touches in
-    touches_printed _ _ _ _ _ _ _ _ run.touches read (c.in_default.ensures.writes _ run.units run.represents_units)
+    touches_printed _ _ _ _ _ _ _ _ run.touches read (c.in_default.ensures.writes _ (all_taken run.units) run.represents_units)
 
 pub returns-in-Err-clause-stopped : goal.returns-in-Err-clause-stopped
 returns-in-Err-clause-stopped g c =

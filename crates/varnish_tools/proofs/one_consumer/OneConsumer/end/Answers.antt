@@ -10,6 +10,6 @@ pub returns : goal.returns
 returns g c =
     on_ok_weaker c.finish.result
     (ended_gave g.C.Consumer.keep g.C.Consumer.output g.C.Consumer.represents (held_groups (asker_query c.args.asker.now) (reported c.args.table.now.options.grouping (flush c.args.table.now.state).groups))
-    (entries_of c.args.self.now.dispatch) (entries_of c.give.new.self.dispatch) (entries_of c.finish.new.self)
-    (rw (c.in_ok-flush.ensures.ok.groups, c.new-groups.ensures.items) at c.in_ok-give.ensures.gave) c.finish.ensures.length)
+    (entries_of c.args.self.now.dispatch) (entries_of c.missed.new.self.dispatch) (entries_of c.finish.new.self)
+    c.in_ok-missed.ensures.took.gave c.finish.ensures.length)
     c.finish.ensures.finished
