@@ -12,26 +12,26 @@ use Rattle.ring_layout.proofs.AgreedLemmas.{div_up, start_near}
 use Rattle.ring_layout.proofs.ReadingLemmas.{word_of_unit, wrap_word, end_word}
 use Rattle.ring_layout.proofs.ItemsLemmas.{got}
 
-some_is : {U : Type 0} {x y : U} → Some x ≡ Some y → x ≡ y
+pub some_is : {U : Type 0} {x y : U} → Some x ≡ Some y → x ≡ y
 some_is e = cc e
 
 -- the log around its unit number k
-around : {U : Type 0} (log : List U) (k : ℕ) (u : U) → slice_get log k ≡ Some u → log ≡ take k log ++ u ∷ drop (k + 1) log
+pub around : {U : Type 0} (log : List U) (k : ℕ) (u : U) → slice_get log k ≡ Some u → log ≡ take k log ++ u ∷ drop (k + 1) log
 around log k u e = sym (take-append-drop k log) ∙ (ap (λ l. take k log ++ l) (drop_more log k u (get_inside log k u e)) ∙ ap (λ x. take k log ++ x ∷ drop (k + 1) log) (got log k u u e))
 
-there : {U : Type 0} (log : List U) (k : ℕ) → k < length log → (u : U) × (slice_get log k ≡ Some u)
+pub there : {U : Type 0} (log : List U) (k : ℕ) → k < length log → (u : U) × (slice_get log k ≡ Some u)
 there [] k l = absurd (omega arith)
 there (x ∷ xs) zero l = (x, refl)
 there (x ∷ xs) (suc k) l = there xs k (omega arith)
 
-has_word : {U : Type 0} (words : U → List ℕ) (seg : ℕ) (log : List U) (k : ℕ) (u : U) → AreFit words seg log → slice_get log k ≡ Some u → (0 < length (words u)) × (length (words u) ≤ seg)
+pub has_word : {U : Type 0} (words : U → List ℕ) (seg : ℕ) (log : List U) (k : ℕ) (u : U) → AreFit words seg log → slice_get log k ≡ Some u → (0 < length (words u)) × (length (words u) ≤ seg)
 has_word words seg [] k u f e = cc e
 has_word words seg (x ∷ xs) zero u f e = subst (λ y. (0 < length (words y)) × (length (words y) ≤ seg)) (some_is e) f.0
 has_word words seg (x ∷ xs) (suc k) u f e = has_word words seg xs k u f.1 e
 
 module _ {U : Type 0} (words : U → List ℕ) (seg : ℕ) (pos : 0 < seg) where
   -- the word j of the unit number k stands in the ring, unless the counter has passed
-  unit_word : (log : List U) (c k p j : ℕ) (u : U) (ent word : ℕ → ℕ) → HoldsLog words seg log c ent word → slice_get log k ≡ Some u → p ≡ start_at seg (tail words seg (take k log)) (length (words u)) → j < length (words u)
+  pub unit_word : (log : List U) (c k p j : ℕ) (u : U) (ent word : ℕ → ℕ) → HoldsLog words seg log c ent word → slice_get log k ≡ Some u → p ≡ start_at seg (tail words seg (take k log)) (length (words u)) → j < length (words u)
       → c < p / seg + 8 → word ((p + j) % (8 * seg)) ≡ get_or (words u) j 0
   unit_word log c k p j u ent word a e at l near = let up = div_up seg p (p + j) pos (omega arith) in
       a.word_at (p + j) (get_or (words u) j 0) (ap (λ z. word_at words seg z (p + j)) (around log k u e) ∙ (ap (λ z. word_at words seg (take k log ++ u ∷ drop (k + 1) log) (z + j)) at ∙ word_of_unit words seg pos (take k log) (drop (k + 1) log) u j l)) (omega arith)

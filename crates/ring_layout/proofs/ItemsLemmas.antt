@@ -40,7 +40,7 @@ module _ {U : Type 0} (words : U → List ℕ) (seg : ℕ) where
         h.2,
       )
 
-  below_few : (t : ℕ) (us : List U) (p : ℕ) → starts_below words seg t us p ≤ length us
+  pub below_few : (t : ℕ) (us : List U) (p : ℕ) → starts_below words seg t us p ≤ length us
   below_few t [] p = omega arith
   below_few t (u ∷ us) p = let n : ℕ = end_at seg t (length (words u)) in let r = below_few n us p in dite (dec_lt (start_at seg t (length (words u))) p)
       (λ l. subst (λ (b : Bool). cond b 1 0 + starts_below words seg n us p ≤ suc (length us)) (sym (lt-ltb (start_at seg t (length (words u))) p l)) (omega arith))

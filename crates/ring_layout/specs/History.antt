@@ -1,6 +1,6 @@
 -- What a reader took of a log: runs of units, and overruns (this project's choice). The newest item stands first, so that one item more is one in front. An overrun
 -- has the segment where the reader stood, and the counter that it saw.
-use Rattle.std.specs.Prelude.{◌≡◌, ◌≢◌, ◌⊎◌, ℕ, ◌+◌, ◌*◌, ◌/◌, ◌<◌, ◌≤◌, nat_lt, if◌then◌else◌, List, [], ◌∷◌, length, take, drop, reverse, slice_get, Some}
+use Rattle.std.specs.Prelude.{◌≡◌, ◌≢◌, ◌⊎◌, ℕ, ◌+◌, ◌*◌, ◌/◌, ◌<◌, ◌≤◌, nat_lt, if◌then◌else◌, List, [], ◌∷◌, ◌++◌, length, take, drop, reverse, slice_get, Some}
 use Rattle.ring_layout.specs.declared.history.HistoryItem.{HistoryItem}
 use Rattle.ring_layout.specs.declared.history.HistoryItem.TheVariants.{UnitRun, Overrun}
 use Rattle.ring_layout.specs.declared.history.Run.{Run}
@@ -58,3 +58,10 @@ module _ {U : Type 0} (words : U → List ℕ) (seg : ℕ) where
   -- the items, the oldest first, are what a reader may have taken of a whole log
   abbrev pub IsReadHistory : List U → List (HistoryItem U) → Type 0
   IsReadHistory log items = (items ≢ []) × IsReadBack (tail words seg log / seg) log (reverse items)
+
+-- the items, the oldest first, reach the tail of a log: the last is a run that ends with the log's last unit, or before the first where the log has none
+pub record ReachesTail {U : Type 0} (log : List U) (items : List (HistoryItem U)) : Type 0 where
+  pub before : List (HistoryItem U)
+  pub run : Run U
+  pub last : items ≡ before ++ UnitRun run ∷ []
+  pub ends : run.first + length run.units ≡ length log

@@ -1,0 +1,6 @@
+mod BytesLemmas
+mod PutLemmas
+mod ListLemmas
+mod RingLemmas
+mod DueLemmas
+pub mod CursorLemmas

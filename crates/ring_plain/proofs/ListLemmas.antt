@@ -1,0 +1,149 @@
+-- The words and the starts of a ring where a unit was put, one by one.
+use Rattle.std.proofs.Common.{rules, ◌≡◌, ◌≢◌, ℕ, ◌+◌, ◌-◌, ◌*◌, ◌/◌, ◌%◌, ◌<◌, ◌≤◌, Bool, true, false, cond, not, eqb, ltb, List, [], ◌∷◌, length, get_or, set, refl, sym, ap, ◌∙◌, subst, ⊎_elim, arith, Some, eq-eqb, ne_eqb, lt-ltb, ltb-true, ltb-false, eqb-true, div-add-mod', mod-lt, le_refl, length-set, get_or-set_same, get_or-set_other}
+use Rattle.std.proofs.lemmas.List.{places}
+use Rattle.std.proofs.lemmas.Nat.{mod-mul-add}
+use mathlib.Core.Logic.{dite}
+use native.Mathlib.Decide.{ℕ_discrete, dec_lt}
+use Rattle.std.specs.Option.{option_or}
+use Rattle.ring_layout.specs.Places.{stays, start_at, end_at, if_some, first_in, end_mark, wrap_mark}
+use Rattle.ring_layout.proofs.EntriesLemmas.{at_stay, at_wrap, two_ahead}
+use Rattle.ring_layout.proofs.TakenLemmas.{start_above}
+use Rattle.ring_layout.proofs.AgreedLemmas.{free_place, free_segment, div_up, or_some, if_true, some_same}
+use Rattle.ring_plain.specs.inside.Stores.{with_start, with_words, with_wrap, words_with}
+use Rattle.ring_plain.proofs.PutLemmas.{IsPut}
+
+-- ---- an element that is set under a test
+
+set_here : (b : Bool) (xs : List ℕ) (k x : ℕ) → b ≡ true → k < length xs → get_or (cond b (set xs k x) xs) k 0 ≡ x
+set_here true xs k x e l = get_or-set_same xs k x 0 l
+set_here false xs k x e l = cc e
+
+set_else : (b : Bool) (xs : List ℕ) (k x j : ℕ) → (b ≡ true → j ≢ k) → get_or (cond b (set xs k x) xs) j 0 ≡ get_or xs j 0
+set_else true xs k x j ne = get_or-set_other xs k j x 0 (ne refl)
+set_else false xs k x j ne = refl
+
+pub length-set_if : (b : Bool) (xs : List ℕ) (k x : ℕ) → length (cond b (set xs k x) xs) ≡ length xs
+length-set_if true xs k x = length-set xs k x
+length-set_if false xs k x = refl
+
+-- ---- words from a place on, and one behind them
+
+module _ (i x : ℕ) (new words : List ℕ) (room : i + length new < length words) where
+  length-stored : length (set (with_words i new words) (i + length new) x) ≡ length words
+  length-stored = search (rules, places, length-set)
+
+  new_at : (j : ℕ) → j < length new → get_or (set (with_words i new words) (i + length new) x) (i + j) 0 ≡ get_or new j 0
+  new_at j l = search (rules, places, get_or-set_other)
+
+  behind_at : get_or (set (with_words i new words) (i + length new) x) (i + length new) 0 ≡ x
+  behind_at = search (rules, places, get_or-set_same)
+
+  else_at : (k : ℕ) → ((j : ℕ) → j ≤ length new → k ≢ i + j) → get_or (set (with_words i new words) (i + length new) x) k 0 ≡ get_or words k 0
+  else_at k ne = dite (dec_lt k i)
+      (λ l. search (rules, places, get_or-set_other))
+      (λ g. dite (dec_lt (i + length new) k) (λ l. search (rules, places, get_or-set_other)) (λ m. absurd (ne (k - i) (omega arith) (omega arith))))
+
+-- ---- where a unit lies in its lap
+
+-- places of one lap
+pub in_lap : (n j m : ℕ) → n % m + j < m → (n + j) % m ≡ n % m + j
+in_lap n j m l = let p = div-add-mod' n m in ap (λ (z : ℕ). z % m) (omega arith) ∙ mod-mul-add (n / m) m (n % m + j) l
+
+wrap_first : (seg t w : ℕ) → 0 < seg → 8 * seg ≤ t % (8 * seg) + w → start_at seg t w % (8 * seg) ≡ 0
+wrap_first seg t w pos far = ap (λ (z : ℕ). z % (8 * seg)) (at_wrap seg t w far ∙ omega arith) ∙ mod-mul-add (t / (8 * seg) + 1) (8 * seg) 0 (omega arith)
+
+-- a unit and the mark behind it don't go past the lap
+pub in_stretch : (seg t w : ℕ) → 0 < seg → w ≤ seg → start_at seg t w % (8 * seg) + w < 8 * seg
+in_stretch seg t w pos fits = dite (dec_lt (t % (8 * seg) + w) (8 * seg))
+    (λ near. subst (λ (z : ℕ). z % (8 * seg) + w < 8 * seg) (sym (at_stay seg t w near)) near)
+    (λ far. let z = wrap_first seg t w pos (omega arith) in omega arith)
+
+-- ---- the words of a ring
+
+module _ (seg t : ℕ) (new words : List ℕ) (pos : 0 < seg) (fits : length new ≤ seg) (wide : length words ≡ 8 * seg) where
+  abbrev first : ℕ
+  first = start_at seg t (length new) % (8 * seg)
+
+  abbrev wrapped : List ℕ
+  wrapped = with_wrap seg t (length new) words
+
+  room : first + length new < length wrapped
+  room = let a = in_stretch seg t (length new) pos fits in let b = length-set_if (not (stays seg t (length new))) words (t % (8 * seg)) wrap_mark in omega arith
+
+  pub length-words_with : length (words_with seg t new words) ≡ 8 * seg
+  length-words_with = length-stored first end_mark new wrapped room ∙ (length-set_if (not (stays seg t (length new))) words (t % (8 * seg)) wrap_mark ∙ wide)
+
+  at : (j : ℕ) → j ≤ length new → (start_at seg t (length new) + j) % (8 * seg) ≡ first + j
+  at j l = let a = in_stretch seg t (length new) pos fits in in_lap (start_at seg t (length new)) j (8 * seg) (omega arith)
+
+  unit_there : (j : ℕ) → j < length new → get_or (words_with seg t new words) ((start_at seg t (length new) + j) % (8 * seg)) 0 ≡ get_or new j 0
+  unit_there j l = ap (λ (z : ℕ). get_or (words_with seg t new words) z 0) (at j (omega arith)) ∙ new_at first end_mark new wrapped room j l
+
+  end_there : get_or (words_with seg t new words) (end_at seg t (length new) % (8 * seg)) 0 ≡ end_mark
+  end_there = ap (λ (z : ℕ). get_or (words_with seg t new words) z 0) (at (length new) (le_refl (length new))) ∙ behind_at first end_mark new wrapped room
+
+  wrap_there : stays seg t (length new) ≡ false → get_or (words_with seg t new words) (t % (8 * seg)) 0 ≡ wrap_mark
+  wrap_there e =
+      let far : 8 * seg ≤ t % (8 * seg) + length new = ltb-false (t % (8 * seg) + length new) (8 * seg) e in
+      let zero = wrap_first seg t (length new) pos far in
+      let below : t % (8 * seg) < 8 * seg = mod-lt t (omega arith) in
+      else_at first end_mark new wrapped room (t % (8 * seg)) (λ j l. omega arith) ∙ set_here (not (stays seg t (length new))) words (t % (8 * seg)) wrap_mark (ap not e) (omega arith)
+
+  -- a place before the tail keeps its word, unless the put came around to its segment
+  others_there : (q : ℕ) → q < t → end_at seg t (length new) / seg < q / seg + 8 → get_or (words_with seg t new words) (q % (8 * seg)) 0 ≡ get_or words (q % (8 * seg)) 0
+  others_there q below near =
+      let st : ℕ = start_at seg t (length new) in
+      let above = start_above seg t (length new) pos in
+      let free : (p : ℕ) → q < p → p ≤ end_at seg t (length new) → q % (8 * seg) ≢ p % (8 * seg) = λ p l m. free_place seg q p pos l (let z = div_up seg p (end_at seg t (length new)) pos m in omega arith) in
+      else_at first end_mark new wrapped room (q % (8 * seg)) (λ j l e. free (st + j) (omega arith) (omega arith) (e ∙ sym (at j l)))
+      ∙ set_else (not (stays seg t (length new))) words (t % (8 * seg)) wrap_mark (q % (8 * seg)) (λ _. free t below (omega arith))
+
+-- ---- the starts of segments
+
+start_there : (seg c p s : ℕ) (starts : List ℕ) → length starts ≡ 8 → c < s → p / seg ≡ s → get_or (with_start seg c p starts) (s % 8) 0 ≡ p
+start_there seg c p s starts eight above e =
+    let below : p / seg % 8 < 8 = mod-lt (p / seg) (omega arith) in
+    ap (λ (z : ℕ). get_or (with_start seg c p starts) (z % 8) 0) (sym e) ∙ set_here (ltb c (p / seg)) starts (p / seg % 8) p (lt-ltb c (p / seg) (omega arith)) (omega arith)
+
+start_else : (seg c p s : ℕ) (starts : List ℕ) → (c < p / seg → s % 8 ≢ p / seg % 8) → get_or (with_start seg c p starts) (s % 8) 0 ≡ get_or starts (s % 8) 0
+start_else seg c p s starts ne = set_else (ltb c (p / seg)) starts (p / seg % 8) p (s % 8) (λ e. ne (ltb-true c (p / seg) e))
+
+module _ (seg t w : ℕ) (starts : List ℕ) (pos : 0 < seg) (fits : w ≤ seg) (eight : length starts ≡ 8) where
+  abbrev kept : List ℕ
+  kept = with_start seg (t / seg) (end_at seg t w) starts
+
+  new_start : (s p : ℕ) → t / seg < s → first_in seg s (start_at seg t w ∷ end_at seg t w ∷ []) ≡ Some p → get_or (with_start seg (t / seg) (start_at seg t w) kept) (s % 8) 0 ≡ p
+  new_start s p above e =
+      let st : ℕ = start_at seg t w in
+      let n : ℕ = end_at seg t w in
+      let up = div_up seg st n pos (omega arith) in
+      let two = two_ahead seg t w pos fits in
+      let test : (b : Bool) → eqb (st / seg) s ≡ b → option_or (if_some b st) (first_in seg s (n ∷ [])) ≡ Some p = λ b q. ap (λ (z : Bool). option_or (if_some z st) (first_in seg s (n ∷ []))) (sym q) ∙ e in
+      dite (ℕ_discrete (st / seg) s)
+      (λ h. start_there seg (t / seg) st s kept (length-set_if (ltb (t / seg) (n / seg)) starts (n / seg % 8) n ∙ eight) above h ∙ some_same (test true (eq-eqb (st / seg) s h)))
+      (λ ne. ⊎_elim
+      (λ h. let i = if_true h in
+      start_else seg (t / seg) st s kept (λ l x. free_segment (st / seg) s (omega arith) (let at = eqb-true (n / seg) s i.0 in omega arith) (sym x)) ∙ (start_there seg (t / seg) n s starts eight above (eqb-true (n / seg) s i.0) ∙ i.1))
+      (λ h. cc h)
+      (or_some (test false (ne_eqb (st / seg) s ne))))
+
+  old_start : (s : ℕ) → s ≤ t / seg → end_at seg t w / seg < s + 8 → get_or (with_start seg (t / seg) (start_at seg t w) kept) (s % 8) 0 ≡ get_or starts (s % 8) 0
+  old_start s below near =
+      let st : ℕ = start_at seg t w in
+      let n : ℕ = end_at seg t w in
+      let up = div_up seg st n pos (omega arith) in
+      start_else seg (t / seg) st s kept (λ l. free_segment s (st / seg) (omega arith) (omega arith)) ∙ start_else seg (t / seg) n s starts (λ l. free_segment s (n / seg) (omega arith) (omega arith))
+
+-- ---- all of it
+
+module _ {U : Type 0} (words : U → List ℕ) (seg : ℕ) where
+  pub put_stored : (t : ℕ) (u : U) (starts ring : List ℕ) → 0 < seg → length (words u) ≤ seg → length starts ≡ 8 → length ring ≡ 8 * seg
+      → IsPut words seg t u (λ i. get_or starts i 0) (λ i. get_or (with_start seg (t / seg) (start_at seg t (length (words u))) (with_start seg (t / seg) (end_at seg t (length (words u))) starts)) i 0) (λ i. get_or ring i 0) (λ i. get_or (words_with seg t (words u) ring) i 0)
+  put_stored t u starts ring pos fits eight wide = record {
+    starts = new_start seg t (length (words u)) starts pos fits eight;
+    other_starts = old_start seg t (length (words u)) starts pos fits eight;
+    unit = unit_there seg t (words u) ring pos fits wide;
+    ends = end_there seg t (words u) ring pos fits wide;
+    wraps = wrap_there seg t (words u) ring pos fits wide;
+    other_words = others_there seg t (words u) ring pos fits wide;
+  }

@@ -1,0 +1,82 @@
+-- A ring stands for its log, when it is new and after a put.
+use Rattle.std.proofs.Common.{ltb, ◌≡◌, ℕ, ◌+◌, ◌*◌, ◌/◌, ◌%◌, ◌<◌, ◌≤◌, eqb, List, [], ◌∷◌, ◌++◌, length, get_or, sym, refl, ap, ◌∙◌, subst, ⊎_elim, arith, Some, eqb-true}
+use Rattle.std.proofs.lemmas.Nat.{div_below, mod-mul-add}
+use Rattle.vsl_record.specs.Unit.{LogUnit, Log}
+use Rattle.vsl_record.specs.Words.{IsUnit, unit_words}
+use Rattle.vsl_record.proofs.Steps.{all_append}
+use Rattle.ring_layout.specs.Places.{IsSegment, last_tail, start_at, end_at, if_some, first_in, tail, AreFit, end_mark}
+use Rattle.ring_layout.specs.Content.{HoldsLog}
+use Rattle.ring_layout.proofs.PushLemmas.{tail_push}
+use Rattle.ring_layout.proofs.AgreedLemmas.{or_some, if_true}
+use Rattle.ring_plain.specs.Ring.{RingState, IsRingOf}
+use Rattle.ring_plain.specs.inside.Stores.{with_start, words_with, ring_with}
+use Rattle.ring_plain.proofs.PutLemmas.{put_holds}
+use Rattle.ring_plain.proofs.ListLemmas.{length-set_if, put_stored, length-words_with}
+
+zero_div : (n : ℕ) → 0 < n → 0 / n ≡ 0
+zero_div n pos = let b : 0 / n < 1 = div_below 0 n 1 pos (omega arith) in omega arith
+
+zero_times : (n : ℕ) → 0 ≡ 0 * n + 0
+zero_times n = omega arith
+
+-- a ring of zeros and the end mark holds no unit
+new_holds : (seg : ℕ) (starts ring : List ℕ) → 0 < seg → get_or starts 0 0 ≡ 0 → get_or ring 0 0 ≡ end_mark → HoldsLog unit_words seg [] 0 (λ i. get_or starts i 0) (λ i. get_or ring i 0)
+new_holds seg starts ring pos start mark = record {
+  segment_starts = λ s p l m e.
+      let z = zero_div seg pos in
+      let s_is : s ≡ 0 = omega arith in
+      let p_is : 0 ≡ p = ⊎_elim (λ (h : if_some (eqb (0 / seg) s) 0 ≡ Some p). (if_true h).1) (λ (h : first_in seg s [] ≡ Some p). cc h) (or_some e) in
+      ap (λ (k : ℕ). get_or starts (k % 8) 0) s_is ∙ (start ∙ p_is);
+  word_at = λ q x e m.
+      let f = if_true e in
+      let q_is : q ≡ 0 = eqb-true q 0 f.0 in
+      let first : 0 % (8 * seg) ≡ 0 = ap (λ (k : ℕ). k % (8 * seg)) (zero_times (8 * seg)) ∙ mod-mul-add 0 (8 * seg) 0 (omega arith) in
+      ap (λ (k : ℕ). get_or ring (k % (8 * seg)) 0) q_is ∙ (ap (λ (k : ℕ). get_or ring k 0) first ∙ (mark ∙ f.1));
+}
+
+pub new_log : (ring : RingState) → IsSegment ring.seg → length ring.starts ≡ 8 → length ring.words ≡ 8 * ring.seg → ring.tail ≡ 0 → ring.counter ≡ 0 → get_or ring.starts 0 0 ≡ 0 → get_or ring.words 0 0 ≡ end_mark → IsRingOf ring []
+new_log ring segment eight lap tail_is counter_is start mark =
+    let z = zero_div ring.seg (omega arith) in
+    record {
+      segment = segment;
+      eight = eight;
+      lap = lap;
+      are_units = tt;
+      fit = tt;
+      tail_is = tail_is;
+      low = omega arith;
+      counter_is = counter_is ∙ (sym z ∙ ap (λ (k : ℕ). k / ring.seg) (sym tail_is));
+      holds = subst (λ (c : ℕ). HoldsLog unit_words ring.seg [] c (λ i. get_or ring.starts i 0) (λ i. get_or ring.words i 0)) (sym counter_is) (new_holds ring.seg ring.starts ring.words (omega arith) start mark);
+    }
+
+fit_push : (seg : ℕ) (log : Log) (u : LogUnit) → AreFit unit_words seg log → length (unit_words u) ≤ seg → AreFit unit_words seg (log ++ u ∷ [])
+fit_push seg [] u fit l = ((omega arith, l), tt)
+fit_push seg (v ∷ log) u fit l = (fit.0, fit_push seg log u fit.1 l)
+
+-- what the ring holds once the unit was put at the tail t, where the counter was c
+abbrev Stored : ℕ → ℕ → RingState → Log → LogUnit → Type 0
+Stored t c ring log u = HoldsLog unit_words ring.seg (log ++ u ∷ []) (end_at ring.seg t (length (unit_words u)) / ring.seg)
+    (λ i. get_or (with_start ring.seg c (start_at ring.seg t (length (unit_words u))) (with_start ring.seg c (end_at ring.seg t (length (unit_words u))) ring.starts)) i 0)
+    (λ i. get_or (words_with ring.seg t (unit_words u) ring.words) i 0)
+
+pub put_log : (ring : RingState) (log : Log) (u : LogUnit) → IsUnit u → length (unit_words u) ≤ ring.seg → end_at ring.seg ring.tail (length (unit_words u)) ≤ last_tail → IsRingOf ring log → IsRingOf (ring_with ring u) (log ++ u ∷ [])
+put_log ring log u is_unit fits upto h =
+    let seg : ℕ = ring.seg in
+    let w : ℕ = length (unit_words u) in
+    let t : ℕ = tail unit_words seg log in
+    let pos : 0 < seg = (let s = h.segment in omega arith) in
+    let counter : ring.counter ≡ t / seg = h.counter_is ∙ ap (λ (z : ℕ). z / seg) h.tail_is in
+    let was = subst (λ (c : ℕ). HoldsLog unit_words seg log c (λ i. get_or ring.starts i 0) (λ i. get_or ring.words i 0)) counter h.holds in
+    let stored : Stored t (t / seg) ring log u = put_holds unit_words seg pos log u _ _ _ _ h.fit (omega arith) fits was (put_stored unit_words seg t u ring.starts ring.words pos fits h.eight h.lap) in
+    let inner : List ℕ = with_start seg ring.counter (end_at seg ring.tail w) ring.starts in
+    record {
+      segment = h.segment;
+      eight = length-set_if (ltb ring.counter (start_at seg ring.tail w / seg)) inner _ _ ∙ (length-set_if (ltb ring.counter (end_at seg ring.tail w / seg)) ring.starts _ _ ∙ h.eight);
+      lap = length-words_with seg ring.tail (unit_words u) ring.words pos fits h.lap;
+      are_units = all_append IsUnit log (u ∷ []) h.are_units (is_unit, tt);
+      fit = fit_push seg log u h.fit fits;
+      tail_is = ap (λ (z : ℕ). end_at seg z w) h.tail_is ∙ sym (tail_push unit_words seg log u);
+      low = upto;
+      counter_is = refl;
+      holds = subst (λ (z : ℕ). Stored z ring.counter ring log u) (sym h.tail_is) (subst (λ (c : ℕ). Stored t c ring log u) (sym counter) stored);
+    }

@@ -1,0 +1,3 @@
+-- What only the private steps of this crate say.
+pub mod Stores
+pub mod Due

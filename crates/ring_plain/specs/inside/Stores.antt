@@ -1,0 +1,35 @@
+-- What a put stores (this project's choice).
+use Rattle.std.specs.Prelude.{ℕ, ◌+◌, ◌*◌, ◌/◌, ◌%◌, nat_lt, not, if◌then◌else◌, List, ◌++◌, length, take, drop, slice_set}
+use Rattle.vsl_record.specs.Unit.{LogUnit}
+use Rattle.vsl_record.specs.Words.{unit_words}
+use Rattle.ring_layout.specs.Places.{stays, start_at, end_at, end_mark, wrap_mark}
+use Rattle.ring_plain.specs.Ring.{RingState}
+
+-- words, with others over them from a place on
+abbrev pub with_words : ℕ → List ℕ → List ℕ → List ℕ
+with_words place new words = take place words ++ new ++ drop (place + length new) words
+
+-- the starts of segments, with a place as the start of its segment where that is behind the counter
+abbrev pub with_start : ℕ → ℕ → ℕ → List ℕ → List ℕ
+with_start seg c p starts = if nat_lt c (p / seg) then slice_set starts (p / seg % 8) p else starts
+
+-- the words of a ring, with the wrap mark at the tail where a unit of w words wraps
+abbrev pub with_wrap : ℕ → ℕ → ℕ → List ℕ → List ℕ
+with_wrap seg t w words = if not (stays seg t w) then slice_set words (t % (8 * seg)) wrap_mark else words
+
+-- the words of a ring where a unit of these words was put at the tail
+abbrev pub words_with : ℕ → ℕ → List ℕ → List ℕ → List ℕ
+words_with seg t new words =
+    let i = start_at seg t (length new) % (8 * seg) in
+    slice_set (with_words i new (with_wrap seg t (length new) words)) (i + length new) end_mark
+
+-- a ring where a unit was put
+abbrev pub ring_with : RingState → LogUnit → RingState
+ring_with ring u = let w = length (unit_words u) in record {
+  seg = ring.seg;
+  starts = with_start ring.seg ring.counter (start_at ring.seg ring.tail w) (with_start ring.seg ring.counter (end_at ring.seg ring.tail w) ring.starts);
+  words = words_with ring.seg ring.tail (unit_words u) ring.words;
+  tail = end_at ring.seg ring.tail w;
+  counter = end_at ring.seg ring.tail w / ring.seg;
+  ended = ring.ended;
+}
