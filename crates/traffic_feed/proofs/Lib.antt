@@ -1,0 +1,11 @@
+mod BatchLemmas
+mod BegunUnitLemmas
+mod BoundLemmas
+mod Examples
+mod GatheringLemmas
+mod LineLemmas
+mod NameLemmas
+mod OrderLemmas
+mod PartlyLemmas
+mod RawLemmas
+mod ReadingLemmas

@@ -1,0 +1,5 @@
+-- What only the private steps of this crate say.
+pub mod Gathering
+pub mod LineRead
+pub mod Partly
+pub mod Reading

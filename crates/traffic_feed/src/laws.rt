@@ -1,0 +1,44 @@
+//! The laws of listings. A law is a function that does nothing.
+
+ghost use Rattle.std.specs.Prelude.{◌≡◌, ◌⊎◌, ℕ, Bool, false, List, ◌∷◌, ◌++◌, IfSome, slice_get};
+ghost use Rattle.std.specs.List.{AllByRecursion, flat_map};
+ghost use Rattle.vsl_record.specs.Unit.{Log, LogUnit};
+ghost use Rattle.traffic_feed.specs.Batches.{gathered, listing_units, logged, most_kept, sections};
+ghost use Rattle.traffic_feed.specs.Lines.{IsFirstBad, IsLine, Line, LoggedRecord};
+ghost use Rattle.vsl_select.specs.RawLine.{raw_lines};
+ghost use Rattle.traffic_feed.specs.Listing.{IsListing};
+ghost use Rattle.traffic_feed.specs.RawLog.{AreBatches, IsReadBack};
+
+/// A line has one meaning at most.
+pub fn one_meaning()
+    ensures { (bytes : List ℕ) (l m : Line) → IsLine bytes l → IsLine bytes m → l ≡ m }
+{}
+
+/// Bytes are a listing of some units with so many cuts, or have a first bad line.
+pub fn every_listing()
+    ensures { (bytes : List ℕ) (reclen seg : ℕ) → ((units : Log) × (cuts : ℕ) × IsListing bytes reclen seg units cuts) ⊎ ((line : ℕ) × IsFirstBad bytes line) }
+{}
+
+/// Bytes are a listing of one list of units, with one number of cuts, or have one first bad line, and never both.
+pub fn one_listing()
+    ensures one { (bytes : List ℕ) (reclen seg : ℕ) (us vs : Log) (m n : ℕ) → IsListing bytes reclen seg us m → IsListing bytes reclen seg vs n → (us ≡ vs) × (m ≡ n) }
+    ensures one_bad { (bytes : List ℕ) (m n : ℕ) → IsFirstBad bytes m → IsFirstBad bytes n → m ≡ n }
+    ensures none { (bytes : List ℕ) (reclen seg : ℕ) (units : Log) (cuts line : ℕ) → IsListing bytes reclen seg units cuts → IsFirstBad bytes line → ⊥ }
+{}
+
+/// Each record between blank lines is in one unit, in order.
+pub fn each_record_once()
+    ensures { (reclen seg : ℕ) (ls : List Line) → flat_map logged (listing_units reclen seg ls) ≡ flat_map (λ s. s) (sections (most_kept reclen seg) ls) }
+{}
+
+/// Batches and units are as long as they can be: of two in a row, the first record of the second doesn't go into the first.
+pub fn units_are_longest()
+    ensures { (goes : LogUnit → LoggedRecord → Bool) (ls : List LoggedRecord) (before behind : Log) (u v : LogUnit) →
+        gathered goes ls ≡ before ++ u ∷ v ∷ behind → IfSome (slice_get (logged v) 0) (λ l. goes u l ≡ false) }
+{}
+
+/// A log is read back from its raw lines, uncut: where each unit fits in a segment and is printed as it is, and each two in a row
+/// are two batches.
+pub fn raw_lines_read_back()
+    ensures { (log : Log) (reclen seg : ℕ) → AllByRecursion (IsReadBack reclen seg) log → AreBatches log → IsListing (flat_map raw_lines log) reclen seg log 0 }
+{}
