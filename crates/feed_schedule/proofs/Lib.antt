@@ -1,0 +1,10 @@
+mod Examples
+pub mod WriterLemmas
+pub mod TurnLemmas
+pub mod ReaderLemmas
+pub mod StageLemmas
+pub mod ScheduleLemmas
+pub mod EventLemmas
+mod WaitingLemmas
+mod TurningLemmas
+mod ReplayingLemmas

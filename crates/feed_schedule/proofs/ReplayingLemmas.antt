@@ -1,0 +1,148 @@
+-- What is still to come: at first, and after a turn.
+use Rattle.std.proofs.Common.{◌≡◌, ℕ, zero, suc, ◌*◌, ◌<◌, ◌≤◌, Bool, true, false, eqb, List, [], ◌∷◌, ◌++◌, length, map, sym, refl, ap, ◌∙◌, subst, arith, Option, Some, None, append_assoc}
+use Rattle.std.proofs.lemmas.List.{append-nil, append_cancel_left, length-map}
+use Rattle.std.proofs.lemmas.Option.{same_Some}
+use Rattle.std.specs.List.{All}
+use Rattle.std.specs.Option.{option_map}
+use Rattle.vsl_record.specs.Unit.{LogUnit, Log}
+use Rattle.vsl_record.specs.Words.{unit_words}
+use Rattle.ring_layout.specs.declared.history.HistoryItem.{HistoryItem}
+use Rattle.ring_layout.specs.Places.{AreFit, last_tail}
+use Rattle.ring_plain.specs.Ring.{IsRingOf}
+use Rattle.ring_plain.specs.Cursor.{Stands}
+use Rattle.traffic_feed.specs.Turns.{first_draw}
+use Rattle.feed_schedule.specs.declared.replay.Advanced.{Advanced}
+use Rattle.feed_schedule.specs.declared.replay.Advanced.TheVariants.{Took, Overrun, Ended}
+use Rattle.feed_schedule.specs.Schedule.{Event, TookUnit, WasOverrun, Reads, Stage, first_stage, count_writers, has_ended, after_turn, after_turns, seed_of, is_drawn, IsScheduled, events_of, met, HasRun}
+use Rattle.feed_schedule.specs.Replaying.{ReplayState, IsAt, waiting, IsToCome, Represents, Meets, count_feed_words}
+use Rattle.feed_schedule.specs.inside.Turning.{IsSteady, KeepsOrder, Adds}
+use Rattle.feed_schedule.proofs.TurnLemmas.{turns_after_end}
+use Rattle.feed_schedule.proofs.EventLemmas.{turn_keeps_run, events_go_on}
+use Rattle.feed_schedule.proofs.WaitingLemmas.{first_is_fit, first_words, first_count}
+
+-- ---- at first
+
+-- the first draw is that of the seed
+first_drawn : (seed : Option ℕ) (x : ℕ) → option_map first_draw seed ≡ Some x → x ≡ first_draw (seed_of seed)
+first_drawn None x e = cc e
+first_drawn (Some seed) x e = sym (same_Some (first_draw seed) x e)
+
+-- turns are drawn where there is a seed
+draws_seed : (seed : Option ℕ) → is_drawn (option_map first_draw seed) ≡ is_drawn seed
+draws_seed None = refl
+draws_seed (Some seed) = refl
+
+-- a replay that has put nothing, of these feeds
+pub record IsNew (r : ReplayState) (active seg : ℕ) (seed : Option ℕ) (feeds : List Log) : Type 0 where
+  pub seg_is : r.ring.seg ≡ seg
+  pub empty : IsRingOf r.ring []
+  pub ended : r.ring.ended ≡ eqb active 0
+  pub same : r.cursor.seg ≡ r.ring.seg
+  pub stands : Stands r.cursor [] 0
+  pub place : r.cursor.place ≡ 0
+  pub counted : active ≡ length r.writers
+  pub writers : r.writers ≡ map Some feeds
+  pub reading : r.reading ≡ Reads
+  pub drawn : r.drawn ≡ option_map first_draw seed
+  pub fit : All (AreFit unit_words seg) feeds
+  pub few : 2 * count_feed_words feeds ≤ last_tail
+
+-- its writers are counted
+counts_new : (r : ReplayState) (active seg : ℕ) (seed : Option ℕ) (feeds : List Log) → IsNew r active seg seed feeds → active ≡ count_writers r.writers
+counts_new r active seg seed feeds h =
+    let a = h.counted in
+    let b = ap (λ (l : List (Option Log)). length l) h.writers in
+    let c = ap count_writers h.writers in
+    let d = length-map feeds Some in
+    let e = first_count feeds in
+    omega arith
+
+-- it stands before the first turn
+pub at_new : (r : ReplayState) (active seg : ℕ) (seed : Option ℕ) (feeds : List Log) → IsNew r active seg seed feeds → IsAt r (first_stage (seed_of seed) feeds)
+at_new r active seg seed feeds h = record {
+  ring = h.empty;
+  ended = h.ended ∙ ap (λ (n : ℕ). eqb n 0) (counts_new r active seg seed feeds h) ∙ ap (λ (l : List (Option Log)). eqb (count_writers l) 0) h.writers;
+  same = h.same;
+  cursor = h.stands;
+  place = h.place;
+  writers = h.writers;
+  reading = h.reading;
+  drawn = λ x e. first_drawn seed x (sym h.drawn ∙ e);
+  waits = λ e. cc e;
+  newest = tt;
+  fit = subst (λ (g : ℕ). AreFit unit_words g (waiting (map Some feeds))) (sym h.seg_is) (first_is_fit seg feeds h.fit);
+  room = let t = h.empty.tail_is in let w = first_words feeds in let f = h.few in omega arith;
+}
+
+-- it is steady
+pub steady_new : (r : ReplayState) (active seg : ℕ) (seed : Option ℕ) (feeds : List Log) → IsNew r active seg seed feeds → length feeds < 4294967295 → IsSteady active r
+steady_new r active seg seed feeds h many = record {
+  counted = counts_new r active seg seed feeds h;
+  few = let a = h.counted in let b = ap (λ (l : List (Option Log)). length l) h.writers in let d = length-map feeds Some in omega arith;
+  stage = first_stage (seed_of seed) feeds;
+  at = at_new r active seg seed feeds h;
+}
+
+-- what comes is what the schedule's history comes to
+pub new_to_come : (r : ReplayState) (active seg : ℕ) (seed : Option ℕ) (feeds : List Log) (log : Log) (history : List (HistoryItem LogUnit)) → IsNew r active seg seed feeds → IsScheduled seg seed feeds log history → Represents r (events_of history)
+new_to_come r active seg seed feeds log history h scheduled =
+    let s : Stage = first_stage (seed_of seed) feeds in
+    let drawing = ap is_drawn h.drawn ∙ draws_seed seed in
+    let to_come : IsToCome seg (is_drawn seed) s (events_of history) = (scheduled.0, scheduled.1, ap events_of (sym scheduled.3)) in
+    (s, at_new r active seg seed feeds h, subst (λ (b : Bool). IsToCome r.ring.seg b s (events_of history)) (sym drawing) (subst (λ (g : ℕ). IsToCome g (is_drawn seed) s (events_of history)) (sym h.seg_is) to_come))
+
+-- ---- after a turn
+
+-- what is to come of a stage are the events of its turn, and then what is to come after it
+come_after : (n seg : ℕ) (in_turns : Bool) (s : Stage) (events : List Event) → HasRun s.history → has_ended s.reading ≡ false → has_ended (after_turns n seg in_turns s).reading ≡ true → met (after_turns n seg in_turns s) ≡ met s ++ events
+    → (rest : List Event) × IsToCome seg in_turns (after_turn seg in_turns s) rest × (met s ++ events ≡ met (after_turn seg in_turns s) ++ rest)
+come_after zero seg in_turns s events run before e is = cc (e, before)
+come_after (suc n) seg in_turns s events run before e is =
+    let t : Stage = after_turn seg in_turns s in
+    let p = events_go_on n seg in_turns t (turn_keeps_run seg in_turns s run) in
+    (p.rest, (n, e, p.is), sym is ∙ p.is)
+
+-- a replay whose stage is had its turn by these events represents the others
+turned : (seg : ℕ) (in_turns : Bool) (old new : ReplayState) (t : Stage) (rest : List Event) → IsAt new t → new.ring.seg ≡ seg → is_drawn new.drawn ≡ in_turns → IsToCome seg in_turns t rest → Represents new rest
+turned seg in_turns old new t rest h same drawing c = (t, h, subst (λ (b : Bool). IsToCome new.ring.seg b t rest) (sym drawing) (subst (λ (g : ℕ). IsToCome g in_turns t rest) (sym same) c))
+
+-- at the end nothing is to come
+pub none_to_come : (seg : ℕ) (in_turns : Bool) (s : Stage) (events : List Event) → has_ended s.reading ≡ true → IsToCome seg in_turns s events → events ≡ []
+none_to_come seg in_turns s events ended c = append_cancel_left (met s) events [] (sym c.2 ∙ ap met (turns_after_end c.0 seg in_turns s ended) ∙ sym (append-nil (met s)))
+
+-- where the turn met nothing all is still to come, and else the rest of what was
+abbrev pub Goes : Option Advanced → List Event → ReplayState → Type 0
+Goes None events now = Represents now events
+Goes (Some answer) events now = Meets answer events now
+
+-- a turn goes on with what is to come
+goes_on : (answer : Option Advanced) (now : ReplayState) (seg : ℕ) (in_turns : Bool) (s : Stage) (events rest : List Event) → IsAt now (after_turn seg in_turns s) → now.ring.seg ≡ seg → is_drawn now.drawn ≡ in_turns
+    → Adds answer now s (after_turn seg in_turns s) → IsToCome seg in_turns (after_turn seg in_turns s) rest → met s ++ events ≡ met (after_turn seg in_turns s) ++ rest → Goes answer events now
+goes_on None now seg in_turns s events rest h same drawing adds c is =
+    let e : events ≡ rest = append_cancel_left (met s) events rest (is ∙ ap (λ (l : List Event). l ++ rest) adds) in
+    subst (Represents now) (sym e) (turned seg in_turns now now (after_turn seg in_turns s) rest h same drawing c)
+goes_on (Some Took) now seg in_turns s events rest h same drawing adds c is =
+    let e : events ≡ TookUnit adds.0 ∷ rest = append_cancel_left (met s) events (TookUnit adds.0 ∷ rest) (is ∙ ap (λ (l : List Event). l ++ rest) adds.1 ∙ append_assoc (met s) (TookUnit adds.0 ∷ []) rest) in
+    (adds.0, rest, e, turned seg in_turns now now (after_turn seg in_turns s) rest h same drawing c, adds.2)
+goes_on (Some (Overrun at seen)) now seg in_turns s events rest h same drawing adds c is =
+    let e : events ≡ WasOverrun at seen ∷ rest = append_cancel_left (met s) events (WasOverrun at seen ∷ rest) (is ∙ ap (λ (l : List Event). l ++ rest) adds ∙ append_assoc (met s) (WasOverrun at seen ∷ []) rest) in
+    (rest, e, turned seg in_turns now now (after_turn seg in_turns s) rest h same drawing c)
+goes_on (Some Ended) now seg in_turns s events rest h same drawing adds c is =
+    let e : events ≡ rest = append_cancel_left (met s) events rest (is ∙ ap (λ (l : List Event). l ++ rest) adds.0) in
+    let none : rest ≡ [] = none_to_come seg in_turns (after_turn seg in_turns s) rest (sym (ap has_ended h.reading) ∙ adds.1) c in
+    (e ∙ none, subst (Represents now) none (turned seg in_turns now now (after_turn seg in_turns s) rest h same drawing c))
+
+-- a turn before the end goes on with what is to come
+pub turn_goes_on : (answer : Option Advanced) (old new : ReplayState) (events : List Event) → has_ended old.reading ≡ false → KeepsOrder old new → ((s : Stage) → IsAt old s → IsAt new (after_turn old.ring.seg (is_drawn old.drawn) s))
+    → ((s : Stage) → IsAt old s → Adds answer new s (after_turn old.ring.seg (is_drawn old.drawn) s)) → Represents old events → Goes answer events new
+turn_goes_on answer old new events before order at adds c =
+    let s : Stage = c.0 in
+    let h : IsAt old s = c.1 in
+    let a = come_after c.2.0 old.ring.seg (is_drawn old.drawn) s events h.newest (ap has_ended (sym h.reading) ∙ before) c.2.1 c.2.2 in
+    goes_on answer new old.ring.seg (is_drawn old.drawn) s events a.0 (at s h) order.seg order.drawing (adds s h) a.1 a.2
+
+-- a replay that has ended represents nothing
+pub end_represents : (r : ReplayState) (events : List Event) → has_ended r.reading ≡ true → Represents r events → Meets Ended events r
+end_represents r events ended c =
+    let none : events ≡ [] = none_to_come r.ring.seg (is_drawn r.drawn) c.0 events (sym (ap has_ended c.1.reading) ∙ ended) c.2 in
+    (none, subst (Represents r) none c)

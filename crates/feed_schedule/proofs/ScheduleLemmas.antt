@@ -1,0 +1,79 @@
+-- What is so of whole schedules.
+use Rattle.std.proofs.Common.{◌≡◌, ℕ, zero, suc, ◌/◌, ◌<◌, Bool, true, List, [], ◌∷◌, ◌++◌, length, reverse, sym, refl, ap, ◌∙◌, subst, arith, Option, append_assoc}
+use Rattle.std.proofs.lemmas.List.{append-nil, reverse-append, reverse-reverse}
+use Rattle.std.specs.List.{All}
+use Rattle.log_model.specs.Interleaving.{IsInterleaving}
+use Rattle.vsl_record.specs.Unit.{LogUnit, Log}
+use Rattle.vsl_record.specs.Words.{unit_words}
+use Rattle.ring_layout.specs.declared.history.HistoryItem.{HistoryItem}
+use Rattle.ring_layout.specs.declared.history.HistoryItem.TheVariants.{UnitRun, Overrun}
+use Rattle.ring_layout.specs.Places.{IsSegment, tail, AreFit}
+use Rattle.ring_layout.specs.History.{IsReadBack, IsReadHistory, ReachesTail}
+use Rattle.feed_schedule.specs.Schedule.{Stage, Reading, Reads, Waits, Ended, first_stage, count_writers, put_by, has_ended, after_turn, after_turns, seed_of, is_drawn, IsScheduled}
+use Rattle.feed_schedule.proofs.WriterLemmas.{left_to_put, first_to_put, turn_interleaves, nothing_interleaves}
+use Rattle.feed_schedule.proofs.TurnLemmas.{MayStand, turn_cases, reader_cases, turn_may_stand, turns_keep, one_end}
+use Rattle.feed_schedule.proofs.ReaderLemmas.{EndsBefore}
+use Rattle.feed_schedule.proofs.StageLemmas.{IsSound, sound_first, sound_turn, turns_left, turns_end}
+
+-- all writers have left at the end
+none_at_end : (r : Reading) (writers : ℕ) → MayStand r writers → has_ended r ≡ true → writers ≡ 0
+none_at_end Reads writers h e = cc e
+none_at_end Waits writers h e = cc e
+none_at_end Ended writers h e = h
+
+-- a log is that of a stage, and then an interleaving of what was still to be put
+abbrev GoesOn : Log → Stage → Type 0
+GoesOn log s = (more : Log) × (log ≡ s.log ++ more) × IsInterleaving more (left_to_put s.writers)
+
+-- what is put from a stage on is an interleaving of what was still to be put
+log_goes_on : (n seg : ℕ) (in_turns : Bool) (s : Stage) → MayStand s.reading (count_writers s.writers) → has_ended (after_turns n seg in_turns s).reading ≡ true → GoesOn (after_turns n seg in_turns s).log s
+log_goes_on zero seg in_turns s may e = ([], sym (append-nil s.log), nothing_interleaves s.writers (none_at_end s.reading (count_writers s.writers) may e))
+log_goes_on (suc n) seg in_turns s may e = let log : Log = (after_turns n seg in_turns (after_turn seg in_turns s)).log in
+    turn_cases (λ t. GoesOn log t → GoesOn log s) seg in_turns s may (λ ended h. h) (λ k x l h. (put_by k s.writers ++ h.0, h.1 ∙ append_assoc s.log (put_by k s.writers) h.0, turn_interleaves k s.writers h.0 h.2))
+    (λ x reads. reader_cases (λ t. GoesOn log t → GoesOn log s) seg (record s { drawn = x }) (λ lost h. h) (λ u took f h. h) (λ none f h. h)) (log_goes_on n seg in_turns (after_turn seg in_turns s) (turn_may_stand seg in_turns s may) e)
+
+-- the law that the log is an interleaving of the feeds
+pub schedule_interleaves : (seg : ℕ) (order : Option ℕ) (feeds : List Log) (log : Log) (history : List (HistoryItem LogUnit)) → IsScheduled seg order feeds log history → IsInterleaving log feeds
+schedule_interleaves seg order feeds log history h = let g = log_goes_on h.0 seg (is_drawn order) (first_stage (seed_of order) feeds) tt h.1 in
+    subst (λ l. IsInterleaving l feeds) (sym (h.2 ∙ g.1)) (subst (λ lists. IsInterleaving g.0 lists) (first_to_put feeds) g.2)
+
+-- a segment has words
+segment_pos : (seg : ℕ) → IsSegment seg → 0 < seg
+segment_pos seg h = let least = h.0 in omega arith
+
+-- each stage of a schedule is sound
+pub stage_sound : (n seg : ℕ) (order : Option ℕ) (feeds : List Log) → IsSegment seg → All (AreFit unit_words seg) feeds → IsSound seg (after_turns n seg (is_drawn order) (first_stage (seed_of order) feeds))
+stage_sound n seg order feeds segment fit = let pos = segment_pos seg segment in
+    turns_keep (IsSound seg) seg (is_drawn order) (sound_turn seg pos (is_drawn order)) n (first_stage (seed_of order) feeds) (sound_first seg pos (seed_of order) feeds fit)
+
+-- the law that each schedule ends
+pub schedule_ends : (seg : ℕ) (order : Option ℕ) (feeds : List Log) → IsSegment seg → All (AreFit unit_words seg) feeds → (log : Log) × (history : List (HistoryItem LogUnit)) × IsScheduled seg order feeds log history
+schedule_ends seg order feeds segment fit = let pos = segment_pos seg segment in let s : Stage = first_stage (seed_of order) feeds in
+    let e = turns_end seg pos (turns_left s) (is_drawn order) s (sound_first seg pos (seed_of order) feeds fit) (omega arith) in
+    ((after_turns e.0 seg (is_drawn order) s).log, reverse (after_turns e.0 seg (is_drawn order) s).history, (e.0, e.1, refl, refl))
+
+-- the law that it ends in one way
+pub one_schedule : (seg : ℕ) (order : Option ℕ) (feeds : List Log) (a b : Log) (x y : List (HistoryItem LogUnit)) → IsScheduled seg order feeds a x → IsScheduled seg order feeds b y → (a ≡ b) × (x ≡ y)
+one_schedule seg order feeds a b x y h g = let same = one_end h.0 g.0 seg (is_drawn order) (first_stage (seed_of order) feeds) h.1 g.1 in
+    (h.2 ∙ ap (λ (s : Stage). s.log) same ∙ sym g.2, h.3 ∙ ap (λ (s : Stage). reverse s.history) same ∙ sym g.3)
+
+-- the first is the last of a list turned round
+reverse_cons : {A : Type 0} (x : A) (xs : List A) → reverse (x ∷ xs) ≡ reverse xs ++ x ∷ []
+reverse_cons x xs = reverse-append (x ∷ []) xs
+
+-- the items of a reader that took all are a read history of the log, and reach its tail
+history_whole : (seg : ℕ) (log : Log) (place : ℕ) (items : List (HistoryItem LogUnit)) → IsReadBack unit_words seg (tail unit_words seg log / seg) log items → EndsBefore seg log (length log) place items
+    → IsReadHistory unit_words seg log (reverse items) × ReachesTail log (reverse items)
+history_whole seg log place [] back newest = absurd newest
+history_whole seg log place (UnitRun r ∷ items) back newest = (
+  (λ e. cc (sym (reverse-reverse (UnitRun r ∷ items)) ∙ ap reverse e), subst (λ l. IsReadBack unit_words seg (tail unit_words seg log / seg) log l) (sym (reverse-reverse (UnitRun r ∷ items))) back),
+  record { before = reverse items; run = r; last = reverse_cons (UnitRun r) items; ends = sym newest.0 },
+)
+history_whole seg log place (Overrun at seen ∷ items) back newest = absurd newest
+
+-- the laws that the history is a read history of the log, and reaches its tail
+pub schedule_read_whole : (seg : ℕ) (order : Option ℕ) (feeds : List Log) (log : Log) (history : List (HistoryItem LogUnit)) → IsSegment seg → All (AreFit unit_words seg) feeds → IsScheduled seg order feeds log history
+    → IsReadHistory unit_words seg log history × ReachesTail log history
+schedule_read_whole seg order feeds log history segment fit h = let s : Stage = after_turns h.0 seg (is_drawn order) (first_stage (seed_of order) feeds) in let sound = stage_sound h.0 seg order feeds segment fit in
+    let whole = history_whole seg s.log s.place s.history sound.stands.back (subst (λ (k : ℕ). EndsBefore seg s.log k s.place s.history) (sound.all h.1) sound.stands.newest) in
+    subst (λ l. IsReadHistory unit_words seg l history × ReachesTail l history) (sym h.2) (subst (λ l. IsReadHistory unit_words seg s.log l × ReachesTail s.log l) (sym h.3) whole)

@@ -1,0 +1,87 @@
+-- The kinds of turns, and turns one after another.
+use Rattle.std.proofs.Common.{◌≡◌, ℕ, zero, suc, ◌+◌, ◌%◌, ◌<◌, ◌≤◌, Bool, true, false, cond, eqb, ltb, slice_get, sym, refl, ap, ◌∙◌, arith, Option, Some, None}
+use Rattle.std.proofs.lemmas.Bool.{cond_both, ltb-true, ltb-false, eqb-true, eqb-false}
+use Rattle.std.proofs.lemmas.Nat.{mod_below}
+use Rattle.vsl_record.specs.Unit.{LogUnit}
+use Rattle.traffic_feed.specs.Turns.{next_draw}
+use Rattle.feed_schedule.specs.Schedule.{Stage, Reading, Reads, Waits, Ended, count_writers, after_writer, after_taking, is_overrun, after_overrun, after_reader, is_reading, has_ended, count_active, after_turn_of, after_turn, after_turns}
+
+-- what the reader is about where so many writers haven't left: it waits only for a writer, and has ended only where there is none
+abbrev pub MayStand : Reading → ℕ → Type 0
+MayStand Reads writers = Unit {0}
+MayStand Waits writers = 0 < writers
+MayStand Ended writers = writers ≡ 0
+
+-- somebody may have a turn before the end
+active_or_ended : (r : Reading) (writers : ℕ) → MayStand r writers → has_ended r ≡ false → 0 < writers + cond (is_reading r) 1 0
+active_or_ended Reads writers h e = omega arith
+active_or_ended Waits writers h e = omega arith
+active_or_ended Ended writers h e = cc e
+
+-- where it is no writer it is the reader
+reads_past : (r : Reading) (writers k : ℕ) → writers ≤ k → k < writers + cond (is_reading r) 1 0 → r ≡ Reads
+reads_past Reads writers k l a = refl
+reads_past Waits writers k l a = absurd (omega arith)
+reads_past Ended writers k l a = absurd (omega arith)
+
+-- what holds after each turn of a writer, and after each of the reader, holds after that of the k-th
+turn_of_cases : (P : Stage → Type 0) (seg k : ℕ) (s : Stage) → k < count_active s → ((j : ℕ) → j < count_writers s.writers → P (after_writer j s)) → (s.reading ≡ Reads → P (after_reader seg s)) → P (after_turn_of seg k s)
+turn_of_cases P seg k s l writer reader = cond_both (ltb k (count_writers s.writers)) (after_writer k s) (after_reader seg s) P (λ e. writer k (ltb-true k (count_writers s.writers) e))
+    (λ e. reader (reads_past s.reading (count_writers s.writers) k (ltb-false k (count_writers s.writers) e) l))
+
+-- what holds of a stage that has ended, after each turn of a writer, and after each of a reader that may have one, holds after a turn
+pub turn_cases : (P : Stage → Type 0) (seg : ℕ) (in_turns : Bool) (s : Stage) → MayStand s.reading (count_writers s.writers) → (has_ended s.reading ≡ true → P s)
+    → ((k x : ℕ) → k < count_writers s.writers → P (after_writer k (record s { drawn = x }))) → ((x : ℕ) → s.reading ≡ Reads → P (after_reader seg (record s { drawn = x }))) → P (after_turn seg in_turns s)
+turn_cases P seg in_turns s may ended writer reader = cond_both (has_ended s.reading) s
+    (cond in_turns (after_turn_of seg (next_draw s.drawn % count_active s) (record s { drawn = next_draw s.drawn })) (after_turn_of seg 0 s)) P ended
+    (λ e. let active : 0 < count_active s = active_or_ended s.reading (count_writers s.writers) may e in
+    cond_both in_turns (after_turn_of seg (next_draw s.drawn % count_active s) (record s { drawn = next_draw s.drawn })) (after_turn_of seg 0 s) P
+    (λ drawn. turn_of_cases P seg (next_draw s.drawn % count_active s) (record s { drawn = next_draw s.drawn }) (mod_below (next_draw s.drawn) (count_active s) active) (λ k. writer k (next_draw s.drawn)) (reader (next_draw s.drawn)))
+    (λ first. turn_of_cases P seg 0 s active (λ k. writer k s.drawn) (reader s.drawn)))
+
+-- what holds after an overrun, after a unit, and after a turn that meets the end of the log, holds after a turn of the reader
+pub reader_cases : (P : Stage → Type 0) (seg : ℕ) (s : Stage) → (is_overrun seg s ≡ true → P (after_overrun seg s)) → ((u : LogUnit) → is_overrun seg s ≡ false → slice_get s.log s.number ≡ Some u → P (after_taking seg (Some u) s))
+    → (is_overrun seg s ≡ false → slice_get s.log s.number ≡ None → P (after_taking seg None s)) → P (after_reader seg s)
+reader_cases P seg s lost took none = cond_both (is_overrun seg s) (after_overrun seg s) (after_taking seg (slice_get s.log s.number) s) P lost (λ e. go e (slice_get s.log s.number) refl)
+  where
+    go : is_overrun seg s ≡ false → (found : Option LogUnit) → slice_get s.log s.number ≡ found → P (after_taking seg found s)
+    go e None f = none e f
+    go e (Some u) f = took u e f
+
+-- what the reader is about where it met the end of the log
+pub end_or_wait : (writers : ℕ) → MayStand (cond (eqb writers 0) Ended Waits) writers
+end_or_wait writers = cond_both (eqb writers 0) Ended Waits (λ r. MayStand r writers) (λ e. eqb-true writers 0 e) (λ e. let some = eqb-false writers 0 e in omega arith)
+
+-- what the reader is about after each kind of turn
+pub turn_may_stand : (seg : ℕ) (in_turns : Bool) (s : Stage) → MayStand s.reading (count_writers s.writers) → MayStand (after_turn seg in_turns s).reading (count_writers (after_turn seg in_turns s).writers)
+turn_may_stand seg in_turns s may = turn_cases (λ t. MayStand t.reading (count_writers t.writers)) seg in_turns s may (λ e. may) (λ k x l. tt)
+    (λ x reads. reader_cases (λ t. MayStand t.reading (count_writers t.writers)) seg (record s { drawn = x }) (λ e. may) (λ u e f. may) (λ e f. end_or_wait (count_writers s.writers)))
+
+-- after the end a turn changes nothing
+pub turn_after_end : (seg : ℕ) (in_turns : Bool) (s : Stage) → has_ended s.reading ≡ true → after_turn seg in_turns s ≡ s
+turn_after_end seg in_turns s e = ap (λ (b : Bool). cond b s (cond in_turns (after_turn_of seg (next_draw s.drawn % count_active s) (record s { drawn = next_draw s.drawn })) (after_turn_of seg 0 s))) e
+
+-- after the end turns change nothing
+pub turns_after_end : (n seg : ℕ) (in_turns : Bool) (s : Stage) → has_ended s.reading ≡ true → after_turns n seg in_turns s ≡ s
+turns_after_end zero seg in_turns s e = refl
+turns_after_end (suc n) seg in_turns s e = ap (after_turns n seg in_turns) (turn_after_end seg in_turns s e) ∙ turns_after_end n seg in_turns s e
+
+-- turns, and then more turns
+pub turns_then : (m n seg : ℕ) (in_turns : Bool) (s : Stage) → after_turns (m + n) seg in_turns s ≡ after_turns n seg in_turns (after_turns m seg in_turns s)
+turns_then zero n seg in_turns s = let e : 0 + n ≡ n = omega arith in ap (λ (k : ℕ). after_turns k seg in_turns s) e
+turns_then (suc m) n seg in_turns s = let e : suc m + n ≡ suc (m + n) = omega arith in ap (λ (k : ℕ). after_turns k seg in_turns s) e ∙ turns_then m n seg in_turns (after_turn seg in_turns s)
+
+-- one turn more
+pub turn_more : (n seg : ℕ) (in_turns : Bool) (s : Stage) → after_turns (n + 1) seg in_turns s ≡ after_turn seg in_turns (after_turns n seg in_turns s)
+turn_more n seg in_turns s = turns_then n 1 seg in_turns s
+
+-- what each turn keeps is so after any number of turns
+pub turns_keep : (P : Stage → Type 0) (seg : ℕ) (in_turns : Bool) → ((s : Stage) → P s → P (after_turn seg in_turns s)) → (n : ℕ) (s : Stage) → P s → P (after_turns n seg in_turns s)
+turns_keep P seg in_turns keep zero s h = h
+turns_keep P seg in_turns keep (suc n) s h = turns_keep P seg in_turns keep n (after_turn seg in_turns s) (keep s h)
+
+-- two ends of the same turns are one stage
+pub one_end : (m n seg : ℕ) (in_turns : Bool) (s : Stage) → has_ended (after_turns m seg in_turns s).reading ≡ true → has_ended (after_turns n seg in_turns s).reading ≡ true → after_turns m seg in_turns s ≡ after_turns n seg in_turns s
+one_end zero n seg in_turns s a b = sym (turns_after_end n seg in_turns s a)
+one_end (suc m) zero seg in_turns s a b = turns_after_end (suc m) seg in_turns s b
+one_end (suc m) (suc n) seg in_turns s a b = one_end m n seg in_turns (after_turn seg in_turns s) a b

@@ -1,0 +1,63 @@
+-- What feeds that are replayed over a ring come to (this project's choice).
+use Rattle.std.specs.Prelude.{◌≡◌, ℕ, ◌+◌, ◌*◌, ◌<◌, ◌≤◌, ◌==◌, Bool, true, List, [], ◌∷◌, ◌++◌, length, Option, Some, None}
+use Rattle.std.specs.List.{sum_by}
+use Rattle.vsl_record.specs.Unit.{LogUnit, Log}
+use Rattle.vsl_record.specs.Words.{unit_words}
+use Rattle.vsl_record.specs.Views.{Spells}
+use Rattle.ring_layout.specs.Places.{AreFit, last_tail}
+use Rattle.ring_plain.specs.Ring.{RingState, IsRingOf}
+use Rattle.ring_plain.specs.Cursor.{CursorState, Stands}
+use Rattle.traffic_feed.specs.Listing.{word_count}
+use Rattle.feed_schedule.specs.declared.replay.Advanced.{Advanced}
+use Rattle.feed_schedule.specs.declared.replay.Advanced.TheVariants.{Took, Overrun, Ended}
+use Rattle.feed_schedule.specs.Schedule.{Event, TookUnit, WasOverrun, Reading, Waits, Stage, after_turns, count_writers, has_ended, is_drawn, met, HasRun}
+
+-- how many words the units of feeds have
+abbrev pub count_feed_words : List Log → ℕ
+count_feed_words feeds = sum_by word_count feeds
+
+-- what writers have still to put
+abbrev pub waiting : List (Option Log) → Log
+waiting [] = []
+waiting (None ∷ writers) = waiting writers
+waiting (Some units ∷ writers) = units ++ waiting writers
+
+-- what contracts see of feeds that are replayed
+pub record ReplayState : Type 0 where
+  pub ring : RingState
+  pub cursor : CursorState
+  pub writers : List (Option Log)
+  pub reading : Reading
+  -- the number that was drawn last, where turns are drawn
+  pub drawn : Option ℕ
+
+-- they stand between two turns
+pub record IsAt (r : ReplayState) (s : Stage) : Type 0 where
+  pub ring : IsRingOf r.ring s.log
+  pub ended : r.ring.ended ≡ (count_writers s.writers == 0)
+  pub same : r.cursor.seg ≡ r.ring.seg
+  pub cursor : Stands r.cursor s.log s.number
+  pub place : r.cursor.place ≡ s.place
+  pub writers : r.writers ≡ s.writers
+  pub reading : r.reading ≡ s.reading
+  pub drawn : (x : ℕ) → r.drawn ≡ Some x → x ≡ s.drawn
+  -- the reader waits only for a writer
+  pub waits : s.reading ≡ Waits → 0 < count_writers s.writers
+  pub newest : HasRun s.history
+  -- what is still to be put can be: no unit has more words than a segment, and a unit moves the tail by at most twice its words
+  pub fit : AreFit unit_words r.ring.seg (waiting s.writers)
+  pub room : r.ring.tail + 2 * word_count (waiting s.writers) ≤ last_tail
+
+-- what is still to come of a stage: the events of its turns, up to the reader's end
+abbrev pub IsToCome : ℕ → Bool → Stage → List Event → Type 0
+IsToCome seg in_turns s events = (n : ℕ) × (has_ended (after_turns n seg in_turns s).reading ≡ true) × (met (after_turns n seg in_turns s) ≡ met s ++ events)
+
+-- these events are still to come
+abbrev pub Represents : ReplayState → List Event → Type 0
+Represents r events = (s : Stage) × IsAt r s × IsToCome r.ring.seg (is_drawn r.drawn) s events
+
+-- what the reader met was the first of the events that were to come, and the others still are; at the end none was to come. What was taken stands in the cursor
+abbrev pub Meets : Advanced → List Event → ReplayState → Type 0
+Meets Took events now = (u : LogUnit) × (rest : List Event) × (events ≡ TookUnit u ∷ rest) × Represents now rest × Spells now.cursor.words u
+Meets (Overrun at seen) events now = (rest : List Event) × (events ≡ WasOverrun at seen ∷ rest) × Represents now rest
+Meets Ended events now = (events ≡ []) × Represents now []

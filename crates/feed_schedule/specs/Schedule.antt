@@ -1,0 +1,183 @@
+-- The stated schedules: writers put the units of their feeds into a ring, and a reader takes them from it, one turn after another (this project's choice). It is said
+-- over the line of places alone. `seg` is the number of words of a segment.
+use Rattle.std.specs.Prelude.{◌≡◌, ℕ, zero, suc, ◌+◌, ◌-◌, ◌/◌, ◌%◌, ◌==◌, nat_lt, nat_le, if◌then◌else◌, Bool, true, false, List, [], ◌∷◌, ◌++◌, map, take, reverse, slice_get, unwrap_or, Option, Some, None}
+use Rattle.vsl_record.specs.Unit.{LogUnit, Log}
+use Rattle.vsl_record.specs.Words.{unit_words}
+use Rattle.ring_layout.specs.declared.history.HistoryItem.{HistoryItem}
+use Rattle.ring_layout.specs.declared.history.HistoryItem.TheVariants.{UnitRun, Overrun}
+use Rattle.ring_layout.specs.Places.{tail, segment_start}
+use Rattle.ring_layout.specs.History.{first_number}
+use Rattle.traffic_feed.specs.Turns.{first_draw, next_draw}
+
+-- what a reader met, in order: a unit that it took, or that it was overrun in a segment when the writers had come to another
+pub data Event : Type 0 where
+  TookUnit : LogUnit → Event
+  WasOverrun : ℕ → ℕ → Event
+
+-- what a reader is about
+pub data Reading : Type 0 where
+  -- it may have a turn
+  Reads : Reading
+  -- it met the end of the log, and may have a turn again when a writer had one
+  Waits : Reading
+  -- it met the end of the log when all writers had left
+  Ended : Reading
+
+-- what stands between two turns
+pub record Stage : Type 0 where
+  -- what was put
+  pub log : Log
+  -- what each writer has still to put; nothing of one that left
+  pub writers : List (Option Log)
+  -- which unit is due to the reader, from 0, and the place where it stands
+  pub number : ℕ
+  pub place : ℕ
+  pub reading : Reading
+  -- what the reader took, the newest first
+  pub history : List (HistoryItem LogUnit)
+  -- the number that was drawn last
+  pub drawn : ℕ
+
+-- before the first turn
+abbrev pub first_stage : ℕ → List Log → Stage
+first_stage seed feeds = record {
+  log = [];
+  writers = map Some feeds;
+  number = 0;
+  place = 0;
+  reading = Reads;
+  history = UnitRun (record { segment = 0; first = 0; units = [] }) ∷ [];
+  drawn = first_draw seed;
+}
+
+-- ---- a writer's turn
+
+-- how many writers have not left
+abbrev pub count_writers : List (Option Log) → ℕ
+count_writers [] = 0
+count_writers (None ∷ writers) = count_writers writers
+count_writers (Some units ∷ writers) = 1 + count_writers writers
+
+-- what the k-th of those that have not left puts: its next unit, or nothing where none is left
+abbrev pub put_by : ℕ → List (Option Log) → Log
+put_by k [] = []
+put_by k (None ∷ writers) = put_by k writers
+put_by zero (Some [] ∷ writers) = []
+put_by zero (Some (u ∷ units) ∷ writers) = u ∷ []
+put_by (suc k) (Some units ∷ writers) = put_by k writers
+
+-- what the writers have still to put then: it has a unit less, or leaves
+abbrev pub without_next : ℕ → List (Option Log) → List (Option Log)
+without_next k [] = []
+without_next k (None ∷ writers) = None ∷ without_next k writers
+without_next zero (Some [] ∷ writers) = None ∷ writers
+without_next zero (Some (u ∷ units) ∷ writers) = Some units ∷ writers
+without_next (suc k) (Some units ∷ writers) = Some units ∷ without_next k writers
+
+-- the k-th of the writers that have not left has a turn
+abbrev pub after_writer : ℕ → Stage → Stage
+after_writer k s = record s { log = s.log ++ put_by k s.writers; writers = without_next k s.writers; reading = Reads }
+
+-- ---- the reader's turn
+
+-- a unit more in the newest run
+abbrev pub with_unit : LogUnit → List (HistoryItem LogUnit) → List (HistoryItem LogUnit)
+with_unit u [] = []
+with_unit u (UnitRun r ∷ items) = UnitRun (record r { units = r.units ++ u ∷ [] }) ∷ items
+with_unit u (Overrun at seen ∷ items) = Overrun at seen ∷ items
+
+-- the reader takes the unit that is due; where there is none it waits, or has ended where all writers left
+abbrev pub after_taking : ℕ → Option LogUnit → Stage → Stage
+after_taking seg (Some u) s = record s { number = s.number + 1; place = tail unit_words seg (take (s.number + 1) s.log); history = with_unit u s.history }
+after_taking seg None s = record s { reading = if count_writers s.writers == 0 then Ended else Waits }
+
+-- the segment to which the writers have come
+abbrev pub last_segment : ℕ → Stage → ℕ
+last_segment seg s = tail unit_words seg s.log / seg
+
+-- whether the writers have come six segments ahead of the reader
+abbrev pub is_overrun : ℕ → Stage → Bool
+is_overrun seg s = nat_le (s.place / seg + 6) (last_segment seg s)
+
+-- the reader is overrun, and goes on with the first unit that starts in the segment four behind the writers', or later
+abbrev pub after_overrun : ℕ → Stage → Stage
+after_overrun seg s =
+    let from = last_segment seg s - 4 in
+    let first = first_number unit_words seg s.log from in
+    record s {
+      number = first;
+      place = unwrap_or (segment_start unit_words seg s.log from) 0;
+      history = UnitRun (record { segment = from; first = first; units = [] }) ∷ Overrun (s.place / seg) (last_segment seg s) ∷ s.history;
+    }
+
+-- the reader has a turn
+abbrev pub after_reader : ℕ → Stage → Stage
+after_reader seg s = if is_overrun seg s then after_overrun seg s else after_taking seg (slice_get s.log s.number) s
+
+-- ---- whose turn it is
+
+-- whether the reader may have a turn
+abbrev pub is_reading : Reading → Bool
+is_reading Reads = true
+is_reading Waits = false
+is_reading Ended = false
+
+-- whether the reader has ended
+abbrev pub has_ended : Reading → Bool
+has_ended Reads = false
+has_ended Waits = false
+has_ended Ended = true
+
+-- how many may have a turn: the writers that have not left, and behind them the reader
+abbrev pub count_active : Stage → ℕ
+count_active s = count_writers s.writers + (if is_reading s.reading then 1 else 0)
+
+-- the k-th of those that may have a turn has it
+abbrev pub after_turn_of : ℕ → ℕ → Stage → Stage
+after_turn_of seg k s = if nat_lt k (count_writers s.writers) then after_writer k s else after_reader seg s
+
+-- one turn: feed after feed it is the first's that may have one; in turns it is drawn
+abbrev pub after_turn : ℕ → Bool → Stage → Stage
+after_turn seg in_turns s =
+    if has_ended s.reading then s else
+    (if in_turns then after_turn_of seg (next_draw s.drawn % count_active s) (record s { drawn = next_draw s.drawn }) else after_turn_of seg 0 s)
+
+-- so many turns
+abbrev pub after_turns : ℕ → ℕ → Bool → Stage → Stage
+after_turns zero seg in_turns s = s
+after_turns (suc n) seg in_turns s = after_turns n seg in_turns (after_turn seg in_turns s)
+
+-- ---- the whole
+
+-- the seed of an order; feed after feed, which draws nothing, has 0
+abbrev pub seed_of : Option ℕ → ℕ
+seed_of None = 0
+seed_of (Some seed) = seed
+
+-- whether an order is drawn
+abbrev pub is_drawn : Option ℕ → Bool
+is_drawn None = false
+is_drawn (Some seed) = true
+
+-- in this order, a seed from which turns are drawn, or none for feed after feed and then the reader, these feeds give this log and this history, the oldest item first
+abbrev pub IsScheduled : ℕ → Option ℕ → List Log → Log → List (HistoryItem LogUnit) → Type 0
+IsScheduled seg order feeds log history =
+    (n : ℕ) × (has_ended (after_turns n seg (is_drawn order) (first_stage (seed_of order) feeds)).reading ≡ true)
+    × (log ≡ (after_turns n seg (is_drawn order) (first_stage (seed_of order) feeds)).log)
+    × (history ≡ reverse (after_turns n seg (is_drawn order) (first_stage (seed_of order) feeds)).history)
+
+-- what a history's items come to, one after the other
+abbrev pub events_of : List (HistoryItem LogUnit) → List Event
+events_of [] = []
+events_of (UnitRun r ∷ items) = map TookUnit r.units ++ events_of items
+events_of (Overrun at seen ∷ items) = WasOverrun at seen ∷ events_of items
+
+-- what the reader met up to a stage
+abbrev pub met : Stage → List Event
+met s = events_of (reverse s.history)
+
+-- the newest item is a run, into which the next unit goes
+abbrev pub HasRun : List (HistoryItem LogUnit) → Type 0
+HasRun [] = ⊥
+HasRun (UnitRun r ∷ items) = Unit {0}
+HasRun (Overrun at seen ∷ items) = ⊥
