@@ -1,0 +1,3 @@
+mod ReadNamedLemmas
+mod ContentLemmas
+pub mod FeedLemmas
