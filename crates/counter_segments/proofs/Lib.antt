@@ -1,0 +1,3 @@
+mod SumLemmas
+mod RuleLemmas
+mod PassLemmas
