@@ -52,9 +52,13 @@ print_record w =
     replicate w.before_vxid space ++ w.vxid ++ replicate w.before_name space ++ w.name ++ replicate w.before_mark space
     ++ mark_letter w.mark ∷ print_payload w.payload
 
+-- the most digits of a VXID
+abbrev pub most_digits : ℕ
+most_digits = 10
+
 -- a VXID is 1 to 10 digits, with a value in range; leading zeros are read
 abbrev pub IsVxid : List ℕ → ℕ → Type 0
-IsVxid digits vxid = AllDigits 10 digits × (0 < length digits) × (length digits ≤ 10) × (digits_value 10 digits ≡ vxid) × (vxid < vxid_end)
+IsVxid digits vxid = AllDigits 10 digits × (0 < length digits) × (length digits ≤ most_digits) × (digits_value 10 digits ≡ vxid) × (vxid < vxid_end)
 
 -- a name is that of a tag, without regard to case
 abbrev pub IsNameOf : List ℕ → ℕ → Type 0

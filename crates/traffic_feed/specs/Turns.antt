@@ -1,10 +1,14 @@
 -- The draws that choose whose turn it is (this project's choice).
 use Rattle.std.specs.Prelude.{ℕ, ◌+◌, ◌*◌, ◌%◌}
 
+-- one more than the greatest draw
+abbrev pub draw_end : ℕ
+draw_end = 65537
+
 -- what a seed begins with
 abbrev pub first_draw : ℕ → ℕ
-first_draw seed = seed % 65537
+first_draw seed = seed % draw_end
 
 -- the draw behind a draw
 abbrev pub next_draw : ℕ → ℕ
-next_draw x = (75 * x + 74) % 65537
+next_draw x = (75 * x + 74) % draw_end

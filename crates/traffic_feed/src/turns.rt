@@ -16,12 +16,13 @@ pub struct Turns {
 
 impl Model for Turns {
     ghost use Rattle.std.specs.Prelude.{ℕ, ◌<◌};
+    ghost use Rattle.traffic_feed.specs.Turns.{draw_end};
 
     ghost Value = { ℕ };
 
     ghost view = { λ t. t.x };
 
-    ghost invariant = { λ t. t.x < 65537 };
+    ghost invariant = { λ t. t.x < draw_end };
 
     ghost inverse = { λ n. record { x = n } };
 }

@@ -8,7 +8,7 @@ use Rattle.vsl_tags.specs.Tags.{last_tag, number_of_lower}
 use Rattle.vsl_record.specs.declared.mark.Mark.{Mark}
 use Rattle.vsl_record.specs.declared.mark.Mark.TheVariants.{Client, Backend, Plain}
 use Rattle.vsl_record.specs.Unit.{vxid_end}
-use Rattle.traffic_feed.specs.Lines.{space, comment_mark, LoggedRecord, Line, BlankLine, CommentLine, RecordLine}
+use Rattle.traffic_feed.specs.Lines.{most_digits, space, comment_mark, LoggedRecord, Line, BlankLine, CommentLine, RecordLine}
 
 -- what is read of what was read, where something was
 infixl 10 ◌>>=◌
@@ -47,7 +47,7 @@ behind_word text = drop (position_or_len is_space text) text
 
 -- the VXID that digits write
 unfoldable pub vxid_of : List ℕ → Option ℕ
-vxid_of digits = if nat_lt 0 (length digits) && nat_le (length digits) 10 && nat_lt (digits_value 10 digits) vxid_end then Some (digits_value 10 digits) else None
+vxid_of digits = if nat_lt 0 (length digits) && nat_le (length digits) most_digits && nat_lt (digits_value 10 digits) vxid_end then Some (digits_value 10 digits) else None
 
 -- the tag that a name finds
 unfoldable pub tag_called : List ℕ → Option ℕ
