@@ -6,5 +6,7 @@ pub mod StageLemmas
 pub mod ScheduleLemmas
 pub mod EventLemmas
 mod WaitingLemmas
+mod PuttingLemmas
+mod TakingLemmas
 mod TurningLemmas
 mod ReplayingLemmas

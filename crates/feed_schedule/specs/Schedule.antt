@@ -159,7 +159,7 @@ abbrev pub is_drawn : Option ℕ → Bool
 is_drawn None = false
 is_drawn (Some seed) = true
 
--- in this order, a seed from which turns are drawn, or none for feed after feed and then the reader, these feeds give this log and this history, the oldest item first
+-- in this order of turns, drawn from a seed on, or none for feed after feed and then the reader, these feeds give this log and this history, the oldest item first
 abbrev pub IsScheduled : ℕ → Option ℕ → List Log → Log → List (HistoryItem LogUnit) → Type 0
 IsScheduled seg order feeds log history =
     (n : ℕ) × (has_ended (after_turns n seg (is_drawn order) (first_stage (seed_of order) feeds)).reading ≡ true)

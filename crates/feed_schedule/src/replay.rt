@@ -1,6 +1,6 @@
 //! Writers and a reader that have their turns over a ring.
 
-ghost use Rattle.std.specs.Prelude.{◌≡◌, ◌≢◌, ◌+◌, ◌*◌, ◌≤◌, ◌<◌, ◌++◌, ◌==◌, ℕ, List, [], ◌∷◌, true, false, map, take, length, slice_get, Option, Some, None, IsSome, IsNone, is_none, IfOk};
+ghost use Rattle.std.specs.Prelude.{◌≡◌, ◌+◌, ◌*◌, ◌≤◌, ◌<◌, ◌++◌, ◌==◌, List, [], ◌∷◌, true, false, map, take, length, slice_get, Option, Some, None, IsSome, IsNone, is_none, IfOk};
 ghost use Rattle.std.specs.List.{All};
 ghost use Rattle.std.specs.Option.{option_map};
 ghost use Rattle.vsl_record.specs.Unit.{LogUnit, Log};
@@ -20,7 +20,7 @@ use ring_plain::{PlainCursor, PlainRing};
 use std::alloc::Global;
 use std::marker::Model;
 use traffic_feed::{Listing, Turns};
-use vsl_record::{Unit, UnitView};
+use vsl_record::UnitView;
 
 /// What the reader met.
 #[derive(Clone, Copy, Debug, PartialEq, Eq)]

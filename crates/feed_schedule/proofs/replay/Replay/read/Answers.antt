@@ -2,7 +2,7 @@ use Rattle.std.proofs.Common.{rules, refl, Some, None}
 use Rattle.feed_schedule.specs.declared.replay.Advanced.TheVariants as answer
 use Rattle.feed_schedule.specs.declared.replay.Advanced.TheVariants.{Took, Overrun}
 use Rattle.feed_schedule.specs.Schedule.{Ended}
-use Rattle.feed_schedule.proofs.TurningLemmas.{at_took, met_took, at_lost, met_lost, at_wait, met_wait, at_ended, met_ended, reader_inside, meets_inside, steady_reader}
+use Rattle.feed_schedule.proofs.TakingLemmas.{at_took, met_took, at_lost, met_lost, at_wait, met_wait, at_ended, met_ended, reader_inside, meets_inside, steady_reader}
 use Rattle.feed_schedule.proofs.replay.Replay.read.Goals as goal
 
 pub invariant_of-self : goal.invariant_of-self

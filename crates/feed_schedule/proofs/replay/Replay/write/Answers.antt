@@ -2,7 +2,7 @@ use Rattle.std.proofs.Common.{◌<◌, sym, subst}
 use Rattle.feed_schedule.specs.Schedule.{count_writers}
 use Rattle.feed_schedule.specs.Replaying.{ReplayState}
 use Rattle.feed_schedule.proofs.WaitingLemmas.{writer_at}
-use Rattle.feed_schedule.proofs.TurningLemmas.{room_at, wrote_at, at_writer, steady_writer, fewer_writer, writer_inside}
+use Rattle.feed_schedule.proofs.PuttingLemmas.{room_at, wrote_at, at_writer, steady_writer, fewer_writer, writer_inside}
 use Rattle.feed_schedule.proofs.replay.Replay.write.Goals as goal
 
 pub write-self-inside-requires-clause-room : goal.write-self-inside-requires-clause-room
