@@ -26,7 +26,7 @@ pub struct RecordView<'a> {
 }
 
 /// A unit that is lent from the bytes of its words. It copies nothing. Contracts see the words.
-#[derive(Debug)]
+#[derive(Debug, Drop)]
 pub struct UnitView<'a> {
     bytes: &'a [u8],
 }
