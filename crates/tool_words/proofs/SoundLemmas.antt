@@ -1,5 +1,5 @@
 -- Every job keeps to the limits.
-use Rattle.std.proofs.Common.{◌≡◌, ℕ, ◌+◌, Bool, true, false, ◌&&◌, List, [], ◌∷◌, Option, Some, None, Result, Ok, Err, lit≤, refl, subst, leb}
+use Rattle.std.proofs.Common.{◌≡◌, ℕ, ◌+◌, ◌≤◌, Bool, true, false, ◌&&◌, List, [], ◌∷◌, Option, Some, None, Result, Ok, Err, length, arith, lit≤, refl, subst, leb}
 use Rattle.std.specs.Prelude.{IfSome, IfOk, unwrap_or, position, take, drop, if◌then◌else◌}
 use Rattle.std.proofs.lemmas.Bool.{and_parts, leb-true}
 use Rattle.tool_words.specs.declared.fault.UsageFault.{UsageFault}
@@ -13,10 +13,12 @@ use Rattle.tool_words.specs.declared.reading.Given.{Given}
 use Rattle.tool_words.specs.declared.reading.Reading.{Reading}
 use Rattle.tool_words.specs.Answers.{Gives}
 use Rattle.tool_words.specs.Fold.{plain_job, with_choice, with_options}
-use Rattle.tool_words.specs.Job.{job_from, job_read, lacks_log, has_two_logs}
+use Rattle.tool_words.specs.Job.{job_from, job_of, job_read, lacks_log, has_two_logs}
 use Rattle.tool_words.specs.Number.{is_short_number, digits_value, number_in, both, count_and_seed_at, is_comma}
 use Rattle.tool_words.specs.Options.{number_for}
+use Rattle.tool_words.specs.Reading.{nothing, read_all}
 use Rattle.tool_words.specs.Sound.{IsWithin, AreInRange, IsSound}
+use Rattle.tool_words.proofs.ListingLemmas.{listings, all-few, feeds-with_options}
 
 -- a number that passed the tests is in its range
 within : (short : Bool) (low high n : ℕ) → ((short && leb low n) && leb n high) ≡ true → IsWithin low high n
@@ -84,24 +86,26 @@ abbrev after_tests : Bool → Bool → Bool → Job → Result Job UsageFault
 after_tests endless none two job = if endless then Err NoOnce else (if none then Err NoLog else (if two then Err TwoLogs else Ok job))
 
 -- a job that passes the tests has one log
-passed : (endless none two : Bool) (job found : Job) → lacks_log job ≡ none → has_two_logs job ≡ two → HasNumbers job
+passed : (endless none two : Bool) (job found : Job) → lacks_log job ≡ none → has_two_logs job ≡ two → HasNumbers job → length job.feeds ≤ 16
     → after_tests endless none two job ≡ Ok found → IsSound found
-passed true none two job found l t n e = absurd (let bad : ⊥ = cc in bad)
-passed false true two job found l t n e = absurd (let bad : ⊥ = cc in bad)
-passed false false true job found l t n e = absurd (let bad : ⊥ = cc in bad)
-passed false false false job found l t n e =
+passed true none two job found l t n f e = absurd (let bad : ⊥ = cc in bad)
+passed false true two job found l t n f e = absurd (let bad : ⊥ = cc in bad)
+passed false false true job found l t n f e = absurd (let bad : ⊥ = cc in bad)
+passed false false false job found l t n f e =
     let same : job ≡ found = cc in
-    subst IsSound same (record { numbers = n; log = l; one_log = t })
+    subst IsSound same (record { numbers = n; log = l; one_log = t; feeds = f })
 
-from : (tool : Option Tool) (given : List Given) (found : Job) → job_from tool given ≡ Ok found → IsSound found
-from None given found e = absurd (let bad : ⊥ = cc in bad)
-from (Some tool) given found e = passed _ _ _ (with_options given (plain_job tool)) found refl refl (numbers-with_options given (plain_job tool) (numbers-plain tool)) e
+from : (tool : Option Tool) (given : List Given) (found : Job) → listings given ≤ 16 → job_from tool given ≡ Ok found → IsSound found
+from None given found few e = absurd (let bad : ⊥ = cc in bad)
+from (Some tool) given found few e =
+    let job : Job = with_options given (plain_job tool) in
+    passed _ _ _ job found refl refl (numbers-with_options given (plain_job tool) (numbers-plain tool)) (omega (arith, feeds-with_options given (plain_job tool))) e
 
-read : (reading : Result Reading UsageFault) (found : Job) → job_read reading ≡ Ok found → IsSound found
-read (Ok reading) found e = from reading.tool reading.given found e
-read (Err fault) found e = absurd (let bad : ⊥ = cc in bad)
+read : (reading : Result Reading UsageFault) (found : Job) → IfOk reading (λ r. listings r.given ≤ 16) → job_read reading ≡ Ok found → IsSound found
+read (Ok reading) found few e = from reading.tool reading.given found few e
+read (Err fault) found few e = absurd (let bad : ⊥ = cc in bad)
 
 -- a job that is answered is sound
-pub sound_answer : (answer : Result Job WordsFault) (reading : Result Reading UsageFault) → Gives answer (job_read reading) → IfOk answer (λ job. IsSound job)
-sound_answer (Ok job) reading given = read reading job given
-sound_answer (Err fault) reading given = tt
+pub sound_answer : (answer : Result Job WordsFault) (words : List (List ℕ)) → Gives answer (job_of words) → IfOk answer (λ job. IsSound job)
+sound_answer (Ok job) words given = read (read_all nothing 0 words) job (all-few words nothing 0 (record { given = lit≤ tt; wanted = tt })) given
+sound_answer (Err fault) words given = tt

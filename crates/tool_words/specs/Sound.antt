@@ -1,5 +1,5 @@
 -- What every job keeps to, whatever the words are (this project's choice).
-use Rattle.std.specs.Prelude.{◌≡◌, ℕ, ◌≤◌, false, Option, IfSome}
+use Rattle.std.specs.Prelude.{◌≡◌, ℕ, ◌≤◌, false, length, Option, IfSome}
 use Rattle.tool_words.specs.declared.job.Job.{Job}
 use Rattle.tool_words.specs.declared.job.Order.{Order}
 use Rattle.tool_words.specs.declared.job.Order.TheVariants.{Threads, Turns, FeedFirst}
@@ -25,8 +25,9 @@ pub record AreInRange (seg reclen limit timeout : ℕ) (keep : Option ℕ) (made
   pub requests : IfSome made (λ n. IsWithin 1 100000 n.0 × IsWithin 0 65536 n.1)
   pub turns : HasTurns order
 
--- a job's numbers are in their ranges, and it has the one log that it needs
+-- a job's numbers are in their ranges, it has the one log that it needs, and it names at most sixteen listings
 pub record IsSound (job : Job) : Type 0 where
   pub numbers : AreInRange job.seg job.reclen job.limit job.timeout job.keep job.made job.order
   pub log : lacks_log job ≡ false
   pub one_log : has_two_logs job ≡ false
+  pub feeds : length job.feeds ≤ 16
