@@ -1,6 +1,5 @@
 -- A job from its steps: its queries, and then its run, told of the world as it was before both.
-use Rattle.std.proofs.Common.{◌≡◌, ℕ, ◌+◌, Bool, true, false, cond, List, [], ◌∷◌, ◌++◌, length, length-append, Option, Some, None, refl, sym, ap, subst, ◌∙◌, inl, inr, arith, Result, Ok, Err}
-use Rattle.std.specs.Result.{IfOk, OnErr}
+use Rattle.std.proofs.Common.{◌≡◌, ℕ, ◌+◌, Bool, true, false, cond, List, [], ◌∷◌, ◌++◌, length, length-append, Option, Some, None, refl, sym, ap, subst, ◌∙◌, inl, inr, arith}
 use Rattle.log_model.specs.Faults.{HasNewFault}
 use Rattle.vio.specs.declared.world.TheConstants.{ERRORS}
 use Rattle.vio.specs.World.{Seen, CallKind, Opening, Creating, Reading, Writing, NoCountFalls, HasStreams}
@@ -10,17 +9,16 @@ use Rattle.query_parser.specs.declared.query.Query.{Query}
 use Rattle.tool_words.specs.declared.job.Job.{Job}
 use Rattle.tool_words.specs.declared.job.QueryText.{QueryText}
 use Rattle.varnish_tools.specs.declared.fault.ToolFault.{ToolFault}
-use Rattle.varnish_tools.specs.declared.outcome.Ran.{Ran}
 use Rattle.varnish_tools.specs.declared.outcome.RunRecord.{RunRecord}
 use Rattle.varnish_tools.specs.declared.outcome.RunRecord.TheVariants.{Nothing, Counted}
 use Rattle.varnish_tools.specs.Asked.{Asked, Work, file_of}
-use Rattle.varnish_tools.specs.Faults.{FaultClass, Refused, RefusedQuery, RefusedFormat, LongQuery, NotOpened, NotRead, NotWritten, BadInput, class_of}
+use Rattle.varnish_tools.specs.Faults.{FaultClass, Refused, RefusedQuery, RefusedFormat, LongQuery, BadFeed, NotOpened, NotRead, NotWritten, BadInput, class_of}
 use Rattle.varnish_tools.specs.Objects.{Object, OpenedFile, CreatedFile, Stream, source_of, sink_of, sources_of, sinks_of, query_files, opened_of, created_of, streams_of, calls_of, IsSourceHandle, SinkGained, SinkUntouched, SourceUntouched, GivesAtMost}
 use Rattle.varnish_tools.specs.Queries.{Ask}
 use Rattle.varnish_tools.specs.Formats.{StoppedByFormat, format_text, job_format_fault}
 use Rattle.varnish_tools.specs.QueryFiles.{AreTaken, StoppedByQuery}
 use Rattle.varnish_tools.specs.Run.{Run, Ending, Whole, Kept, Faulted, no_run}
-use Rattle.varnish_tools.specs.Promise.{Input, SourceHolds, IsInput, HasFailed, HasFailedInput, HasClassCause, HasCause, TakesQueries, RunBegan, LeavesAll, LeavesUntil, LeavesSinks, TakesUntil, TookSome, ReadsOnceUntil, ReadsOnce, IsDue, SinksLeft, WritesFor, WorksOff, WritesPrefix}
+use Rattle.varnish_tools.specs.Promise.{Input, SourceHolds, IsInput, HasFailed, HasFailedInput, HasClassCause, HasCause, TakesQueries, RunBegan, LeavesAll, LeavesUntil, LeavesSinks, TakesUntil, TookSome, ReadsOnceUntil, ReadsOnce, IsDue, SinksLeft, WritesFor, WorksOff, WritesFilePrefix}
 use Rattle.varnish_tools.specs.inside.LogFile.{HoldsAsAsked}
 use Rattle.varnish_tools.specs.inside.QueryFiles.{OnlyReads, QueriesRead}
 use Rattle.varnish_tools.specs.inside.Works.{HasRunCause, RunLeavesUntil, RunLeaves, WorksFor, PrefixFor}
@@ -62,6 +60,7 @@ cause_since job f Refused r s t streams n still p = p
 cause_since job f RefusedQuery r s t streams n still p = absurd p
 cause_since job f RefusedFormat r s t streams n still p = absurd p
 cause_since job f LongQuery r s t streams n still p = absurd p
+cause_since job f BadFeed r s t streams n still p = absurd p
 cause_since job f (NotOpened name) r s t streams n still (inl p) = inl (input_failed_since job Opening name r s t n p)
 cause_since job f (NotOpened name) r s t streams n still (inr p) = inr (inl (failed_since job Creating name r s t n p))
 cause_since job f (NotRead name) r s t streams n still p = inl (input_failed_since job Reading name r s t n p)
@@ -77,13 +76,13 @@ source_left_since (OpenedFile name) r s t source streams still p = tt
 source_left_since (CreatedFile append name) r s t source streams still p = tt
 source_left_since (Stream stream name) r s t source streams still p = p ∙ still.left stream (subst (λ (h : ℕ). r.given h ≡ true) (sym source) streams.input_given)
 
-untouched_since : {opened : List (List ℕ)} (o : Object) (r s t : Seen) → HasStreams r → Touches [] [] opened [] r s → IsStill r s → SinkUntouched o s t → SinkUntouched o r t
+pub untouched_since : {opened : List (List ℕ)} (o : Object) (r s t : Seen) → HasStreams r → Touches [] [] opened [] r s → IsStill r s → SinkUntouched o s t → SinkUntouched o r t
 untouched_since (OpenedFile name) r s t streams touched still p = tt
 untouched_since (CreatedFile append name) r s t streams touched still p =
     (λ bytes told quiet. p.0 bytes (still.held name ∙ told) (touched.names Writing ERRORS name streams.error_given ∙ quiet), λ lacks. p.1 (still.lacks name ∙ lacks))
 untouched_since (Stream stream name) r s t streams touched still p = p ∙ still.written stream
 
-gained_since : {IsSo : List ℕ → Type 0} {opened : List (List ℕ)} (o : Object) (r s t : Seen) → HasStreams r → Touches [] [] opened [] r s → IsStill r s → SinkGained IsSo o s t → SinkGained IsSo o r t
+pub gained_since : {IsSo : List ℕ → Type 0} {opened : List (List ℕ)} (o : Object) (r s t : Seen) → HasStreams r → Touches [] [] opened [] r s → IsStill r s → SinkGained IsSo o s t → SinkGained IsSo o r t
 gained_since o r s t streams touched still p = record {
   handle = p.handle;
   is_handle = sink_before o p.handle r s t touched p.is_handle;
@@ -110,6 +109,7 @@ leaves_since Refused job recorded r s t streams touched still p = absurd p
 leaves_since RefusedQuery job recorded r s t streams touched still p = absurd p
 leaves_since RefusedFormat job recorded r s t streams touched still p = absurd p
 leaves_since LongQuery job recorded r s t streams touched still p = absurd p
+leaves_since BadFeed job recorded r s t streams touched still p = absurd p
 leaves_since (NotOpened name) job recorded r s t streams touched still p = all_since job recorded r s t streams touched still p
 leaves_since (NotRead name) job recorded r s t streams touched still p = inl (p.0, began_since job recorded r s t touched p.1)
 leaves_since (NotWritten name) job recorded r s t streams touched still p = began_since job recorded r s t touched p
@@ -130,6 +130,7 @@ once_since Refused o input run r s t touched p = tt
 once_since RefusedQuery o input run r s t touched p = tt
 once_since RefusedFormat o input run r s t touched p = tt
 once_since LongQuery o input run r s t touched p = tt
+once_since BadFeed o input run r s t touched p = tt
 once_since (NotOpened name) o input run r s t touched p = tt
 once_since (NotRead name) o input run r s t touched (inl p) = inl p
 once_since (NotRead name) o input run r s t touched (inr p) = inr (took_since o input r s t touched p)
@@ -183,7 +184,7 @@ works_since job query fault recorded r s t streams quiet touched read good ran p
     }
 
 pub prefix_since : (job : Job) (query : Query) (r s t : Seen) → HasStreams r → OnlyReads r s → Touches [] [] (opened_of (query_files job.queries)) [] r s → QueriesRead job query r s → job_format_fault job ≡ None
-    → ((ask : Ask) → HoldsAsAsked query ask → PrefixFor ask (Work job) s t) → WritesPrefix (Work job) r t
+    → ((ask : Ask) → HoldsAsAsked query ask → PrefixFor ask (Work job) s t) → WritesFilePrefix (Work job) r t
 prefix_since job query r s t streams quiet touched read good p = λ input is_input o one.
     let still = still_read r s quiet touched in
     elim (p read.ask read.holds input (input_since job input r s streams quiet still is_input) o one) [
@@ -272,7 +273,7 @@ works_unformatted job fault r s streams quiet touched p =
       );
     }
 
-pub prefix_early : (job : Job) (r s : Seen) → OnlyReads r s → Touches [] [] (opened_of (query_files job.queries)) [] r s → WritesPrefix (Work job) r s
+pub prefix_early : (job : Job) (r s : Seen) → OnlyReads r s → Touches [] [] (opened_of (query_files job.queries)) [] r s → WritesFilePrefix (Work job) r s
 prefix_early job r s quiet touched = λ input is_input o one. inl (untouched_still o r s (still_read r s quiet touched))
 
 -- what is touched
@@ -312,16 +313,3 @@ gives_run job r s t p q =
 
 pub gives_early : (job : Job) (r s : Seen) → GivesAtMost (length (opened_of (query_files job.queries))) r s → GivesAtMost (length (calls_of (Work job) Opening ++ calls_of (Work job) Creating)) r s
 gives_early job r s p = (p.0, omega (arith, p.1, calls_count job), p.2)
-
--- what a run answered is what its caller answers
-
-pub run_works : {E : Type 0} (result : Result Ran E) (job : Job) (query : Query) (r s t : Seen) → HasStreams r → OnlyReads r s → Touches [] [] (opened_of (query_files job.queries)) [] r s → QueriesRead job query r s → job_format_fault job ≡ None
-    → TouchedByRun job s t → IfOk result (λ ran. (ask : Ask) → HoldsAsAsked query ask → WorksFor ask (Work job) ran.fault ran.run s t)
-    → IfOk result (λ ran. WorksOff (Work job) ran.fault ran.run r t)
-run_works (Ok ran) job query r s t streams quiet touched read good touched_run p = works_since job query ran.fault ran.run r s t streams quiet touched read good touched_run p
-run_works (Err e) job query r s t streams quiet touched read good touched_run p = p
-
-pub run_prefix : {T E : Type 0} (result : Result T E) (job : Job) (query : Query) (r s t : Seen) → HasStreams r → OnlyReads r s → Touches [] [] (opened_of (query_files job.queries)) [] r s → QueriesRead job query r s
-    → job_format_fault job ≡ None → OnErr result ((ask : Ask) → HoldsAsAsked query ask → PrefixFor ask (Work job) s t) → OnErr result (WritesPrefix (Work job) r t)
-run_prefix (Ok x) job query r s t streams quiet touched read good p = p
-run_prefix (Err e) job query r s t streams quiet touched read good p = prefix_since job query r s t streams quiet touched read good p

@@ -32,7 +32,7 @@ use Rattle.vsl_dispatch.specs.Groups.{kept, is_filled}
 use Rattle.vsl_dispatch.proofs.GroupLemmas.{kept_none}
 use Rattle.varnish_tools.specs.Output.{head_text, output_of, is_flushed, is_ended, sink_text}
 use Rattle.varnish_tools.specs.Printer.{Plan, IsOutput, due}
-use Rattle.varnish_tools.specs.Promise.{Input, IsInput, IsDue, ReadsOnce, HasFailed, HasFailedInput, WritesPrefix, whole_text, is_whole, ending_begun}
+use Rattle.varnish_tools.specs.Promise.{Input, IsInput, IsDue, ReadsOnce, HasFailed, HasFailedInput, WritesFilePrefix, whole_text, is_whole, ending_begun}
 use Rattle.varnish_tools.specs.inside.LogFile.{HasBegun, HoldsAsAsked, IsJobPlan, SourceOpened, SinkCreated, job_plan}
 use Rattle.varnish_tools.specs.inside.LogSource.{GaveUnits, GaveFirst, StoppedSo}
 use Rattle.varnish_tools.specs.inside.Works.{WorksFor, PrefixFor}
@@ -243,7 +243,7 @@ pub still_none : (s : Seen) → IsStill s s
 still_none s = record { held = λ n. refl; lacks = λ n. refl; written = λ h. refl; left = λ h given. refl; given = λ h given. given }
 
 -- before anything was asked of the world
-pub prefix_none : (asked : Asked) (s : Seen) → WritesPrefix asked s s
+pub prefix_none : (asked : Asked) (s : Seen) → WritesFilePrefix asked s s
 prefix_none asked s = λ input is_input o one. inl (untouched_none o s)
 
 -- where nothing was written

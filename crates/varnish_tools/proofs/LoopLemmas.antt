@@ -95,7 +95,7 @@ left_at_end (WriteFault name) p is us text least left = record {
 }
 left_at_end NoMemory p is us text least left = left
 
-cause_since : (fault : PrintFault) (name now : List ℕ) (s t u : Seen) → now ≡ name → NoCountFalls s t → HasPrintCause fault now t u → HasPrintCause fault name s u
+pub cause_since : (fault : PrintFault) (name now : List ℕ) (s t u : Seen) → now ≡ name → NoCountFalls s t → HasPrintCause fault now t u → HasPrintCause fault name s u
 cause_since (WriteFault blamed) name now s t u same counts cause =
     let here : (blamed ≡ name) × HasNewFault (t.faults Writing name) (u.faults Writing name) = subst (λ (x : List ℕ). (blamed ≡ x) × HasNewFault (t.faults Writing x) (u.faults Writing x)) same cause in
     (here.0, omega (arith, counts.each Writing name, here.1))

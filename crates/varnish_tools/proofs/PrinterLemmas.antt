@@ -93,7 +93,7 @@ text_by writes keep test options taken true = refl
 text_by writes keep test options taken false = refl
 
 -- the text of items goes on in that of items and more items, flushed or not
-text_prefix : (writes : List Group → Bool → List ℕ) → IsOutput writes → (keep : Option ℕ) (test : Group → Bool) (options : GroupOptions) (xs ys : List Taken) (b : Bool)
+pub text_prefix : (writes : List Group → Bool → List ℕ) → IsOutput writes → (keep : Option ℕ) (test : Group → Bool) (options : GroupOptions) (xs ys : List Taken) (b : Bool)
     → IsPrefix (tested_text writes keep test options xs false) (tested_text writes keep test options (xs ++ ys) b)
 text_prefix writes is keep test options xs ys b =
     let on = goes_on test options xs ys b in
@@ -110,7 +110,7 @@ text_first writes is keep test options units n b =
     subst (λ (xs : List Taken). IsPrefix (tested_text writes keep test options (all_taken (take n units)) false) (tested_text writes keep test options xs b)) (log_parts n units)
     (text_prefix writes is keep test options (all_taken (take n units)) (all_taken (drop n units)) b)
 
-due_prefix : (p : Plan) → IsOutput p.writes → (xs ys : List Taken) (b : Bool) → IsPrefix (due p xs false) (due p (xs ++ ys) b)
+pub due_prefix : (p : Plan) → IsOutput p.writes → (xs ys : List Taken) (b : Bool) → IsPrefix (due p xs false) (due p (xs ++ ys) b)
 due_prefix p is xs ys b = text_prefix p.writes is p.keep (is_held p.query) p.options xs ys b
 
 pub due_first : (p : Plan) → IsOutput p.writes → (units : Log) (n : ℕ) (b : Bool) → IsPrefix (due p (all_taken (take n units)) false) (due p (all_taken units) b)

@@ -32,7 +32,7 @@ use Rattle.query_eval.specs.Meaning.{group_satisfies, is_held, tree_holds}
 use Rattle.tool_words.specs.declared.job.Job.{Job}
 use Rattle.tool_words.specs.declared.job.QueryText.{QueryText}
 use Rattle.varnish_tools.specs.declared.fault.ToolFault.{ToolFault}
-use Rattle.varnish_tools.specs.declared.fault.ToolFault.TheVariants.{Usage, NotBuilt, BadPattern, BadQuery, BadFormat, NoOpen, ReadFault, WriteFault, NotALog, Damaged, TooLarge}
+use Rattle.varnish_tools.specs.declared.fault.ToolFault.TheVariants.{Usage, NotBuilt, BadPattern, BadQuery, BadFormat, BadListing, NoOpen, ReadFault, WriteFault, NotALog, Damaged, TooLarge}
 use Rattle.varnish_tools.specs.Objects.{Object, OpenedFile, CreatedFile, Stream, GivesAtMost, opened_of, query_files}
 use Rattle.varnish_tools.specs.Queries.{Ask, AreAsked, TextHolds, TextsHold, answered, joined, text_fault, texts_fault, most_query_bytes}
 use Rattle.varnish_tools.specs.QueryFiles.{WasOpened, AreTaken, IsQueryFault, StoppedByQuery}
@@ -264,6 +264,7 @@ stops_since caseless n query NotBuilt r s t q quiet p = absurd p
 stops_since caseless n query (BadPattern word) r s t q quiet p = absurd p
 stops_since caseless n query (BadQuery number fault) r s t q quiet p = (p.0, p.1, opened_since query r s t q p.2, λ text holds. p.3 text (text_still query text r s quiet holds))
 stops_since caseless n query (BadFormat at) r s t q quiet p = absurd p
+stops_since caseless n query (BadListing feed line) r s t q quiet p = absurd p
 stops_since caseless n query (NoOpen name) r s t q quiet p = (p.0, p.1, omega (arith, q.counts.each Opening name, p.2))
 stops_since caseless n query (ReadFault name) r s t q quiet p = (p.0, p.1, opened_since query r s t q p.2, omega (arith, q.counts.each Reading name, p.3))
 stops_since caseless n query (WriteFault name) r s t q quiet p = absurd p

@@ -119,11 +119,11 @@ asked_are : (job : Job) (ask : Ask) (k : ℕ) (p : Plan) (taken : List Taken) (b
 asked_are job ask k p taken b is = ap (λ (o : GroupOptions). held_groups p.query (groups_of o taken b)) is.is_grouped ∙ filter_agree (is_held p.query) (is_asked ask) is.asks.each (groups_of (options_of job) taken b)
 
 -- whether the groups of the plan are as many as are kept, told of the job
-fills_is : (job : Job) (ask : Ask) (k : ℕ) (p : Plan) (taken : List Taken) → IsJobPlan job ask k p → fills (Work job) ask taken ≡ has_all p taken
+pub fills_is : (job : Job) (ask : Ask) (k : ℕ) (p : Plan) (taken : List Taken) → IsJobPlan job ask k p → fills (Work job) ask taken ≡ has_all p taken
 fills_is job ask k p taken is = sym (ap (λ (o : Option ℕ). is_filled o (asked_groups p taken false)) is.keeps ∙ ap (λ (gs : List Group). is_filled job.keep gs) (asked_are job ask k p taken false is))
 
 -- the text that is due under the plan is that of the job
-due_is : (job : Job) (ask : Ask) (k : ℕ) (p : Plan) (taken : List Taken) (b : Bool) → IsJobPlan job ask k p → due p taken b ≡ tested_text (output_of job) job.keep (is_asked ask) (options_of job) taken b
+pub due_is : (job : Job) (ask : Ask) (k : ℕ) (p : Plan) (taken : List Taken) (b : Bool) → IsJobPlan job ask k p → due p taken b ≡ tested_text (output_of job) job.keep (is_asked ask) (options_of job) taken b
 due_is job ask k p taken b is = ap (λ (w : List Group → Bool → List ℕ). w (kept p.keep (asked_groups p taken b)) (b || has_all p taken)) is.writes
     ∙ ap (λ (f : Bool). output_of job (kept p.keep (asked_groups p taken b)) (b || f)) (sym (fills_is job ask k p taken is))
     ∙ ap (λ (o : Option ℕ). output_of job (kept o (asked_groups p taken b)) (b || fills (Work job) ask taken)) is.keeps

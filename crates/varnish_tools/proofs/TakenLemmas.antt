@@ -1,6 +1,7 @@
 -- Queries that were taken, and one that stops a job: what stays so over later calls, and what it says of the job.
 use Rattle.std.proofs.Common.{◌≡◌, ℕ, ◌+◌, Bool, true, false, cond, List, [], ◌∷◌, ◌++◌, length, Option, Some, None, refl, sym, ap, subst, ◌∙◌, inl, inr, arith}
 use Rattle.std.specs.Option.{option_map, option_or}
+use Rattle.log_model.specs.Faults.{HasNewFault}
 use Rattle.vio.specs.declared.world.TheConstants.{ERRORS}
 use Rattle.vio.specs.World.{Seen, Opening, Reading}
 use Rattle.vio.specs.Touches.{IsOneOf, Touches}
@@ -11,7 +12,7 @@ use Rattle.tool_words.specs.declared.job.Tool.{Tool}
 use Rattle.tool_words.specs.declared.job.Tool.TheVariants.{Log, Ncsa, Top, Stat}
 use Rattle.ncsa_format.specs.Reading.{format_fault}
 use Rattle.varnish_tools.specs.declared.fault.ToolFault.{ToolFault}
-use Rattle.varnish_tools.specs.declared.fault.ToolFault.TheVariants.{Usage, NotBuilt, BadPattern, BadQuery, BadFormat, NoOpen, ReadFault, WriteFault, NotALog, Damaged, TooLarge}
+use Rattle.varnish_tools.specs.declared.fault.ToolFault.TheVariants.{Usage, NotBuilt, BadPattern, BadQuery, BadFormat, BadListing, NoOpen, ReadFault, WriteFault, NotALog, Damaged, TooLarge}
 use Rattle.varnish_tools.specs.declared.outcome.RunRecord.{RunRecord}
 use Rattle.varnish_tools.specs.Asked.{Asked, Work}
 use Rattle.varnish_tools.specs.Faults.{FaultClass, RefusedQuery, RefusedFormat, LongQuery, NotOpened, NotRead, class_of}
@@ -40,6 +41,7 @@ stops_then caseless n query NotBuilt s t u touched p = absurd p
 stops_then caseless n query (BadPattern word) s t u touched p = absurd p
 stops_then caseless n query (BadQuery number why) s t u touched p = (p.0, p.1, opened_then query s t u touched p.2, p.3)
 stops_then caseless n query (BadFormat at) s t u touched p = absurd p
+stops_then caseless n query (BadListing feed line) s t u touched p = absurd p
 stops_then caseless n query (NoOpen name) s t u touched p = (p.0, p.1, omega (arith, touched.counts.each Opening name, p.2))
 stops_then caseless n query (ReadFault name) s t u touched p = (p.0, p.1, opened_then query s t u touched p.2, omega (arith, touched.counts.each Reading name, p.3))
 stops_then caseless n query (WriteFault name) s t u touched p = absurd p
@@ -92,6 +94,9 @@ opened_is_named (OpenedFile first ∷ objects) name (inr one) = inr (opened_is_n
 opened_is_named (CreatedFile append first ∷ objects) name one = inr (opened_is_named objects name one)
 opened_is_named (Stream stream first ∷ objects) name one = inr (opened_is_named objects name one)
 
+read_first : (job : Job) (name : List ℕ) → IsOneOf name (opened_of (query_files job.queries)) → IsOneOf name (calls_of (Work job) Reading)
+read_first job name one = opened_is_named (query_files job.queries ++ source_of job ∷ []) name (opened_first job name one)
+
 file_here : (b : Bool) (name : List ℕ) (files : List Object) → b ≡ true → IsOneOf name (opened_of (cond b (OpenedFile name ∷ files) files))
 file_here true name files e = inl refl
 file_here false name files e = absurd cc
@@ -110,12 +115,6 @@ stopped_file job fault name s t p file e =
     subst (λ (queries : List QueryText). IsOneOf name (opened_of (query_files queries))) (sym p.parts)
     (subst (λ (x : List ℕ). IsOneOf x (opened_of (query_files (p.earlier ++ p.query ∷ p.later)))) (sym e) (file_among p.earlier p.query p.later file))
 
-stopped_opening : (job : Job) (fault : ToolFault) (name : List ℕ) (s t : Seen) (p : StoppedByQuery job fault s t) → p.query.file ≡ true → name ≡ p.query.text → IsOneOf name (calls_of (Work job) Opening)
-stopped_opening job fault name s t p file e = opened_first job name (stopped_file job fault name s t p file e)
-
-stopped_reading : (job : Job) (fault : ToolFault) (name : List ℕ) (s t : Seen) (p : StoppedByQuery job fault s t) → p.query.file ≡ true → name ≡ p.query.text → IsOneOf name (calls_of (Work job) Reading)
-stopped_reading job fault name s t p file e = opened_is_named (query_files job.queries ++ source_of job ∷ []) name (stopped_opening job fault name s t p file e)
-
 -- the class of the fault of the query that stopped a job
 
 long_class : (name : List ℕ) (limit : ℕ) → limit ≡ most_query_bytes → class_of (TooLarge name limit) ≡ LongQuery
@@ -129,6 +128,7 @@ stopped_class IsSo job NotBuilt s t p refused long unopened unread = absurd p.st
 stopped_class IsSo job (BadPattern word) s t p refused long unopened unread = absurd p.stops
 stopped_class IsSo job (BadQuery number why) s t p refused long unopened unread = refused
 stopped_class IsSo job (BadFormat at) s t p refused long unopened unread = absurd p.stops
+stopped_class IsSo job (BadListing feed line) s t p refused long unopened unread = absurd p.stops
 stopped_class IsSo job (NoOpen name) s t p refused long unopened unread = unopened name
 stopped_class IsSo job (ReadFault name) s t p refused long unopened unread = unread name p
 stopped_class IsSo job (WriteFault name) s t p refused long unopened unread = absurd p.stops
@@ -160,23 +160,35 @@ faultless_text caseless n s (first ∷ earlier) query later (text ∷ texts) hol
     subst (λ (k : ℕ). FaultlessText caseless k query s) here
     (faultless_text caseless (n + 1) s earlier query later texts holds.1 (or_none (text_fault caseless n first text) (texts_fault caseless (n + 1) (earlier ++ query ∷ later) texts) none).1)
 
-none_faulty : (job : Job) (input : Input) (fault f : ToolFault) (s u : Seen) → IsInput (Work job) s input → AreGood job input → (p : StoppedByQuery job fault s u) → ¬ (HasFault job.caseless (length p.earlier) p.query f s)
-none_faulty job input fault f s u is_input clean p has =
-    let holds = subst (λ (queries : List QueryText). TextsHold s queries input.texts) p.parts is_input.3 in
-    let none = subst (λ (queries : List QueryText). texts_fault job.caseless 0 queries input.texts ≡ None) p.parts clean.0 in
+none_faulty : (job : Job) (texts : List (List ℕ)) (fault f : ToolFault) (s u : Seen) → TextsHold s job.queries texts → texts_fault job.caseless 0 job.queries texts ≡ None → (p : StoppedByQuery job fault s u)
+    → ¬ (HasFault job.caseless (length p.earlier) p.query f s)
+none_faulty job texts fault f s u told clean p has =
+    let holds = subst (λ (queries : List QueryText). TextsHold s queries texts) p.parts told in
+    let none = subst (λ (queries : List QueryText). texts_fault job.caseless 0 queries texts ≡ None) p.parts clean in
     let start : 0 + length p.earlier ≡ length p.earlier = omega arith in
-    let found = subst (λ (k : ℕ). FaultlessText job.caseless k p.query s) start (faultless_text job.caseless 0 s p.earlier p.query p.later input.texts holds none) in
+    let found = subst (λ (k : ℕ). FaultlessText job.caseless k p.query s) start (faultless_text job.caseless 0 s p.earlier p.query p.later texts holds none) in
     let wrong = has found.text found.holds in let right = found.none in absurd cc
 
+-- no call on the file of a query failed
+pub record NoQueryFails (job : Job) (before now : Seen) : Type 0 where
+  pub opening : (name : List ℕ) → IsOneOf name (opened_of (query_files job.queries)) → ¬ (HasNewFault (before.faults Opening name) (now.faults Opening name))
+  pub reading : (name : List ℕ) → IsOneOf name (opened_of (query_files job.queries)) → ¬ (HasNewFault (before.faults Reading name) (now.faults Reading name))
+
+pub no_query_stops : (job : Job) (texts : List (List ℕ)) (fault : ToolFault) (s u : Seen) → TextsHold s job.queries texts → texts_fault job.caseless 0 job.queries texts ≡ None → NoQueryFails job s u → ¬ (StoppedByQuery job fault s u)
+no_query_stops job texts (Usage why) s u told clean none p = p.stops
+no_query_stops job texts NotBuilt s u told clean none p = p.stops
+no_query_stops job texts (BadPattern word) s u told clean none p = p.stops
+no_query_stops job texts (BadQuery number why) s u told clean none p = none_faulty job texts (BadQuery number why) (BadQuery number why) s u told clean p (p.stops).3
+no_query_stops job texts (BadFormat at) s u told clean none p = p.stops
+no_query_stops job texts (BadListing feed line) s u told clean none p = p.stops
+no_query_stops job texts (NoOpen name) s u told clean none p = let stops = p.stops in none.opening name (stopped_file job (NoOpen name) name s u p stops.0 stops.1) stops.2
+no_query_stops job texts (ReadFault name) s u told clean none p = let stops = p.stops in none.reading name (stopped_file job (ReadFault name) name s u p stops.0 stops.1) stops.3
+no_query_stops job texts (WriteFault name) s u told clean none p = p.stops
+no_query_stops job texts (NotALog name at) s u told clean none p = p.stops
+no_query_stops job texts (Damaged name at) s u told clean none p = p.stops
+no_query_stops job texts (TooLarge name limit) s u told clean none p = none_faulty job texts (TooLarge name limit) (TooLarge name limit) s u told clean p (p.stops).4
+
 pub none_stopped : (job : Job) (input : Input) (fault : ToolFault) (s u : Seen) → IsInput (Work job) s input → AreGood job input → NoFaultOf (Work job) s u → ¬ (StoppedByQuery job fault s u)
-none_stopped job input (Usage why) s u is_input clean none p = p.stops
-none_stopped job input NotBuilt s u is_input clean none p = p.stops
-none_stopped job input (BadPattern word) s u is_input clean none p = p.stops
-none_stopped job input (BadQuery number why) s u is_input clean none p = none_faulty job input (BadQuery number why) (BadQuery number why) s u is_input clean p (p.stops).3
-none_stopped job input (BadFormat at) s u is_input clean none p = p.stops
-none_stopped job input (NoOpen name) s u is_input clean none p = let stops = p.stops in none Opening name (stopped_opening job (NoOpen name) name s u p stops.0 stops.1) stops.2
-none_stopped job input (ReadFault name) s u is_input clean none p = let stops = p.stops in none Reading name (stopped_reading job (ReadFault name) name s u p stops.0 stops.1) stops.3
-none_stopped job input (WriteFault name) s u is_input clean none p = p.stops
-none_stopped job input (NotALog name at) s u is_input clean none p = p.stops
-none_stopped job input (Damaged name at) s u is_input clean none p = p.stops
-none_stopped job input (TooLarge name limit) s u is_input clean none p = none_faulty job input (TooLarge name limit) (TooLarge name limit) s u is_input clean p (p.stops).4
+none_stopped job input fault s u is_input clean none p =
+    no_query_stops job input.texts fault s u is_input.3 clean.0
+    (record { opening = λ name one. none Opening name (opened_first job name one); reading = λ name one. none Reading name (read_first job name one) }) p

@@ -21,14 +21,15 @@ use Rattle.varnish_tools.specs.declared.fault.ToolFault.TheVariants.{ReadFault}
 use Rattle.varnish_tools.specs.declared.outcome.RunRecord.{RunRecord}
 use Rattle.varnish_tools.specs.declared.outcome.RunRecord.TheVariants.{Nothing, Counted}
 use Rattle.varnish_tools.specs.declared.outcome.Outcome.{Outcome}
-use Rattle.varnish_tools.specs.Asked.{Asked, Refuse, Work, asked_of, options_of, file_of, write_of}
-use Rattle.varnish_tools.specs.Faults.{FaultClass, Refused, RefusedQuery, RefusedFormat, LongQuery, NotOpened, NotRead, NotWritten, BadInput, class_of, message, fault_message, status_of}
-use Rattle.varnish_tools.specs.Objects.{Object, source_of, sink_of, inputs_of, sources_of, sinks_of, streams_of, query_files, name_of, calls_of, SinkGained, SinkUntouched, SinksGained, SinksUntouched, NothingTouched, GivesAtMost, TouchesJob}
+use Rattle.varnish_tools.specs.Asked.{Asked, Refuse, Work, Stated, options_of, file_of, write_of}
+use Rattle.varnish_tools.specs.Faults.{FaultClass, Refused, RefusedQuery, RefusedFormat, LongQuery, BadFeed, NotOpened, NotRead, NotWritten, BadInput, class_of, message, fault_message, status_of}
+use Rattle.varnish_tools.specs.Objects.{Object, source_of, sink_of, inputs_of, sources_of, sinks_of, streams_of, query_files, name_of, calls_of, SinkGained, SinkUntouched, SinksGained, SinksUntouched, NothingTouched, GivesAtMost}
 use Rattle.varnish_tools.specs.Queries.{Ask, is_asked, chosen}
 use Rattle.varnish_tools.specs.Run.{Run, Ending, Whole, Kept, Faulted, no_run, run_of, taken_of, fault_of}
 use Rattle.vsl_dispatch.specs.Groups.{kept, is_filled}
 use Rattle.varnish_tools.specs.Output.{head_text, output_of, is_flushed, is_ended, sink_text}
-use Rattle.varnish_tools.specs.Promise.{Input, SourceHolds, IsInput, Asks, AreGood, IsStoppedByQuery, IsStoppedByFormat, TakesFormat, TakesQueries, IsCounted, LeavesAll, WritesFor, IsGood, HasFailed, HasFailedInput, HasClassCause, HasCause, IsRunOf, TakesUntil, Takes, TakesFirst, fills, TookSome, ReadsOnceUntil, ReadsOnce, IsDueUntil, IsDue, LeavesUntil, LeavesSinks, SinksLeft, WritesError, WorksOff, WritesPrefix, IsFaithful, IsComplete, IsCutShort, NoFaultOf, whole_run, whole_text, is_whole}
+use Rattle.varnish_tools.specs.Promise.{Input, SourceHolds, IsInput, Asks, AreGood, IsStoppedByQuery, IsStoppedByFormat, TakesFormat, TakesQueries, IsCounted, LeavesAll, WritesFor, IsGood, HasFailed, HasFailedInput, HasClassCause, HasCause, IsRunOf, TakesUntil, Takes, TakesFirst, fills, TookSome, ReadsOnceUntil, ReadsOnce, IsDueUntil, IsDue, LeavesUntil, LeavesSinks, SinksLeft, WritesError, WorksOff, WritesFilePrefix, IsFileFaithful, IsFileComplete, IsFileCutShort, NoFaultOf, whole_run, whole_text, is_whole}
+use Rattle.varnish_tools.specs.Theorem.{TouchesJob, reads_of, writes_of, opens_of, creates_of}
 use Rattle.varnish_tools.specs.inside.Report.{ReportsPart}
 use Rattle.varnish_tools.proofs.ObjectLemmas.{last_name, last_opened, IsSink, is_sink, IsSource, is_source, are_sources, untouched_until, gained_until, gained_so, took_until, error_no_sink, source_until, gives_still, gives_none}
 use Rattle.varnish_tools.proofs.OutputLemmas.{job_output}
@@ -88,6 +89,7 @@ cause_until asked f Refused s t u told p = p
 cause_until asked f RefusedQuery s t u told p = stopped_until asked f s t u told p
 cause_until asked f RefusedFormat s t u told p = format_until asked f s t u told p
 cause_until asked f LongQuery s t u told p = stopped_until asked f s t u told p
+cause_until asked f BadFeed s t u told p = absurd p
 cause_until asked f (NotOpened name) s t u told (inl p) = inl (input_failed_until asked Opening name s t u told.counts p)
 cause_until asked f (NotOpened name) s t u told (inr (inl p)) = inr (inl (failed_until asked Creating name s t u told.counts p))
 cause_until asked f (NotOpened name) s t u told (inr (inr p)) = inr (inr (stopped_until asked f s t u told p))
@@ -127,6 +129,7 @@ leaves_until Refused asked recorded s t u streams touched told p = all_left aske
 leaves_until RefusedQuery asked recorded s t u streams touched told p = all_left asked recorded s t u streams touched told p
 leaves_until RefusedFormat asked recorded s t u streams touched told p = all_left asked recorded s t u streams touched told p
 leaves_until LongQuery asked recorded s t u streams touched told p = all_left asked recorded s t u streams touched told p
+leaves_until BadFeed asked recorded s t u streams touched told p = all_left asked recorded s t u streams touched told p
 leaves_until (NotOpened name) asked recorded s t u streams touched told p = all_left asked recorded s t u streams touched told p
 leaves_until (NotRead name) asked recorded s t u streams touched told (inl p) = inl (p.0, began_then asked recorded s t u told p.1)
 leaves_until (NotRead name) asked recorded s t u streams touched told (inr p) = inr (stopped_until asked (ReadFault name) s t u told p.0, all_left asked recorded s t u streams touched told p.1)
@@ -146,6 +149,7 @@ once_class Refused asked o input run s t u one streams touched told p = tt
 once_class RefusedQuery asked o input run s t u one streams touched told p = tt
 once_class RefusedFormat asked o input run s t u one streams touched told p = tt
 once_class LongQuery asked o input run s t u one streams touched told p = tt
+once_class BadFeed asked o input run s t u one streams touched told p = tt
 once_class (NotOpened name) asked o input run s t u one streams touched told p = tt
 once_class (NotRead name) asked o input run s t u one streams touched told (inl p) = inl p
 once_class (NotRead name) asked o input run s t u one streams touched told (inr p) = inr (some_until _ asked o input s t u one streams touched told p)
@@ -186,7 +190,7 @@ works_until asked fault recorded s t u streams touched told p = record {
   writes = λ input is_input. let w = p.writes input is_input in (w.0, w.1, writes_until asked w.0 input fault recorded s t u streams touched told w.2);
 }
 
-pub prefix_until : (asked : Asked) (s t u : Seen) → HasStreams s → TouchedBy asked s t → Told t u → WritesPrefix asked s t → WritesPrefix asked s u
+pub prefix_until : (asked : Asked) (s t u : Seen) → HasStreams s → TouchedBy asked s t → Told t u → WritesFilePrefix asked s t → WritesFilePrefix asked s u
 prefix_until asked s t u streams touched told p = λ input is_input o one. elim (p input is_input o one) [
   | inl same ↦ inl (untouched_until o s t u (sink_of_job asked o one) streams touched told same)
   | inr gained ↦ inr (gained.0, gained.1, gained_until o s t u (sink_of_job asked o one) streams touched told gained.2)
@@ -234,6 +238,7 @@ class_prefix Refused job ask input run f n items s t text left is takes due = le
 class_prefix RefusedQuery job ask input run f n items s t text left is takes due = let none = left.0 in absurd cc
 class_prefix RefusedFormat job ask input run f n items s t text left is takes due = let none = left.0 in absurd cc
 class_prefix LongQuery job ask input run f n items s t text left is takes due = let none = left.0 in absurd cc
+class_prefix BadFeed job ask input run f n items s t text left is takes due = let none = left.0 in absurd cc
 class_prefix (NotOpened name) job ask input run f n items s t text left is takes due = let none = left.0 in absurd cc
 class_prefix (NotRead name) job ask input run f n items s t text left is (inl none) due = absurd (some_run input run (take n input.units) is.2 none)
 class_prefix (NotRead name) job ask input run f n items s t text left is (inr takes) due = rw due (first_prefix job ask input run n (Faulted f) refl (sym takes.1) is.2)
@@ -254,50 +259,54 @@ left_prefix Nothing fault job ask input s t o left asks w one = inl (w.sinks o o
 left_prefix (Counted n items) fault job ask input s t o left asks w one =
     inr (ask, asks tt, gained_so (λ text so. due_is_prefix fault job ask input w.run w.ending n items s t text w.is_ending left w.is_run w.takes so) (w.sinks o one))
 
-pub prefix_of_works : (asked : Asked) (fault : Option ToolFault) (recorded : RunRecord) (s t : Seen) → WorksOff asked fault recorded s t → WritesPrefix asked s t
+pub prefix_of_works : (asked : Asked) (fault : Option ToolFault) (recorded : RunRecord) (s t : Seen) → WorksOff asked fault recorded s t → WritesFilePrefix asked s t
 prefix_of_works (Refuse f) fault recorded s t p = λ input is_input o one. absurd one
 prefix_of_works (Work job) fault recorded s t p = λ input is_input o one.
     let w = p.writes input is_input in left_prefix recorded fault job w.0 input s t o p.leaves w.1 w.2 one
 
 -- the job, and then standard error
 
-touches_both : (asked : Asked) (s t u : Seen) → TouchedBy asked s t → Told t u → Touches (streams_of (sources_of asked)) (ERRORS ∷ streams_of (sinks_of asked)) (calls_of asked Opening) (calls_of asked Creating) s u
-touches_both asked s t u p q =
-    let reads = streams_of (sources_of asked) in
-    let writes = streams_of (sinks_of asked) in
+-- what the job that is stated touched
+abbrev pub TouchedBySo : Stated → Seen → Seen → Type 0
+TouchedBySo stated s t = Touches (reads_of stated) (writes_of stated) (opens_of stated) (creates_of stated) s t
+
+touches_both : (stated : Stated) (s t u : Seen) → TouchedBySo stated s t → Told t u → Touches (reads_of stated) (ERRORS ∷ writes_of stated) (opens_of stated) (creates_of stated) s u
+touches_both stated s t u p q =
+    let reads = reads_of stated in
+    let writes = writes_of stated in
     touches_then (touches_in reads reads writes (ERRORS ∷ writes) _ _ _ _ s t (λ h one. one) (λ h one. inr one) (λ name one. one) (λ name one. one) p)
-    (touches_in [] reads (ERRORS ∷ []) (ERRORS ∷ writes) [] (calls_of asked Opening) [] (calls_of asked Creating) t u (λ h one. absurd one) (λ h one. inl (only_one h ERRORS one)) (λ name one. absurd one) (λ name one. absurd one) q)
+    (touches_in [] reads (ERRORS ∷ []) (ERRORS ∷ writes) [] (opens_of stated) [] (creates_of stated) t u (λ h one. absurd one) (λ h one. inl (only_one h ERRORS one)) (λ name one. absurd one) (λ name one. absurd one) q)
 
-touches_quietly : (asked : Asked) (s t : Seen) → TouchedBy asked s t → Touches (streams_of (sources_of asked)) (ERRORS ∷ streams_of (sinks_of asked)) (calls_of asked Opening) (calls_of asked Creating) s t
-touches_quietly asked s t p = touches_in _ _ _ _ _ _ _ _ s t (λ h one. one) (λ h one. inr one) (λ name one. one) (λ name one. one) p
+touches_quietly : (stated : Stated) (s t : Seen) → TouchedBySo stated s t → Touches (reads_of stated) (ERRORS ∷ writes_of stated) (opens_of stated) (creates_of stated) s t
+touches_quietly stated s t p = touches_in _ _ _ _ _ _ _ _ s t (λ h one. one) (λ h one. inr one) (λ name one. one) (λ name one. one) p
 
-pub touches_job : (asked : Asked) (s t u : Seen) → TouchedBy asked s t → GivesAtMost (length (calls_of asked Opening ++ calls_of asked Creating)) s t → Told t u → TouchesJob asked s u
-touches_job asked s t u p few q = (touches_both asked s t u p q, gives_still _ s t u few (gives_none t u q))
+pub touches_job : (stated : Stated) (s t u : Seen) → TouchedBySo stated s t → GivesAtMost (length (opens_of stated ++ creates_of stated)) s t → Told t u → TouchesJob stated s u
+touches_job stated s t u p few q = (touches_both stated s t u p q, gives_still _ s t u few (gives_none t u q))
 
-pub touches_silent : (asked : Asked) (s t : Seen) → TouchedBy asked s t → GivesAtMost (length (calls_of asked Opening ++ calls_of asked Creating)) s t → TouchesJob asked s t
-touches_silent asked s t p few = (touches_quietly asked s t p, few)
+pub touches_silent : (stated : Stated) (s t : Seen) → TouchedBySo stated s t → GivesAtMost (length (opens_of stated ++ creates_of stated)) s t → TouchesJob stated s t
+touches_silent stated s t p few = (touches_quietly stated s t p, few)
 
 error_untouched : (asked : Asked) → ¬ (IsOneOf {A = ℕ} ERRORS (streams_of (sinks_of asked)))
 error_untouched (Refuse f) one = one
 error_untouched (Work job) one = error_no_sink (sink_of job) (is_sink job.append (write_of job)) one
 
-error_written : (asked : Asked) (s t : Seen) → HasStreams s → TouchedBy asked s t → t.written ERRORS ≡ s.written ERRORS
+pub error_written : (asked : Asked) (s t : Seen) → HasStreams s → TouchedBy asked s t → t.written ERRORS ≡ s.written ERRORS
 error_written asked s t streams touched = touched.written ERRORS streams.error_given (error_untouched asked)
 
 -- standard error gained the same since before the run
-error_since : (text : List ℕ) (s t u : Seen) → t.written ERRORS ≡ s.written ERRORS → NoCountFalls s t → WritesError text t u → WritesError text s u
+pub error_since : (text : List ℕ) (s t u : Seen) → t.written ERRORS ≡ s.written ERRORS → NoCountFalls s t → WritesError text t u → WritesError text s u
 error_since text s t u w n p = ⊎_elim
     (λ (all : Gains (t.written ERRORS) (u.written ERRORS) text). inl (λ a told. all a (w ∙ told)))
     (λ (part : HasNewFault (t.faults Writing (codes "stderr")) (u.faults Writing (codes "stderr")) × GainsSome (λ part. IsPrefix part text) (t.written ERRORS) (u.written ERRORS)).
     inr (omega (arith, n.each Writing (codes "stderr"), part.0), λ a told. part.1 a (w ∙ told)))
     p
 
-pub is_faithful : (words : List (List ℕ)) (status : ℕ) (fault : Option ToolFault) (recorded : RunRecord) (s t u : Seen) → status ≡ status_of fault → HasStreams s → TouchedBy (asked_of words) s t
-    → WorksOff (asked_of words) fault recorded s t → Told t u → WritesError (fault_message words fault) t u → IsFaithful words (record { status = status; fault = fault; run = recorded }) s u
-is_faithful words status fault recorded s t u e streams touched works told message = record {
+pub is_faithful : (asked : Asked) (words : List (List ℕ)) (status : ℕ) (fault : Option ToolFault) (recorded : RunRecord) (s t u : Seen) → status ≡ status_of fault → HasStreams s → TouchedBy asked s t
+    → WorksOff asked fault recorded s t → Told t u → WritesError (fault_message words fault) t u → IsFileFaithful asked words (record { status = status; fault = fault; run = recorded }) s u
+is_faithful asked words status fault recorded s t u e streams touched works told message = record {
   status = e;
-  reports = error_since (fault_message words fault) s t u (error_written (asked_of words) s t streams touched) touched.counts message;
-  works = works_until (asked_of words) fault recorded s t u streams touched told works;
+  reports = error_since (fault_message words fault) s t u (error_written asked s t streams touched) touched.counts message;
+  works = works_until asked fault recorded s t u streams touched told works;
 }
 
 -- what a run takes its units from is read under its name
@@ -310,6 +319,7 @@ no_cause job input f Refused s u is_input clean good none p = absurd cc
 no_cause job input f RefusedQuery s u is_input clean good none p = none_stopped job input f s u is_input clean none p
 no_cause job input f RefusedFormat s u is_input clean good none p = let stops = p.stops in let fine = clean.1 in absurd cc
 no_cause job input f LongQuery s u is_input clean good none p = none_stopped job input f s u is_input clean none p
+no_cause job input f BadFeed s u is_input clean good none p = p
 no_cause job input f (NotOpened name) s u is_input clean good none (inl p) = none Opening name (last_opened (query_files job.queries) (source_of job) name p.0) p.1
 no_cause job input f (NotOpened name) s u is_input clean good none (inr (inl p)) = none Creating name p.0 p.1
 no_cause job input f (NotOpened name) s u is_input clean good none (inr (inr p)) = none_stopped job input f s u is_input clean none p
@@ -346,8 +356,8 @@ whole_written (Counted n items) job ask input run Kept s u e left takes p =
     subst (λ (text : List ℕ). SinksGained (λ x. x ≡ text) (Work job) s u) (kept_whole job ask input run takes.0 takes.1) p
 whole_written (Counted n items) job ask input run (Faulted f) s u e left takes p = absurd cc
 
-pub is_complete : (words : List (List ℕ)) (outcome : Outcome) (s u : Seen) → IsFaithful words outcome s u → IsComplete words outcome s u
-is_complete words outcome s u p job input e is_input clean good none =
+pub is_complete : (asked : Asked) (words : List (List ℕ)) (outcome : Outcome) (s u : Seen) → IsFileFaithful asked words outcome s u → IsFileComplete asked outcome s u
+is_complete asked words outcome s u p job input e is_input clean good none =
     let works : WorksOff (Work job) outcome.fault outcome.run s u = subst (λ (x : Asked). WorksOff x outcome.fault outcome.run s u) e p.works in
     let faultless = no_fault job input outcome.fault s u is_input clean good none works.causes in
     let written = works.writes input is_input in
@@ -356,8 +366,8 @@ is_complete words outcome s u p job input e is_input clean good none =
     (faultless, p.status ∙ ap status_of faultless, (written.0, written.1 left.0, whole_written outcome.run job written.0 input w.run w.ending s u (w.is_ending ∙ faultless) left w.takes w.sinks))
 
 -- stopped for want of memory in the message of a fault with which the words were worked off
-pub cut_in_message : (words : List (List ℕ)) (fault : Option ToolFault) (recorded : RunRecord) (s t u : Seen) → HasStreams s → TouchedBy (asked_of words) s t
-    → WorksOff (asked_of words) fault recorded s t → Told t u → ReportsPart words fault t u → IsCutShort words s u
-cut_in_message words None recorded s t u streams touched works told q = absurd (q.some refl)
-cut_in_message words (Some f) recorded s t u streams touched works told q =
-    inr (f, (recorded, works_until (asked_of words) (Some f) recorded s t u streams touched told works), some_since _ _ _ _ (error_written (asked_of words) s t streams touched) q.gains)
+pub cut_in_message : (asked : Asked) (words : List (List ℕ)) (fault : Option ToolFault) (recorded : RunRecord) (s t u : Seen) → HasStreams s → TouchedBy asked s t
+    → WorksOff asked fault recorded s t → Told t u → ReportsPart words fault t u → IsFileCutShort asked words s u
+cut_in_message asked words None recorded s t u streams touched works told q = absurd (q.some refl)
+cut_in_message asked words (Some f) recorded s t u streams touched works told q =
+    inr (f, (recorded, works_until asked (Some f) recorded s t u streams touched told works), some_since _ _ _ _ (error_written asked s t streams touched) q.gains)

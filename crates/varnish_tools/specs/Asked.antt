@@ -1,5 +1,5 @@
 -- What the words of a command line ask for (this project's choice).
-use Rattle.std.specs.Prelude.{ℕ, if◌then◌else◌, List, [], unwrap_or, codes, Result, Ok, Err, Option, Some, None}
+use Rattle.std.specs.Prelude.{ℕ, if◌then◌else◌, List, [], unwrap_or, codes, is_some, Result, Ok, Err, Option, Some, None}
 use Rattle.txn_rows.specs.declared.group.GroupOptions.{GroupOptions}
 use Rattle.vsl_select.specs.declared.rule_text.SelectFault.{SelectFault}
 use Rattle.vsl_select.specs.declared.rule_text.SelectFault.TheVariants as rules
@@ -12,27 +12,36 @@ use Rattle.varnish_tools.specs.declared.fault.ToolFault.{ToolFault}
 use Rattle.varnish_tools.specs.declared.fault.ToolFault.TheVariants.{Usage, NotBuilt, BadPattern}
 use Rattle.varnish_tools.specs.Built.{is_built}
 
--- what the words of a command line come to: they are refused with a fault, or state a job
+-- what is asked of a log file: nothing where the words are refused with a fault, or a job
 pub data Asked : Type 0 where
   Refuse : ToolFault → Asked
   Work : Job → Asked
 
--- what is asked for by a job, with the first that is wrong with its rules: a taglist is a bad value, and a pattern is refused; then a job that isn't built is
+-- what the words of a command line come to: what is asked of a log file, which refused words are too, or a job over feeds
+pub data Stated : Type 0 where
+  OfFile : Asked → Stated
+  OverFeeds : Job → Stated
+
+-- what a job that isn't refused comes to: it is over the log file that it names, or over feeds
+abbrev pub stated_job : Job → Stated
+stated_job job = if is_some job.file then OfFile (Work job) else OverFeeds job
+
+-- what a job comes to, with the first that is wrong with its rules: a taglist is a bad value, and a pattern is refused; then a job that isn't built is
 -- refused
-abbrev pub asked_by_rules : Job → Option SelectFault → Asked
-asked_by_rules job None = if is_built job then Work job else Refuse NotBuilt
-asked_by_rules job (Some (rules.BadTags word)) = Refuse (Usage (BadValue word))
-asked_by_rules job (Some (rules.BadPattern word)) = Refuse (BadPattern word)
-asked_by_rules job (Some rules.NoMemory) = Refuse NotBuilt
+abbrev pub stated_by_rules : Job → Option SelectFault → Stated
+stated_by_rules job None = if is_built job then stated_job job else OfFile (Refuse NotBuilt)
+stated_by_rules job (Some (rules.BadTags word)) = OfFile (Refuse (Usage (BadValue word)))
+stated_by_rules job (Some (rules.BadPattern word)) = OfFile (Refuse (BadPattern word))
+stated_by_rules job (Some rules.NoMemory) = OfFile (Refuse NotBuilt)
 
--- what is asked for by a job, or by what is wrong with the words; no rule of a job has want of memory as its fault
-abbrev pub asked_by : Result Job UsageFault → Asked
-asked_by (Err fault) = Refuse (Usage fault)
-asked_by (Ok job) = asked_by_rules job (rules_fault job.caseless job.rules)
+-- what a job comes to, or what is wrong with the words; no rule of a job has want of memory as its fault
+abbrev pub stated_by : Result Job UsageFault → Stated
+stated_by (Err fault) = OfFile (Refuse (Usage fault))
+stated_by (Ok job) = stated_by_rules job (rules_fault job.caseless job.rules)
 
--- what the words ask for
-abbrev pub asked_of : List (List ℕ) → Asked
-asked_of words = asked_by (job_of words)
+-- what the words come to
+abbrev pub stated_of : List (List ℕ) → Stated
+stated_of words = stated_by (job_of words)
 
 -- how a job groups records
 abbrev pub options_of : Job → GroupOptions

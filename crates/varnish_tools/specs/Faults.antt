@@ -5,7 +5,9 @@ use Rattle.tool_words.specs.declared.fault.UsageFault.TheVariants.{UnknownTool, 
 use Rattle.query_parser.specs.declared.fault.QueryFault.{QueryFault}
 use Rattle.query_parser.specs.declared.fault.QueryFault.TheVariants.{Syntax, UnknownTag, Number, Pattern, Deep, NoMemory}
 use Rattle.varnish_tools.specs.declared.fault.ToolFault.{ToolFault}
-use Rattle.varnish_tools.specs.declared.fault.ToolFault.TheVariants.{Usage, NotBuilt, BadPattern, BadQuery, BadFormat, NoOpen, ReadFault, WriteFault, NotALog, Damaged, TooLarge}
+use Rattle.varnish_tools.specs.declared.fault.ToolFault.TheVariants.{Usage, NotBuilt, BadPattern, BadQuery, BadFormat, BadListing, NoOpen, ReadFault, WriteFault, NotALog, Damaged, TooLarge}
+use Rattle.feed_files.specs.declared.fault.FeedFault.{FeedFault}
+use Rattle.feed_files.specs.declared.fault.FeedFault.TheVariants as feed_faults
 use Rattle.varnish_tools.specs.Queries.{most_query_bytes}
 
 -- the classes of faults; causes, what is taken and statuses are stated by class
@@ -18,6 +20,8 @@ pub data FaultClass : Type 0 where
   RefusedFormat : FaultClass
   -- the file of a query is too long
   LongQuery : FaultClass
+  -- a line of a feed is bad
+  BadFeed : FaultClass
   -- a file of this name could not be opened, or not created
   NotOpened : List ℕ → FaultClass
   -- a read of the object of this name failed
@@ -37,6 +41,7 @@ class_of (BadFormat at) = RefusedFormat
 class_of (NoOpen name) = NotOpened name
 class_of (ReadFault name) = NotRead name
 class_of (WriteFault name) = NotWritten name
+class_of (BadListing feed line) = BadFeed
 class_of (NotALog name at) = BadInput name
 class_of (Damaged name at) = BadInput name
 class_of (TooLarge name limit) = if limit == most_query_bytes then LongQuery else BadInput name
@@ -84,6 +89,7 @@ message words (BadFormat at) = told (numbered (codes "format: syntax at ") at []
 message words (NoOpen name) = told (name ++ codes ": cannot open")
 message words (ReadFault name) = told (name ++ codes ": read failed")
 message words (WriteFault name) = told (name ++ codes ": write failed")
+message words (BadListing feed line) = told (numbered (codes "feed ") feed (codes ": bad line ") ++ numbered [] line [])
 message words (NotALog name at) = told (name ++ numbered (codes ": not a log at ") at [])
 message words (Damaged name at) = told (name ++ numbered (codes ": damaged at ") at [])
 message words (TooLarge name limit) = told (name ++ numbered (codes ": larger than ") limit (codes " bytes"))
@@ -99,6 +105,7 @@ class_status Refused = 2
 class_status RefusedQuery = 2
 class_status RefusedFormat = 2
 class_status LongQuery = 1
+class_status BadFeed = 1
 class_status (NotOpened name) = 1
 class_status (NotRead name) = 1
 class_status (NotWritten name) = 1
@@ -108,3 +115,11 @@ class_status (BadInput name) = 1
 abbrev pub status_of : Option ToolFault → ℕ
 status_of None = 0
 status_of (Some fault) = class_status (class_of fault)
+
+-- how a fault of a feed is answered; want of memory is none
+abbrev pub fault_of_feed : FeedFault → ToolFault
+fault_of_feed (feed_faults.NoOpen name) = NoOpen name
+fault_of_feed (feed_faults.ReadFault name) = ReadFault name
+fault_of_feed (feed_faults.TooLarge name limit) = TooLarge name limit
+fault_of_feed (feed_faults.BadListing feed line) = BadListing feed line
+fault_of_feed feed_faults.NoMemory = NotBuilt

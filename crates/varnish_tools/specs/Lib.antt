@@ -10,4 +10,7 @@ pub mod Output
 pub mod Held
 pub mod Printer
 pub mod Promise
+pub mod Feeds
+pub mod FeedPromise
+pub mod Theorem
 pub mod inside

@@ -3,7 +3,7 @@ use Rattle.std.specs.Prelude.{◌≡◌, ℕ, ◌<◌, ◌≤◌, Bool, true, fa
 use Rattle.std.specs.Str.{bytes_eq}
 use Rattle.vio.specs.declared.world.TheConstants.{INPUT, OUTPUT, ERRORS}
 use Rattle.vio.specs.World.{Seen, CallKind, Opening, Creating, Reading, Writing, Gains, begins_with}
-use Rattle.vio.specs.Touches.{IsOneOf, Touches}
+use Rattle.vio.specs.Touches.{IsOneOf}
 use Rattle.varnish_tools.specs.Asked.{Asked, Refuse, Work, file_of, write_of}
 use Rattle.tool_words.specs.declared.job.Job.{Job}
 use Rattle.tool_words.specs.declared.job.QueryText.{QueryText}
@@ -155,9 +155,3 @@ NothingTouched asked before now = ((source : Object) → IsOneOf source (sources
 -- at most so many handles are new
 abbrev pub GivesAtMost : ℕ → Seen → Seen → Type 0
 GivesAtMost most before now = (new : List ℕ) × (length new ≤ most) × ((h : ℕ) → before.given h ≡ false → now.given h ≡ true → IsOneOf h new)
-
--- of handles, names and files only the sources, the sinks and standard error were touched, and no more files were opened or created than they name
-abbrev pub TouchesJob : Asked → Seen → Seen → Type 0
-TouchesJob asked before now =
-    Touches (streams_of (sources_of asked)) (ERRORS ∷ streams_of (sinks_of asked)) (calls_of asked Opening) (calls_of asked Creating) before now
-    × GivesAtMost (length (calls_of asked Opening ++ calls_of asked Creating)) before now

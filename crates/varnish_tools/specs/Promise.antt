@@ -1,4 +1,4 @@
--- The main theorem: what the top call writes, answers and leaves, for every command line, input and world (this project's choice).
+-- The main theorem over log files: what the top call writes, answers and leaves where the words are refused or name a log file, for every input and world (this project's choice).
 use Rattle.std.specs.Prelude.{◌≡◌, ◌⊎◌, ℕ, ◌+◌, ◌-◌, ◌<◌, ◌≤◌, Bool, true, false, List, [], ◌++◌, length, take, Option, Some, None, ◌==◌, ◌&&◌, ◌||◌, if◌then◌else◌, codes}
 use Rattle.log_model.specs.Faults.{HasNewFault}
 use Rattle.log_model.specs.Prefix.{IsPrefix, IsProperPrefix}
@@ -16,8 +16,8 @@ use Rattle.varnish_tools.specs.declared.outcome.RunRecord.{RunRecord}
 use Rattle.varnish_tools.specs.declared.outcome.RunRecord.TheVariants.{Nothing, Counted}
 use Rattle.varnish_tools.specs.declared.outcome.Outcome.{Outcome}
 use Rattle.tool_words.specs.declared.job.Job.{Job}
-use Rattle.varnish_tools.specs.Asked.{Asked, Refuse, Work, asked_of, options_of}
-use Rattle.varnish_tools.specs.Faults.{FaultClass, Refused, RefusedQuery, RefusedFormat, LongQuery, NotOpened, NotRead, NotWritten, BadInput, class_of, message, fault_message, status_of}
+use Rattle.varnish_tools.specs.Asked.{Asked, Refuse, Work, options_of}
+use Rattle.varnish_tools.specs.Faults.{FaultClass, Refused, RefusedQuery, RefusedFormat, LongQuery, BadFeed, NotOpened, NotRead, NotWritten, BadInput, class_of, message, fault_message, status_of}
 use Rattle.varnish_tools.specs.Objects.{Object, OpenedFile, CreatedFile, Stream, source_of, sink_of, calls_of, IsSourceHandle, SinkGained, SinkUntouched, SinksGained, SinksUntouched, NothingTouched, name_of, names_of, sinks_of, inputs_of, input_calls}
 use Rattle.varnish_tools.specs.Queries.{Ask, AreAsked, chosen, TextsHold, texts_fault}
 use Rattle.varnish_tools.specs.QueryFiles.{AreTaken, StoppedByQuery}
@@ -108,6 +108,7 @@ HasClassCause asked fault Refused before now = asked ≡ Refuse fault
 HasClassCause asked fault RefusedQuery before now = IsStoppedByQuery asked fault before now
 HasClassCause asked fault RefusedFormat before now = IsStoppedByFormat asked fault before now
 HasClassCause asked fault LongQuery before now = IsStoppedByQuery asked fault before now
+HasClassCause asked fault BadFeed before now = ⊥
 HasClassCause asked fault (NotOpened name) before now = HasFailedInput asked Opening name before now ⊎ (HasFailed asked Creating name before now ⊎ IsStoppedByQuery asked fault before now)
 HasClassCause asked fault (NotRead name) before now = HasFailedInput asked Reading name before now ⊎ IsStoppedByQuery asked fault before now
 HasClassCause asked fault (NotWritten name) before now = HasFailed asked Writing name before now
@@ -153,6 +154,7 @@ TakesUntil Refused asked ask input run = run ≡ no_run
 TakesUntil RefusedQuery asked ask input run = run ≡ no_run
 TakesUntil RefusedFormat asked ask input run = run ≡ no_run
 TakesUntil LongQuery asked ask input run = run ≡ no_run
+TakesUntil BadFeed asked ask input run = run ≡ no_run
 TakesUntil (NotOpened name) asked ask input run = run ≡ no_run
 TakesUntil (NotRead name) asked ask input run = (run ≡ no_run) ⊎ (TakesFirst input run × (fills asked ask (taken_of run.history) ≡ false))
 TakesUntil (NotWritten name) asked ask input run = TakesFirst input run × (fills asked ask (taken_of (without_last run).history) ≡ false)
@@ -187,6 +189,7 @@ ReadsOnceUntil Refused source input run before now = Unit {0}
 ReadsOnceUntil RefusedQuery source input run before now = Unit {0}
 ReadsOnceUntil RefusedFormat source input run before now = Unit {0}
 ReadsOnceUntil LongQuery source input run before now = Unit {0}
+ReadsOnceUntil BadFeed source input run before now = Unit {0}
 ReadsOnceUntil (NotOpened name) source input run before now = Unit {0}
 ReadsOnceUntil (NotRead name) source input run before now = (run ≡ no_run) ⊎ TookSome (λ taken. HoldsWhole taken run.log) source input before now
 ReadsOnceUntil (NotWritten name) source input run before now = TakesFew source input run before now
@@ -209,6 +212,7 @@ IsDueUntil Refused asked ask input run ending text = text ≡ sink_text asked as
 IsDueUntil RefusedQuery asked ask input run ending text = text ≡ sink_text asked ask run ending
 IsDueUntil RefusedFormat asked ask input run ending text = text ≡ sink_text asked ask run ending
 IsDueUntil LongQuery asked ask input run ending text = text ≡ sink_text asked ask run ending
+IsDueUntil BadFeed asked ask input run ending text = text ≡ sink_text asked ask run ending
 IsDueUntil (NotOpened name) asked ask input run ending text = text ≡ sink_text asked ask run ending
 IsDueUntil (NotRead name) asked ask input run ending text = text ≡ sink_text asked ask run ending
 IsDueUntil (NotWritten name) asked ask input run ending text =
@@ -241,6 +245,7 @@ LeavesUntil Refused asked recorded before now = LeavesAll asked recorded before 
 LeavesUntil RefusedQuery asked recorded before now = LeavesAll asked recorded before now
 LeavesUntil RefusedFormat asked recorded before now = LeavesAll asked recorded before now
 LeavesUntil LongQuery asked recorded before now = LeavesAll asked recorded before now
+LeavesUntil BadFeed asked recorded before now = LeavesAll asked recorded before now
 LeavesUntil (NotOpened name) asked recorded before now = LeavesAll asked recorded before now
 LeavesUntil (NotRead name) asked recorded before now =
     (IsOneOf name (names_of (inputs_of asked)) × RunBegan asked recorded before now) ⊎ (IsStoppedByQuery asked (faults.ReadFault name) before now × LeavesAll asked recorded before now)
@@ -299,15 +304,15 @@ WritesError text before now =
     Gains (before.written ERRORS) (now.written ERRORS) text
     ⊎ (HasNewFault (before.faults Writing (codes "stderr")) (now.faults Writing (codes "stderr")) × GainsSome (λ part. IsPrefix part text) (before.written ERRORS) (now.written ERRORS))
 
--- the main theorem, where the call answers an outcome
-pub record IsFaithful (words : List (List ℕ)) (outcome : Outcome) (before now : Seen) : Type 0 where
+-- the main theorem over log files, where the call answers an outcome
+pub record IsFileFaithful (asked : Asked) (words : List (List ℕ)) (outcome : Outcome) (before now : Seen) : Type 0 where
   pub status : outcome.status ≡ status_of outcome.fault
   pub reports : WritesError (fault_message words outcome.fault) before now
-  pub works : WorksOff (asked_of words) outcome.fault outcome.run before now
+  pub works : WorksOff asked outcome.fault outcome.run before now
 
 -- for every answer, a sink is as it was or gained a prefix of the text that the input defines
-abbrev pub WritesPrefix : Asked → Seen → Seen → Type 0
-WritesPrefix asked before now = (input : Input) → IsInput asked before input → (sink : Object) → IsOneOf sink (sinks_of asked) →
+abbrev pub WritesFilePrefix : Asked → Seen → Seen → Type 0
+WritesFilePrefix asked before now = (input : Input) → IsInput asked before input → (sink : Object) → IsOneOf sink (sinks_of asked) →
     SinkUntouched sink before now ⊎ ((ask : Ask) × Asks asked input ask × SinkGained (λ text. IsPrefix text (whole_text asked ask input)) sink before now)
 
 -- no call of the objects of a command line failed
@@ -315,13 +320,13 @@ abbrev pub NoFaultOf : Asked → Seen → Seen → Type 0
 NoFaultOf asked before now = (kind : CallKind) (name : List ℕ) → IsOneOf name (calls_of asked kind) → ¬ (HasNewFault (before.faults kind name) (now.faults kind name))
 
 -- a good input of a job, with good queries and a good format, is worked off without a fault where no call of the job failed
-abbrev pub IsComplete : List (List ℕ) → Outcome → Seen → Seen → Type 0
-IsComplete words outcome before now =
-    (job : Job) (input : Input) → asked_of words ≡ Work job → IsInput (Work job) before input → AreGood job input → IsGood input → NoFaultOf (Work job) before now →
+abbrev pub IsFileComplete : Asked → Outcome → Seen → Seen → Type 0
+IsFileComplete asked outcome before now =
+    (job : Job) (input : Input) → asked ≡ Work job → IsInput (Work job) before input → AreGood job input → IsGood input → NoFaultOf (Work job) before now →
     (outcome.fault ≡ None) × (outcome.status ≡ 0)
     × ((ask : Ask) × Asks (Work job) input ask × SinksGained (λ text. text ≡ sink_text (Work job) ask (whole_run input) Whole) (Work job) before now)
 
 -- where the call answers want of memory: nothing was written of a message, or a prefix of that of a fault with which the words were worked off
-abbrev pub IsCutShort : List (List ℕ) → Seen → Seen → Type 0
-IsCutShort words before now = Gains (before.written ERRORS) (now.written ERRORS) []
-    ⊎ ((fault : ToolFault) × ((recorded : RunRecord) × WorksOff (asked_of words) (Some fault) recorded before now) × GainsSome (λ part. IsPrefix part (message words fault)) (before.written ERRORS) (now.written ERRORS))
+abbrev pub IsFileCutShort : Asked → List (List ℕ) → Seen → Seen → Type 0
+IsFileCutShort asked words before now = Gains (before.written ERRORS) (now.written ERRORS) []
+    ⊎ ((fault : ToolFault) × ((recorded : RunRecord) × WorksOff asked (Some fault) recorded before now) × GainsSome (λ part. IsPrefix part (message words fault)) (before.written ERRORS) (now.written ERRORS))

@@ -3,9 +3,11 @@ pub mod Consumer
 pub mod Given
 pub mod Source
 pub mod Loop
+pub mod FeedLoop
 pub mod LogSource
 pub mod JobFormat
 pub mod LogFile
 pub mod Works
+pub mod Over
 pub mod QueryFiles
 pub mod Report

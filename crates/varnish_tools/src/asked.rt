@@ -3,16 +3,17 @@
 ghost use Rattle.std.specs.Prelude.{◌≡◌, ◌≢◌, [], false, true, map, Some, IfOk, OnOk, MatchResult, IfErr};
 ghost use Rattle.std.specs.String.{string_bytes};
 ghost use Rattle.vsl_select.specs.Shown.{rules_fault};
-ghost use Rattle.varnish_tools.specs.Asked.{Refuse, Work, asked_by_rules, asked_of, options_of, file_of, write_of};
+ghost use Rattle.tool_words.specs.Sound.{IsSound};
+ghost use Rattle.varnish_tools.specs.Asked.{Refuse, OfFile, stated_job, stated_by_rules, stated_of, options_of, file_of, write_of};
 ghost use Rattle.varnish_tools.specs.Faults.{Refused, class_of};
-ghost use Rattle.varnish_tools.specs.Built.{is_built, is_built_tool};
+ghost use Rattle.varnish_tools.specs.Built.{is_built, is_built_order, is_built_tool};
 ghost use Rattle.varnish_tools.specs.Output.{layout_of, look_of, showing_of, writes_log, writes_units};
 ghost use Rattle.vsl_dispatch.specs.Groups.{is_filled};
 
 use crate::fault::ToolFault;
 use crate::layout::{Layout, Look};
 use std::alloc::Global;
-use tool_words::{Job, Tool, UsageFault, WordsFault, read_words};
+use tool_words::{Job, Order, Tool, UsageFault, WordsFault, read_words};
 use txn_rows::GroupOptions;
 use vio::NoMemory;
 use vsl_select::{RuleText, SelectFault, Selection, Text};
@@ -29,11 +30,22 @@ fn has_tool(tool: Tool) -> bool
     }
 }
 
+/// Whether the order is built.
+fn has_order(order: Order) -> bool
+    ensures { result ≡ is_built_order order }
+{
+    match order {
+        Order::Threads => false,
+        Order::Turns(_) => true,
+        Order::FeedFirst => true,
+    }
+}
+
 /// Whether a job asks for nothing that isn't built.
 fn is_built_job(job: &Job) -> bool
     ensures { result ≡ is_built job.now }
 {
-    has_tool(job.tool) && job.file.is_some()
+    has_tool(job.tool) && (job.file.is_some() || has_order(job.order) && job.made.is_none())
 }
 
 /// How a job groups records.
@@ -118,7 +130,7 @@ fn rules_of(alloc: Global, job: &Job) -> Result<Vec<RuleText>, NoMemory>
 
 /// How the fault of a rule is answered; want of memory is none.
 fn rule_fault(fault: SelectFault) -> Result<ToolFault, NoMemory>
-    ensures fault { IfOk result (λ f. (job : Job) → asked_by_rules job (Some fault) ≡ Refuse f) }
+    ensures fault { IfOk result (λ f. (job : Job) → stated_by_rules job (Some fault) ≡ OfFile (Refuse f)) }
     ensures some { OnOk result (fault ≢ SelectFault.NoMemory) }
     ensures refused { IfOk result (λ f. class_of f ≡ Refused) }
 {
@@ -151,9 +163,9 @@ pub struct Task {
 /// The task of a job, where its rules are good and it is built, or the fault that refuses it.
 fn task_of(alloc: Global, job: Job) -> Result<Result<Task, ToolFault>, NoMemory>
     ensures asked { IfOk result (λ r. MatchResult r
-        (λ task. (asked_by_rules job (rules_fault job.caseless job.rules) ≡ Work task.job) × (task.selection ≡ showing_of task.job) × (is_built_tool task.job.tool ≡ true))
-        (λ fault. asked_by_rules job (rules_fault job.caseless job.rules) ≡ Refuse fault)) }
-    ensures same { IfOk result (λ r. IfOk r (λ task. task.job.keep ≡ job.keep)) }
+        (λ task. (stated_by_rules job (rules_fault job.caseless job.rules) ≡ stated_job task.job) × (task.selection ≡ showing_of task.job) × (is_built_tool task.job.tool ≡ true))
+        (λ fault. stated_by_rules job (rules_fault job.caseless job.rules) ≡ OfFile (Refuse fault))) }
+    ensures same { IfOk result (λ r. IfOk r (λ task. task.job ≡ job)) }
     ensures refused { IfOk result (λ r. IfErr r (λ fault. class_of fault ≡ Refused)) }
 {
     let rules = rules_of(alloc, &job)?;
@@ -172,9 +184,10 @@ fn task_of(alloc: Global, job: Job) -> Result<Result<Task, ToolFault>, NoMemory>
 /// The task that the words state, where it is built, or the fault that refuses them.
 pub fn read_task(alloc: Global, words: &[String]) -> Result<Result<Task, ToolFault>, NoMemory>
     ensures asked { IfOk result (λ r. MatchResult r
-        (λ task. (asked_of (map string_bytes words.now) ≡ Work task.job) × (task.selection ≡ showing_of task.job) × (is_built_tool task.job.tool ≡ true))
-        (λ fault. asked_of (map string_bytes words.now) ≡ Refuse fault)) }
+        (λ task. (stated_of (map string_bytes words.now) ≡ stated_job task.job) × (task.selection ≡ showing_of task.job) × (is_built_tool task.job.tool ≡ true))
+        (λ fault. stated_of (map string_bytes words.now) ≡ OfFile (Refuse fault))) }
     ensures keeps { IfOk result (λ r. IfOk r (λ task. is_filled task.job.keep [] ≡ false)) }
+    ensures sound { IfOk result (λ r. IfOk r (λ task. IsSound task.job)) }
     ensures refused { IfOk result (λ r. IfErr r (λ fault. class_of fault ≡ Refused)) }
 {
     match read_words(alloc, words) {

@@ -29,6 +29,13 @@ pub enum ToolFault {
         /// The byte of the first percent sign that begins no formatter, from 0.
         at: u64,
     },
+    /// A line of a feed is bad.
+    BadListing {
+        /// Which feed it is, in the order of the words, from 0.
+        feed: u32,
+        /// The first line that is bad, from 1.
+        line: u64,
+    },
     /// The file could not be opened, or not created.
     NoOpen {
         /// The file's name.
@@ -41,7 +48,7 @@ pub enum ToolFault {
     },
     /// A write failed.
     WriteFault {
-        /// The name of what was written.
+        /// The name of what was written, or `stderr` where that was the message of an overrun.
         name: Text,
     },
     /// The input is no log file.
@@ -58,7 +65,7 @@ pub enum ToolFault {
         /// The byte where the unit begins, from 0.
         at: u64,
     },
-    /// The log, or the file of a query, has more bytes than are read.
+    /// The log, or the file of a query or of a feed, has more bytes than are read.
     TooLarge {
         /// The file's name.
         name: Text,

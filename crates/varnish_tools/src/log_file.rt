@@ -3,46 +3,36 @@
 ghost use Rattle.std.specs.Prelude.{◌≡◌, ◌≢◌, [], false, ◌∷◌, ◌++◌, length, Bool, true, IsTrue, IfOk, OnOk, OnErr};
 ghost use Rattle.vio.specs.World.{Seen, Writing, HasStreams};
 ghost use Rattle.vio.specs.Touches.{Touches};
-ghost use Rattle.varnish_tools.specs.Asked.{Work, file_of, write_of};
+ghost use Rattle.varnish_tools.specs.Asked.{Work, write_of};
 ghost use Rattle.varnish_tools.specs.Objects.{GivesAtMost, created_of, opened_of, source_of, streams_of, sink_of};
-ghost use Rattle.varnish_tools.specs.Output.{head_text, laid_out, output_of, showing_of};
-ghost use Rattle.vsl_top.specs.Counting.{IsTop, keep_of};
-ghost use Rattle.vsl_top.specs.Counting as counting;
-ghost use Rattle.ncsa_format.specs.Access.{IsAccessLog};
-ghost use Rattle.ncsa_format.specs.Access as access;
-ghost use Rattle.varnish_tools.specs.inside.Consumer.{IsLog};
-ghost use Rattle.varnish_tools.specs.inside.JobFormat.{HasFormat};
-ghost use Rattle.varnish_tools.specs.Built.{is_built_tool};
+ghost use Rattle.varnish_tools.specs.Output.{head_text};
 ghost use Rattle.varnish_tools.specs.Printer.{Represents, plan_of, printer_state};
 ghost use Rattle.vsl_dispatch.specs.Groups.{is_filled};
 ghost use Rattle.varnish_tools.specs.Queries.{Ask};
 ghost use Rattle.varnish_tools.specs.inside.Works.{WorksFor, PrefixFor};
 ghost use Rattle.varnish_tools.specs.inside.LogFile.{HasBegun, HoldsAsAsked, IsJobConsumer, SourceOpened, fault_as, job_plan};
 
-use crate::asked::{file_name, look_of, options_of, writes_log, written_name};
+use crate::asked::{file_name, options_of, writes_log, written_name};
 use crate::fault::ToolFault;
-use crate::log_consumer::LogConsumer;
 use crate::log_source::LogFile;
 use crate::objects::{create_sink, open_source};
 use crate::outcome::{Ran, counted, refused};
 use crate::printer::{PrintFault, Printer};
 use crate::run::{Stopped, print_source};
 use crate::source::SourceFault;
-use ncsa_format::{Format, NcsaConsumer};
 use query_parser::Query;
 use std::alloc::Global;
-use tool_words::{Job, Tool};
+use tool_words::Job;
 use vio::{Created, NoMemory, World, WorldFault, write_all};
 use vsl_dispatch::{Consumer, Dispatcher};
 use vsl_file::put_header;
-use vsl_select::{Selection, Text};
-use vsl_top::TopConsumer;
+use vsl_select::Text;
 
 /// The most bytes of a log that are read: 2^40.
 const LOG_LIMIT: u64 = 1_099_511_627_776;
 
 /// What a job writes before any group: the header of a log file that was empty.
-fn head_of(alloc: Global, job: &Job, empty: bool) -> Result<Vec<u8>, NoMemory>
+pub fn head_of(alloc: Global, job: &Job, empty: bool) -> Result<Vec<u8>, NoMemory>
     ensures { IfOk result (λ head. head.items ≡ head_text job.now empty) }
 {
     let mut head = Vec::new(alloc);
@@ -53,7 +43,7 @@ fn head_of(alloc: Global, job: &Job, empty: bool) -> Result<Vec<u8>, NoMemory>
 }
 
 /// The printer of a job's consumer to this handle.
-fn job_printer<'q, C: Consumer>(
+pub fn job_printer<'q, C: Consumer>(
     alloc: Global,
     job: &Job,
     consumer: C,
@@ -180,8 +170,8 @@ fn print_opened<W: World, C: Consumer>(
     }
 }
 
-/// Works off a job with its consumer: reads its log, and writes what the consumer hands out.
-fn run_consumer<W: World, C: Consumer>(
+/// Works off a job over a log file with its consumer: reads its log, and writes what the consumer hands out.
+pub fn run_over_file<W: World, C: Consumer>(
     alloc: Global,
     job: &Job,
     consumer: C,
@@ -200,77 +190,5 @@ fn run_consumer<W: World, C: Consumer>(
         Ok(source) => print_opened(alloc, job, consumer, query, source, world),
         Err(WorldFault::Failed) => Ok(refused(ToolFault::NoOpen { name })),
         Err(WorldFault::NoMemory) => Err(NoMemory),
-    }
-}
-
-/// The consumer of a job of varnishtop, which received nothing.
-fn top_consumer(alloc: Global, job: &Job, selection: Selection) -> Result<TopConsumer, NoMemory>
-    requires tool { job.now.tool ≡ Tool.Top }
-    requires selection { selection ≡ showing_of job.now }
-    ensures keeps { IfOk result (λ c. keep_of c ≡ job.now.keep) }
-    ensures writes { IfOk result (λ c. counting.output_of c ≡ output_of job.now) }
-    ensures new { IfOk result (λ c. IsTop c [] false []) }
-{
-    TopConsumer::new(alloc, selection, job.first_field, job.keep)
-}
-
-/// The consumer of a job of varnishlog, which received nothing.
-fn log_consumer(alloc: Global, job: &Job, selection: Selection) -> LogConsumer
-    requires tool { job.now.tool ≡ Tool.Log }
-    requires selection { selection ≡ showing_of job.now }
-    ensures keeps { result.received.keep ≡ job.now.keep }
-    ensures writes { (λ groups ended. laid_out result.look groups) ≡ output_of job.now }
-    ensures new { IsLog result [] false [] }
-{
-    LogConsumer::new(alloc, look_of(job, selection), job.keep)
-}
-
-/// The consumer of a job of varnishncsa, which received nothing.
-fn ncsa_consumer(alloc: Global, job: &Job, format: Option<Format>) -> Result<NcsaConsumer, NoMemory>
-    requires tool { job.now.tool ≡ Tool.Ncsa }
-    requires format { HasFormat job.now format }
-    ensures keeps { IfOk result (λ c. access.keep_of c ≡ job.now.keep) }
-    ensures writes { IfOk result (λ c. access.output_of c ≡ output_of job.now) }
-    ensures new { IfOk result (λ c. IsAccessLog c [] false []) }
-{
-    let Some(format) = format else { unreachable!() };
-    NcsaConsumer::new(alloc, format, job.sides, job.keep)
-}
-
-/// Works off a job: reads its log, and writes what its tool makes of the groups.
-pub fn run_job<W: World>(
-    alloc: Global,
-    job: &Job,
-    selection: Selection,
-    format: Option<Format>,
-    query: &Query,
-    world: &mut W,
-) -> Result<Ran, NoMemory>
-    requires built { is_built_tool job.now.tool ≡ true }
-    requires selection { selection ≡ showing_of job.now }
-    requires format { HasFormat job.now format }
-    requires keeps { is_filled job.now.keep [] ≡ false }
-    ensures touches { Touches (streams_of (source_of job.now ∷ [])) (streams_of (sink_of job.now ∷ [])) (opened_of (source_of job.now ∷ [])) (created_of (sink_of job.now ∷ [])) (W.seen world.old) (W.seen world.new) }
-    ensures handles { GivesAtMost (length (opened_of (source_of job.now ∷ []) ++ created_of (sink_of job.now ∷ []))) (W.seen world.old) (W.seen world.new) }
-    ensures prefix { OnErr result ((ask : Ask) → HoldsAsAsked query.now ask → PrefixFor ask (Work job.now) (W.seen world.old) (W.seen world.new)) }
-    ensures works { IfOk result (λ r. (ask : Ask) → HoldsAsAsked query.now ask → WorksFor ask (Work job.now) r.fault r.run (W.seen world.old) (W.seen world.new)) }
-{
-    match job.tool {
-        Tool::Ncsa => {
-            let ncsa = ncsa_consumer(alloc, job, format)?;
-            let consumer: Box<dyn Consumer> = Box::new(alloc, ncsa)?;
-            run_consumer(alloc, job, consumer, query, world)
-        }
-        Tool::Top => {
-            let top = top_consumer(alloc, job, selection)?;
-            let consumer: Box<dyn Consumer> = Box::new(alloc, top)?;
-            run_consumer(alloc, job, consumer, query, world)
-        }
-        Tool::Log => {
-            let log = log_consumer(alloc, job, selection);
-            let consumer: Box<dyn Consumer> = Box::new(alloc, log)?;
-            run_consumer(alloc, job, consumer, query, world)
-        }
-        Tool::Stat => unreachable!(),
     }
 }

@@ -2,6 +2,7 @@
 
 ghost use Rattle.std.specs.Prelude.{◌≡◌, ◌++◌, map, IfOk};
 ghost use Rattle.std.specs.String.{string_bytes};
+ghost use Rattle.varnish_tools.specs.Feeds.{overrun_message};
 ghost use Rattle.varnish_tools.specs.Faults.{message, numbered, query_message, status_of, told, usage_message, word_at};
 
 use crate::fault::ToolFault;
@@ -125,6 +126,10 @@ pub fn message_of(alloc: Global, words: &[String], fault: &ToolFault) -> Result<
         ToolFault::BadFormat { at } => {
             tell_bytes(alloc, "", &numbered(alloc, "format: syntax at ", *at, "")?)
         }
+        ToolFault::BadListing { feed, line } => {
+            let feed = numbered(alloc, "feed ", u64::from(*feed), ": bad line ")?;
+            tell_both(alloc, &feed, &numbered(alloc, "", *line, "")?)
+        }
         ToolFault::NoOpen { name } => tell(alloc, name.as_str(), ": cannot open"),
         ToolFault::ReadFault { name } => tell(alloc, name.as_str(), ": read failed"),
         ToolFault::WriteFault { name } => tell(alloc, name.as_str(), ": write failed"),
@@ -134,6 +139,14 @@ pub fn message_of(alloc: Global, words: &[String], fault: &ToolFault) -> Result<
             tell_number(alloc, name, ": larger than ", *limit, " bytes")
         }
     }
+}
+
+/// The message of an overrun: the segment where a reader stood, and that to which the writers had come.
+pub fn overrun_text(alloc: Global, at: u64, seen: u64) -> Result<Vec<u8>, AllocError>
+    ensures { IfOk result (λ v. v.items ≡ overrun_message at seen) }
+{
+    let place = numbered(alloc, "log overrun at segment ", at, ", counter ")?;
+    tell_both(alloc, &place, &numbered(alloc, "", seen, "")?)
 }
 
 /// The exit status: 0 without a fault, 2 where the words, a pattern, a format or the text of a query was refused, else 1.

@@ -13,7 +13,7 @@ pub enum RunRecord {
     Counted {
         /// How many units were taken; after a failed write, how many units' text was begun.
         units: u64,
-        /// How many items the history has: one run of units over a file.
+        /// How many items the history has: runs of units, with an overrun between two; over a file one run.
         items: u64,
     },
 }

@@ -2,21 +2,23 @@
 
 ghost use Rattle.std.specs.Prelude.{map, [], ◌∷◌, ◌++◌, length, IfOk, OnOk, OnErr};
 ghost use Rattle.std.specs.String.{string_bytes};
-ghost use Rattle.varnish_tools.specs.Asked.{asked_of};
+ghost use Rattle.varnish_tools.specs.Asked.{stated_of};
 ghost use Rattle.varnish_tools.specs.Faults.{fault_message};
-ghost use Rattle.varnish_tools.specs.Objects.{TouchesJob, GivesAtMost, streams_of, sources_of, sinks_of, calls_of};
-ghost use Rattle.vio.specs.World.{Opening, Creating};
+ghost use Rattle.varnish_tools.specs.Objects.{GivesAtMost};
 ghost use Rattle.vio.specs.Touches.{Touches};
-ghost use Rattle.varnish_tools.specs.Promise.{WorksOff, WritesPrefix, WritesError, IsFaithful, IsComplete, IsCutShort};
+ghost use Rattle.varnish_tools.specs.Promise.{WritesError};
+ghost use Rattle.varnish_tools.specs.Theorem.{reads_of, writes_of, opens_of, creates_of, TouchesJob, WritesPrefix, IsFaithful, IsComplete, IsCutShort};
+ghost use Rattle.varnish_tools.specs.inside.Over.{CutWords, WorksWords};
 ghost use Rattle.varnish_tools.specs.inside.Report.{ReportsPart};
 
 use crate::asked::{Task, read_task};
 use crate::fault::ToolFault;
 use crate::formats::read_format;
-use crate::log_file::run_job;
+use crate::job_run::run_job;
 use crate::message::{message_of, status_of};
 use crate::outcome::{Outcome, Ran, refused};
 use crate::queries::read_queries;
+use feed_files::feeds_are_listings_or_have_a_fault;
 use std::alloc::Global;
 use vio::{ERRORS, NoMemory, World, WorldFault, write_all};
 
@@ -45,12 +47,12 @@ fn report<W: World>(
 /// Works off the words, but for the message of a fault: reads them, with the rules of the job that they state, takes its
 /// queries and its format, and runs it. No run begins where the words, a query or the format has a fault.
 fn run_words<W: World>(alloc: Global, words: &[String], world: &mut W) -> Result<Ran, NoMemory>
-    ensures touches { let asked = asked_of (map string_bytes words.now) in
-        Touches (streams_of (sources_of asked)) (streams_of (sinks_of asked)) (calls_of asked Opening) (calls_of asked Creating) (W.seen world.old) (W.seen world.new) }
-    ensures handles { let asked = asked_of (map string_bytes words.now) in
-        GivesAtMost (length (calls_of asked Opening ++ calls_of asked Creating)) (W.seen world.old) (W.seen world.new) }
-    ensures prefix { OnErr result (WritesPrefix (asked_of (map string_bytes words.now)) (W.seen world.old) (W.seen world.new)) }
-    ensures works { IfOk result (λ r. WorksOff (asked_of (map string_bytes words.now)) r.fault r.run (W.seen world.old) (W.seen world.new)) }
+    ensures touches { let stated = stated_of (map string_bytes words.now) in
+        Touches (reads_of stated) (writes_of stated) (opens_of stated) (creates_of stated) (W.seen world.old) (W.seen world.new) }
+    ensures handles { let stated = stated_of (map string_bytes words.now) in
+        GivesAtMost (length (opens_of stated ++ creates_of stated)) (W.seen world.old) (W.seen world.new) }
+    ensures prefix { OnErr result (CutWords (stated_of (map string_bytes words.now)) (W.seen world.old) (W.seen world.new)) }
+    ensures works { IfOk result (λ r. WorksWords (stated_of (map string_bytes words.now)) r.fault r.run (W.seen world.old) (W.seen world.new)) }
 {
     match read_task(alloc, words)? {
         Ok(Task { job, selection }) => match read_queries(alloc, &job, world)? {
@@ -67,17 +69,24 @@ fn run_words<W: World>(alloc: Global, words: &[String], world: &mut W) -> Result
 /// Does what the words of a command line ask for, without the program's name.
 ///
 /// Words that state no job are refused, and so is a job of which a taglist or a pattern is, or that isn't built: built
-/// are varnishlog, varnishncsa and varnishtop over a log. The queries are taken first, in the order of the words: the
-/// file of each is opened and read, and its text judged, before the next one's, and the first that has a fault ends the
-/// call. Then the format of varnishncsa is read, and one with a fault ends the call. Then the log is opened, or it is
-/// standard input; then what is written is created, or it is standard output, and a log file that was empty gains its
-/// header. The log is read in pieces, in one pass. Of varnishlog, what is written gains what is shown of the groups for
-/// which a query holds, all where there is none: those that its units complete, and after the last unit of a whole log
-/// the pending ones, as lines, or with `-w` and without `-A` as the units of a log file. Of varnishncsa it gains a line
-/// for each request that is logged of these groups, in the format. Of varnishtop it gains the report of what is shown
-/// of these groups, once they have ended. A fault's message goes to standard error. With `-k` no more is read after the
-/// unit that completes the last group that is kept. The status is 0 without a fault, 2 where the words, a pattern, the
-/// text of a query or the format is refused, and else 1. After `NoMemory` a prefix of the output was written.
+/// are varnishlog, varnishncsa and varnishtop over a log file, or over feeds in a stated order. The queries are taken
+/// first, in the order of the words: the file of each is opened and read, and its text judged, before the next one's,
+/// and the first that has a fault ends the call. Then the format of varnishncsa is read, and one with a fault ends the
+/// call. Then the log is opened, or it is standard input; or the feeds are read, one after the other, and the first
+/// that has a fault ends the call. Then what is written is created, or it is standard output, and a log file that was
+/// empty gains its header. A log is read in pieces, in one pass.
+///
+/// Feeds are put into a ring and read from it, turn by turn in the order that is stated. A reader that the writers have
+/// overrun says so on standard error, and what is pending is completed then; the call ends where that message can't be
+/// written.
+///
+/// Of varnishlog, what is written gains what is shown of the groups for which a query holds, all where there is none:
+/// those that its units complete, and after the last unit of a whole log the pending ones, as lines, or with `-w` and
+/// without `-A` as the units of a log file. Of varnishncsa it gains a line for each request that is logged of these
+/// groups, in the format. Of varnishtop it gains the report of what is shown of these groups, once they have ended. A
+/// fault's message goes to standard error. With `-k` no more is taken after the unit, or the overrun, that completes
+/// the last group that is kept. The status is 0 without a fault, 2 where the words, a pattern, the text of a query or
+/// the format is refused, and else 1. After `NoMemory` a prefix of the output was written.
 ///
 /// Source: varnishlog(1), varnishncsa(1), varnishtop(1); the order of faults, messages and statuses are this project's
 /// choice.
@@ -86,12 +95,13 @@ pub fn run_tools<W: World>(
     words: &[String],
     world: &mut W,
 ) -> Result<Outcome, NoMemory>
-    ensures touches { TouchesJob (asked_of (map string_bytes words.now)) (W.seen world.old) (W.seen world.new) }
-    ensures prefix { WritesPrefix (asked_of (map string_bytes words.now)) (W.seen world.old) (W.seen world.new) }
+    ensures touches { TouchesJob (stated_of (map string_bytes words.now)) (W.seen world.old) (W.seen world.new) }
+    ensures prefix { WritesPrefix (stated_of (map string_bytes words.now)) (W.seen world.old) (W.seen world.new) }
     ensures faithful { IfOk result (λ o. IsFaithful (map string_bytes words.now) o (W.seen world.old) (W.seen world.new)) }
     ensures complete { IfOk result (λ o. IsComplete (map string_bytes words.now) o (W.seen world.old) (W.seen world.new)) }
     ensures memory { OnErr result (IsCutShort (map string_bytes words.now) (W.seen world.old) (W.seen world.new)) }
 {
+    feeds_are_listings_or_have_a_fault();
     let Ran { fault, run } = run_words(alloc, words, world)?;
     report(alloc, words, world, &fault)?;
     let status = status_of(&fault);

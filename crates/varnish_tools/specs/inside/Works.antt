@@ -6,7 +6,7 @@ use Rattle.vio.specs.Touches.{IsOneOf}
 use Rattle.varnish_tools.specs.declared.fault.ToolFault.{ToolFault}
 use Rattle.varnish_tools.specs.declared.outcome.RunRecord.{RunRecord}
 use Rattle.varnish_tools.specs.Asked.{Asked, Refuse}
-use Rattle.varnish_tools.specs.Faults.{FaultClass, Refused, RefusedQuery, RefusedFormat, LongQuery, NotOpened, NotRead, NotWritten, BadInput, class_of}
+use Rattle.varnish_tools.specs.Faults.{FaultClass, Refused, RefusedQuery, RefusedFormat, LongQuery, BadFeed, NotOpened, NotRead, NotWritten, BadInput, class_of}
 use Rattle.varnish_tools.specs.Objects.{Object, sinks_of, inputs_of, names_of, SinkGained, SinkUntouched}
 use Rattle.varnish_tools.specs.Queries.{Ask}
 use Rattle.varnish_tools.specs.Promise.{Input, IsInput, HasClassCause, HasFailed, HasFailedInput, LeavesAll, RunBegan, WritesFor, whole_text}
@@ -17,6 +17,7 @@ HasRunCause asked fault Refused before now = asked ≡ Refuse fault
 HasRunCause asked fault RefusedQuery before now = ⊥
 HasRunCause asked fault RefusedFormat before now = ⊥
 HasRunCause asked fault LongQuery before now = ⊥
+HasRunCause asked fault BadFeed before now = ⊥
 HasRunCause asked fault (NotOpened name) before now = HasFailedInput asked Opening name before now ⊎ HasFailed asked Creating name before now
 HasRunCause asked fault (NotRead name) before now = HasFailedInput asked Reading name before now
 HasRunCause asked fault (NotWritten name) before now = HasClassCause asked fault (NotWritten name) before now
@@ -28,6 +29,7 @@ RunLeavesUntil Refused asked recorded before now = ⊥
 RunLeavesUntil RefusedQuery asked recorded before now = ⊥
 RunLeavesUntil RefusedFormat asked recorded before now = ⊥
 RunLeavesUntil LongQuery asked recorded before now = ⊥
+RunLeavesUntil BadFeed asked recorded before now = ⊥
 RunLeavesUntil (NotOpened name) asked recorded before now = LeavesAll asked recorded before now
 RunLeavesUntil (NotRead name) asked recorded before now = IsOneOf name (names_of (inputs_of asked)) × RunBegan asked recorded before now
 RunLeavesUntil (NotWritten name) asked recorded before now = RunBegan asked recorded before now

@@ -3,7 +3,7 @@ use Rattle.std.proofs.Common.{Err, ap}
 use Rattle.vio.proofs.WholeLemmas.{OnErr-always}
 use Rattle.varnish_tools.proofs.ObjectLemmas.{touches_source, still_counts}
 use Rattle.varnish_tools.proofs.LogFileLemmas.{works_unopened, prefix_asked, still_none, opened_prefix, opened_works, opened_handles}
-use Rattle.varnish_tools.proofs.log_file.run_consumer.Goals as goal
+use Rattle.varnish_tools.proofs.log_file.run_over_file.Goals as goal
 
 pub returns-in_err-name-clause-prefix : goal.returns-in_err-name-clause-prefix
 returns-in_err-name-clause-prefix g c = OnErr-always _ (prefix_asked c.args.job.now c.args.query.now _ _ (still_none _))
