@@ -26,12 +26,15 @@ usage: vtools [OPTIONS] varnishlog [-g GROUPING] [-L N] [-T N] [-q TEXT]
        vtools [OPTIONS] varnishtop -1 [-f] [-g GROUPING] [-L N] [-T N]
               [-q TEXT] [-Q FILE] [-k N] [-b] [-c] [-E] [-i TAGLIST]
               [-x TAGLIST] [-I RULE] [-X RULE] [-C] -r FILE
+       vtools --feed FILE.. [--ring N] [--reclen N]
+              (--feed-first | --turns SEED) TOOL .., as above without -r FILE
 
 varnishlog prints the records of a log file, a group of them when it is
 complete, or writes them as a log file. varnishncsa prints a line for each
 request, as a web server does in its access log. varnishtop counts equal
 records, and prints each once with its count when the log has ended. They take
-all records, or those that are chosen.
+all records, or those that are chosen. In place of a log file they take feeds:
+texts of records, as Varnish's own varnishlog -g raw prints them.
 
   -r FILE           reads the log file FILE; - is standard input
   -g vxid           groups records by transaction; this is the default
@@ -39,7 +42,7 @@ all records, or those that are chosen.
                     its ESI parts; sessions are left out
   -g session        groups a client's session with all of its requests; not of
                     varnishncsa
-  -g raw            takes each record by itself, in the order of the file; not
+  -g raw            takes each record by itself, in the order of the log; not
                     of varnishncsa
   -L N              keeps at most N transactions pending, 1 to 1000000; 1000
                     without it; past that the oldest is force-completed
@@ -91,11 +94,23 @@ The first -I or -X that matches a record decides, else the last -i or -x that
 names its tag. Other records are hidden where the first of -i and -x is -i, or
 the first of -I and -X is -I.
 
-Taken too, and of no effect: -d; before the tool --ring N, --reclen N,
---turns N and --feed-first. Options stand in any order, letters may share a
-word, and of -F, -g, -k, -L, -T, -r and -w the last counts.
+In the place of -r FILE, before the tool, the first with one of the next two:
 
-The words of varnishstat are read, but this tool is not built yet.
+  --feed FILE       feeds the listing FILE, lines as varnishlog -g raw prints
+                    them, at most 16 MiB; up to 16 of these
+  --feed-first      puts feed after feed into a ring, and then reads it
+  --turns SEED      draws from SEED, 0 to 65536, whose turn it is, that of a
+                    feed or of the reader
+  --ring N          words in a segment of the ring, 64 to 1048576; 65536
+                    without it; a reader 6 segments behind is overrun
+  --reclen N        cuts payloads to N bytes, 16 to 4000; 255 without it
+
+Taken too, and of no effect: -d; beside -r, of these all but --feed. Options
+stand in any order, letters may share a word, and of -F, -g, -k, -L, -T, -r
+and -w the last counts.
+
+The words of varnishstat are read, but this tool is not built yet; nor are
+requests that are made up, and feeds without --feed-first or --turns.
 
   vtools --help     prints this text
   vtools --version  prints the version
