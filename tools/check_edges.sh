@@ -270,4 +270,206 @@ run varnishtop -1 -k 228 -r real.log >real 2>err </dev/null
 cmp -s whole real || fail "real traffic, its transactions counted: the reports differ"
 expect "real traffic, cut, its transactions counted" 0 ""
 
+# Feeds of one line, of twelve units of a segment, which overrun a reader that comes after them, and of a bad line.
+cases="${lines%/examples/*}/cases"
+over="$cases/a_reader_that_comes_after_the_feeds_is_overrun/data/a"
+two_taken="$cases/a_reader_that_took_two_units_is_overrun_in_the_third_segment/data/a"
+three_times="$cases/a_reader_is_overrun_three_times_in_a_run/data/a"
+pending="$cases/an_overrun_flushes_a_pending_transaction/data/a"
+waiting="$cases/an_overrun_flushes_the_oldest_transaction_first/data/a"
+completed="$cases/after_the_groups_that_are_taken_no_overrun_is_told/data/a"
+requests="$cases/ncsa_prints_a_request_that_an_overrun_flushed/data/a"
+for file in "$over" "$two_taken" "$three_times" "$pending" "$waiting" "$completed" "$requests"; do
+    [ -f "$file" ] || fail "$file is missing"
+done
+overrun='vtools: log overrun at segment 0, counter 13'
+last=$(tail -n 4 "$over")
+most_bytes=16777216
+printf '%s\n' "$text" >one.lines
+printf 'x\n' >bad.lines
+: >no.lines
+after_over="--feed $over --ring 64 --feed-first"
+
+# shellcheck disable=SC2086 # the words stand between spaces
+run $after_over varnishlog -g raw >out 2>err </dev/null
+expect "an overrun" 0 "$overrun" "$last"
+
+# Standard error is full, or closed, and the message of an overrun is due: the run ends. What was printed stays, and
+# what is pending is not flushed.
+untold() {
+    run "${@:4}" >out 2>/dev/full </dev/null
+    expect "full errors: $1" "$2" "" "$3"
+    run "${@:4}" >out 2>&- </dev/null
+    expect "closed errors: $1" "$2" "" "$3"
+}
+# shellcheck disable=SC2086
+untold "an overrun before all units" 1 "" $after_over varnishlog -g raw
+untold "an overrun behind two units" 1 "$(head -n 2 "$two_taken")" \
+    --turns 34 --feed "$two_taken" --ring 64 varnishlog -g raw
+untold "an overrun of a pending transaction" 1 "" --turns 0 --feed "$pending" --ring 64 varnishlog
+untold "an overrun behind a group" 1 "$(printf '%s\n' '*   << Request  >> 6         ' \
+    '-   Begin          req 1 rxreq' '-   End            ')$newline" --turns 1 --feed "$waiting" --ring 64 varnishlog
+untold "an overrun that completes the last group that is taken" 1 "" \
+    --turns 0 --feed "$pending" --ring 64 varnishlog -k 1
+untold "an overrun that nothing is taken of" 1 "" --turns 0 --feed "$pending" --ring 64 varnishlog -q ReqURL
+untold "an overrun behind an access line" 1 "2 - /one" \
+    --turns 0 --feed "$requests" --ring 64 varnishncsa -F '%{Varnish:vxid}x %s %U'
+# shellcheck disable=SC2086
+untold "an overrun and no report" 1 "" $after_over varnishtop -1 -g raw
+untold "no overrun before the last group that is taken" 0 "$(printf '%s\n' '*   << Request  >> 2         ' \
+    '-   Begin          req 1 rxreq' '-   End            ')$newline" \
+    --turns 1 --feed "$completed" --ring 64 varnishlog -k 1
+# shellcheck disable=SC2086
+run $after_over varnishlog -g raw -w written >out 2>/dev/full </dev/null
+cmp -s header.log written || fail "full errors: a log that is written: it is not the header alone"
+expect "full errors: a log that is written" 1 ""
+rm written
+# shellcheck disable=SC2086
+run $after_over varnishlog -g raw >/dev/full 2>/dev/full </dev/null
+expect "full errors and a full output" 1 ""
+
+# The message of another fault may be lost: the status and the output stay.
+messages "a feed" 0 "$text" --feed one.lines --feed-first varnishlog -g raw
+messages "a bad line" 1 "" --feed bad.lines --feed-first varnishlog -g raw
+messages "a missing feed" 1 "" --feed one.lines --feed missing --turns 7 varnishlog -g raw
+messages "a folder as a feed" 1 "" --feed . --feed-first varnishtop -1
+messages "a feed and a log" 2 "" --feed one.lines --feed-first varnishlog -r one.log
+messages "a refused query before a feed" 2 "" --feed one.lines --feed-first varnishlog -q %
+printf '%s\n' "$text" | cmp -s - one.lines || fail "closed errors: the feed was written to"
+
+# Standard output is a pipe whose reader has gone, full, or closed. A run that writes nothing doesn't see it.
+for words in "--feed one.lines --feed-first varnishlog -g raw" "--feed one.lines --turns 7 varnishlog -g raw -w -" \
+    "--feed no.lines --feed-first varnishlog -w -" "--feed $lines --turns 7 varnishlog" \
+    "--feed $lines --feed-first varnishncsa" "--feed one.lines --turns 7 varnishtop -1 -g raw"; do
+    exec 3<>pipe
+    exec 4>pipe 3>&-
+    # shellcheck disable=SC2086
+    run $words >&4 2>err </dev/null
+    exec 4>&-
+    expect "a closed pipe: $words" 1 "$unwritten"
+    # shellcheck disable=SC2086
+    run $words >/dev/full 2>err </dev/null
+    expect "a full output: $words" 1 "$unwritten"
+    # shellcheck disable=SC2086
+    run $words >&- 2>err </dev/null
+    expect "a closed output: $words" 1 "$unwritten"
+done
+run --feed no.lines --feed-first varnishlog >/dev/full 2>err </dev/null
+expect "a full output and a feed of no units" 0 ""
+run --feed one.lines --turns 7 varnishlog >/dev/full 2>err </dev/null
+expect "a full output and a feed of no transaction" 0 ""
+run --feed bad.lines --turns 7 varnishlog -w - >/dev/full 2>err </dev/null
+expect "a full output and a bad line" 1 "vtools: feed 0: bad line 1"
+
+# An overrun is told before a write that fails, and none behind it.
+# shellcheck disable=SC2086
+run $after_over varnishlog -g raw >/dev/full 2>err </dev/null
+expect "a full output behind an overrun" 1 "$overrun$newline$unwritten"
+run --turns 7 --feed "$three_times" --ring 64 varnishlog -g raw >/dev/full 2>err </dev/null
+expect "a full output before overruns" 1 "$unwritten"
+run --turns 7 --feed "$three_times" --ring 64 varnishlog -g raw -w /dev/full >out 2>err </dev/null
+expect "a full file before overruns" 1 "vtools: /dev/full: write failed"
+
+# No stream is open, and feeds take the numbers of all three.
+run --feed one.lines --feed-first varnishlog -g raw <&- >&- 2>&-
+expect "no stream and a feed" 1 ""
+run --feed one.lines --feed one.lines --feed one.lines --feed-first varnishlog -g raw <&- >&- 2>&-
+expect "no stream and three feeds" 1 ""
+# shellcheck disable=SC2086
+run --feed one.lines --feed one.lines $after_over varnishlog -g raw <&- >&- 2>&-
+expect "no stream, three feeds and an overrun" 1 ""
+run --feed no.lines --feed-first varnishlog <&- >&- 2>&-
+expect "no stream and a feed of no units" 0 ""
+run --feed one.lines --feed-first varnishlog -g raw <&- >out 2>err
+expect "no input and a feed" 0 "" "$text"
+printf '%s\n' "$text" | cmp -s - one.lines || fail "no stream: the feed was written to"
+
+# A feed is a pipe, which comes in two pieces, standard input by its path, or a device.
+(
+    head -c 10 one.lines
+    sleep 0.2
+    tail -c +11 one.lines
+) >pipe &
+run --feed one.lines --feed pipe --feed-first varnishlog -g raw >out 2>err </dev/null
+wait
+expect "a feed that is a pipe" 0 "" "$text$newline$text"
+run --feed /dev/stdin --turns 7 varnishlog -g raw >out 2>err <one.lines
+expect "a feed that is standard input by its path" 0 "" "$text"
+run --feed /dev/null --feed-first varnishlog -g raw >out 2>err </dev/null
+expect "a feed that is no file and has no bytes" 0 ""
+run --feed /dev/zero --feed-first varnishlog -g raw >out 2>err </dev/null
+expect "a feed without end" 1 "vtools: /dev/zero: larger than $most_bytes bytes"
+
+# No feed is opened for words, queries and formats that are refused, nor behind a feed that is.
+run --feed pipe --feed-first varnishlog -q % >out 2>err </dev/null
+expect "a query that is refused opens no feed" 2 "vtools: query 0: syntax at 0"
+run --feed pipe --turns 7 varnishncsa -F %Z >out 2>err </dev/null
+expect "a format that is refused opens no feed" 2 "vtools: format: syntax at 0"
+run --feed pipe --feed-first varnishlog -X '(' >out 2>err </dev/null
+expect "a pattern that is refused opens no feed" 2 "vtools: pattern refused: ("
+run --feed bad.lines --feed pipe --feed-first varnishlog >out 2>err </dev/null
+expect "a bad feed opens no other" 1 "vtools: feed 0: bad line 1"
+run --feed missing --feed pipe --feed-first varnishlog >out 2>err </dev/null
+expect "a missing feed opens no other" 1 "vtools: missing: cannot open"
+
+# A feed may have 16 MiB: the line, and then empty lines. With one byte more it is too large, whatever its lines are.
+padded() {
+    cat "$1"
+    head -c $((most_bytes - $(stat -c %s "$1"))) /dev/zero | tr '\0' '\n'
+}
+padded one.lines >large.lines
+[ "$(stat -c %s large.lines)" = "$most_bytes" ] || fail "a large feed: it has not 16 MiB"
+run --feed large.lines --feed-first varnishlog -g raw >out 2>err </dev/null
+expect "a feed of 16 MiB" 0 "" "$text"
+run --feed large.lines --turns 7 --feed bad.lines varnishlog -g raw >out 2>err </dev/null
+expect "a feed of 16 MiB and a bad one" 1 "vtools: feed 1: bad line 1"
+printf '\n' >>large.lines
+run --feed large.lines --feed-first varnishlog -g raw -w new >out 2>err </dev/null
+[ ! -e new ] || fail "a feed of more than 16 MiB: the file that is written is there"
+expect "a feed of more than 16 MiB" 1 "vtools: large.lines: larger than $most_bytes bytes"
+run --feed one.lines --feed large.lines --feed missing --turns 7 varnishlog >out 2>err </dev/null
+expect "a second feed of more than 16 MiB" 1 "vtools: large.lines: larger than $most_bytes bytes"
+run --feed bad.lines --feed large.lines --feed-first varnishlog >out 2>err </dev/null
+expect "a bad feed and one of more than 16 MiB" 1 "vtools: feed 0: bad line 1"
+(
+    padded bad.lines
+    echo
+) >large.lines
+run --feed large.lines --feed-first varnishlog >out 2>err </dev/null
+expect "a bad feed of more than 16 MiB" 1 "vtools: large.lines: larger than $most_bytes bytes"
+
+# The lines of the real log, 54 times, have not quite 16 MiB, and the largest ring has room for them.
+for _ in {1..54}; do cat "$lines"; done >large.lines
+run --feed large.lines --ring 1048576 --feed-first varnishlog -g raw >large 2>err </dev/null
+cmp -s large.lines large || fail "a feed of 16 MiB of lines: the lines differ"
+expect "a feed of 16 MiB of lines" 0 ""
+run --feed large.lines --ring 1048576 --turns 7 varnishlog -g raw >large 2>err </dev/null
+cmp -s large.lines large || fail "a feed of 16 MiB of lines, in turns: the lines differ"
+expect "a feed of 16 MiB of lines, in turns" 0 ""
+
+# With an address space of 30 MB there is no memory for the largest ring, nor for such a feed.
+(
+    ulimit -v 30000
+    run --feed one.lines --ring 1048576 --feed-first varnishlog -g raw >out 2>err </dev/null
+)
+expect "no memory for a ring" 3 "vtools: out of memory"
+(
+    ulimit -v 30000
+    run --feed large.lines --feed-first varnishlog -g raw >out 2>err </dev/null
+)
+expect "no memory for a feed" 3 "vtools: out of memory"
+run --feed one.lines --ring 1048576 --feed-first varnishlog -g raw >out 2>err </dev/null
+expect "memory for a ring" 0 "" "$text"
+rm large large.lines
+
+# What is written is full, or a folder.
+run --feed one.lines --feed-first varnishlog -g raw -w /dev/full >out 2>err </dev/null
+expect "a full file for a feed" 1 "vtools: /dev/full: write failed"
+run --feed one.lines --turns 7 varnishlog -A -g raw -w /dev/full >out 2>err </dev/null
+expect "a full file for a feed's lines" 1 "vtools: /dev/full: write failed"
+run --feed no.lines --turns 7 varnishlog -A -w /dev/full >out 2>err </dev/null
+expect "a full file and a feed of no units" 0 ""
+run --feed one.lines --feed-first varnishlog -w . >out 2>err </dev/null
+expect "a folder that is to be written, and a feed" 1 "vtools: .: cannot open"
+
 echo "edges: ok, $count of them"
