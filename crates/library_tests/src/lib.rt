@@ -12,6 +12,8 @@ mod consumers;
 #[cfg(test)]
 mod groups;
 #[cfg(test)]
+mod rings;
+#[cfg(test)]
 mod selections;
 #[cfg(test)]
 mod support;

@@ -1,0 +1,115 @@
+//! Rings: where units lie in them, what is refused, and what a cursor takes; and what a listing has.
+
+ghost use Rattle.std.specs.Prelude.{◌≡◌, ◌<◌, IfOk};
+ghost use Rattle.vsl_record.specs.Unit.{vxid_end};
+
+use crate::support::record_of;
+use ring_layout::{Placed, PutFault, Shape, place_after, segment_of};
+use ring_plain::PlainRing;
+use std::alloc::Global;
+use std::process::Abort;
+use std::test::Fail;
+use traffic_feed::{ListFault, read_listing};
+use vsl_record::{Mark, Unit};
+use vsl_tags::Tag;
+
+/// The number of the tag VCL_Log.
+const VCL_LOG: u8 = 24;
+
+/// A header and a record's head take three words, so that a unit of this payload takes 65.
+const BYTES: [u8; 248] = [0x61; 248];
+
+/// The last tail that a ring has, less ten: 2^62 - 10.
+const LATE_TAIL: u64 = 4_611_686_018_427_387_894;
+
+/// Two lines of a listing, each a record of a transaction of its own.
+const TWO_LINES: &[u8] = b"1 CLI - a\n2 CLI - b\n";
+
+/// The same, and a line that is no record's.
+const BAD_THIRD: &[u8] = b"1 CLI - a\n2 CLI - b\nx\n";
+
+/// Segments of 64 words, the fewest.
+fn least_shape() -> Result<Shape, Fail>
+    ensures { IfOk result (λ shape. shape ≡ 64) }
+{
+    Ok(Shape::new(64).ok_or("64 words are a segment")?)
+}
+
+/// A client's unit of one record.
+fn unit_of(alloc: Global, vxid: u32, payload: &[u8]) -> Result<Unit, Fail>
+    requires { vxid < vxid_end }
+{
+    let tag = Tag::from_number(VCL_LOG).ok_or("24 is a tag")?;
+    let one = record_of(alloc, tag, payload)?;
+    Ok(Unit::new(vxid, Mark::Client, Vec::from_array(alloc, [one])?)?)
+}
+
+/// The unit has this VXID, and is of one record with this payload.
+fn expect_unit(rt: &impl Abort, unit: &Unit, vxid: u32, payload: &[u8]) {
+    assert_eq!(rt; unit.vxid(), vxid);
+    assert_eq!(rt; unit.records().len(), 1);
+    for one in unit.records() {
+        assert_eq!(rt; one.payload.as_slice(), payload);
+    }
+}
+
+#[test]
+fn a_unit_lies_in_one_lap(rt: HostRuntime) -> Result<(), Fail> {
+    let shape = least_shape()?;
+    let stays = Placed {
+        start: 447,
+        tail: 511,
+        wraps: false,
+    };
+    assert_eq!(rt; place_after(shape, 447, 64), Some(stays));
+    assert_eq!(rt; segment_of(shape, 511), 7);
+    let wraps = Placed {
+        start: 512,
+        tail: 576,
+        wraps: true,
+    };
+    assert_eq!(rt; place_after(shape, 448, 64), Some(wraps));
+    assert_eq!(rt; segment_of(shape, 576), 9);
+    Ok(())
+}
+
+#[test]
+fn no_unit_lies_behind_the_last_tail(rt: HostRuntime) -> Result<(), Fail> {
+    let shape = least_shape()?;
+    let last = Placed {
+        start: LATE_TAIL,
+        tail: 4_611_686_018_427_387_897,
+        wraps: false,
+    };
+    assert_eq!(rt; place_after(shape, LATE_TAIL, 64), None);
+    assert_eq!(rt; place_after(shape, LATE_TAIL, 3), Some(last));
+    Ok(())
+}
+
+#[test]
+fn a_unit_longer_than_a_segment_is_refused(rt: HostRuntime) -> Result<(), Fail> {
+    let mut ring = PlainRing::new(rt.alloc(), least_shape()?)?;
+    let unit = unit_of(rt.alloc(), 1, &BYTES)?;
+    assert_eq!(rt; unit.words(), 65);
+    assert_eq!(rt; ring.put(&unit), Err(PutFault::TooLong { words: 65 }));
+    Ok(())
+}
+
+#[test]
+fn two_lines_are_two_units(rt: HostRuntime) -> Result<(), Fail> {
+    let listing = read_listing(rt.alloc(), TWO_LINES, 255, least_shape()?)?;
+    assert_eq!(rt; listing.cuts, 0);
+    let units = listing.units.as_slice();
+    assert_eq!(rt; units.len(), 2);
+    for (unit, (vxid, payload)) in units.iter().zip([(1, b"a"), (2, b"b")]) {
+        expect_unit(&rt, unit, vxid, payload);
+    }
+    Ok(())
+}
+
+#[test]
+fn a_bad_line_is_told(rt: HostRuntime) -> Result<(), Fail> {
+    let refused = read_listing(rt.alloc(), BAD_THIRD, 255, least_shape()?).err();
+    assert_eq!(rt; refused, Some(ListFault::BadLine { line: 3 }));
+    Ok(())
+}
