@@ -60,7 +60,7 @@ record_bytes text l (w, is, text_is) =
 -- ---- steps
 
 -- the units of all that was gathered
-abbrev closed : Gathered → Log
+abbrev pub closed : Gathered → Log
 closed g = (ended g).units
 
 -- a line adds as many records as cuts or more, and no more records and words than its bytes have room for
@@ -76,10 +76,10 @@ one_unit l most = omega (arith, unit_size l.vxid (shortened most l).rec, record_
 one_record : (vxid : ℕ) (l : LoggedRecord) (most : ℕ) → length (record_words vxid (shortened most l).rec) ≤ 8 + length l.rec.payload
 one_record vxid l most = omega (arith, record_size vxid (shortened most l).rec, length-take most l.rec.payload)
 
-records_pushed : (us : Log) (u : LogUnit) → record_count (us ++ u ∷ []) ≡ record_count us + length u.records
+pub records_pushed : (us : Log) (u : LogUnit) → record_count (us ++ u ∷ []) ≡ record_count us + length u.records
 records_pushed us u = sum_by_push (λ (u : LogUnit). length u.records) us u
 
-words_pushed : (us : Log) (u : LogUnit) → word_count (us ++ u ∷ []) ≡ word_count us + length (unit_words u)
+pub words_pushed : (us : Log) (u : LogUnit) → word_count (us ++ u ∷ []) ≡ word_count us + length (unit_words u)
 words_pushed us u = sum_by_push (λ (u : LogUnit). length (unit_words u)) us u
 
 -- a record in a unit of its own, with a cut or without one

@@ -37,7 +37,7 @@ seg_taken (Some u) g l = elim (cases_Bool (goes_on u l)) [
   | inr off ↦ rw off refl
 ]
 
-seg_folded : (ls : List Line) (g : Gathered) → (fold stepped g ls).seg ≡ g.seg
+pub seg_folded : (ls : List Line) (g : Gathered) → (fold stepped g ls).seg ≡ g.seg
 seg_folded [] g = refl
 seg_folded (BlankLine ∷ ls) g = seg_folded ls (ended g)
 seg_folded (CommentLine ∷ ls) g = seg_folded ls g

@@ -1,6 +1,9 @@
 pub mod Batches
+pub mod Counted
 pub mod Lines
 pub mod Listing
+pub mod Made
 pub mod RawLog
+pub mod TagNumbers
 pub mod Turns
 pub mod inside

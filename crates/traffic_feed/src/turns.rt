@@ -37,13 +37,21 @@ impl Turns {
         Turns { x: seed % DRAW_END }
     }
 
+    /// Draws a number below 65,537.
+    pub(crate) fn draw(&mut self) -> u32
+        ensures drawn { self.new ≡ next_draw self.old }
+        ensures draw { result ≡ self.new }
+    {
+        self.x = (75 * self.x + 74) % DRAW_END;
+        self.x
+    }
+
     /// Draws, and answers whose turn it is of so many, counted from 0.
     pub fn pick(&mut self, active: u32) -> u32
         requires { 0 < active }
         ensures drawn { self.new ≡ next_draw self.old }
         ensures pick { result ≡ next_draw self.old % active }
     {
-        self.x = (75 * self.x + 74) % DRAW_END;
-        self.x % active
+        self.draw() % active
     }
 }
