@@ -1,14 +1,14 @@
 -- A ring stands for its log, when it is new and after a put.
-use Rattle.std.proofs.Common.{ltb, ◌≡◌, ℕ, ◌+◌, ◌*◌, ◌/◌, ◌%◌, ◌<◌, ◌≤◌, eqb, List, [], ◌∷◌, ◌++◌, length, get_or, sym, refl, ap, ◌∙◌, subst, ⊎_elim, arith, Some, eqb-true}
+use Rattle.std.proofs.Common.{ltb, true, false, not, if◌then◌else◌, Bool, ◌≡◌, ℕ, ◌+◌, ◌*◌, ◌/◌, ◌%◌, ◌<◌, ◌≤◌, eqb, List, [], ◌∷◌, ◌++◌, length, get_or, sym, refl, ap, ◌∙◌, subst, ⊎_elim, arith, Some, eqb-true}
 use Rattle.std.proofs.lemmas.Nat.{div_below, mod-mul-add}
 use Rattle.vsl_record.specs.Unit.{LogUnit, Log}
 use Rattle.vsl_record.specs.Words.{IsUnit, unit_words}
 use Rattle.vsl_record.proofs.Steps.{all_append}
-use Rattle.ring_layout.specs.Places.{IsSegment, last_tail, start_at, end_at, if_some, first_in, tail, AreFit, end_mark}
+use Rattle.ring_layout.specs.Places.{IsSegment, last_tail, stays, start_at, end_at, tail_from, if_some, first_in, tail, AreFit, end_mark}
 use Rattle.ring_layout.specs.Content.{HoldsLog}
 use Rattle.ring_layout.proofs.PushLemmas.{tail_push}
 use Rattle.ring_layout.proofs.AgreedLemmas.{or_some, if_true}
-use Rattle.ring_plain.specs.Ring.{RingState, IsRingOf}
+use Rattle.ring_plain.specs.Ring.{RingState, IsRingOf, wraps_from, count_wraps}
 use Rattle.ring_plain.specs.inside.Stores.{with_start, words_with, ring_with}
 use Rattle.ring_plain.proofs.PutLemmas.{put_holds}
 use Rattle.ring_plain.proofs.ListLemmas.{length-set_if, put_stored, length-words_with}
@@ -34,8 +34,8 @@ new_holds seg starts ring pos start mark = record {
       ap (λ (k : ℕ). get_or ring (k % (8 * seg)) 0) q_is ∙ (ap (λ (k : ℕ). get_or ring k 0) first ∙ (mark ∙ f.1));
 }
 
-pub new_log : (ring : RingState) → IsSegment ring.seg → length ring.starts ≡ 8 → length ring.words ≡ 8 * ring.seg → ring.tail ≡ 0 → ring.counter ≡ 0 → get_or ring.starts 0 0 ≡ 0 → get_or ring.words 0 0 ≡ end_mark → IsRingOf ring []
-new_log ring segment eight lap tail_is counter_is start mark =
+pub new_log : (ring : RingState) → IsSegment ring.seg → length ring.starts ≡ 8 → length ring.words ≡ 8 * ring.seg → ring.tail ≡ 0 → ring.counter ≡ 0 → ring.wraps ≡ 0 → get_or ring.starts 0 0 ≡ 0 → get_or ring.words 0 0 ≡ end_mark → IsRingOf ring []
+new_log ring segment eight lap tail_is counter_is wraps_are start mark =
     let z = zero_div ring.seg (omega arith) in
     record {
       segment = segment;
@@ -46,6 +46,7 @@ new_log ring segment eight lap tail_is counter_is start mark =
       tail_is = tail_is;
       low = omega arith;
       counter_is = counter_is ∙ (sym z ∙ ap (λ (k : ℕ). k / ring.seg) (sym tail_is));
+      wraps_are = wraps_are;
       holds = subst (λ (c : ℕ). HoldsLog unit_words ring.seg [] c (λ i. get_or ring.starts i 0) (λ i. get_or ring.words i 0)) (sym counter_is) (new_holds ring.seg ring.starts ring.words (omega arith) start mark);
     }
 
@@ -58,6 +59,21 @@ abbrev Stored : ℕ → ℕ → RingState → Log → LogUnit → Type 0
 Stored t c ring log u = HoldsLog unit_words ring.seg (log ++ u ∷ []) (end_at ring.seg t (length (unit_words u)) / ring.seg)
     (λ i. get_or (with_start ring.seg c (start_at ring.seg t (length (unit_words u))) (with_start ring.seg c (end_at ring.seg t (length (unit_words u))) ring.starts)) i 0)
     (λ i. get_or (words_with ring.seg t (unit_words u) ring.words) i 0)
+
+-- how many units wrap where one stays in its lap, or doesn't
+abbrev wrap_of : Bool → ℕ
+wrap_of stay = if stay then 0 else 1
+
+one_more : (stay : Bool) (n : ℕ) → (if not stay then n + 1 else n) ≡ n + wrap_of stay
+one_more true n = omega arith
+one_more false n = refl
+
+-- one unit more wraps where it doesn't stay in the lap of the tail
+pub wraps_push : (seg t : ℕ) (log : Log) (u : LogUnit) → wraps_from seg t (log ++ u ∷ []) ≡ wraps_from seg t log + wrap_of (stays seg (tail_from unit_words seg t log) (length (unit_words u)))
+wraps_push seg t [] u = omega arith
+wraps_push seg t (v ∷ log) u =
+    let more = wraps_push seg (end_at seg t (length (unit_words v))) log u in
+    omega arith
 
 pub put_log : (ring : RingState) (log : Log) (u : LogUnit) → IsUnit u → length (unit_words u) ≤ ring.seg → end_at ring.seg ring.tail (length (unit_words u)) ≤ last_tail → IsRingOf ring log → IsRingOf (ring_with ring u) (log ++ u ∷ [])
 put_log ring log u is_unit fits upto h =
@@ -78,5 +94,7 @@ put_log ring log u is_unit fits upto h =
       tail_is = ap (λ (z : ℕ). end_at seg z w) h.tail_is ∙ sym (tail_push unit_words seg log u);
       low = upto;
       counter_is = refl;
+      wraps_are = one_more (stays seg ring.tail w) ring.wraps ∙ (ap (λ (z : ℕ). z + wrap_of (stays seg ring.tail w)) h.wraps_are
+          ∙ (ap (λ (z : ℕ). count_wraps seg log + wrap_of (stays seg z w)) h.tail_is ∙ sym (wraps_push seg 0 log u)));
       holds = subst (λ (z : ℕ). Stored z ring.counter ring log u) (sym h.tail_is) (subst (λ (c : ℕ). Stored t c ring log u) (sym counter) stored);
     }

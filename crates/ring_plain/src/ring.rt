@@ -44,20 +44,21 @@ pub struct PlainRing {
     starts: [u64; SEGMENTS],
     tail: u64,
     counter: u64,
+    wraps: u64,
     ended: bool,
 }
 
 impl Model for PlainRing {
-    ghost use Rattle.std.specs.Prelude.{◌≡◌, ◌*◌, length};
+    ghost use Rattle.std.specs.Prelude.{◌≡◌, ◌*◌, ◌≤◌, length};
     ghost use Rattle.vsl_record.specs.Words.{words_in};
     ghost use Rattle.ring_layout.specs.Places.{IsSegment};
     ghost use Rattle.ring_plain.specs.Ring.{RingState};
 
     ghost Value = { RingState };
 
-    ghost view = { λ r. record { seg = r.shape; starts = r.starts; words = words_in r.bytes.items; tail = r.tail; counter = r.counter; ended = r.ended } };
+    ghost view = { λ r. record { seg = r.shape; starts = r.starts; words = words_in r.bytes.items; tail = r.tail; counter = r.counter; wraps = r.wraps; ended = r.ended } };
 
-    ghost invariant = { λ r. IsSegment r.shape × (length r.bytes.items ≡ 32 * r.shape) × (length r.starts ≡ 8) };
+    ghost invariant = { λ r. IsSegment r.shape × (length r.bytes.items ≡ 32 * r.shape) × (length r.starts ≡ 8) × (r.wraps ≤ r.tail) };
 }
 
 /// The number of the word in which a place lies.
@@ -119,6 +120,7 @@ impl PlainRing {
             starts: [0; SEGMENTS],
             tail: 0,
             counter: 0,
+            wraps: 0,
             ended: false,
         })
     }
@@ -157,6 +159,9 @@ impl PlainRing {
         store_start(&mut self.starts, self.shape, self.counter, placed.tail);
         store_start(&mut self.starts, self.shape, self.counter, placed.start);
         store_words(&mut self.bytes, self.shape, self.tail, placed, unit);
+        if placed.wraps {
+            self.wraps += 1;
+        }
         self.tail = placed.tail;
         self.counter = segment_of(self.shape, placed.tail);
     }
@@ -167,6 +172,13 @@ impl PlainRing {
         ensures log { (log : Log) → IsRingOf self.old log → IsRingOf self.new log }
     {
         self.ended = true;
+    }
+
+    /// How many units wrapped: those that started a lap early because the lap had no room for them.
+    pub fn wraps(&self) -> u64
+        ensures { result ≡ self.now.wraps }
+    {
+        self.wraps
     }
 
     /// How many words a segment has.

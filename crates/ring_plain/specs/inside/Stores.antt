@@ -31,5 +31,6 @@ ring_with ring u = let w = length (unit_words u) in record {
   words = words_with ring.seg ring.tail (unit_words u) ring.words;
   tail = end_at ring.seg ring.tail w;
   counter = end_at ring.seg ring.tail w / ring.seg;
+  wraps = if not (stays ring.seg ring.tail w) then ring.wraps + 1 else ring.wraps;
   ended = ring.ended;
 }
