@@ -6,6 +6,7 @@ use Rattle.vsl_record.specs.Unit.{LogUnit, Log}
 use Rattle.vsl_record.specs.Words.{unit_words}
 use Rattle.ring_layout.specs.declared.history.HistoryItem.{HistoryItem}
 use Rattle.ring_layout.specs.declared.history.HistoryItem.TheVariants.{UnitRun, Overrun}
+use Rattle.feed_schedule.specs.Unread.{IsUnread}
 use Rattle.feed_schedule.specs.Schedule.{Stage, Reading, Reads, Waits, Ended, first_stage, count_writers, after_turns, IsScheduled, events_of, TookUnit, WasOverrun}
 
 -- a unit of one record of a client, with tag VCL_Log
@@ -98,3 +99,16 @@ overrun_twice : IsScheduled 64 (Some 5) (map long (1 ∷ 2 ∷ 3 ∷ []) ∷ map
     (UnitRun (record { segment = 0; first = 0; units = map long (4 ∷ []) }) ∷ Overrun 1 7 ∷ UnitRun (record { segment = 3; first = 3; units = map long (7 ∷ []) }) ∷
     Overrun 4 10 ∷ UnitRun (record { segment = 6; first = 6; units = map long (1 ∷ 2 ∷ 3 ∷ []) }) ∷ [])
 overrun_twice = (20, refl, refl, refl)
+
+-- ---- where nobody reads
+
+-- feed after feed the log is the feeds, one after the other
+put_feed_after_feed : IsUnread None feeds (a1 ∷ a2 ∷ b1 ∷ [])
+put_feed_after_feed = (5, refl, refl)
+
+-- in the turns of seed 7, of two feeds of two units, B puts twice
+b2 : LogUnit
+b2 = told 8 (codes "b2")
+
+put_in_turns : IsUnread (Some 7) ((a1 ∷ a2 ∷ []) ∷ (b1 ∷ b2 ∷ []) ∷ []) (b1 ∷ b2 ∷ a1 ∷ a2 ∷ [])
+put_in_turns = (6, refl, refl)

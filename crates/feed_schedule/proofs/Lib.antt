@@ -10,3 +10,6 @@ mod PuttingLemmas
 mod TakingLemmas
 mod TurningLemmas
 mod ReplayingLemmas
+pub mod UnreadLemmas
+mod TallyLemmas
+mod CountingLemmas

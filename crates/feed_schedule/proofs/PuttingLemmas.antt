@@ -28,7 +28,7 @@ end_twice seg t w pos = dite (dec_lt (t % (8 * seg) + w) (8 * seg))
     (let p : t / (8 * seg) * (8 * seg) + t % (8 * seg) ≡ t = div-add-mod' t (8 * seg) in let m : t % (8 * seg) < 8 * seg = mod-lt t (omega arith) in omega arith))
 
 -- so do more units
-tail_twice : (seg : ℕ) (log more : Log) → 0 < seg → tail unit_words seg (log ++ more) ≤ tail unit_words seg log + 2 * word_count more
+pub tail_twice : (seg : ℕ) (log more : Log) → 0 < seg → tail unit_words seg (log ++ more) ≤ tail unit_words seg log + 2 * word_count more
 tail_twice seg log [] pos = subst (λ (l : Log). tail unit_words seg l ≤ tail unit_words seg log + 2 * word_count []) (sym (append-nil log)) (omega arith)
 tail_twice seg log (u ∷ more) pos =
     let r = tail_twice seg (log ++ u ∷ []) more pos in
@@ -47,45 +47,48 @@ stands_grows cursor log (u ∷ more) k pos h = subst (λ (l : Log). Stands curso
 segment_pos : (r : ReplayState) (s : Stage) → IsAt r s → 0 < r.ring.seg
 segment_pos r s h = let b = h.ring.segment in omega arith
 
--- the unit that a writer puts isn't refused
-pub put_accepted : (r : ReplayState) (s : Stage) (k : ℕ) (u : LogUnit) → IsAt r s → put_by k s.writers ≡ u ∷ [] → put_fault r.ring u ≡ None
-put_accepted r s k u h e =
+-- a unit that a writer puts isn't refused, where what is still to be put is fit and has room
+pub put_has_room : (ring : RingState) (writers : List (Option Log)) (k : ℕ) (u : LogUnit) → 0 < ring.seg → AreFit unit_words ring.seg (waiting writers) → ring.tail + 2 * word_count (waiting writers) ≤ last_tail → put_by k writers ≡ u ∷ [] → put_fault ring u ≡ None
+put_has_room ring writers k u pos fit room e =
     let w : ℕ = length (unit_words u) in
-    let f = subst (AreFit unit_words r.ring.seg) e (put_is_fit r.ring.seg k s.writers h.fit).0 in
-    let fits : w ≤ r.ring.seg = f.0.1 in
-    let words = put_words k s.writers in
+    let f = subst (AreFit unit_words ring.seg) e (put_is_fit ring.seg k writers fit).0 in
+    let fits : w ≤ ring.seg = f.0.1 in
+    let words = put_words k writers in
     let same = ap word_count e in
-    let room = h.room in
-    let twice = end_twice r.ring.seg r.ring.tail w (segment_pos r s h) in
-    let low : end_at r.ring.seg r.ring.tail w ≤ last_tail = omega arith in
-    rw (le-ltb r.ring.seg w fits, le-ltb last_tail (end_at r.ring.seg r.ring.tail w) low) refl
+    let twice = end_twice ring.seg ring.tail w pos in
+    let low : end_at ring.seg ring.tail w ≤ last_tail = omega arith in
+    rw (le-ltb ring.seg w fits, le-ltb last_tail (end_at ring.seg ring.tail w) low) refl
+
+-- so in a replay
+put_accepted : (r : ReplayState) (s : Stage) (k : ℕ) (u : LogUnit) → IsAt r s → put_by k s.writers ≡ u ∷ [] → put_fault r.ring u ≡ None
+put_accepted r s k u h e = put_has_room r.ring s.writers k u (segment_pos r s h) h.fit h.room e
 
 -- nor is the one that is found by its place
 pub room_at : (r : ReplayState) (s : Stage) (k place : ℕ) (w : Option Log) (u : LogUnit) → IsAt r s → IsWriterAt r.writers k place w → put_by 0 (w ∷ []) ≡ u ∷ [] → put_fault r.ring u ≡ None
 room_at r s k place w u h at e = put_accepted r s k u h (ap (put_by k) (sym h.writers) ∙ puts_at r.writers k place w at ∙ e)
 
 -- a writer had a turn: what it put is in the ring, which ends with the last writer; so many have not left then
-pub record Wrote (r : ReplayState) (k left : ℕ) (ring : RingState) (writers : List (Option Log)) : Type 0 where
-  pub seg : ring.seg ≡ r.ring.seg
-  pub put : (log : Log) → IsRingOf r.ring log → IsRingOf ring (log ++ put_by k r.writers)
-  pub rest : writers ≡ without_next k r.writers
+pub record Wrote (old : RingState) (waited : List (Option Log)) (k left : ℕ) (ring : RingState) (writers : List (Option Log)) : Type 0 where
+  pub seg : ring.seg ≡ old.seg
+  pub put : (log : Log) → IsRingOf old log → IsRingOf ring (log ++ put_by k waited)
+  pub rest : writers ≡ without_next k waited
   pub count : left ≡ count_writers writers
   pub ended : ring.ended ≡ eqb (count_writers writers) 0
-  pub fewer : 2 * (length (waiting writers) + count_writers writers) + 2 ≡ 2 * (length (waiting r.writers) + count_writers r.writers)
+  pub fewer : length (waiting writers) + count_writers writers + 1 ≡ length (waiting waited) + count_writers waited
 
 -- so had one that is found by its place
-pub wrote_at : (r : ReplayState) (k place active left : ℕ) (w after : Option Log) (ring : RingState) → IsWriterAt r.writers k place w → k < count_writers r.writers → active ≡ count_writers r.writers → ring.seg ≡ r.ring.seg
-    → ((log : Log) → IsRingOf r.ring log → IsRingOf ring (log ++ put_by 0 (w ∷ []))) → without_next 0 (w ∷ []) ≡ after ∷ [] → left + 1 ≡ length (put_by 0 (w ∷ [])) + active → ring.ended ≡ eqb left 0
-    → Wrote r k left ring (set r.writers place after)
-wrote_at r k place active left w after ring at below counted seg put alone lefts ended =
-    let puts = puts_at r.writers k place w at in
-    let rest = leaves_at r.writers k place w after at alone in
-    let a = leave_counts k r.writers below in
-    let b = put_length k r.writers in
+pub wrote_at : (old : RingState) (waited : List (Option Log)) (k place active left : ℕ) (w after : Option Log) (ring : RingState) → IsWriterAt waited k place w → k < count_writers waited → active ≡ count_writers waited → ring.seg ≡ old.seg
+    → ((log : Log) → IsRingOf old log → IsRingOf ring (log ++ put_by 0 (w ∷ []))) → without_next 0 (w ∷ []) ≡ after ∷ [] → left + 1 ≡ length (put_by 0 (w ∷ [])) + active → ring.ended ≡ eqb left 0
+    → Wrote old waited k left ring (set waited place after)
+wrote_at old waited k place active left w after ring at below counted seg put alone lefts ended =
+    let puts = puts_at waited k place w at in
+    let rest = leaves_at waited k place w after at alone in
+    let a = leave_counts k waited below in
+    let b = put_length k waited in
     let c = ap (λ (l : Log). length l) puts in
     let d = ap count_writers rest in
     let e = ap (λ (l : List (Option Log)). length (waiting l)) rest in
-    let count : left ≡ count_writers (set r.writers place after) = omega arith in
+    let count : left ≡ count_writers (set waited place after) = omega arith in
     record {
       seg = seg;
       put = λ log h. subst (λ (l : Log). IsRingOf ring (log ++ l)) (sym puts) (put log h);
@@ -96,7 +99,7 @@ wrote_at r k place active left w after ring at below counted seg put alone lefts
     }
 
 -- after a writer's turn
-pub at_writer : (r : ReplayState) (k left : ℕ) (ring : RingState) (writers : List (Option Log)) (s : Stage) → Wrote r k left ring writers → IsAt r s → IsAt (record r { ring = ring; writers = writers; reading = Reads }) (after_writer k s)
+pub at_writer : (r : ReplayState) (k left : ℕ) (ring : RingState) (writers : List (Option Log)) (s : Stage) → Wrote r.ring r.writers k left ring writers → IsAt r s → IsAt (record r { ring = ring; writers = writers; reading = Reads }) (after_writer k s)
 at_writer r k left ring writers s wrote h =
     let pos : 0 < r.cursor.seg = (let p = segment_pos r s h in let e = h.same in omega arith) in
     let is : IsRingOf ring (s.log ++ put_by k s.writers) = subst (λ (l : List (Option Log)). IsRingOf ring (s.log ++ put_by k l)) h.writers (wrote.put s.log h.ring) in
@@ -123,7 +126,7 @@ at_writer r k left ring writers s wrote h =
     }
 
 -- a replay stays steady in a writer's turn
-pub steady_writer : (r : ReplayState) (k active left : ℕ) (ring : RingState) (writers : List (Option Log)) → Wrote r k left ring writers → IsSteady active r → IsSteady left (record r { ring = ring; writers = writers; reading = Reads })
+pub steady_writer : (r : ReplayState) (k active left : ℕ) (ring : RingState) (writers : List (Option Log)) → Wrote r.ring r.writers k left ring writers → IsSteady active r → IsSteady left (record r { ring = ring; writers = writers; reading = Reads })
 steady_writer r k active left ring writers wrote h = record {
   counted = wrote.count;
   few = let a = wrote.count in let b = count_falls k r.writers in let c = ap count_writers wrote.rest in let d = h.counted in let e = h.few in omega arith;
@@ -132,7 +135,7 @@ steady_writer r k active left ring writers wrote h = record {
 }
 
 -- fewer turns are to come
-pub fewer_writer : (r old : ReplayState) (k left : ℕ) (ring : RingState) (writers : List (Option Log)) → r ≡ old → Wrote r k left ring writers → turns_to_come (record r { ring = ring; writers = writers; reading = Reads }) < turns_to_come old
+pub fewer_writer : (r old : ReplayState) (k left : ℕ) (ring : RingState) (writers : List (Option Log)) → r ≡ old → Wrote r.ring r.writers k left ring writers → turns_to_come (record r { ring = ring; writers = writers; reading = Reads }) < turns_to_come old
 fewer_writer r old k left ring writers same wrote =
     let less : turns_to_come (record r { ring = ring; writers = writers; reading = Reads }) < turns_to_come r = (let fewer = wrote.fewer in omega arith) in
     subst (λ (o : ReplayState). turns_to_come (record r { ring = ring; writers = writers; reading = Reads }) < turns_to_come o) same less

@@ -1,3 +1,4 @@
-pub mod Schedule
 pub mod Replaying
+pub mod Schedule
+pub mod Unread
 pub mod inside

@@ -9,6 +9,7 @@ ghost use Rattle.ring_layout.specs.declared.history.HistoryItem.{HistoryItem};
 ghost use Rattle.ring_layout.specs.Places.{IsSegment, AreFit};
 ghost use Rattle.ring_layout.specs.History.{IsReadHistory, ReachesTail};
 ghost use Rattle.feed_schedule.specs.Schedule.{IsScheduled};
+ghost use Rattle.feed_schedule.specs.Unread.{IsUnread};
 
 /// The law that each schedule of feeds of fit units ends, and that a schedule ends in one way.
 pub fn every_schedule_ends()
@@ -26,4 +27,11 @@ pub fn schedules_are_read_whole()
         IsScheduled seg order feeds log history → IsReadHistory unit_words seg log history }
     ensures to_the_tail { (seg : ℕ) (order : Option ℕ) (feeds : List Log) (log : Log) (history : List (HistoryItem LogUnit)) → IsSegment seg → All (AreFit unit_words seg) feeds →
         IsScheduled seg order feeds log history → ReachesTail log history }
+{}
+
+/// The law that each schedule of writers that nobody reads ends, in one way, and that its log is an interleaving of the feeds.
+pub fn every_writing_ends()
+    ensures ends { (order : Option ℕ) (feeds : List Log) → (log : Log) × IsUnread order feeds log }
+    ensures one_way { (order : Option ℕ) (feeds : List Log) (log other : Log) → IsUnread order feeds log → IsUnread order feeds other → log ≡ other }
+    ensures interleaved { (order : Option ℕ) (feeds : List Log) (log : Log) → IsUnread order feeds log → IsInterleaving log feeds }
 {}

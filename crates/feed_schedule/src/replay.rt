@@ -1,6 +1,6 @@
 //! Writers and a reader that have their turns over a ring.
 
-ghost use Rattle.std.specs.Prelude.{◌≡◌, ◌+◌, ◌*◌, ◌≤◌, ◌<◌, ◌++◌, ◌==◌, List, [], ◌∷◌, true, false, map, take, length, slice_get, Option, Some, None, IsSome, IsNone, is_none, IfOk};
+ghost use Rattle.std.specs.Prelude.{◌≡◌, ◌+◌, ◌*◌, ◌≤◌, ◌<◌, ◌++◌, ◌==◌, List, [], ◌∷◌, true, false, map, take, length, slice_get, Option, Some, None, IsSome, IsNone, IfSome, is_none, IfOk};
 ghost use Rattle.std.specs.List.{All};
 ghost use Rattle.std.specs.Option.{option_map};
 ghost use Rattle.vsl_record.specs.Unit.{LogUnit, Log};
@@ -20,7 +20,7 @@ use ring_plain::{PlainCursor, PlainRing};
 use std::alloc::Global;
 use std::marker::Model;
 use traffic_feed::{Listing, Turns};
-use vsl_record::UnitView;
+use vsl_record::{Unit, UnitView};
 
 /// What the reader met.
 #[derive(Clone, Copy, Debug, PartialEq, Eq)]
@@ -51,7 +51,7 @@ enum Reading {
 
 /// A writer, with the units of its feed.
 #[derive(Drop)]
-struct Writer {
+pub(crate) struct Writer {
     listing: Listing,
     /// How many of the units were put.
     put: usize,
@@ -95,7 +95,7 @@ impl Model for Replay {
 
 impl Writer {
     /// A writer that has put nothing.
-    fn new(listing: Listing) -> Writer
+    pub(crate) fn new(listing: Listing) -> Writer
         ensures { result ≡ Some listing.units }
     {
         Writer {
@@ -112,9 +112,18 @@ impl Writer {
         self.left
     }
 
+    /// The unit that it puts next, if one is left.
+    pub(crate) fn next_unit(&self) -> Option<&Unit>
+        requires { IsSome self.now }
+        ensures some { IfSome result (λ unit. put_by 0 (self.now ∷ []) ≡ unit.now ∷ []) }
+        ensures none { IsNone result → put_by 0 (self.now ∷ []) ≡ [] }
+    {
+        self.listing.units.as_slice().get(self.put)
+    }
+
     /// Has a turn, as one of so many that have not left: puts its next unit, or leaves where none is left, and the ring
     /// ends with the last. How many have not left then.
-    fn write(&mut self, ring: &mut PlainRing, active: u32) -> u32
+    pub(crate) fn write(&mut self, ring: &mut PlainRing, active: u32) -> u32
         requires stays { IsSome self.old }
         requires open { ring.old.ended ≡ false }
         requires room { (u : LogUnit) → put_by 0 (self.old ∷ []) ≡ u ∷ [] → put_fault ring.old u ≡ None }
@@ -141,7 +150,7 @@ impl Writer {
 }
 
 /// A writer for each listing.
-fn writers_of(alloc: Global, listings: Vec<Listing>) -> Result<Vec<Writer>, NoMemory>
+pub(crate) fn writers_of(alloc: Global, listings: Vec<Listing>) -> Result<Vec<Writer>, NoMemory>
     ensures { IfOk result (λ writers. writers.items ≡ map (λ l. Some l.units) listings.items) }
 {
     let writers = listings.into_iter().map(Writer::new).collect(alloc)?;
@@ -149,7 +158,7 @@ fn writers_of(alloc: Global, listings: Vec<Listing>) -> Result<Vec<Writer>, NoMe
 }
 
 /// A ring with no unit; it has ended where there are no writers.
-fn empty_ring(alloc: Global, shape: Shape, writers: u32) -> Result<PlainRing, NoMemory>
+pub(crate) fn empty_ring(alloc: Global, shape: Shape, writers: u32) -> Result<PlainRing, NoMemory>
     ensures shape { IfOk result (λ ring. ring.seg ≡ shape) }
     ensures empty { IfOk result (λ ring. IsRingOf ring []) }
     ensures ended { IfOk result (λ ring. ring.ended ≡ (writers == 0)) }
@@ -162,14 +171,14 @@ fn empty_ring(alloc: Global, shape: Shape, writers: u32) -> Result<PlainRing, No
 }
 
 /// The draws of a seed, if there is one.
-fn turns_of(seed: Option<u32>) -> Option<Turns>
+pub(crate) fn turns_of(seed: Option<u32>) -> Option<Turns>
     ensures { result ≡ option_map first_draw seed }
 {
     seed.map(Turns::new)
 }
 
 /// The place of the writer that has so many before it that have not left, and has not left itself.
-fn place_of(writers: &[Writer], mut behind: u32) -> usize
+pub(crate) fn place_of(writers: &[Writer], mut behind: u32) -> usize
     requires { behind < count_writers writers.now }
     ensures behind { count_writers (take result writers.now) ≡ behind }
     ensures writer { (units : Log) × (slice_get writers.now result ≡ Some (Some units)) }

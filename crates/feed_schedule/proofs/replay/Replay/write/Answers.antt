@@ -16,7 +16,7 @@ invariant_of-self c =
     let below = subst (λ (o : ReplayState). c.args.chosen < count_writers o.writers) (sym c.self.view_is) c.requires in
     let e = c.write-self-inside.ensures in
     steady_writer _ c.args.chosen c.self.inside.active c.write-self-inside.result c.write-self-inside.new.ring _
-    (wrote_at _ c.args.chosen c.place_of-place.result c.self.inside.active _ _ _ _ at below c.self.invariant.counted e.shape e.put e.writer e.active e.ended) c.self.invariant
+    (wrote_at _ _ c.args.chosen c.place_of-place.result c.self.inside.active _ _ _ _ at below c.self.invariant.counted e.shape e.put e.writer e.active e.ended) c.self.invariant
 
 pub returns-clause-stage : goal.returns-clause-stage
 returns-clause-stage c =
@@ -24,7 +24,7 @@ returns-clause-stage c =
     let below = subst (λ (o : ReplayState). c.args.chosen < count_writers o.writers) (sym c.self.view_is) c.requires in
     let e = c.write-self-inside.ensures in
     writer_inside c.args.chosen _ _ _ c.self.view_is (λ s h. at_writer _ c.args.chosen c.write-self-inside.result c.write-self-inside.new.ring _ s
-    (wrote_at _ c.args.chosen c.place_of-place.result c.self.inside.active _ _ _ _ at below c.self.invariant.counted e.shape e.put e.writer e.active e.ended) h)
+    (wrote_at _ _ c.args.chosen c.place_of-place.result c.self.inside.active _ _ _ _ at below c.self.invariant.counted e.shape e.put e.writer e.active e.ended) h)
 
 pub returns-clause-fewer : goal.returns-clause-fewer
 returns-clause-fewer c =
@@ -32,4 +32,4 @@ returns-clause-fewer c =
     let below = subst (λ (o : ReplayState). c.args.chosen < count_writers o.writers) (sym c.self.view_is) c.requires in
     let e = c.write-self-inside.ensures in
     fewer_writer _ _ c.args.chosen c.write-self-inside.result c.write-self-inside.new.ring _ c.self.view_is
-    (wrote_at _ c.args.chosen c.place_of-place.result c.self.inside.active _ _ _ _ at below c.self.invariant.counted e.shape e.put e.writer e.active e.ended)
+    (wrote_at _ _ c.args.chosen c.place_of-place.result c.self.inside.active _ _ _ _ at below c.self.invariant.counted e.shape e.put e.writer e.active e.ended)
