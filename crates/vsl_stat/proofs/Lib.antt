@@ -1,1 +1,5 @@
 mod GlobLemmas
+mod JsonLemmas
+mod ReportExamples
+mod SelectLemmas
+mod TableLemmas

@@ -1,2 +1,3 @@
 pub mod Glob
+pub mod Report
 pub mod inside

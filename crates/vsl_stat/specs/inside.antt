@@ -1,2 +1,3 @@
 -- What only the private steps of this crate say.
 pub mod Reading
+pub mod Selecting
