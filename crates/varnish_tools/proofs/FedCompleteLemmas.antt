@@ -1,5 +1,5 @@
 -- A job over good feeds has no fault where no call of it failed.
-use Rattle.std.proofs.Common.{◌≡◌, ℕ, ◌+◌, ◌≤◌, List, [], ◌∷◌, ◌++◌, length, Option, Some, None, refl, sym, ap, subst, ◌∙◌, inl, inr, arith}
+use Rattle.std.proofs.Common.{◌≡◌, ℕ, ◌≤◌, List, [], ◌∷◌, ◌++◌, length, Option, Some, None, refl, sym, ap, subst, ◌∙◌, inl, inr, arith}
 use Rattle.log_model.specs.Faults.{HasNewFault}
 use Rattle.vio.specs.World.{Seen, Opening, Reading}
 use Rattle.vio.specs.Touches.{IsOneOf}
@@ -15,7 +15,7 @@ use Rattle.varnish_tools.specs.declared.outcome.RunRecord.{RunRecord}
 use Rattle.varnish_tools.specs.declared.outcome.Outcome.{Outcome}
 use Rattle.varnish_tools.specs.Faults.{status_of}
 use Rattle.varnish_tools.specs.Feeds.{FeedEnding, Whole, Kept, Unwritten, Unreported, ending_fault}
-use Rattle.varnish_tools.specs.FeedPromise.{StopsAtFeed, StopsOver, IsStopped, HasEndingCause, WorksFed, IsFedFaithful, IsFedComplete, NoFedFault, AreGoodFeeds}
+use Rattle.varnish_tools.specs.FeedPromise.{StopsAtFeed, StopsOver, IsStopped, HasEndingCause, WorksFed, IsFedFaithful, IsFedComplete, NoFedFault, HoldListings, AreGoodFeeds}
 use Rattle.varnish_tools.proofs.TakenLemmas.{NoQueryFails, no_query_stops}
 use Rattle.varnish_tools.proofs.FedLemmas.{query_names, ending_then}
 
@@ -63,11 +63,13 @@ no_feed_fault n name bytes (feed_faults.BadListing feed line) s u told opening r
     let same = read.told bytes told in none (p.0, subst (λ (xs : List ℕ). length xs ≤ most_feed_bytes) same read.within, subst (λ (xs : List ℕ). IsFirstBad xs line) same p.3)
 no_feed_fault n name bytes feed_faults.NoMemory s u told opening reading none p = p
 
-no_feed_stops : FeedsApart → (opened : List (List ℕ)) (job : Job) (fault : ToolFault) (s u : Seen) → AreGoodFeeds job s → NoFedFault job s u → ¬ (StopsAtFeed opened job fault s u)
-no_feed_stops apart opened job fault s u good none p =
+pub no_feed_stops : FeedsApart → (opened : List (List ℕ)) (job : Job) (fault : ToolFault) (s u : Seen) → HoldListings job s
+    → ((name : List ℕ) → IsOneOf name job.feeds → ¬ (HasNewFault (s.faults Opening name) (u.faults Opening name)))
+    → ((name : List ℕ) → IsOneOf name job.feeds → ¬ (HasNewFault (s.faults Reading name) (u.faults Reading name))) → ¬ (StopsAtFeed opened job fault s u)
+no_feed_stops apart opened job fault s u good opening reading p =
     let h = split job.reclen job.seg s p.earlier p.name p.later good.contents good.listings (subst (λ (names : List (List ℕ)). FeedsHold s names good.contents) p.parts good.holds) good.are in
-    let named : IsOneOf p.name (query_names job ++ job.feeds) = one_of_right p.name (query_names job) job.feeds (subst (λ (names : List (List ℕ)). IsOneOf p.name names) (sym p.parts) (one_of_right p.name p.earlier (p.name ∷ p.later) (inl refl))) in
-    no_feed_fault (length p.earlier) p.name h.bytes p.feed_fault s u h.holds (none.opening p.name named) (none.reading p.name named)
+    let named : IsOneOf p.name job.feeds = subst (λ (names : List (List ℕ)). IsOneOf p.name names) (sym p.parts) (one_of_right p.name p.earlier (p.name ∷ p.later) (inl refl)) in
+    no_feed_fault (length p.earlier) p.name h.bytes p.feed_fault s u h.holds (opening p.name named) (reading p.name named)
     (λ has. apart job.reclen job.seg job.feeds good.contents good.listings p.feed_fault good.are (record {
       earlier_names = p.earlier;
       name = p.name;
@@ -93,7 +95,8 @@ none_stops apart job fault s u good none (inr (inl p)) = let wrong = p.stops in 
 none_stops apart job fault s u good none (inr (inr p)) = by_stop p.1
   where
     by_stop : StopsOver (query_names job) job fault s u → ⊥
-    by_stop (inl stop) = no_feed_stops apart (query_names job) job fault s u good none stop
+    by_stop (inl stop) = no_feed_stops apart (query_names job) job fault s u good.feeds
+        (λ name one. none.opening name (one_of_right name (query_names job) job.feeds one)) (λ name one. none.reading name (one_of_right name (query_names job) job.feeds one)) stop
     by_stop (inr stop) = none.creating stop.failed
 
 -- and no write of its run fails

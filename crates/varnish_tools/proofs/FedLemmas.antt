@@ -79,7 +79,7 @@ ending_then job Kept s t u n p = tt
 ending_then job Unwritten s t u n p = let rose : HasNewFault (s.faults Writing (write_of job)) (t.faults Writing (write_of job)) = p in omega (arith, n.each Writing (write_of job), rose)
 ending_then job Unreported s t u n p = let rose : HasNewFault (s.faults Writing (codes "stderr")) (t.faults Writing (codes "stderr")) = p in omega (arith, n.each Writing (codes "stderr"), rose)
 
-feed_stop_then : (opened : List (List ℕ)) (job : Job) (fault : ToolFault) (s t u : Seen) → Told t u → StopsAtFeed opened job fault s t → StopsAtFeed opened job fault s u
+pub feed_stop_then : (opened : List (List ℕ)) (job : Job) (fault : ToolFault) (s t u : Seen) → Told t u → StopsAtFeed opened job fault s t → StopsAtFeed opened job fault s u
 feed_stop_then opened job fault s t u told p = record {
   feed_fault = p.feed_fault;
   is = p.is;

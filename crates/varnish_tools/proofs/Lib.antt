@@ -20,4 +20,5 @@ mod JobLemmas
 mod ToolLemmas
 mod FedLemmas
 mod FedCompleteLemmas
+mod TallyLemmas
 mod WordsLemmas

@@ -35,7 +35,7 @@ use Rattle.varnish_tools.specs.Queries.{Ask}
 use Rattle.varnish_tools.specs.Output.{head_text}
 use Rattle.varnish_tools.specs.Printer.{Plan, due, has_all}
 use Rattle.varnish_tools.specs.Feeds.{FeedEnding, Whole, Kept, Unwritten, Unreported, ending_fault, taken_of, without_last, count_units, count_items, messages_of, Meets, AreMessages, IsFedText, whole_fed_text}
-use Rattle.varnish_tools.specs.FeedPromise.{Scheduled, RanOver, WorksOver, HasEndingCause, WritesErrors}
+use Rattle.varnish_tools.specs.FeedPromise.{Scheduled, StopsAtFeed, RanOver, WorksOver, HasEndingCause, WritesErrors}
 use Rattle.varnish_tools.specs.inside.LogFile.{HoldsAsAsked, IsJobPlan, SinkCreated}
 use Rattle.varnish_tools.specs.inside.Over.{CutOver, FeedsWereRead, IsReplayOf, FedBegan}
 use Rattle.varnish_tools.specs.inside.FeedLoop.{AddedApart, IsMet, MetSome, FedToEnd, FedToKept, FedUntil, FedPart, LeftBy}
@@ -398,6 +398,21 @@ feeds_handles feeds created r s t p q = gives_more (length feeds + length create
 
 -- a feed has a fault
 
+pub stops_unfed : (job : Job) (fault : FeedFault) (s t : Seen) → StoppedByFeed job.reclen job.seg job.feeds fault s t → StopsAtFeed [] job (fault_of_feed fault) s t
+stops_unfed job fault s t p = record {
+  feed_fault = fault;
+  is = refl;
+  earlier = p.earlier;
+  name = p.name;
+  later = p.later;
+  parts = p.parts;
+  listings = p.listings;
+  read = p.read;
+  stops = p.stops;
+  touches = touches_in [] [] [] (ERRORS ∷ []) (p.earlier ++ p.name ∷ []) (p.earlier ++ p.name ∷ []) [] [] s t (λ i is. is) (λ i is. absurd is) (λ n is. is) (λ n is. is) p.touches;
+  handles = p.handles;
+}
+
 pub works_unfed : (job : Job) (ask : Ask) (fault : FeedFault) (s t : Seen) → StoppedByFeed job.reclen job.seg job.feeds fault s t → OnlyReads s t → Touches [] [] job.feeds [] s t
     → WorksOver ask [] job (Some (fault_of_feed fault)) Nothing [] s t
 works_unfed job ask fault s t p quiet touched =
@@ -405,19 +420,7 @@ works_unfed job ask fault s t p quiet touched =
     inl (
       fault_of_feed fault,
       refl,
-      inl (record {
-        feed_fault = fault;
-        is = refl;
-        earlier = p.earlier;
-        name = p.name;
-        later = p.later;
-        parts = p.parts;
-        listings = p.listings;
-        read = p.read;
-        stops = p.stops;
-        touches = touches_in [] [] [] (ERRORS ∷ []) (p.earlier ++ p.name ∷ []) (p.earlier ++ p.name ∷ []) [] [] s t (λ i is. is) (λ i is. absurd is) (λ n is. is) (λ n is. is) p.touches;
-        handles = p.handles;
-      }),
+      inl (stops_unfed job fault s t p),
       record { none = refl; sink = untouched_still (sink_of job) s t still },
       inl (gains_none (s.written ERRORS) (t.written ERRORS) (still.written ERRORS)),
     )

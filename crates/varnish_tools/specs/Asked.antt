@@ -1,5 +1,5 @@
 -- What the words of a command line ask for (this project's choice).
-use Rattle.std.specs.Prelude.{ℕ, if◌then◌else◌, List, [], unwrap_or, codes, is_some, Result, Ok, Err, Option, Some, None}
+use Rattle.std.specs.Prelude.{ℕ, if◌then◌else◌, Bool, true, false, List, [], unwrap_or, codes, is_some, Result, Ok, Err, Option, Some, None}
 use Rattle.txn_rows.specs.declared.group.GroupOptions.{GroupOptions}
 use Rattle.vsl_select.specs.declared.rule_text.SelectFault.{SelectFault}
 use Rattle.vsl_select.specs.declared.rule_text.SelectFault.TheVariants as rules
@@ -7,6 +7,8 @@ use Rattle.vsl_select.specs.Shown.{rules_fault}
 use Rattle.tool_words.specs.declared.fault.UsageFault.{UsageFault}
 use Rattle.tool_words.specs.declared.fault.UsageFault.TheVariants.{BadValue}
 use Rattle.tool_words.specs.declared.job.Job.{Job}
+use Rattle.tool_words.specs.declared.job.Tool.{Tool}
+use Rattle.tool_words.specs.declared.job.Tool.TheVariants.{Log, Ncsa, Top, Stat}
 use Rattle.tool_words.specs.Job.{job_of}
 use Rattle.varnish_tools.specs.declared.fault.ToolFault.{ToolFault}
 use Rattle.varnish_tools.specs.declared.fault.ToolFault.TheVariants.{Usage, NotBuilt, BadPattern}
@@ -17,14 +19,26 @@ pub data Asked : Type 0 where
   Refuse : ToolFault → Asked
   Work : Job → Asked
 
--- what the words of a command line come to: what is asked of a log file, which refused words are too, or a job over feeds
+-- what the words of a command line come to: what is asked of a log file, which refused words are too, a job over feeds, or a job that prints counters
 pub data Stated : Type 0 where
   OfFile : Asked → Stated
   OverFeeds : Job → Stated
+  OfCounters : Job → Stated
 
--- what a job that isn't refused comes to: it is over the log file that it names, or over feeds
+-- whether a tool prints counters
+abbrev pub is_counting : Tool → Bool
+is_counting Log = false
+is_counting Ncsa = false
+is_counting Top = false
+is_counting Stat = true
+
+-- what a job comes to that reads units: it is over the log file that it names, or over feeds
+abbrev pub read_job : Job → Stated
+read_job job = if is_some job.file then OfFile (Work job) else OverFeeds job
+
+-- what a job that isn't refused comes to: it prints counters, or reads units
 abbrev pub stated_job : Job → Stated
-stated_job job = if is_some job.file then OfFile (Work job) else OverFeeds job
+stated_job job = if is_counting job.tool then OfCounters job else read_job job
 
 -- what a job comes to, with the first that is wrong with its rules: a taglist is a bad value, and a pattern is refused; then a job that isn't built is
 -- refused

@@ -25,7 +25,7 @@ use Rattle.varnish_tools.specs.Queries.{Ask, AreAsked, TextsHold, texts_fault}
 use Rattle.varnish_tools.specs.QueryFiles.{AreTaken, StoppedByQuery}
 use Rattle.varnish_tools.specs.Formats.{StoppedByFormat, job_format_fault}
 use Rattle.varnish_tools.specs.Promise.{SinkBegins, WritesError}
-use Rattle.varnish_tools.specs.Feeds.{FeedEnding, Whole, Kept, Unwritten, Unreported, ending_fault, seed_of, units_of, Meets, count_units, count_items, messages_of, AreMessages, IsFedText, whole_fed_text}
+use Rattle.varnish_tools.specs.Feeds.{FeedEnding, Whole, Kept, Unwritten, Unreported, ending_fault, order_seed, units_of, with_made, Meets, count_units, count_items, messages_of, AreMessages, IsFedText, whole_fed_text}
 
 -- ---- before the run
 
@@ -86,13 +86,13 @@ HasEndingCause job Kept before now = Unit {0}
 HasEndingCause job Unwritten before now = HasNewFault (before.faults Writing (write_of job)) (now.faults Writing (write_of job))
 HasEndingCause job Unreported before now = HasNewFault (before.faults Writing (codes "stderr")) (now.faults Writing (codes "stderr"))
 
--- what feeds that were read come to in the order that a job states: their log, and all that a reader meets of it
+-- what feeds that were read come to, with the requests that are made, in the order that a job states: their log, and all that a reader meets of it
 pub record Scheduled (job : Job) (before now : Seen) : Type 0 where
   pub listings : List Listing
   pub read : AreFeedsRead job.reclen job.seg job.feeds listings before now
   pub log : Log
   pub history : List (HistoryItem LogUnit)
-  pub scheduled : IsScheduled job.seg (seed_of job.order) (units_of listings) log history
+  pub scheduled : IsScheduled job.seg (order_seed job.order) (units_of (with_made job listings)) log history
 
 -- a run over feeds: it met the first that the schedule has, recorded how many these are, ended, and wrote what is due, and its messages with another behind them
 pub record RanOver (ask : Ask) (job : Job) (fault : Option ToolFault) (recorded : RunRecord) (message : List ℕ) (before now : Seen) : Type 0 where
@@ -171,12 +171,16 @@ pub record NoFedFault (job : Job) (before now : Seen) : Type 0 where
   pub writing : ¬ (HasNewFault (before.faults Writing (write_of job)) (now.faults Writing (write_of job)))
   pub telling : ¬ (HasNewFault (before.faults Writing (codes "stderr")) (now.faults Writing (codes "stderr")))
 
--- the feeds hold listings, and nothing is wrong with the queries and the format
-pub record AreGoodFeeds (job : Job) (before : Seen) : Type 0 where
+-- the feeds of a job hold listings
+pub record HoldListings (job : Job) (before : Seen) : Type 0 where
   pub contents : List (List ℕ)
   pub holds : FeedsHold before job.feeds contents
   pub listings : List Listing
   pub are : AreListings job.reclen job.seg contents listings
+
+-- the feeds hold listings, and nothing is wrong with the queries and the format
+pub record AreGoodFeeds (job : Job) (before : Seen) : Type 0 where
+  pub feeds : HoldListings job before
   pub texts : List (List ℕ)
   pub told : TextsHold before job.queries texts
   pub good : texts_fault job.caseless 0 job.queries texts ≡ None

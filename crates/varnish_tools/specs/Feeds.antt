@@ -4,6 +4,7 @@ use Rattle.log_model.specs.Prefix.{IsPrefix, IsProperPrefix}
 use Rattle.vsl_record.specs.Unit.{Log}
 use Rattle.txn_rows.specs.Grouping.{Taken, TakenUnit, Missed, groups_of}
 use Rattle.traffic_feed.specs.declared.listing.Listing.{Listing}
+use Rattle.traffic_feed.specs.Made.{made_units, made_cuts}
 use Rattle.feed_schedule.specs.Schedule.{Event, TookUnit, WasOverrun}
 use Rattle.vsl_dispatch.specs.Groups.{kept, is_filled}
 use Rattle.tool_words.specs.declared.job.Job.{Job}
@@ -17,14 +18,23 @@ use Rattle.varnish_tools.specs.Queries.{Ask, chosen}
 use Rattle.varnish_tools.specs.Output.{head_text, output_of}
 
 -- the seed from which an order's turns are drawn; feed after feed draws none, and the order side by side isn't built
-abbrev pub seed_of : Order → Option ℕ
-seed_of Threads = None
-seed_of (Turns seed) = Some seed
-seed_of FeedFirst = None
+abbrev pub order_seed : Order → Option ℕ
+order_seed Threads = None
+order_seed (Turns seed) = Some seed
+order_seed FeedFirst = None
 
 -- the units of listings, list by list
 abbrev pub units_of : List Listing → List Log
 units_of listings = map (λ l. l.units) listings
+
+-- the listing of so many requests that are made from a seed, where they are asked for
+abbrev pub made_listings : ℕ → ℕ → Option (ℕ × ℕ) → List Listing
+made_listings reclen seg None = []
+made_listings reclen seg (Some made) = record { units = made_units made.0 made.1 reclen seg; cuts = made_cuts made.0 made.1 reclen seg } ∷ []
+
+-- what the writers of a job put: the listings of its feeds, and behind them the one that is made
+abbrev pub with_made : Job → List Listing → List Listing
+with_made job listings = listings ++ made_listings job.reclen job.seg job.made
 
 -- ---- what a tool met
 

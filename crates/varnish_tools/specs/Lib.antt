@@ -12,5 +12,6 @@ pub mod Printer
 pub mod Promise
 pub mod Feeds
 pub mod FeedPromise
+pub mod Counters
 pub mod Theorem
 pub mod inside

@@ -55,7 +55,7 @@ showing_of job = record { sides = job.sides; rules = job.rules; caseless = job.c
 abbrev pub look_of : Job → Look
 look_of job = record { layout = layout_of job; verbose = job.verbose; selection = showing_of job }
 
--- what a tool writes of a job's groups, ended or not: varnishlog what groups look like, varnishncsa their lines in the job's format, varnishtop its report; varnishstat isn't built
+-- what a tool writes of a job's groups, ended or not: varnishlog what groups look like, varnishncsa their lines in the job's format, varnishtop its report; varnishstat, which takes no groups, nothing
 abbrev pub tool_output : Tool → Job → List Group → Bool → List ℕ
 tool_output tools.Log job = λ groups ended. laid_out (look_of job) groups
 tool_output tools.Ncsa job = λ groups ended. access_text (pieces_of (format_text job)) job.sides groups

@@ -3,10 +3,11 @@
 ghost use Rattle.std.specs.Prelude.{◌≡◌, ◌≢◌, [], false, true, map, Some, IfOk, OnOk, MatchResult, IfErr};
 ghost use Rattle.std.specs.String.{string_bytes};
 ghost use Rattle.vsl_select.specs.Shown.{rules_fault};
+ghost use Rattle.tool_words.specs.Job.{is_fed};
 ghost use Rattle.tool_words.specs.Sound.{IsSound};
-ghost use Rattle.varnish_tools.specs.Asked.{Refuse, OfFile, stated_job, stated_by_rules, stated_of, options_of, file_of, write_of};
+ghost use Rattle.varnish_tools.specs.Asked.{Refuse, OfFile, is_counting, stated_job, stated_by_rules, stated_of, options_of, file_of, write_of};
 ghost use Rattle.varnish_tools.specs.Faults.{Refused, class_of};
-ghost use Rattle.varnish_tools.specs.Built.{is_built, is_built_order, is_built_tool};
+ghost use Rattle.varnish_tools.specs.Built.{is_built, is_built_order};
 ghost use Rattle.varnish_tools.specs.Output.{layout_of, look_of, showing_of, writes_log, writes_units};
 ghost use Rattle.vsl_dispatch.specs.Groups.{is_filled};
 
@@ -18,15 +19,15 @@ use txn_rows::GroupOptions;
 use vio::NoMemory;
 use vsl_select::{RuleText, SelectFault, Selection, Text};
 
-/// Whether the tool is built.
-fn has_tool(tool: Tool) -> bool
-    ensures { result ≡ is_built_tool tool }
+/// Whether the tool prints counters.
+pub fn is_counting(tool: Tool) -> bool
+    ensures { result ≡ is_counting tool }
 {
     match tool {
-        Tool::Log => true,
-        Tool::Ncsa => true,
-        Tool::Top => true,
-        Tool::Stat => false,
+        Tool::Log => false,
+        Tool::Ncsa => false,
+        Tool::Top => false,
+        Tool::Stat => true,
     }
 }
 
@@ -41,11 +42,18 @@ fn has_order(order: Order) -> bool
     }
 }
 
+/// Whether a job has feeds, or requests that are made.
+pub fn is_fed(job: &Job) -> bool
+    ensures { result ≡ is_fed job.now }
+{
+    job.feeds.as_slice().len() > 0 || job.made.is_some()
+}
+
 /// Whether a job asks for nothing that isn't built.
 fn is_built_job(job: &Job) -> bool
     ensures { result ≡ is_built job.now }
 {
-    has_tool(job.tool) && (job.file.is_some() || has_order(job.order) && job.made.is_none())
+    !is_fed(job) || has_order(job.order)
 }
 
 /// How a job groups records.
@@ -163,7 +171,7 @@ pub struct Task {
 /// The task of a job, where its rules are good and it is built, or the fault that refuses it.
 fn task_of(alloc: Global, job: Job) -> Result<Result<Task, ToolFault>, NoMemory>
     ensures asked { IfOk result (λ r. MatchResult r
-        (λ task. (stated_by_rules job (rules_fault job.caseless job.rules) ≡ stated_job task.job) × (task.selection ≡ showing_of task.job) × (is_built_tool task.job.tool ≡ true))
+        (λ task. (stated_by_rules job (rules_fault job.caseless job.rules) ≡ stated_job task.job) × (task.selection ≡ showing_of task.job))
         (λ fault. stated_by_rules job (rules_fault job.caseless job.rules) ≡ OfFile (Refuse fault))) }
     ensures same { IfOk result (λ r. IfOk r (λ task. task.job ≡ job)) }
     ensures refused { IfOk result (λ r. IfErr r (λ fault. class_of fault ≡ Refused)) }
@@ -184,7 +192,7 @@ fn task_of(alloc: Global, job: Job) -> Result<Result<Task, ToolFault>, NoMemory>
 /// The task that the words state, where it is built, or the fault that refuses them.
 pub fn read_task(alloc: Global, words: &[String]) -> Result<Result<Task, ToolFault>, NoMemory>
     ensures asked { IfOk result (λ r. MatchResult r
-        (λ task. (stated_of (map string_bytes words.now) ≡ stated_job task.job) × (task.selection ≡ showing_of task.job) × (is_built_tool task.job.tool ≡ true))
+        (λ task. (stated_of (map string_bytes words.now) ≡ stated_job task.job) × (task.selection ≡ showing_of task.job))
         (λ fault. stated_of (map string_bytes words.now) ≡ OfFile (Refuse fault))) }
     ensures keeps { IfOk result (λ r. IfOk r (λ task. is_filled task.job.keep [] ≡ false)) }
     ensures sound { IfOk result (λ r. IfOk r (λ task. IsSound task.job)) }

@@ -8,8 +8,6 @@ ghost use Rattle.feed_schedule.specs.Replaying.{Represents};
 ghost use Rattle.traffic_feed.specs.declared.listing.Listing as spec;
 ghost use Rattle.tool_words.specs.Sound.{IsSound};
 ghost use Rattle.varnish_tools.specs.Asked.{write_of};
-ghost use Rattle.varnish_tools.specs.Faults.{fault_of_feed};
-ghost use Rattle.varnish_tools.specs.Feeds.{seed_of};
 ghost use Rattle.varnish_tools.specs.Objects.{GivesAtMost, created_of, streams_of, sink_of};
 ghost use Rattle.varnish_tools.specs.Output.{head_text};
 ghost use Rattle.varnish_tools.specs.Queries.{Ask};
@@ -21,43 +19,19 @@ ghost use Rattle.varnish_tools.specs.inside.Over.{CutOver, FedBegan, FeedsWereRe
 use crate::asked::written_name;
 use crate::fault::ToolFault;
 use crate::feed_loop::{FeedStopped, print_feeds};
+use crate::listings::{feed_fault, order_seed, with_made};
 use crate::log_file::{head_of, job_printer};
 use crate::objects::create_sink;
 use crate::outcome::{Ran, counted, refused};
-use feed_files::{FeedFault, read_feeds};
+use feed_files::read_feeds;
 use feed_schedule::{Replay, every_schedule_ends};
 use query_parser::Query;
 use ring_layout::Shape;
 use std::alloc::Global;
-use tool_words::{Job, Order};
+use tool_words::Job;
 use vio::{Created, ERRORS, NoMemory, World, WorldFault, write_all};
 use vsl_dispatch::Consumer;
 use vsl_select::Text;
-
-/// The seed from which an order's turns are drawn; feed after feed draws none.
-fn seed_of(order: Order) -> Option<u32>
-    ensures { result ≡ seed_of order }
-{
-    match order {
-        Order::Threads => None,
-        Order::Turns(seed) => Some(seed),
-        Order::FeedFirst => None,
-    }
-}
-
-/// How the fault of a feed is answered; want of memory is none.
-fn feed_fault(fault: FeedFault) -> Result<ToolFault, NoMemory>
-    ensures fault { IfOk result (λ f. f ≡ fault_of_feed fault) }
-    ensures some { OnOk result (fault ≢ FeedFault.NoMemory) }
-{
-    match fault {
-        FeedFault::NoOpen { name } => Ok(ToolFault::NoOpen { name }),
-        FeedFault::ReadFault { name } => Ok(ToolFault::ReadFault { name }),
-        FeedFault::TooLarge { name, limit } => Ok(ToolFault::TooLarge { name, limit }),
-        FeedFault::BadListing { feed, line } => Ok(ToolFault::BadListing { feed, line }),
-        FeedFault::NoMemory => Err(NoMemory),
-    }
-}
 
 /// Writes the groups of what a reader meets of feeds to the handle `sink`.
 fn print_replay<W: World, C: Consumer>(
@@ -169,13 +143,15 @@ pub fn run_over_feeds<W: World, C: Consumer>(
     ensures prefix { OnErr result ((ask : Ask) → HoldsAsAsked query.now ask → CutOver ask job.now (W.seen world.old) (W.seen world.new)) }
     ensures works { IfOk result (λ r. (ask : Ask) → HoldsAsAsked query.now ask → WorksOver ask [] job.now r.fault r.run [] (W.seen world.old) (W.seen world.new)) }
 {
+    // A law, which says that there is a log, and a history.
     every_schedule_ends();
     let Some(shape) = Shape::new(job.seg) else {
         unreachable!()
     };
     match read_feeds(alloc, job.feeds.as_slice(), job.reclen, shape, world) {
         Ok(listings) => {
-            let replay = Replay::new(alloc, listings, seed_of(job.order), shape)?;
+            let writers = with_made(alloc, job, listings, shape)?;
+            let replay = Replay::new(alloc, writers, order_seed(job.order), shape)?;
             print_read(alloc, job, consumer, query, replay, world)
         }
         Err(fault) => Ok(refused(feed_fault(fault)?)),

@@ -3,7 +3,7 @@
 ghost use Rattle.std.specs.Prelude.{◌≡◌, [], false, ◌++◌, length, true, IfOk, OnErr};
 ghost use Rattle.vio.specs.Touches.{Touches};
 ghost use Rattle.tool_words.specs.Sound.{IsSound};
-ghost use Rattle.varnish_tools.specs.Asked.{stated_job};
+ghost use Rattle.varnish_tools.specs.Asked.{is_counting, read_job};
 ghost use Rattle.varnish_tools.specs.Objects.{GivesAtMost};
 ghost use Rattle.varnish_tools.specs.Output.{laid_out, output_of, showing_of};
 ghost use Rattle.vsl_top.specs.Counting.{IsTop, keep_of};
@@ -12,7 +12,6 @@ ghost use Rattle.ncsa_format.specs.Access.{IsAccessLog};
 ghost use Rattle.ncsa_format.specs.Access as access;
 ghost use Rattle.varnish_tools.specs.inside.Consumer.{IsLog};
 ghost use Rattle.varnish_tools.specs.inside.JobFormat.{HasFormat};
-ghost use Rattle.varnish_tools.specs.Built.{is_built_tool};
 ghost use Rattle.vsl_dispatch.specs.Groups.{is_filled};
 ghost use Rattle.varnish_tools.specs.Queries.{Ask};
 ghost use Rattle.varnish_tools.specs.Theorem.{creates_of, writes_of};
@@ -78,10 +77,10 @@ fn run_consumer<W: World, C: Consumer>(
     requires consumer { IsJobConsumer C.keep C.output C.represents job.now consumer }
     requires keeps { is_filled job.now.keep [] ≡ false }
     requires sound { IsSound job.now }
-    ensures touches { Touches (run_reads (stated_job job.now)) (writes_of (stated_job job.now)) (run_opens (stated_job job.now)) (creates_of (stated_job job.now)) (W.seen world.old) (W.seen world.new) }
-    ensures handles { GivesAtMost (length (run_opens (stated_job job.now) ++ creates_of (stated_job job.now))) (W.seen world.old) (W.seen world.new) }
-    ensures prefix { OnErr result ((ask : Ask) → HoldsAsAsked query.now ask → CutRun ask (stated_job job.now) (W.seen world.old) (W.seen world.new)) }
-    ensures works { IfOk result (λ r. (ask : Ask) → HoldsAsAsked query.now ask → WorksRun ask (stated_job job.now) r.fault r.run (W.seen world.old) (W.seen world.new)) }
+    ensures touches { Touches (run_reads (read_job job.now)) (writes_of (read_job job.now)) (run_opens (read_job job.now)) (creates_of (read_job job.now)) (W.seen world.old) (W.seen world.new) }
+    ensures handles { GivesAtMost (length (run_opens (read_job job.now) ++ creates_of (read_job job.now))) (W.seen world.old) (W.seen world.new) }
+    ensures prefix { OnErr result ((ask : Ask) → HoldsAsAsked query.now ask → CutRun ask (read_job job.now) (W.seen world.old) (W.seen world.new)) }
+    ensures works { IfOk result (λ r. (ask : Ask) → HoldsAsAsked query.now ask → WorksRun ask (read_job job.now) r.fault r.run (W.seen world.old) (W.seen world.new)) }
 {
     if job.file.is_some() {
         run_over_file(alloc, job, consumer, query, world)
@@ -99,15 +98,15 @@ pub fn run_job<W: World>(
     query: &Query,
     world: &mut W,
 ) -> Result<Ran, NoMemory>
-    requires built { is_built_tool job.now.tool ≡ true }
+    requires reads { is_counting job.now.tool ≡ false }
     requires selection { selection ≡ showing_of job.now }
     requires format { HasFormat job.now format }
     requires keeps { is_filled job.now.keep [] ≡ false }
     requires sound { IsSound job.now }
-    ensures touches { Touches (run_reads (stated_job job.now)) (writes_of (stated_job job.now)) (run_opens (stated_job job.now)) (creates_of (stated_job job.now)) (W.seen world.old) (W.seen world.new) }
-    ensures handles { GivesAtMost (length (run_opens (stated_job job.now) ++ creates_of (stated_job job.now))) (W.seen world.old) (W.seen world.new) }
-    ensures prefix { OnErr result ((ask : Ask) → HoldsAsAsked query.now ask → CutRun ask (stated_job job.now) (W.seen world.old) (W.seen world.new)) }
-    ensures works { IfOk result (λ r. (ask : Ask) → HoldsAsAsked query.now ask → WorksRun ask (stated_job job.now) r.fault r.run (W.seen world.old) (W.seen world.new)) }
+    ensures touches { Touches (run_reads (read_job job.now)) (writes_of (read_job job.now)) (run_opens (read_job job.now)) (creates_of (read_job job.now)) (W.seen world.old) (W.seen world.new) }
+    ensures handles { GivesAtMost (length (run_opens (read_job job.now) ++ creates_of (read_job job.now))) (W.seen world.old) (W.seen world.new) }
+    ensures prefix { OnErr result ((ask : Ask) → HoldsAsAsked query.now ask → CutRun ask (read_job job.now) (W.seen world.old) (W.seen world.new)) }
+    ensures works { IfOk result (λ r. (ask : Ask) → HoldsAsAsked query.now ask → WorksRun ask (read_job job.now) r.fault r.run (W.seen world.old) (W.seen world.new)) }
 {
     match job.tool {
         Tool::Ncsa => {

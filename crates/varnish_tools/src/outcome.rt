@@ -7,9 +7,9 @@ use crate::fault::ToolFault;
 /// What was taken of the input. With the input it gives the run.
 #[derive(Clone, Copy, Debug, PartialEq, Eq)]
 pub enum RunRecord {
-    /// Nothing was taken: a refusal came before the run.
+    /// Nothing was taken: a refusal came before the run, or the job has no log.
     Nothing,
-    /// Units were taken, from the first on.
+    /// Units were taken, from the first on. varnishstat takes none, and both numbers are 0.
     Counted {
         /// How many units were taken; after a failed write, how many units' text was begun.
         units: u64,
