@@ -26,15 +26,17 @@ usage: vtools [OPTIONS] varnishlog [-g GROUPING] [-L N] [-T N] [-q TEXT]
        vtools [OPTIONS] varnishtop -1 [-f] [-g GROUPING] [-L N] [-T N]
               [-q TEXT] [-Q FILE] [-k N] [-b] [-c] [-E] [-i TAGLIST]
               [-x TAGLIST] [-I RULE] [-X RULE] [-C] -r FILE
-       vtools --feed FILE.. [--ring N] [--reclen N]
+       vtools [--feed FILE].. [--gen N,SEED] [--ring N] [--reclen N]
               (--feed-first | --turns SEED) TOOL .., as above without -r FILE
+       vtools [OPTIONS] varnishstat (-1 | -j | -l) [-f GLOB]..
 
 varnishlog prints the records of a log file, a group of them when it is
 complete, or writes them as a log file. varnishncsa prints a line for each
 request, as a web server does in its access log. varnishtop counts equal
 records, and prints each once with its count when the log has ended. They take
 all records, or those that are chosen. In place of a log file they take feeds:
-texts of records, as Varnish's own varnishlog -g raw prints them.
+texts of records, as Varnish's own varnishlog -g raw prints them, or requests
+that are made up. varnishstat prints counters of these, and takes no log file.
 
   -r FILE           reads the log file FILE; - is standard input
   -g vxid           groups records by transaction; this is the default
@@ -90,14 +92,27 @@ Of varnishtop alone:
                     given
   -f                counts only the first field of each payload
 
+Of varnishstat alone, which has no others behind it; one of -1, -j and -l has
+to be given:
+
+  -1                prints a line for each counter once all feeds are put
+  -j                prints them as JSON, also beside -1
+  -l                prints the names of counters, also beside -1 and -j; needs
+                    no feed
+  -f GLOB           prints only counters whose whole name GLOB matches, as in
+                    -f 'MAIN.cache_*'; of several globs one must match
+
 The first -I or -X that matches a record decides, else the last -i or -x that
 names its tag. Other records are hidden where the first of -i and -x is -i, or
 the first of -I and -X is -I.
 
-In the place of -r FILE, before the tool, the first with one of the next two:
+In the place of -r FILE, before the tool, one of the first two, or both, with
+one of the next two:
 
   --feed FILE       feeds the listing FILE, lines as varnishlog -g raw prints
                     them, at most 16 MiB; up to 16 of these
+  --gen N,SEED      feeds N requests that are made from SEED, 1 to 100000 and
+                    0 to 65536, behind the listings
   --feed-first      puts feed after feed into a ring, and then reads it
   --turns SEED      draws from SEED, 0 to 65536, whose turn it is, that of a
                     feed or of the reader
@@ -105,12 +120,10 @@ In the place of -r FILE, before the tool, the first with one of the next two:
                     without it; a reader 6 segments behind is overrun
   --reclen N        cuts payloads to N bytes, 16 to 4000; 255 without it
 
-Taken too, and of no effect: -d; beside -r, of these all but --feed. Options
-stand in any order, letters may share a word, and of -F, -g, -k, -L, -T, -r
-and -w the last counts.
-
-The words of varnishstat are read, but this tool is not built yet; nor are
-requests that are made up, and feeds without --feed-first or --turns.
+Taken too, and of no effect: -d; beside -r, of these all but --feed and --gen.
+Options stand in any order, letters may share a word, and of -F, -g, -k, -L,
+-T, -r and -w the last counts. --feed and --gen without --feed-first or --turns
+are not built yet.
 
   vtools --help     prints this text
   vtools --version  prints the version
@@ -119,8 +132,7 @@ Exit status: 0 done, 1 the input or the outside failed, 2 the command line, a
 pattern, a query or a format was refused, 3 out of memory.
 
 All options, and which are built, and formats: docs/FORMATS.md. Manuals:
-docs/man/vtools.1, docs/man/vtools-varnishncsa.1 and
-docs/man/vtools-varnishtop.1.
+docs/man/vtools.1, and docs/man/vtools-TOOL.1 for each TOOL.
 ";
 
 /// Prints a text, and answers 0, or 1 where a write failed, or 3 where there was no memory.
