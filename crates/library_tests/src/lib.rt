@@ -10,6 +10,8 @@
 #[cfg(test)]
 mod consumers;
 #[cfg(test)]
+mod counters;
+#[cfg(test)]
 mod groups;
 #[cfg(test)]
 mod rings;
