@@ -63,7 +63,7 @@ expect() {
 
 # Standard output is a pipe whose reader has gone.
 for words in "varnishlog -r $log" "varnishlog -g raw -r one.log" "varnishncsa -r $log" "varnishtop -1 -r $log" \
-    --help --version; do
+    "varnishstat -l" --help --version; do
     exec 3<>pipe
     exec 4>pipe 3>&-
     # shellcheck disable=SC2086 # the words stand between spaces
@@ -74,7 +74,7 @@ done
 
 # Standard output is full, or closed. A run that writes nothing doesn't see it.
 for words in "varnishlog -r $log" "varnishlog -g raw -r one.log" "varnishncsa -r $log" "varnishtop -1 -r $log" \
-    --help --version; do
+    "varnishstat -l" --help --version; do
     # shellcheck disable=SC2086
     run $words >/dev/full 2>err </dev/null
     expect "a full output: $words" 1 "$unwritten"
@@ -92,6 +92,8 @@ run varnishtop -1 -r one.log >/dev/full 2>err </dev/null
 expect "a full output and nothing to count" 0 ""
 run varnishtop -1 -g raw -r cut.log >/dev/full 2>err </dev/null
 expect "a full output and no report" 1 "vtools: cut.log: damaged at 8"
+run varnishstat -l -f none >/dev/full 2>err </dev/null
+expect "a full output and no counter to list" 0 ""
 
 # Standard error is full, or closed: the status and the output stay.
 messages() {
@@ -138,6 +140,8 @@ wait
 expect "FILE a pipe" 0 "" "$text"
 run --feed pipe varnishlog >out 2>err </dev/null
 expect "a job that isn't built opens no pipe" 2 "vtools: not built yet"
+run --feed pipe varnishstat -l >out 2>err </dev/null
+expect "counters that aren't built open no pipe" 2 "vtools: not built yet"
 run varnishncsa -F %Z -r pipe >out 2>err </dev/null
 expect "a format that is refused opens no pipe" 2 "vtools: format: syntax at 0"
 run varnishlog -g raw -r pipe -k0 >out 2>err </dev/null
@@ -283,6 +287,8 @@ for file in "$over" "$two_taken" "$three_times" "$pending" "$waiting" "$complete
     [ -f "$file" ] || fail "$file is missing"
 done
 overrun='vtools: log overrun at segment 0, counter 13'
+counter='MAIN.shm_writes                           1 SHM writes'
+made='         1 Hit            1'
 last=$(tail -n 4 "$over")
 most_bytes=16777216
 printf '%s\n' "$text" >one.lines
@@ -335,12 +341,19 @@ messages "a missing feed" 1 "" --feed one.lines --feed missing --turns 7 varnish
 messages "a folder as a feed" 1 "" --feed . --feed-first varnishtop -1
 messages "a feed and a log" 2 "" --feed one.lines --feed-first varnishlog -r one.log
 messages "a refused query before a feed" 2 "" --feed one.lines --feed-first varnishlog -q %
+messages "a counter" 0 "$counter" --feed one.lines --feed-first varnishstat -1 -f 'MAIN.shm_w*'
+messages "counters of a missing feed" 1 "" --feed missing --feed-first varnishstat -l
+messages "a made up request" 0 "$made" --gen 1,7 --turns 7 varnishtop -1 -i Hit
+# shellcheck disable=SC2086
+messages "a counter of what would overrun a reader" 0 "${counter/  1/ 12}" $after_over varnishstat -1 -f 'MAIN.shm_w*'
 printf '%s\n' "$text" | cmp -s - one.lines || fail "closed errors: the feed was written to"
 
 # Standard output is a pipe whose reader has gone, full, or closed. A run that writes nothing doesn't see it.
 for words in "--feed one.lines --feed-first varnishlog -g raw" "--feed one.lines --turns 7 varnishlog -g raw -w -" \
     "--feed no.lines --feed-first varnishlog -w -" "--feed $lines --turns 7 varnishlog" \
-    "--feed $lines --feed-first varnishncsa" "--feed one.lines --turns 7 varnishtop -1 -g raw"; do
+    "--feed $lines --feed-first varnishncsa" "--feed one.lines --turns 7 varnishtop -1 -g raw" \
+    "--gen 4,7 --turns 7 varnishlog" "--gen 4,7 --feed-first varnishncsa" "--feed one.lines --turns 7 varnishstat -1" \
+    "--gen 4,7 --feed-first varnishstat -j -f none" "--feed no.lines --feed-first varnishstat -l"; do
     exec 3<>pipe
     exec 4>pipe 3>&-
     # shellcheck disable=SC2086
@@ -360,6 +373,10 @@ run --feed one.lines --turns 7 varnishlog >/dev/full 2>err </dev/null
 expect "a full output and a feed of no transaction" 0 ""
 run --feed bad.lines --turns 7 varnishlog -w - >/dev/full 2>err </dev/null
 expect "a full output and a bad line" 1 "vtools: feed 0: bad line 1"
+run --gen 4,7 --feed-first varnishstat -1 -f none >/dev/full 2>err </dev/null
+expect "a full output and no counter" 0 ""
+run --feed bad.lines --feed-first varnishstat -l >/dev/full 2>err </dev/null
+expect "a full output and counters of a bad line" 1 "vtools: feed 0: bad line 1"
 
 # An overrun is told before a write that fails, and none behind it.
 # shellcheck disable=SC2086
@@ -380,8 +397,14 @@ run --feed one.lines --feed one.lines $after_over varnishlog -g raw <&- >&- 2>&-
 expect "no stream, three feeds and an overrun" 1 ""
 run --feed no.lines --feed-first varnishlog <&- >&- 2>&-
 expect "no stream and a feed of no units" 0 ""
+run --gen 4,7 --feed-first varnishstat -j <&- >&- 2>&-
+expect "no stream and counters" 1 ""
+run --feed one.lines --feed-first varnishstat -1 -f none <&- >&- 2>&-
+expect "no stream and no counter" 0 ""
 run --feed one.lines --feed-first varnishlog -g raw <&- >out 2>err
 expect "no input and a feed" 0 "" "$text"
+run --gen 1,7 --feed-first varnishtop -1 -i Hit <&- >out 2>err
+expect "no input and a made up request" 0 "" "$made"
 printf '%s\n' "$text" | cmp -s - one.lines || fail "no stream: the feed was written to"
 
 # A feed is a pipe, which comes in two pieces, standard input by its path, or a device.
@@ -458,6 +481,11 @@ expect "no memory for a ring" 3 "vtools: out of memory"
     run --feed large.lines --feed-first varnishlog -g raw >out 2>err </dev/null
 )
 expect "no memory for a feed" 3 "vtools: out of memory"
+(
+    ulimit -v 30000
+    run --gen 100000,7 --feed-first varnishstat -1 >out 2>err </dev/null
+)
+expect "no memory for made up requests" 3 "vtools: out of memory"
 run --feed one.lines --ring 1048576 --feed-first varnishlog -g raw >out 2>err </dev/null
 expect "memory for a ring" 0 "" "$text"
 rm large large.lines
@@ -471,5 +499,7 @@ run --feed no.lines --turns 7 varnishlog -A -w /dev/full >out 2>err </dev/null
 expect "a full file and a feed of no units" 0 ""
 run --feed one.lines --feed-first varnishlog -w . >out 2>err </dev/null
 expect "a folder that is to be written, and a feed" 1 "vtools: .: cannot open"
+run --gen 4,7 --feed-first varnishlog -w /dev/full >out 2>err </dev/null
+expect "a full file for made up requests" 1 "vtools: /dev/full: write failed"
 
 echo "edges: ok, $count of them"

@@ -87,4 +87,5 @@ def main():
     print(f"schedules: ok, {len(orders)} of them, with {overruns} overruns")
 
 
-main()
+if __name__ == "__main__":
+    main()

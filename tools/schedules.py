@@ -13,6 +13,7 @@ the ring has the last lap. No word is stored: what a reader finds follows from t
 """
 
 import bisect
+import collections
 import dataclasses
 import getopt
 import re
@@ -92,28 +93,32 @@ def read_listing(data, reclen, seg):
 
 
 class Draws:
-    """The numbers that choose whose turn it is."""
+    """The numbers that a seed gives one after the other; they choose whose turn it is."""
 
     def __init__(self, seed):
         self.drawn = seed % 65537
 
-    def pick(self, active):
+    def draw(self):
         self.drawn = (75 * self.drawn + 74) % 65537
-        return self.drawn % active
+        return self.drawn
+
+    def pick(self, active):
+        return self.draw() % active
 
 
 class Ring:
-    """Where the units of the log lie on the line of places, and how many writers haven't left."""
+    """Where the units of the log lie on the line of places, how many wrapped, and how many writers haven't left."""
 
     def __init__(self, seg, writers):
         self.seg, self.lap, self.writers = seg, SEGMENTS * seg, writers
-        self.units, self.starts, self.ends, self.tail = [], [], [], 0
+        self.units, self.starts, self.ends, self.tail, self.wraps = [], [], [], 0, 0
 
     def put(self, unit):
         """Puts a unit at the tail; or, where it and the mark behind it have no room in the lap, at the next lap."""
         start = self.tail
         if start % self.lap + unit.words() >= self.lap:
             start = (start // self.lap + 1) * self.lap
+            self.wraps += 1
         self.tail = start + unit.words()
         self.units.append(unit)
         self.starts.append(start)
@@ -169,24 +174,28 @@ class Reader:
         return "took"
 
 
-def read_after_feeds(ring, reader, feeds):
-    """Puts feed after feed, and then reads to the end."""
+def put_feeds(ring, feeds):
+    """Puts feed after feed."""
     for units in feeds:
         for unit in units:
             ring.put(unit)
         ring.writers -= 1
+
+
+def read_to_the_end(reader):
     while reader.next() != "ended":
         pass
 
 
-def read_in_turns(ring, reader, feeds, seed):
+def take_turns(ring, reader, feeds, seed):
     """Gives turns by draws to the writers that haven't left, in the order of feeds, and to the reader behind them.
 
-    A reader that found nothing yet has no turn before a writer had one. All is over when the reader meets the end.
+    A reader that found nothing yet has no turn before a writer had one. All is over when the reader meets the end; or,
+    where nobody reads, when all writers have left.
     """
-    draws, writers, waits = Draws(seed), [list(units) for units in feeds], False
-    while True:
-        turn = draws.pick(len(writers) + (0 if waits else 1))
+    draws, writers, waits = Draws(seed), [collections.deque(units) for units in feeds], False
+    while reader or writers:
+        turn = draws.pick(len(writers) + (1 if reader and not waits else 0))
         if turn == len(writers):
             answer = reader.next()
             if answer == "ended":
@@ -195,7 +204,7 @@ def read_in_turns(ring, reader, feeds, seed):
             continue
         waits = False
         if writers[turn]:
-            ring.put(writers[turn].pop(0))
+            ring.put(writers[turn].popleft())
         else:
             del writers[turn]
             ring.writers -= 1
@@ -206,10 +215,21 @@ def replayed(feeds, seg, seed):
     ring = Ring(seg, len(feeds))
     reader = Reader(ring)
     if seed is None:
-        read_after_feeds(ring, reader, feeds)
+        put_feeds(ring, feeds)
+        read_to_the_end(reader)
     else:
-        read_in_turns(ring, reader, feeds, seed)
+        take_turns(ring, reader, feeds, seed)
     return ring, reader.history
+
+
+def replayed_unread(feeds, seg, seed):
+    """The ring for the units of each feed where nobody reads, in turns of a seed; without one, feed after feed."""
+    ring = Ring(seg, len(feeds))
+    if seed is None:
+        put_feeds(ring, feeds)
+    else:
+        take_turns(ring, None, feeds, seed)
+    return ring
 
 
 def raw_line(vxid, mark, tag, payload):
@@ -238,7 +258,7 @@ def print_history(history):
 
 
 def read_feed(number, name, reclen, seg):
-    """The units of a feed; a fault of it ends the program."""
+    """The units of a feed, and how often a batch was cut; a fault of it ends the program."""
     try:
         with open(name, "rb") as file:
             data = file.read()
@@ -247,7 +267,7 @@ def read_feed(number, name, reclen, seg):
     if len(data) > MOST_BYTES:
         sys.exit(f"vtools: {name}: larger than {MOST_BYTES} bytes")
     try:
-        return read_listing(data, reclen, seg)[0]
+        return read_listing(data, reclen, seg)
     except BadLine as bad:
         sys.exit(f"vtools: feed {number}: bad line {bad}")
 
@@ -268,7 +288,7 @@ def main():
             seed, stated = int(value) if value else None, True
     if rest or not names or not stated:
         sys.exit(__doc__)
-    feeds = [read_feed(number, name, reclen, seg) for number, name in enumerate(names)]
+    feeds = [read_feed(number, name, reclen, seg)[0] for number, name in enumerate(names)]
     _, history = replayed(feeds, seg, seed)
     if shows_history:
         print_history(history)
