@@ -1,6 +1,10 @@
 # Short names for the commands of this repository. `make help` lists them.
 
-.PHONY: help check crate edits plant gate fmt docs definitions build run demo
+.PHONY: help check crate edits plant gate fmt docs definitions build run install uninstall demo
+
+PREFIX ?= /usr/local
+installed := "$(DESTDIR)$(PREFIX)"
+pages := $(notdir $(wildcard docs/man/*.1))
 
 help: ## prints this list
 	@sed -n 's/^\([a-z]*\):.*## /\1\t/p' $(MAKEFILE_LIST)
@@ -35,6 +39,15 @@ build: ## proves and builds bin/vtools
 
 run: build ## runs bin/vtools: ARGS="varnishlog -r FILE"
 	bin/vtools $(ARGS)
+
+install: build ## installs program, man pages and completion: PREFIX=/usr/local DESTDIR=
+	install -D -m 755 bin/vtools $(installed)/bin/vtools
+	for page in $(pages); do install -D -m 644 docs/man/$$page $(installed)/share/man/man1/$$page || exit 1; done
+	install -D -m 644 completion/vtools.bash $(installed)/share/bash-completion/completions/vtools
+
+uninstall: ## takes away the files of install, with the same PREFIX and DESTDIR
+	rm -f $(installed)/bin/vtools $(installed)/share/bash-completion/completions/vtools
+	for page in $(pages); do rm -f $(installed)/share/man/man1/$$page || exit 1; done
 
 .PHONY: cases
 cases: build ## runs the command lines of cases/, and those that take a shell, over the proved program

@@ -3,15 +3,19 @@
 
 The tool is `vtools` for the options before the tool. The kind is `flag`, `value` (the option takes one) or
 `absent` (an option of Varnish that is left out). It proves nothing: the tables are what the proofs cite.
+tools/completion.py takes from here what an option says and the form of its value, too.
 """
+import collections
 import re
 import sys
 from pathlib import Path
 
 SOURCE = Path(__file__).resolve().parent.parent / "crates" / "tool_words" / "src" / "options.rt"
 TABLE = re.compile(r"^pub static (\w+): \[\((?:u8|&str), Meaning\); (\d+)\] = \[\n(.*?)^\];", re.M | re.S)
-ROW = re.compile(r"^ *\((?:b'(.)'|\"(--[a-z-]+)\"), (Flag|Value|NotHere)\b[^\n]*\),$")
+MEANING = r"NotHere|Flag\(\w+\)|Value\((?P<choice>\w+), (?:Form::)?(?P<form>\w+)(?:\(\d+\))?\)"
+ROW = re.compile(rf"^ *\((?:b'(?P<letter>.)'|\"(?P<word>--[a-z-]+)\"), (?P<meaning>{MEANING})\),$")
 KINDS = {"Flag": "flag", "Value": "value", "NotHere": "absent"}
+Option = collections.namedtuple("Option", "tool name kind choice form")  # without a value no choice and no form
 
 
 def rows(text):
@@ -22,16 +26,21 @@ def rows(text):
         if None in found or len(found) != int(count):
             sys.exit(f"{SOURCE.name}: a row of {name} has another form")
         for row in found:
-            letter, word, meaning = row.groups()
-            yield tool, word or f"-{letter}", KINDS[meaning]
+            kind = KINDS[row["meaning"].split("(")[0]]
+            yield Option(tool, row["word"] or f"-{row['letter']}", kind, row["choice"], row["form"])
+
+
+def all_options():
+    """The options of the five tables."""
+    found = list(rows(SOURCE.read_text()))
+    if len({option.tool for option in found}) != 5:
+        sys.exit(f"{SOURCE.name}: not five tables")
+    return found
 
 
 def main():
-    found = list(rows(SOURCE.read_text()))
-    if len({tool for tool, _, _ in found}) != 5:
-        sys.exit(f"{SOURCE.name}: not five tables")
-    for row in found:
-        print(*row)
+    for option in all_options():
+        print(option.tool, option.name, option.kind)
 
 
 if __name__ == "__main__":

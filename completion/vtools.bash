@@ -1,0 +1,243 @@
+# Completes command lines of vtools in bash, 4.3 or later. tools/completion.py makes this file: nobody writes in it.
+# It needs no package. Read it with `source`, or install it where the package bash-completion finds it by its name.
+
+# Gives in `takes` what each option of the tool $1 takes, or without a tool each option before it: `flag` takes nothing,
+# and of a `text` nothing is known. An unknown tool has no options.
+_vtools_options() {
+    case $1 in
+    "")
+        takes=(
+            [--feed]=file [--gen]=text [--ring]=text [--reclen]=text [--turns]=text [--feed-first]=flag
+        )
+        ;;
+    varnishlog)
+        takes=(
+            [-a]=flag [-A]=flag [-b]=flag [-c]=flag [-C]=flag [-d]=flag [-E]=flag [-v]=flag [-g]=grouping
+            [-i]=tag [-I]=text [-k]=text [-L]=text [-q]=text [-Q]=file [-r]=file [-T]=text [-w]=file [-x]=tag
+            [-X]=text
+        )
+        ;;
+    varnishncsa)
+        takes=(
+            [-a]=flag [-b]=flag [-c]=flag [-C]=flag [-d]=flag [-E]=flag [-F]=text [-g]=access_grouping [-k]=text
+            [-L]=text [-q]=text [-Q]=file [-r]=file [-T]=text [-w]=file
+        )
+        ;;
+    varnishtop)
+        takes=(
+            [-1]=flag [-b]=flag [-c]=flag [-C]=flag [-d]=flag [-E]=flag [-f]=flag [-g]=grouping [-i]=tag
+            [-I]=text [-k]=text [-L]=text [-q]=text [-Q]=file [-r]=file [-T]=text [-x]=tag [-X]=text
+        )
+        ;;
+    varnishstat)
+        takes=(
+            [-1]=flag [-j]=flag [-l]=flag [-f]=counter
+        )
+        ;;
+    *)
+        takes=()
+        ;;
+    esac
+}
+
+# Gives in `words` the words of a kind.
+_vtools_words() {
+    case $1 in
+    option)
+        words=${!takes[*]}
+        ;;
+    tool)
+        words="varnishlog varnishncsa varnishtop varnishstat"
+        ;;
+    alone)
+        words="--help --version"
+        ;;
+    grouping)
+        words="raw vxid request session"
+        ;;
+    access_grouping)
+        words="vxid request"
+        ;;
+    tag)
+        words="Debug Error CLI SessOpen SessClose SessError BackendOpen BackendClose Backend_health
+        HttpGarbage Proxy ProxyGarbage Length FetchError Fetch_Body BogoHeader LostHeader TTL VCL_acl
+        VCL_call VCL_trace VCL_return VCL_use VCL_Log VCL_Error ReqStart ReqAcct BereqAcct PipeAcct VfpAcct
+        Hit HitMiss HitPass ExpBan ExpKill WorkThread ESI_xmlerror Hash Gzip Storage Timestamp Begin Link
+        End VSL Witness Filters Notice H2RxHdr H2RxBody H2TxHdr H2TxBody ReqMethod ReqURL ReqStatus
+        ReqReason ReqProtocol ReqHeader ReqUnset ReqLost RespMethod RespURL RespStatus RespReason
+        RespProtocol RespHeader RespUnset RespLost BereqMethod BereqURL BereqStatus BereqReason
+        BereqProtocol BereqHeader BereqUnset BereqLost BerespMethod BerespURL BerespStatus BerespReason
+        BerespProtocol BerespHeader BerespUnset BerespLost ObjMethod ObjURL ObjStatus ObjReason ObjProtocol
+        ObjHeader ObjUnset ObjLost"
+        ;;
+    counter)
+        words="MAIN.sess_conn MAIN.client_req MAIN.cache_hit MAIN.cache_hitpass MAIN.cache_hitmiss
+        MAIN.cache_miss MAIN.backend_conn MAIN.backend_req MAIN.fetch_failed MAIN.s_pipe MAIN.s_pass
+        MAIN.s_synth MAIN.s_req_hdrbytes MAIN.s_req_bodybytes MAIN.s_resp_hdrbytes MAIN.s_resp_bodybytes
+        MAIN.shm_records MAIN.shm_writes MAIN.shm_flushes MAIN.shm_cont MAIN.shm_cycles"
+        ;;
+    esac
+}
+
+# Gives in `typed` the words of the command line up to the cursor, of which the last may be empty. Bash has cut them at
+# the characters of COMP_WORDBREAKS too; only operators of `redirection` stay by themselves, with their number.
+_vtools_typed() {
+    local rest=${COMP_LINE:0:COMP_POINT} behind fragment index number='^[0-9]+$'
+    typed=()
+    for ((index = 0; index <= COMP_CWORD; index++)); do
+        behind=${rest#"${rest%%[![:space:]]*}"}
+        fragment=${COMP_WORDS[index]}
+        ((index < COMP_CWORD)) || fragment=$behind
+        if ((index == 0)) || [[ $behind != "$rest" || ${typed[-1]} =~ $redirection ]] ||
+            [[ $fragment =~ $redirection && ! ${typed[-1]} =~ $number ]]; then
+            typed+=("$fragment")
+        else
+            typed[-1]+=$fragment
+        fi
+        rest=${behind#"$fragment"}
+    done
+}
+
+# Reads a word of letters of options: gives in `wanted` the option that takes a value, if one does, and in `front` how
+# many characters stand before the value. It fails where the word has a letter that the tool doesn't take.
+_vtools_letters() {
+    local option
+    wanted=""
+    front=1
+    [[ $1 == -?* ]] || return 1
+    while ((front < ${#1})); do
+        option=-${1:front:1}
+        front=$((front + 1))
+        case ${takes[$option]-} in
+        "") return 1 ;;
+        flag) ;;
+        *)
+            wanted=$option
+            return 0
+            ;;
+        esac
+    done
+}
+
+# Gives in `plain` a text without its quotes, and in `kept` how many characters of it readline keeps and replaces none
+# of: up to a quote that is open, or else up to the last character of COMP_WORDBREAKS outside of quotes.
+_vtools_plain() {
+    local character quote="" opened=0 at
+    plain=""
+    kept=0
+    for ((at = 0; at < ${#1}; at++)); do
+        character=${1:at:1}
+        if [[ $character == "\\" && $quote != "'" ]]; then
+            at=$((at + 1))
+            plain+=${1:at:1}
+        elif [[ -n $quote && $character == "$quote" ]]; then
+            quote=""
+        elif [[ -z $quote && $character == [\"\'] ]]; then
+            quote=$character
+            opened=$((at + 1))
+        else
+            plain+=$character
+            if [[ -z $quote && ${COMP_WORDBREAKS-} == *"$character"* ]]; then
+                kept=$((at + 1))
+                [[ $character != @ ]] || kept=$at
+            fi
+        fi
+    done
+    [[ -z $quote ]] || kept=$opened
+}
+
+# Offers what the last word of `typed` can become when it has a value of kind $2 behind its first $1 characters.
+_vtools_offer() {
+    local front=$1 kind=$2 word=${typed[-1]} words="" plain kept names=() name offered before="" replaced=""
+    case $kind in
+    flag | text) return ;;
+    file)
+        _vtools_plain "${word:front}"
+        mapfile -t names < <(compgen -f -- "$plain")
+        compopt -o filenames 2>/dev/null || :
+        ;;
+    tag)
+        # the last name of a taglist
+        name=${word:front}
+        name=${name##*,}
+        front=$((${#word} - ${#name}))
+        ;;&
+    *)
+        _vtools_plain "${word:front}"
+        _vtools_words "$kind"
+        mapfile -t names < <(compgen -W "$words" -- "$plain")
+        ;;
+    esac
+
+    _vtools_plain "$word"
+    if ((kept < front)); then
+        before=${word:kept:front-kept}
+    else
+        _vtools_plain "${word:front:kept-front}"
+        replaced=$plain
+    fi
+    for name in "${names[@]}"; do
+        offered=$before${name#"$replaced"}
+        if [[ $kind == file && $offered != "$name" && -d $name ]]; then
+            # readline doesn't see that this is a folder
+            offered+=/
+            compopt -o nospace 2>/dev/null || :
+        fi
+        COMPREPLY+=("$offered")
+    done
+}
+
+# Gives in COMPREPLY what the word at the cursor can become. Behind an option that is refused nothing is offered.
+_vtools() {
+    local IFS=$' \t\n' typed=() tool="" wanted="" front=0 word is_target=false
+    local redirection='^[0-9]*[<>][<>&|]*$'
+    local -A takes=()
+    COMPREPLY=()
+    _vtools_options ""
+    _vtools_typed
+    ((${#typed[@]} > 1)) || return 0
+
+    for word in "${typed[@]:1:${#typed[@]}-2}"; do
+        if $is_target; then
+            is_target=false
+        elif [[ $word =~ $redirection ]]; then
+            is_target=true
+        elif [[ -n $wanted ]]; then
+            wanted=""
+        elif [[ -n $tool ]]; then
+            _vtools_letters "$word" || return 0
+            ((front == ${#word})) || wanted=""
+        elif [[ $word == -* ]]; then
+            case ${takes[$word]-} in
+            "") return 0 ;;
+            flag) ;;
+            *) wanted=$word ;;
+            esac
+        else
+            tool=$word
+            _vtools_options "$tool"
+        fi
+    done
+
+    word=${typed[-1]}
+    if $is_target; then
+        _vtools_offer 0 file
+    elif [[ -n $wanted ]]; then
+        _vtools_offer 0 "${takes[$wanted]}"
+    elif [[ -z $tool ]]; then
+        _vtools_offer 0 tool
+        _vtools_offer 0 option
+        ((${#typed[@]} > 2)) || _vtools_offer 0 alone
+    elif _vtools_letters "$word" && ((${#word} > 2)); then
+        if ((front < ${#word})); then
+            _vtools_offer "$front" "${takes[$wanted]}"
+        else
+            COMPREPLY=("$word")
+        fi
+    else
+        _vtools_offer 0 option
+    fi
+    return 0
+}
+
+complete -F _vtools vtools

@@ -1,0 +1,141 @@
+#!/usr/bin/env bash
+# Checks that completion/vtools.bash is what tools/completion.py writes, and what it offers for command lines, row by
+# row, in bash without a terminal. A row is a command line with `|` at the cursor, `=>`, and what is offered, in order,
+# with `_` for a blank in a name.
+set -euo pipefail
+cd "$(dirname "${BASH_SOURCE[0]}")/.."
+LC_ALL=C
+
+fail() {
+    echo "completion: $1" >&2
+    exit 1
+}
+
+tools/completion.py >/dev/null
+# shellcheck source=completion/vtools.bash
+source completion/vtools.bash
+[ "$(complete -p vtools)" = "complete -F _vtools vtools" ] || fail "_vtools doesn't complete vtools"
+
+work=$(mktemp -d)
+trap 'rm -rf "$work"' EXIT
+cd "$work"
+mkdir folder
+touch access.log at@one folder/log log log:old "my log" queries
+
+# Takes a line apart as bash does: at blanks, and round the other characters of COMP_WORDBREAKS, outside of quotes. The
+# cursor stands behind $2 characters of it.
+take_apart() {
+    local rest=$1 breaks=${COMP_WORDBREAKS//[$' \t\n\'"']/} fragment
+    local word="^(([^ '\"\\$breaks]|\\\\.|'[^']*('|\$)|\"[^\"]*(\"|\$))+|[$breaks]+)"
+    COMP_LINE=$1
+    COMP_POINT=$2
+    COMP_WORDS=()
+    COMP_CWORD=-1
+    while [ -n "$rest" ]; do
+        [[ "$rest" =~ $word ]] || fail "can't take apart: $rest"
+        fragment=${BASH_REMATCH[1]}
+        COMP_WORDS+=("$fragment")
+        rest=${rest#"$fragment"}
+        if ((COMP_CWORD < 0 && COMP_POINT <= ${#1} - ${#rest})); then
+            COMP_CWORD=$((${#COMP_WORDS[@]} - 1))
+        fi
+        rest=${rest#"${rest%%[! ]*}"}
+    done
+    if ((COMP_CWORD < 0)); then
+        # behind a blank at the end
+        COMP_CWORD=${#COMP_WORDS[@]}
+        COMP_WORDS+=("")
+    fi
+}
+
+count=0
+row_form='^([^|]*)\|(.*[^ ])? *=>( .*)?$'
+
+# Checks the rows of standard input.
+check_rows() {
+    local row before wanted offered
+    while IFS= read -r row; do
+        [[ "$row" =~ $row_form ]] || fail "not a row: $row"
+        before=${BASH_REMATCH[1]}
+        wanted=${BASH_REMATCH[3]# }
+        take_apart "$before${BASH_REMATCH[2]}" "${#before}"
+        COMPREPLY=(unset)
+        _vtools
+        offered=$(printf '%s\n' "${COMPREPLY[@]// /_}" | sort | tr '\n' ' ')
+        [ "${offered% }" = "$wanted" ] || fail "$before| => ${offered% }, and not: $wanted"
+        count=$((count + 1))
+    done
+}
+
+COMP_WORDBREAKS=$' \t\n"\'@><=;|&(:'
+check_rows <<'ROWS'
+vtools | => --feed --feed-first --gen --help --reclen --ring --turns --version varnishlog varnishncsa varnishstat varnishtop
+vtools varnishn| => varnishncsa
+vtools --v| => --version
+vtools --help | =>
+vtools --feed| => --feed --feed-first
+vtools --feed-first -| => --feed --feed-first --gen --reclen --ring --turns
+vtools --feed | => access.log at@one folder log log:old my_log queries
+vtools --feed log --feed q| => queries
+vtools --feed varnishlog v| => varnishlog varnishncsa varnishstat varnishtop
+vtools --ring | =>
+vtools --gen | =>
+vtools --gen 20,7 --ring 64 varnisht| => varnishtop
+vtools varnishlog | => -A -C -E -I -L -Q -T -X -a -b -c -d -g -i -k -q -r -v -w -x
+vtools --feed log --feed-first varnishncsa -| => -C -E -F -L -Q -T -a -b -c -d -g -k -q -r -w
+vtools varnishtop -| => -1 -C -E -I -L -Q -T -X -b -c -d -f -g -i -k -q -r -x
+vtools varnishstat -| => -1 -f -j -l
+vtools varnishlgo -| =>
+vtools varnishlog -D| =>
+vtools varnishlog --he| =>
+vtools varnishncsa -i End -| =>
+vtools varnishlog -bc| => -bc
+vtools varnishlog -bcj| =>
+vtools varnishlog -g | => raw request session vxid
+vtools varnishncsa -g | => request vxid
+vtools varnishtop -1bgr| => -1bgraw -1bgrequest
+vtools varnishlog -g r|aw -r log => raw request
+vtools varnishlog -graw -a| => -a
+vtools varnishlog -i ReqU| => ReqURL ReqUnset
+vtools varnishlog -iVCL_c| => -iVCL_call
+vtools varnishlog -x End,Req*,Hit| => End,Req*,Hit End,Req*,HitMiss End,Req*,HitPass
+vtools varnishlog -i 'Req*,Vf| => Req*,VfpAcct
+vtools varnishlog -i Req\*,Vf| => Req\*,VfpAcct
+vtools varnishtop -1 -x "| => BackendClose BackendOpen Backend_health Begin BereqAcct BereqHeader BereqLost BereqMethod BereqProtocol BereqReason BereqStatus BereqURL BereqUnset BerespHeader BerespLost BerespMethod BerespProtocol BerespReason BerespStatus BerespURL BerespUnset BogoHeader CLI Debug ESI_xmlerror End Error ExpBan ExpKill FetchError Fetch_Body Filters Gzip H2RxBody H2RxHdr H2TxBody H2TxHdr Hash Hit HitMiss HitPass HttpGarbage Length Link LostHeader Notice ObjHeader ObjLost ObjMethod ObjProtocol ObjReason ObjStatus ObjURL ObjUnset PipeAcct Proxy ProxyGarbage ReqAcct ReqHeader ReqLost ReqMethod ReqProtocol ReqReason ReqStart ReqStatus ReqURL ReqUnset RespHeader RespLost RespMethod RespProtocol RespReason RespStatus RespURL RespUnset SessClose SessError SessOpen Storage TTL Timestamp VCL_Error VCL_Log VCL_acl VCL_call VCL_return VCL_trace VCL_use VSL VfpAcct Witness WorkThread
+vtools varnishlog -I Req| =>
+vtools varnishlog -I ReqHeader:^Host: -C| => -C
+vtools varnishlog -k | =>
+vtools varnishlog -L 1| =>
+vtools varnishlog -T | =>
+vtools varnishlog -q | =>
+vtools varnishlog -q 'RespStatus >= 500' -v| => -v
+vtools varnishncsa -F '%{Varnish:handling}x -w' -w a| => access.log at@one
+vtools varnishlog -dbr | => access.log at@one folder log log:old my_log queries
+vtools varnishlog -rfo| => -rfolder/
+vtools varnishlog -r folder/| => folder/log
+vtools varnishlog -r log:| => old
+vtools varnishlog -r "log:| => log:old
+vtools varnishlog -r at@| => @one
+vtools varnishlog -r my\ | => my_log
+vtools varnishlog -Q 'my l| => my_log
+vtools varnishlog -Q 'my\| =>
+vtools varnishlog -w lo| => log log:old
+vtools varnishstat -f MAIN.cache_h| => MAIN.cache_hit MAIN.cache_hitmiss MAIN.cache_hitpass
+vtools varnishstat -1f MAIN.sh| => MAIN.shm_cont MAIN.shm_cycles MAIN.shm_flushes MAIN.shm_records MAIN.shm_writes
+vtools varnishstat -r | =>
+vtools varnishtop -f MAIN| =>
+vtools varnishncsa -r log >ac| => access.log
+vtools varnishlog 2>log -r q| => queries
+vtools varnishlog -r log:2>log -v| => -v
+ROWS
+
+# with `,`, and without `:`
+COMP_WORDBREAKS=$' \t\n"\'><=;|&(,'
+check_rows <<'ROWS'
+vtools varnishlog -x End,Req*,Hit| => Hit HitMiss HitPass
+vtools varnishlog -i End,V| -r log => VCL_Error VCL_Log VCL_acl VCL_call VCL_return VCL_trace VCL_use VSL VfpAcct
+vtools --gen 20,7 varnisht| => varnishtop
+vtools varnishlog -r log:| => log:old
+ROWS
+
+echo "completion: ok, $count rows"
