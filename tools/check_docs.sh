@@ -20,7 +20,8 @@ fail() {
 find . -type f ! -path './.git/*' ! -path './bin/*' ! -path '*/out/*' ! -path './examples/*' ! -path './cases/*/*' ! -path './crates/*/data/*' >"$work/files"
 
 for file in README.md CHANGELOG.md CONTRIBUTING.md docs/ARCHITECTURE.md docs/PROOF.md docs/DEFINITIONS.md \
-    docs/FORMATS.md docs/DECISIONS.md docs/man/vtools.1 docs/man/vtools-varnishncsa.1 docs/man/vtools-varnishtop.1; do
+    docs/FORMATS.md docs/DECISIONS.md docs/COMING_FROM_VARNISH.md docs/man/vtools.1 docs/man/vtools-varnishlog.1 \
+    docs/man/vtools-varnishncsa.1 docs/man/vtools-varnishtop.1 docs/man/vtools-varnishstat.1; do
     [ -s "$file" ] || fail "$file is missing"
 done
 
@@ -68,6 +69,15 @@ python3 tools/options.py | sort >"$work/options"
 diff "$work/options" "$work/tables" >"$work/differ" ||
     fail "options of docs/FORMATS.md that are not those of the source ('<' is the source):" "$work/differ"
 
+# COMING_FROM_VARNISH has the options of each tool, and those that are left out are not here.
+sed -n 's/^| *`\(-.\)` *|/\1|/p' docs/COMING_FROM_VARNISH.md | sed 's/ *| */|/g' | awk -F'|' '
+    BEGIN { split("varnishlog varnishncsa varnishtop varnishstat", tools, " ") }
+    NF == 7 { for (i = 1; i <= 4; i++) if ($(i + 1) != "") print tools[i], $1, $(i + 1) }' |
+    sed -e 's/not here$/absent/' -e 's/\(same\|differs\|added\)$/here/' | sort >"$work/tables"
+awk '$1 != "vtools" { print $1, $2, $3 == "absent" ? $3 : "here" }' "$work/options" |
+    diff - "$work/tables" >"$work/differ" ||
+    fail "options of docs/COMING_FROM_VARNISH.md that are not those of the source ('<' is the source):" "$work/differ"
+
 # The help is FORMATS' text, and the options that are built are the same in FORMATS, in the help, and of each tool in its
 # man page.
 sed -n '/^const HELP/,/^";/p' crates/vtools/src/answers.rt | sed -e '1d' -e '$d' >"$work/help"
@@ -84,13 +94,15 @@ while read -r tool page; do
         awk -v tool="$tool" '($1 == "vtools" || $1 == tool) && $3 != "absent" { print $2 }' "$work/options"
         printf '%s\n' --help --version
     } | sort -u | comm -12 "$work/built" - >"$work/wanted"
-    sed -n '/^\.SH OPTIONS/,/^\.SH EXIT/p' "docs/man/$page" | grep -A 1 '^\.TP' | grep '^\.B' |
+    sed -n '/^\.SH OPTIONS/,/^\.SH [^O]/p' "docs/man/$page" | grep -A 1 '^\.TP' | grep '^\.B' |
         sed -e 's/\\-/-/g' | options | diff "$work/wanted" - >"$work/differ" ||
         fail "options of $tool that are built and not in its page $page, or the reverse ('<' is docs/FORMATS.md):" "$work/differ"
 done <<'PAGES'
-varnishlog vtools.1
+vtools vtools.1
+varnishlog vtools-varnishlog.1
 varnishncsa vtools-varnishncsa.1
 varnishtop vtools-varnishtop.1
+varnishstat vtools-varnishstat.1
 PAGES
 
 # Each file that a must-fail edit changes is there.

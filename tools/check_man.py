@@ -1,9 +1,12 @@
 #!/usr/bin/env python3
-"""Runs the examples of docs/man/ that show what is printed, and compares it, from the pages' own text.
+"""Runs the examples of docs/man/, README and COMING_FROM_VARNISH that show what is printed, and compares it, from their own
+text.
 
 Usage: tools/check_man.py [PROGRAM]; without one it is the program that `rt ci` built. The log `f` of the examples is that of
 a case, of one or of another, whole, without its last byte or not there, as the sentence before an example says. It also
-asks that each option of a page's tool stands in an example of the page that was run.
+asks that each option of a page's tool stands in an example of the page that was run. README and COMING_FROM_VARNISH run
+`bin/vtools` in the top folder, and may leave out the empty line behind a last group; examples that write files are
+passed over.
 """
 
 import pathlib
@@ -15,12 +18,15 @@ import tempfile
 
 TOP = pathlib.Path(__file__).resolve().parent.parent
 PAGES = TOP / "docs/man"
+DOCUMENTS = ("README.md", "docs/COMING_FROM_VARNISH.md")
 LOG = TOP / "cases/a_log_is_written_to_standard_output/data/f"
 ANSWERED = TOP / "cases/ncsa_prints_a_line_of_a_request/hex/f"
 QUERIES = "Link\n"
 OPTIONS = {
-    "vtools.1": "aAbcCdEgiIkLqQrTvwxX",
+    "vtools.1": ("--feed", "--gen", "--feed-first", "--turns", "--ring", "--reclen", "--version"),
+    "vtools-varnishlog.1": "aAbcCdEgiIkLqQrTvwxX",
     "vtools-varnishncsa.1": "abcCdEFgkLqQrTw",
+    "vtools-varnishstat.1": "1fjl",
     "vtools-varnishtop.1": "1bcCdEfgiIkLqQrTxX",
 }
 MARKS = {"\\(aq": "'", "\\(dq": '"', "\\(ti": "~", "\\(ha": "^", "\\-": "-", "\\ ": " ", "\\&": "", "\\e": "\\"}
@@ -66,6 +72,13 @@ def printed_by(program, command, folder):
     return (run.stdout + run.stderr).decode().split("\n")[:-1]
 
 
+def has_option(command, option):
+    """Whether a command has an option: a word of `vtools`, or a letter of the tool."""
+    if option.startswith("--"):
+        return option in command.split()
+    return re.search(rf" -[a-zA-Z1]*{option}", command) is not None
+
+
 def run_page(program, name):
     """Runs the examples of a page, and answers how many there are."""
     ran = []
@@ -81,16 +94,33 @@ def run_page(program, name):
                     sys.exit(f"man: {name}: {command}: {got}, not {wanted}")
                 ran.append(command)
     for option in OPTIONS[name]:
-        if not any(re.search(rf" -[a-zA-Z1]*{option}", command) for command in ran):
-            sys.exit(f"man: {name}: no example of -{option} is run")
+        if not any(has_option(command, option) for command in ran):
+            sys.exit(f"man: {name}: no example of {option} is run")
     return len(ran)
+
+
+def run_document(program, name):
+    """Runs the examples of a document, and answers how many there are."""
+    count = 0
+    for block in re.finditer(r"^```text\n(\$ bin/vtools .*?)\n```$", (TOP / name).read_text(), re.DOTALL | re.MULTILINE):
+        all_commands = list(commands(block.group(1).split("\n")))
+        if any(word.startswith(">") for command, _ in all_commands for word in shlex.split(command)):
+            continue
+        for command, wanted in all_commands:
+            got = printed_by(program, command, TOP)
+            if got not in (wanted, [*wanted, ""]):
+                sys.exit(f"man: {name}: {command}: {got}, not {wanted}")
+            count += 1
+    if count == 0:
+        sys.exit(f"man: {name} has no example")
+    return count
 
 
 def main():
     program = str(pathlib.Path(sys.argv[1] if len(sys.argv) > 1 else TOP / "crates/vtools/out/vtools").resolve())
     if {page.name for page in PAGES.iterdir()} != set(OPTIONS):
         sys.exit(f"man: the pages of {PAGES} are not {', '.join(OPTIONS)}")
-    count = sum(run_page(program, name) for name in OPTIONS)
+    count = sum(run_page(program, name) for name in OPTIONS) + sum(run_document(program, name) for name in DOCUMENTS)
     print(f"man: ok, {count} examples")
 
 
