@@ -1,16 +1,19 @@
 //! How groups are written: as lines, or as the units of a log file.
 
 ghost use Rattle.std.specs.Prelude.{◌≡◌, ◌++◌, ◌∷◌, [], OnOk};
+ghost use Rattle.std.specs.List.{flat_map};
 ghost use Rattle.vsl_select.specs.Shown.{shown, shown_member};
 ghost use Rattle.vsl_file.specs.File.{log_bytes};
 ghost use Rattle.vsl_select.specs.FileUnits.{file_units, units_of};
 ghost use Rattle.varnish_tools.specs.Output.{laid_out};
+ghost use Rattle.varnish_tools.specs.inside.Consumer.{alone_bytes, raw_written};
 
+use std::array;
 use txn_rows::{Group, Member};
 use vio::NoMemory;
 use vsl_file::put_records;
-use vsl_record::{Record, Vxid};
-use vsl_select::{Selection, first_unit, group_text};
+use vsl_record::{Record, Unit, Vxid};
+use vsl_select::{Selection, first_unit, group_text, raw_lines};
 
 /// How groups are written.
 #[derive(Clone, Copy, Debug, PartialEq, Eq)]
@@ -77,5 +80,33 @@ pub(crate) fn put_group(out: &mut Vec<u8>, look: &Look, group: &Group) -> Result
     match look.layout {
         Layout::Lines => group_text(group, &look.selection, look.verbose, out),
         Layout::Units => put_group_units(out, &look.selection, group),
+    }
+}
+
+/// Adds a record as a unit of a log file by itself.
+#[tactic(auto, unfolding(crate::specs::inside::Consumer::alone_bytes))]
+fn put_alone(out: &mut Vec<u8>, vxid: Vxid, rec: &Record) -> Result<(), NoMemory>
+    ensures { OnOk result (out.new.items ≡ out.old.items ++ alone_bytes vxid rec.now) }
+{
+    put_units(out, vxid, array::from_ref(rec))
+}
+
+/// Adds records as units of a log file, each by itself.
+fn put_each_alone(out: &mut Vec<u8>, vxid: Vxid, records: &[Record]) -> Result<(), NoMemory>
+    ensures { OnOk result (out.new.items ≡ out.old.items ++ flat_map (alone_bytes vxid) records.now) }
+{
+    for rec in records {
+        put_alone(out, vxid, rec)?;
+    }
+    Ok(())
+}
+
+/// Adds each record of a unit by itself, as it is laid out.
+pub(crate) fn put_raw(out: &mut Vec<u8>, layout: Layout, unit: &Unit) -> Result<(), NoMemory>
+    ensures { OnOk result (out.new.items ≡ out.old.items ++ raw_written layout unit.now) }
+{
+    match layout {
+        Layout::Lines => raw_lines(unit, out),
+        Layout::Units => put_each_alone(out, unit.vxid(), unit.records()),
     }
 }

@@ -3,14 +3,13 @@
 ghost use Rattle.std.specs.Prelude.{◌≡◌, [], false};
 ghost use Rattle.varnish_tools.specs.inside.Consumer.{IsLog};
 
-use crate::layout::{Layout, Look, put_group};
+use crate::layout::{Look, put_group, put_raw};
 use std::alloc::Global;
 use std::mem::replace;
 use txn_rows::Group;
 use vio::NoMemory;
 use vsl_dispatch::{Consumer, Go, Received};
 use vsl_record::Unit;
-use vsl_select::raw_lines;
 
 /// Writes what is shown of groups as it looks.
 ///
@@ -73,14 +72,10 @@ impl Consumer for LogConsumer {
 
     fn records(&mut self, unit: &Unit) -> Result<bool, NoMemory> {
         let keeps_all = self.received.keep.is_none();
-        match (
-            self.look.layout,
-            keeps_all,
-            self.look.selection.shows_everything(),
-        ) {
-            (Layout::Lines, true, true) => {
+        match (keeps_all, self.look.selection.shows_everything()) {
+            (true, true) => {
                 make_room(&mut self.text, self.usual)?;
-                raw_lines(unit, &mut self.text)?;
+                put_raw(&mut self.text, self.look.layout, unit)?;
                 Ok(true)
             }
             _ => Ok(false),
