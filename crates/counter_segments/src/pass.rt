@@ -1,6 +1,6 @@
 //! A pass: the right to add, and what was added by it.
 
-ghost use Rattle.std.specs.Prelude.{◌≡◌, ◌+◌, ◌<◌, ◌≤◌, OnOk, OnErr};
+ghost use Rattle.std.specs.Prelude.{◌≡◌, ◌+◌, ◌<◌, ◌≤◌, length, OnOk, OnErr};
 ghost use Rattle.counter_segments.specs.Sums.{counter_count, ceiling, own_sum, with_added};
 
 use crate::COUNTERS;
@@ -48,6 +48,7 @@ impl CounterPass {
         ensures accepted { OnOk result (own_sum which self.old + n ≤ ceiling) }
         ensures refused { OnErr result (ceiling < own_sum which self.old + n) }
         ensures kept { OnErr result (self.new ≡ self.old) }
+        ensures whole { length self.old.sums ≡ counter_count }
     {
         let own = self.sums[which as usize];
         if n > CEILING - own {
