@@ -51,7 +51,7 @@ fn add(counts: &mut CounterPass, counters: &Counters, which: u32, n: u64)
     requires low { own_sum which counts.old + n ≤ ceiling }
     ensures same { counts.new.counters ≡ counts.old.counters }
     ensures whole { length counts.new.sums ≡ length counts.old.sums }
-    ensures added { which < length counts.old.sums → own_sum which counts.new ≡ own_sum which counts.old + n }
+    ensures added { own_sum which counts.new ≡ own_sum which counts.old + n }
     ensures others { (other : ℕ) → other ≢ which → own_sum other counts.new ≡ own_sum other counts.old }
 {
     if n == 0 {
@@ -62,8 +62,7 @@ fn add(counts: &mut CounterPass, counters: &Counters, which: u32, n: u64)
     };
 }
 
-/// Counts a unit that was put: adds to each counter what the unit raises it by, but cuts, waits and wraps. What the counters come
-/// to is said of a pass that has a sum for each, as a new pass has.
+/// Counts a unit that was put: adds to each counter what the unit raises it by, but cuts, waits and wraps.
 ///
 /// Source: varnish-counters(7), `MAIN.`; what raises which counter is this project's choice.
 pub fn count_unit(counts: &mut CounterPass, counters: &Counters, unit: &Unit)
@@ -71,7 +70,7 @@ pub fn count_unit(counts: &mut CounterPass, counters: &Counters, unit: &Unit)
     requires low { (which : ℕ) → which < counter_count → own_sum which counts.old < 2 ^ 55 }
     ensures same { counts.new.counters ≡ counts.old.counters }
     ensures whole { length counts.new.sums ≡ length counts.old.sums }
-    ensures counted { length counts.old.sums ≡ counter_count → (which : ℕ) → which < counter_count → own_sum which counts.new ≡ own_sum which counts.old + unit_share which unit.now }
+    ensures counted { (which : ℕ) → which < counter_count → own_sum which counts.new ≡ own_sum which counts.old + unit_share which unit.now }
 {
     for which in 0..CUTS {
         add(counts, counters, which, share(which, unit));
@@ -86,7 +85,7 @@ pub fn count_cuts(counts: &mut CounterPass, counters: &Counters, cuts: u64)
     requires low { own_sum 18 counts.old + cuts ≤ ceiling }
     ensures same { counts.new.counters ≡ counts.old.counters }
     ensures whole { length counts.new.sums ≡ length counts.old.sums }
-    ensures counted { length counts.old.sums ≡ counter_count → (which : ℕ) → which < counter_count → own_sum which counts.new ≡ own_sum which counts.old + cut_raise (slice_get causes which) cuts }
+    ensures counted { (which : ℕ) → which < counter_count → own_sum which counts.new ≡ own_sum which counts.old + cut_raise (slice_get causes which) cuts }
 {
     add(counts, counters, CUTS, cuts);
 }
@@ -99,7 +98,7 @@ pub fn count_wraps(counts: &mut CounterPass, counters: &Counters, wraps: u64)
     requires low { own_sum 20 counts.old + wraps ≤ ceiling }
     ensures same { counts.new.counters ≡ counts.old.counters }
     ensures whole { length counts.new.sums ≡ length counts.old.sums }
-    ensures counted { length counts.old.sums ≡ counter_count → (which : ℕ) → which < counter_count → own_sum which counts.new ≡ own_sum which counts.old + wrap_raise (slice_get causes which) wraps }
+    ensures counted { (which : ℕ) → which < counter_count → own_sum which counts.new ≡ own_sum which counts.old + wrap_raise (slice_get causes which) wraps }
 {
     add(counts, counters, WRAPS, wraps);
 }
