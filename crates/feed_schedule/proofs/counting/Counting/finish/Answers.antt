@@ -29,5 +29,5 @@ returns c = λ listings h.
     let e = c.count_wraps.ensures in
     let added : HasAdded (λ which. wrap_raise (slice_get causes which) c.args.self.ring.wraps) c.index_mut.result.now c.count_wraps.new.counts =
     subst (λ (n : ℕ). HasAdded (λ which. wrap_raise (slice_get causes which) n) c.index_mut.result.now c.count_wraps.new.counts) c.wraps.ensures
-    (record { same = e.same; whole = e.whole; added = e.counted (pass_at _ _ _ _ _ 0 _ h first).whole }) in
+    (record { same = e.same; whole = e.whole; added = e.counted }) in
     c.in_ok-values.ensures ∙ all_values _ listings _ _ _ 0 c.args.self.ring.wraps _ _ c.requires.left h first added
