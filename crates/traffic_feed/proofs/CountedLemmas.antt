@@ -1,13 +1,14 @@
 -- By how much units raise the counters.
-use Rattle.std.proofs.Common.{◌≡◌, ℕ, ◌+◌, ◌-◌, ◌*◌, ◌<◌, ◌≤◌, Bool, true, false, List, [], ◌∷◌, length, Option, None, Some, refl, arith}
+use Rattle.std.proofs.Common.{◌≡◌, ◌≢◌, ℕ, ◌+◌, ◌-◌, ◌*◌, ◌<◌, ◌≤◌, Bool, true, false, List, [], ◌∷◌, length, Option, None, Some, refl, sym, subst, arith}
 use Rattle.std.specs.List.{flat_map, sum_by}
-use Rattle.std.specs.Prelude.{slice_get}
-use Rattle.std.proofs.lemmas.List.{length-append}
+use Rattle.std.specs.Prelude.{slice_get, slice_index, slice_set}
+use Rattle.std.proofs.lemmas.Bool.Decides.{eqb_tells}
+use Rattle.std.proofs.lemmas.List.{get_or-set_other, get_or-set_same, length-append}
 use Rattle.std.proofs.lemmas.List.Sums.{sum_by-cons}
 use Rattle.vsl_record.specs.declared.record_type.Record.{Record}
 use Rattle.vsl_record.specs.Unit.{LogUnit}
 use Rattle.vsl_record.specs.Words.{IsUnit, record_words}
-use mathlib.Core.Logic.{dite}
+use mathlib.Core.Logic.{dite, inl, inr}
 use native.Mathlib.Decide.{dec_lt}
 use Rattle.counter_segments.specs.Sums.{counter_count}
 use Rattle.txn_rows.specs.Claim.{digits_value}
@@ -40,6 +41,16 @@ sum_small : (cause : Cause) (recs : List Record) → sum_by (raise cause) recs �
 sum_small cause [] = omega arith
 sum_small cause (rec ∷ recs) = omega (arith, sum_by-cons (raise cause) rec recs, raise_small cause rec, sum_small cause recs)
 
+-- what no record raises, records don't raise together
+no_records : (o : Option Cause) → ((rec : Record) → raise_at o rec ≡ 0) → (recs : List Record) → sum_by (raise_at o) recs ≡ 0
+no_records o none [] = refl
+no_records o none (rec ∷ recs) = omega (arith, sum_by-cons (raise_at o) rec recs, none rec, no_records o none recs)
+
+-- records raise a counter by less than 2^32 each
+pub sum_at_small : (o : Option Cause) (recs : List Record) → sum_by (raise_at o) recs ≤ 4294967295 * length recs
+sum_at_small None recs = omega (arith, no_records None (λ rec. refl) recs)
+sum_at_small (Some cause) recs = sum_small cause recs
+
 unit_raise_small : (cause : Cause) → unit_raise cause ≤ 1
 unit_raise_small EachUnit = omega arith
 unit_raise_small (EachTag tag) = omega arith
@@ -71,15 +82,25 @@ records_few u is = omega (arith, two_words u.vxid u.records, is.size)
 
 -- ---- what raises which counter
 
--- what no record raises, records don't raise together
-no_records : (o : Option Cause) → ((rec : Record) → raise_at o rec ≡ 0) → (recs : List Record) → sum_by (raise_at o) recs ≡ 0
-no_records o none [] = refl
-no_records o none (rec ∷ recs) = omega (arith, sum_by-cons (raise_at o) rec recs, none rec, no_records o none recs)
-
 -- a unit raises a counter by itself and by its records
 pub share_parts : (o : Option Cause) (u : LogUnit) → share_at o u ≡ unit_raise_at o + sum_by (raise_at o) u.records
 share_parts None u = omega (arith, no_records None (λ rec. refl) u.records)
 share_parts (Some cause) u = refl
+
+-- a unit raises one counter by itself, which is number 17
+pub unit_raise_other : (which : ℕ) → which ≢ 17 → which < counter_count → unit_raise_at (slice_get causes which) ≡ 0
+unit_raise_other which other below = grind arith
+
+-- what records raise each counter by, and one more of units, is what the unit raises each by
+pub shares_are : (u : LogUnit) (sums : List ℕ) → length sums ≡ counter_count → ((which : ℕ) → which < counter_count → slice_index sums which ≡ sum_by (raise_at (slice_get causes which)) u.records)
+    → (which : ℕ) → which < counter_count → slice_index (slice_set sums 17 (slice_index sums 17 + 1)) which ≡ unit_share which u
+shares_are u sums long by_all which below =
+    let new : List ℕ = slice_set sums 17 (slice_index sums 17 + 1) in
+    let units : slice_index new 17 ≡ unit_share 17 u = let all = by_all 17 (omega arith) in omega (arith, all, get_or-set_same sums 17 (slice_index sums 17 + 1) 0 (omega arith), share_parts (slice_get causes 17) u) in
+    elim (eqb_tells which 17) [
+      | inl same ↦ subst (λ (n : ℕ). slice_index new n ≡ unit_share n u) (sym same.1) units
+      | inr other ↦ let all = by_all which below in omega (arith, all, get_or-set_other sums 17 which (slice_index sums 17 + 1) 0 other.1, share_parts (slice_get causes which) u, unit_raise_other which other.1 below)
+    ]
 
 -- where neither a unit nor its records raise it
 no_share : (o : Option Cause) (u : LogUnit) → ((rec : Record) → raise_at o rec ≡ 0) → unit_raise_at o ≡ 0 → share_at o u ≡ 0

@@ -1,48 +1,18 @@
 //! Counting what is put into a ring.
 
-ghost use Rattle.std.specs.Prelude.{◌≡◌, ◌≢◌, ◌+◌, ◌*◌, ◌^◌, ◌<◌, ◌≤◌, ℕ, length, slice_get};
-ghost use Rattle.std.specs.List.{sum_by};
+ghost use Rattle.std.specs.Prelude.{◌≡◌, ◌≢◌, ◌+◌, ◌^◌, ◌<◌, ◌≤◌, ℕ, length, slice_get};
 ghost use Rattle.counter_segments.specs.Sums.{counter_count, ceiling, own_sum};
 ghost use Rattle.traffic_feed.specs.Counted.{causes, cut_raise, unit_share, wrap_raise};
-ghost use Rattle.traffic_feed.specs.inside.Raises.{raise_at};
 
-use crate::raises::raised;
+use crate::shares::shares;
 use counter_segments::{CounterPass, Counters};
-use vsl_record::{Record, Unit};
+use vsl_record::Unit;
 
-/// The number of the counter that each unit raises by one; records raise those before it.
-const UNITS: u32 = 17;
-
-/// The number of the counter that cuts raise.
+/// The number of the counter that cuts raise; units and their records raise those before it.
 const CUTS: u32 = 18;
 
 /// The number of the counter that wraps raise.
 const WRAPS: u32 = 20;
-
-/// By how much records raise a counter, in all.
-fn raised_by_all(which: u32, records: &[Record]) -> u64
-    requires counter { which < counter_count }
-    requires few { length records.now < 2 ^ 20 }
-    ensures raised { result ≡ sum_by (raise_at (slice_get causes which)) records.now }
-    ensures small { result ≤ 2 ^ 32 * length records.now }
-{
-    let mut sum = 0;
-    for rec in records {
-        sum += raised(which, rec);
-    }
-    sum
-}
-
-/// By how much a unit raises a counter.
-#[tactic(auto, using(crate::proofs::CountedLemmas::records_few, crate::proofs::CountedLemmas::share_parts))]
-fn share(which: u32, unit: &Unit) -> u64
-    requires { which < counter_count }
-    ensures share { result ≡ unit_share which unit.now }
-    ensures small { result ≤ 2 ^ 52 }
-{
-    let beside = if which == UNITS { 1 } else { 0 };
-    beside + raised_by_all(which, unit.records())
-}
 
 /// Adds to a counter that stays within its ceiling.
 fn add(counts: &mut CounterPass, counters: &Counters, which: u32, n: u64)
@@ -72,8 +42,9 @@ pub fn count_unit(counts: &mut CounterPass, counters: &Counters, unit: &Unit)
     ensures whole { length counts.new.sums ≡ length counts.old.sums }
     ensures counted { (which : ℕ) → which < counter_count → own_sum which counts.new ≡ own_sum which counts.old + unit_share which unit.now }
 {
+    let shares = shares(unit);
     for which in 0..CUTS {
-        add(counts, counters, which, share(which, unit));
+        add(counts, counters, which, shares[which as usize]);
     }
 }
 
