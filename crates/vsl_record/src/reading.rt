@@ -27,6 +27,9 @@ const UNIT_MARK: u32 = 0xfe;
 /// An id word from here on has both marks.
 const BOTH_MARKS: u32 = 0xc000_0000;
 
+/// For each so many words of a unit, room is made for a record before the records are read.
+const USUAL_WORDS: usize = 8;
+
 /// The first word of the bytes.
 fn first_word(bytes: &[u8]) -> Option<u32>
     ensures some { IfSome result (λ w. slice_index (words_in bytes.now) 0 ≡ w) }
@@ -168,7 +171,7 @@ fn read_records(
     ensures read { IfOk result (λ v. AreRecordsRead id (words_in bytes.old) v.items []) }
     ensures refused { IfErr result (λ fault. fault ≢ WordFault.NoMemory → StopsAt id (words_in bytes.old) fault) }
 {
-    let mut records = Vec::new(alloc);
+    let mut records = Vec::with_capacity(alloc, size / USUAL_WORDS)?;
     while let Some(head) = first_word(bytes.as_slice()) {
         let rec = read_record(head, id, size, bytes)?;
         records.push(rec)?;

@@ -3,7 +3,7 @@
 ghost use Rattle.std.specs.Prelude.{◌≡◌, [], ◌∷◌, ◌++◌, OnOk, OnErr};
 
 use crate::record_type::Record;
-use std::alloc::{AllocFailed, Global};
+use std::alloc::{AllocError, AllocFailed, Global};
 use std::marker::Model;
 
 /// Records in order. Contracts see the list.
@@ -29,6 +29,13 @@ impl Records {
         Records {
             items: Vec::new(alloc),
         }
+    }
+
+    /// Makes room for so many more records. The list stays as it is, also where there is no memory.
+    pub fn reserve(&mut self, more: usize) -> Result<(), AllocError>
+        ensures { self.new ≡ self.old }
+    {
+        self.items.reserve(more)
     }
 
     pub fn push(&mut self, rec: Record) -> Result<(), AllocFailed<Record>>
