@@ -12,6 +12,9 @@ use std::alloc::Global;
 use vsl_record::{Record, Records, Vxid};
 use vsl_tags::Tag;
 
+/// For so many records room is made when a row gets its first.
+const FIRST_RECORDS: usize = 32;
+
 /// A pending transaction, and where it stands in its tree.
 #[derive(Drop)]
 pub(crate) struct Row {
@@ -63,6 +66,16 @@ pub(crate) fn empty_row(alloc: Global, serial: u64, vxid: Vxid, time: Option<u12
     }
 }
 
+/// Makes room for a row's first records where it has none.
+fn make_room(records: &mut Records) -> Result<(), NoMemory>
+    ensures { records.new ≡ records.old }
+{
+    if records.as_slice().is_empty() {
+        records.reserve(FIRST_RECORDS)?;
+    }
+    Ok(())
+}
+
 /// Adds a copy of a record to a row; a Begin may tell the row's kind.
 pub(crate) fn add_record(alloc: Global, row: &mut Row, rec: &Record) -> Result<(), NoMemory>
     ensures told { OnOk result (transaction_of row.new ≡ with_one rec.now (transaction_of row.old)) }
@@ -70,6 +83,7 @@ pub(crate) fn add_record(alloc: Global, row: &mut Row, rec: &Record) -> Result<(
     ensures path { OnOk result (row.new.path ≡ row.old.path) }
 {
     let copy = rec.to_owned(alloc)?;
+    make_room(&mut row.records)?;
     row.records.push(copy)?;
     if rec.tag == Tag::BEGIN {
         take_claim(row, read_claim(rec.payload.as_slice()));
