@@ -9,7 +9,7 @@ ghost use Rattle.vsl_select.specs.Shown.{shown, shown_member, shown_members};
 
 use crate::level_field::LevelField;
 use crate::parts::{put_byte, put_text, put_vxid_left, title_of};
-use crate::raw::{put_raw_line, put_tag_line};
+use crate::raw::{put_raw_line, put_raw_lines, put_tag_line};
 use crate::selection::Selection;
 use crate::vxid_columns::VxidColumns;
 use log_model::NoMemory;
@@ -22,6 +22,9 @@ fn put_raw_member(out: &mut Vec<u8>, selection: &Selection, member: &Member) -> 
     ensures ok { OnOk result (out.new.items ≡ out.old.items ++ member_raw_lines (shown_member selection.now member.now)) }
     ensures keeps { IsPrefix out.old.items out.new.items }
 {
+    if selection.shows_every_record() {
+        return put_raw_lines(out, member.vxid, member.records.as_slice());
+    }
     let columns = VxidColumns::new(member.vxid);
     for rec in member.records.as_slice() {
         if selection.shows(rec)? {
@@ -102,6 +105,20 @@ fn put_record(
     }
 }
 
+/// Adds the lines of all records of a transaction.
+#[tactic(auto, using(log_model::proofs::PrefixLemmas::adding))]
+fn put_every_record(out: &mut Vec<u8>, verbose: bool, member: &Member) -> Result<(), NoMemory>
+    ensures ok { OnOk result (out.new.items ≡ out.old.items ++ flat_map (record_line verbose member.now) member.now.records) }
+    ensures keeps { IsPrefix out.old.items out.new.items }
+{
+    let level = LevelField::new(b'-', member.level);
+    let vxid = VxidColumns::new(member.vxid);
+    for rec in member.records.as_slice() {
+        put_record(out, verbose, &level, &vxid, rec)?;
+    }
+    Ok(())
+}
+
 /// Adds the lines of the shown records of a transaction.
 #[tactic(auto, using(log_model::proofs::PrefixLemmas::adding))]
 fn put_records(
@@ -113,6 +130,9 @@ fn put_records(
     ensures ok { OnOk result (out.new.items ≡ out.old.items ++ flat_map (record_line verbose member.now) (shown_member selection.now member.now).records) }
     ensures keeps { IsPrefix out.old.items out.new.items }
 {
+    if selection.shows_every_record() {
+        return put_every_record(out, verbose, member);
+    }
     let level = LevelField::new(b'-', member.level);
     let vxid = VxidColumns::new(member.vxid);
     for rec in member.records.as_slice() {
