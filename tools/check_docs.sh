@@ -105,6 +105,16 @@ varnishtop vtools-varnishtop.1
 varnishstat vtools-varnishstat.1
 PAGES
 
+# The newest release of CHANGELOG has the version that the program prints, FORMATS has it too, and the header of each man page
+# has it with the date.
+version=$(sed -n 's/^const VERSION: &str = "\(vtools .*\)\\n";$/\1/p' crates/vtools/src/answers.rt)
+release=$(sed -n 's/^## \([0-9][0-9.]*\), \([0-9-]*\)$/"\2" "vtools \1"/p' CHANGELOG.md | head -n 1)
+[ "${release#* }" = "\"$version\"" ] || fail "CHANGELOG.md has the release $release, and the program is $version"
+grep -qxF "\`vtools --version\` prints \`$version\`." docs/FORMATS.md || fail "docs/FORMATS.md has not the version $version"
+for page in docs/man/*.1; do
+    head -n 1 "$page" | grep -qF "$release" || fail "the header of $page has not $release"
+done
+
 # Each file that a must-fail edit changes is there.
 find crates -path '*/must-fail/*.edit' ! -path '*/out/*' >"$work/edits"
 while read -r edit; do

@@ -11,7 +11,7 @@ use varnish_tools::run_tools;
 use vio::{NoMemory, OUTPUT, World, WorldFault, write_all};
 
 /// What `vtools --version` prints.
-const VERSION: &str = "vtools 0.1 (unreleased)\n";
+const VERSION: &str = "vtools 0.2\n";
 
 /// What `vtools --help` prints.
 const HELP: &str = "\
