@@ -13,7 +13,7 @@ use vsl_record::{Record, Records, Vxid};
 use vsl_tags::Tag;
 
 /// For so many records room is made when a row gets its first.
-const FIRST_RECORDS: usize = 32;
+const FIRST_RECORDS: usize = 48;
 
 /// A pending transaction, and where it stands in its tree.
 #[derive(Drop)]

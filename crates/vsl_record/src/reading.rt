@@ -28,7 +28,7 @@ const UNIT_MARK: u32 = 0xfe;
 const BOTH_MARKS: u32 = 0xc000_0000;
 
 /// For each so many words of a unit, room is made for a record before the records are read.
-const USUAL_WORDS: usize = 8;
+const USUAL_WORDS: usize = 5;
 
 /// The first word of the bytes.
 fn first_word(bytes: &[u8]) -> Option<u32>
