@@ -19,26 +19,16 @@ pub(crate) struct Tags {
 /// `Timestamp`.
 const TIMESTAMP: u8 = 41;
 
-/// What a record of a tag gives.
-#[inline]
-fn given<'a>(tag: u8, wanted: Wanted, rec: &'a Record) -> Option<&'a [u8]>
-    ensures { option_copied result ≡ in_tag tag (part_of wanted.entry) rec.now }
-{
-    if rec.tag.number() == tag {
-        wanted.of(rec.payload.as_slice())
-    } else {
-        None
-    }
-}
-
 /// What the first record of a tag that gives something gives.
 pub(crate) fn first_of<'a>(records: &'a [Record], tag: u8, wanted: Wanted) -> Option<&'a [u8]>
     ensures { option_copied result ≡ first_of (in_tag tag (part_of wanted.entry)) records.now }
 {
     for rec in records {
-        let part = given(tag, wanted, rec);
-        if part.is_some() {
-            return part;
+        if rec.tag.number() == tag {
+            let part = wanted.of(rec.payload.as_slice());
+            if part.is_some() {
+                return part;
+            }
         }
     }
     None
@@ -49,9 +39,12 @@ pub(crate) fn last_of<'a>(records: &'a [Record], tag: u8, wanted: Wanted) -> Opt
     ensures { option_copied result ≡ last_of (in_tag tag (part_of wanted.entry)) records.now }
 {
     for i in (0..records.len()).rev() {
-        let part = given(tag, wanted, &records[i]);
-        if part.is_some() {
-            return part;
+        let rec = &records[i];
+        if rec.tag.number() == tag {
+            let part = wanted.of(rec.payload.as_slice());
+            if part.is_some() {
+                return part;
+            }
         }
     }
     None
