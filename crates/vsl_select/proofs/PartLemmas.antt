@@ -2,6 +2,8 @@
 use Rattle.std.proofs.Common.{ℕ, suc, ◌-◌, ◌<◌, ◌≤◌, ◌≡◌, Bool, true, false, List, [], ◌∷◌, ◌++◌, length, take, drop, get_or, replicate, ◌+◌, refl, sym, ap, ◌∙◌, append_assoc, arith}
 use Rattle.std.proofs.lemmas.List.{append-nil, take-append-drop, take_all, take-replicate, drop-replicate}
 use Rattle.std.proofs.lemmas.List.Concat.{flat_map-append}
+use Rattle.std.proofs.lemmas.List.Folds.{list_any-append}
+use Rattle.std.proofs.Math.Seq.{take-add}
 use Rattle.std.specs.Prelude.{◌==◌, ◌||◌, nat_lt}
 use Rattle.std.specs.List.{list_any}
 use Rattle.vsl_select.specs.RawLine.{at_right, escaped, escaped_byte}
@@ -27,6 +29,31 @@ escaped_head b rest e = rw e refl
 pub escaped_plain : (payload : List ℕ) → list_any is_control payload ≡ false → escaped payload ≡ payload
 escaped_plain [] e = refl
 escaped_plain (b ∷ rest) e = escaped_head b (escaped rest) (or_left (is_control b) (list_any is_control rest) e) ∙ ap (λ (x : List ℕ). b ∷ x) (escaped_plain rest (or_right (is_control b) (list_any is_control rest) e))
+
+-- whether a byte of the first bytes, or of those behind them, passes a test
+any_parts : (p : ℕ → Bool) (n : ℕ) (bytes : List ℕ) → (list_any p (take n bytes) || list_any p (drop n bytes)) ≡ list_any p bytes
+any_parts p n bytes = sym (list_any-append p (take n bytes) (drop n bytes)) ∙ ap (list_any p) (take-append-drop n bytes)
+
+-- the run behind the first bytes is looked at, too
+pub any_run : (p : ℕ → Bool) (n m : ℕ) (bytes : List ℕ) → list_any p (take (n + m) bytes) ≡ (list_any p (take n bytes) || list_any p (take m (drop n bytes)))
+any_run p n m bytes = ap (list_any p) (take-add n m bytes) ∙ list_any-append p (take n bytes) (take m (drop n bytes))
+
+-- what is looked at twice counts once
+looked_twice : (a b c : Bool) → ((a || b) || (b || c)) ≡ (a || (b || c))
+looked_twice true b c = refl
+looked_twice false true c = refl
+looked_twice false false c = refl
+
+-- the first bytes and the last, which meet or overlap, are all
+pub any_ends : (p : ℕ → Bool) (n m : ℕ) (bytes : List ℕ) → m ≤ n → (list_any p (take n bytes) || list_any p (drop m bytes)) ≡ list_any p bytes
+any_ends p n m bytes meets =
+    let n_is : n ≡ m + (n - m) = omega (arith, meets) in
+    let before = list_any p (take m bytes) in
+    let both = list_any p (take (n - m) (drop m bytes)) in
+    let behind = list_any p (drop (n - m) (drop m bytes)) in
+    let last = any_parts p (n - m) (drop m bytes) in
+    ap (λ (b : Bool). b || list_any p (drop m bytes)) (ap (λ (k : ℕ). list_any p (take k bytes)) n_is ∙ any_run p m (n - m) bytes)
+    ∙ ap (λ (b : Bool). (before || both) || b) (sym last) ∙ looked_twice before both behind ∙ ap (λ (b : Bool). before || b) last ∙ any_parts p m bytes
 
 -- a run that is printed as it is, and what follows
 escaped_run : (n : ℕ) (rest plain after : List ℕ) → plain ≡ take n rest → after ≡ drop n rest → list_any is_control (take n rest) ≡ false → escaped rest ≡ plain ++ escaped after

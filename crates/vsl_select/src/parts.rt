@@ -162,16 +162,51 @@ fn put_with_escapes(out: &mut Vec<u8>, payload: &[u8]) -> Result<(), NoMemory>
     Ok(())
 }
 
-/// Whether any byte of a payload is printed as an escape. It looks at all bytes, which is faster than to stop.
+/// Whether any of these bytes is printed as an escape. It looks at all bytes, which is faster than to stop.
+#[inline(always)]
 #[tactic(auto, using(std::proofs::lemmas::List::Folds::list_any_more))]
-fn has_any_escape(payload: &[u8]) -> bool
-    ensures { result ≡ list_any (λ b. nat_lt b 32 || (b == 127)) payload.now }
+fn any_has_escape(bytes: &[u8]) -> bool
+    ensures { result ≡ list_any (λ b. nat_lt b 32 || (b == 127)) bytes.now }
 {
     let mut found = false;
-    for byte in payload {
+    for byte in bytes {
         found |= has_escape(*byte);
     }
     found
+}
+
+/// Whether any byte of a short payload is printed as an escape: at 8 bytes or more of the first 8 and the last 8, which may overlap.
+#[inline(always)]
+fn short_has_escape(payload: &[u8]) -> bool
+    requires { length payload.now < 16 }
+    ensures { result ≡ list_any (λ b. nat_lt b 32 || (b == 127)) payload.now }
+{
+    if payload.len() < 8 {
+        return any_has_escape(payload);
+    }
+    let (first, _) = payload.split_at(8);
+    let (_, last) = payload.split_at(payload.len() - 8);
+    any_has_escape(first) | any_has_escape(last)
+}
+
+/// Whether any byte of a payload is printed as an escape. It looks at runs of 16 bytes, for which the compiler has vectors, and then at the last 16, of
+/// which some may have been seen.
+fn has_any_escape(payload: &[u8]) -> bool
+    ensures { result ≡ list_any (λ b. nat_lt b 32 || (b == 127)) payload.now }
+{
+    if payload.len() < 16 {
+        return short_has_escape(payload);
+    }
+    let mut found = false;
+    let mut at = 0;
+    while at + 16 <= payload.len() {
+        let (_, rest) = payload.split_at(at);
+        let (run, _) = rest.split_at(16);
+        found |= any_has_escape(run);
+        at += 16;
+    }
+    let (_, last) = payload.split_at(payload.len() - 16);
+    found | any_has_escape(last)
 }
 
 /// Adds a payload; at once where no byte of it needs an escape, as in most.

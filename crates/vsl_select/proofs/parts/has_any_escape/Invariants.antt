@@ -1,7 +1,13 @@
 -- whether a byte so far has an escape
-use Rattle.std.proofs.Common.{◌≡◌, ltb, eqb, ◌||◌, take}
+use Rattle.std.proofs.Common.{◌≡◌, ◌≤◌, ltb, eqb, ◌||◌, ◌-◌, length, take}
 use Rattle.std.specs.List.{list_any}
 use Rattle.vsl_select.proofs.parts.has_any_escape.Given as goal
 
-abbrev pub invariant-loop-byte : goal.invariant-loop-byte
-invariant-loop-byte l = l.found ≡ list_any (λ b. ltb b 32 || eqb b 127) (take l.byte-index l.payload)
+abbrev pub invariant-loop-at : goal.invariant-loop-at
+invariant-loop-at l = record {
+  within : l.at ≤ length l.payload;
+  seen : l.found ≡ list_any (λ b. ltb b 32 || eqb b 127) (take l.at l.payload);
+}
+
+abbrev pub decreases-loop-at : goal.decreases-loop-at
+decreases-loop-at l = length l.payload - l.at
