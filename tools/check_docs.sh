@@ -115,6 +115,18 @@ for page in docs/man/*.1; do
     head -n 1 "$page" | grep -qF "$release" || fail "the header of $page has not $release"
 done
 
+# Each text of a message has a row in FORMATS with words that bring it.
+sed -n '/^### Errors as a person reads them/,/^Each text of a message/p' docs/FORMATS.md | grep '^|' >"$work/rows"
+{
+    sed -n -E '/^(usage_message|query_message|message) /p' crates/varnish_tools/specs/Faults.antt
+    sed -n '/^overrun_message /p' crates/varnish_tools/specs/Feeds.antt
+} | grep -o 'codes "[^"]*"' | sed -e 's/^codes "//' -e 's/"$//' -e 's/^[: ]*//' -e '/^$/d' | sort -u >"$work/texts"
+sed -n 's/.*eprintln!(rt; "vtools: \([^{"]*[^{"]\).*/\1/p' crates/vtools/src/answers.rt >>"$work/texts"
+[ -s "$work/texts" ] || fail "the source has no messages"
+while read -r text; do
+    grep -qF -e "$text" "$work/rows" || fail "docs/FORMATS.md has no words that bring the message \`$text\`"
+done <"$work/texts"
+
 # Each file that a must-fail edit changes is there.
 find crates -path '*/must-fail/*.edit' ! -path '*/out/*' >"$work/edits"
 while read -r edit; do
