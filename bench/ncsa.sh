@@ -18,21 +18,13 @@ import time
 
 sys.dont_write_bytecode = True
 sys.path.insert(0, "bench")
-from varnish_log import VARNISH_HEADER, group_listing, varnish_records
+from varnish_log import VARNISH_HEADER, group_listing, repeat, varnish_records
 
 RUNS = 3
 HEADER = b"VSLOG-1\n"
 RECORDS = 10_000_000
 PARTS = (16, 1)
 FORMAT = "%h %m %U%q %s %b %D %{%F %T}t %{usec_frac}t %{Host}i %{Varnish:handling}x %{VSL:Timestamp:Process[2]}x"
-
-
-def repeat(path, header, records, copies):
-    """Writes the header once, and the records again and again."""
-    with open(path, "wb") as log:
-        log.write(header)
-        for _ in range(copies):
-            log.write(records)
 
 
 def peak_of(pid):

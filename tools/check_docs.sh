@@ -20,7 +20,7 @@ fail() {
 find . -type f ! -path './.git/*' ! -path './bin/*' ! -path '*/out/*' ! -path './examples/*' ! -path './cases/*/*' ! -path './crates/*/data/*' >"$work/files"
 
 for file in README.md CHANGELOG.md CONTRIBUTING.md docs/ARCHITECTURE.md docs/PROOF.md docs/DEFINITIONS.md \
-    docs/FORMATS.md docs/DECISIONS.md docs/COMING_FROM_VARNISH.md docs/man/vtools.1 docs/man/vtools-varnishlog.1 \
+    docs/FORMATS.md docs/DECISIONS.md docs/COMING_FROM_VARNISH.md docs/SPEED.md docs/man/vtools.1 docs/man/vtools-varnishlog.1 \
     docs/man/vtools-varnishncsa.1 docs/man/vtools-varnishtop.1 docs/man/vtools-varnishstat.1; do
     [ -s "$file" ] || fail "$file is missing"
 done

@@ -1,0 +1,205 @@
+#!/usr/bin/env python3
+"""Times vtools beside Varnish's own tools on a log that varnishd wrote, and alone on that log repeated.
+
+Usage: bench/beside_varnish.py PROGRAM LOGS, at the top of the repository. LOGS is the folder where the logs are kept,
+or empty. It tests nothing but that both print the same raw lines.
+"""
+
+import contextlib
+import ctypes
+import datetime
+import itertools
+import os
+import platform
+import shlex
+import shutil
+import signal
+import subprocess
+import sys
+import tempfile
+import time
+from typing import NamedTuple
+
+sys.dont_write_bytecode = True
+sys.path.insert(0, "bench")
+from varnish_log import VARNISH_HEADER, our_units, repeat
+from varnish_traffic import make_log
+
+RUNS = 5
+HEADER = b"VSLOG-1\n"
+COPIES = (1, 2, 4)
+OUT = "OUT"  # stands for the file that is written
+MOST_MEBIBYTES = 16
+TEXT, WRITE, LINES, TOP = 0.4, 1.0, 0.6, 0.1  # the ratios of ours to theirs that are wanted
+COMMANDS = [
+    (TEXT, ["varnishlog", "-g", "raw"]),
+    (TEXT, ["varnishlog", "-g", "vxid"]),
+    (TEXT, ["varnishlog", "-g", "request"]),
+    (TEXT, ["varnishlog", "-g", "session", "-L", "100000"]),
+    (TEXT, ["varnishlog", "-g", "request", "-q", "RespStatus >= 500"]),
+    (TEXT, ["varnishlog", "-g", "vxid", "-i", "ReqURL"]),
+    (WRITE, ["varnishlog", "-g", "raw", "-w", OUT]),
+    (LINES, ["varnishncsa"]),
+    (LINES, ["varnishncsa", "-F", "%h %m %U %s %b %D"]),
+    (TOP, ["varnishtop", "-1"]),
+    (TOP, ["varnishtop", "-1", "-i", "ReqURL"]),
+]
+# What starts a command once its input ends. The peak of a process begins with that of its parent, so a shell, which is
+# small, is the parent, and leaves it to this program.
+STARTER = 'exec 3<&0; { read -r _ <&3; exec "$@" 3<&-; } &'
+ADOPT = 36  # of prctl: PR_SET_CHILD_SUBREAPER
+
+
+class Run(NamedTuple):
+    """The seconds of a run, those of them for the user, and the peak of memory in MiB."""
+
+    seconds: float
+    user: float
+    peak: float
+
+
+def run(words):
+    """Runs a command to its end."""
+    shell = subprocess.Popen(["sh", "-c", STARTER, "sh", *words], stdin=subprocess.PIPE, stdout=subprocess.DEVNULL)
+    shell.wait()
+    begin = time.perf_counter()
+    shell.stdin.close()
+    _, status, used = os.wait4(-1, 0)
+    seconds = time.perf_counter() - begin
+    if status != 0:
+        sys.exit(f"{shlex.join(words)}: status {os.waitstatus_to_exitcode(status)}")
+    return Run(seconds, used.ru_utime, used.ru_maxrss / 1024)
+
+
+def in_turn(commands, out):
+    """The run of least time of each command, with the largest peak. What else the machine does falls on all of them."""
+    taken = []
+    for _ in range(RUNS):
+        for words in commands:
+            with contextlib.suppress(FileNotFoundError):
+                os.remove(out)
+            taken.append(run([out if word == OUT else word for word in words]))
+    runs = [taken[at :: len(commands)] for at in range(len(commands))]
+    return [min(of)._replace(peak=max(each.peak for each in of)) for of in runs]
+
+
+def first_line(*words):
+    """The first line that a command prints, or that it tells as a message."""
+    done = subprocess.run(words, stdin=subprocess.DEVNULL, stdout=subprocess.PIPE, stderr=subprocess.STDOUT, text=True)
+    return done.stdout.partition("\n")[0]
+
+
+def value_in(path, name):
+    """The value of a name in a file of the system."""
+    with open(path) as file:
+        return next(line.partition(":")[2].strip() for line in file if line.startswith(name))
+
+
+def logs_in(folder):
+    """The logs of a folder, ours and theirs, which are made where they are missing."""
+    ours, theirs = (os.path.join(folder, name) for name in ("ours.vslog", "theirs.vslog"))
+    if not (os.path.exists(ours) and os.path.exists(theirs)):
+        make_log(theirs)
+        with open(ours + ".part", "wb") as file:
+            file.write(HEADER)
+            file.writelines(our_units(theirs))
+        os.replace(ours + ".part", ours)
+    return ours, theirs
+
+
+def compare_raw(program, ours, theirs):
+    """Compares the raw lines of both logs, and answers the number of records and of clients' requests."""
+    raw, records, requests = ["varnishlog", "-g", "raw", "-r"], 0, 0
+    with (
+        subprocess.Popen([program, *raw, ours], stdout=subprocess.PIPE) as own,
+        subprocess.Popen([*raw, theirs], stdout=subprocess.PIPE) as other,
+    ):
+        for line, same in itertools.zip_longest(own.stdout, other.stdout):
+            if line != same:
+                sys.exit(f"raw lines differ: {line} and {same}")
+            records += 1
+            requests += b" Begin " in line and line.endswith(b" rxreq\n")
+    return records, requests
+
+
+def print_facts(program, ours, theirs, counts):
+    """Prints on what the times were taken."""
+    memory = int(value_in("/proc/meminfo", "MemTotal").split()[0]) / (1 << 20)
+    records, requests = counts
+    print(f"- {datetime.datetime.now(datetime.timezone.utc):%Y-%m-%d %H:%M} UTC, least of {RUNS} runs in turn")
+    print(f"- {value_in('/proc/cpuinfo', 'model name')}, {os.cpu_count()} processors, {memory:.1f} GiB of memory")
+    print(f"- {platform.system()} {platform.release()}, load average {os.getloadavg()[0]:.1f} before")
+    for words in ([program, "--version"], ["varnishd", "-V"], ["wrk", "--version"]):
+        print(f"- {first_line(*words)}")
+    print(f"- {requests} requests of clients, {records} records, of which both print the same raw lines")
+    print(f"- {os.path.getsize(ours)} bytes in our layout, {os.path.getsize(theirs)} bytes in Varnish's")
+
+
+def print_row(cells):
+    """Prints a row of a table, whose first column is wide."""
+    print(f"| {cells[0]:48} |" + "".join(f" {cell:>9} |" for cell in cells[1:]), flush=True)
+
+
+def print_head(cells):
+    """Prints the head of a table, whose columns but the first have their text at the right."""
+    print()
+    print_row(cells)
+    print(f"|{'-' * 50}|" + f"{'-' * 10}:|" * (len(cells) - 1))
+
+
+def cells_of(taken):
+    """The cells of a run."""
+    return f"{taken.seconds:.3f}", f"{taken.user:.3f}", f"{taken.peak:.1f}"
+
+
+def print_beside(program, ours, theirs, out):
+    """Prints each command's times beside those of Varnish's own tool."""
+    columns = [f"{whose} {what}" for whose in ("our", "their") for what in ("s", "user", "MiB")]
+    print_head(["Command", *columns, "ratio", "wanted"])
+    peak = 0
+    for wanted, words in COMMANDS:
+        own, other = in_turn([[program, *words, "-r", ours], [*words, "-r", theirs]], out)
+        ratio, peak = own.seconds / other.seconds, max(peak, own.peak)
+        print_row([f"`{shlex.join(words)}`", *cells_of(own), *cells_of(other), f"{ratio:.2f}", wanted])
+    print(f"\nOf the largest of our peaks, {peak:.1f} MiB, at most {MOST_MEBIBYTES} is wanted.")
+
+
+def print_growth(program, ours, folder, out):
+    """Prints each command's times on the log repeated."""
+    with open(ours, "rb") as source:
+        units = source.read()[len(HEADER) :]
+    logs = [os.path.join(folder, f"log-{copies}") for copies in COPIES]
+    for log, copies in zip(logs, COPIES):
+        repeat(log, HEADER, units, copies)
+    columns = [[f"{copies}x {what}" for copies in COPIES] for what in ("s", "MiB")]
+    print_head(["Command", *columns[0], f"{COPIES[-1]}x / 1x", *columns[1]])
+    for _, words in COMMANDS:
+        taken = in_turn([[program, *words, "-r", log] for log in logs], out)
+        ratio = taken[-1].seconds / taken[0].seconds
+        times, peaks = [f"{of.seconds:.3f}" for of in taken], [f"{of.peak:.1f}" for of in taken]
+        print_row([f"`{shlex.join(words)}`", *times, f"{ratio:.2f}", *peaks])
+
+
+def folder_for(size):
+    """Where files lie in memory, if so many bytes have room there, and else None, where they lie on a disk."""
+    return "/dev/shm" if os.path.isdir("/dev/shm") and shutil.disk_usage("/dev/shm").free > size else None
+
+
+def main():
+    program, kept = sys.argv[1:]
+    for stop in (signal.SIGTERM, signal.SIGHUP):
+        signal.signal(stop, lambda *_: sys.exit(1))  # so that what was started is stopped
+    ctypes.CDLL(None).prctl(ADOPT, 1, 0, 0, 0)
+    with tempfile.TemporaryDirectory() as folder:
+        if kept:
+            os.makedirs(kept, exist_ok=True)
+        ours, theirs = logs_in(kept or folder)
+        print_facts(program, ours, theirs, compare_raw(program, ours, theirs))
+        with tempfile.TemporaryDirectory(dir=folder_for(8 * os.path.getsize(ours))) as written:
+            out = os.path.join(written, "out")
+            print_beside(program, ours, theirs, out)
+            print_growth(program, ours, folder, out)
+
+
+if __name__ == "__main__":
+    main()
