@@ -20,7 +20,7 @@ use Rattle.txn_rows.specs.inside.Steps.{test_of}
 use Rattle.txn_rows.specs.declared.force.Which.TheVariants.{Unfinished, Late}
 use Rattle.txn_rows.specs.Transaction.{Transaction, cause_text, empty_transaction, is_unknown, is_pending, is_open, newest, with_newest, with_record, claimed_kind, ended, forced, first_mark, oldest, with_oldest}
 use Rattle.txn_rows.specs.Links.{with_parent, can_join, children, root_of, tree_of, path_of, preorder, member_of, group_of}
-use Rattle.txn_rows.specs.Grouping.{Taken, TakenUnit, Missed, State, Leaving, no_state, nothing_left, then_left, with_new, with_transaction, timed, left_by, forced_one, after_end, ended_one, after_timeouts, after_overflow, is_behind, flush, unfinished, with_all_told, grouped, is_raw, step, steps, passes_over, taken_step, taken_steps}
+use Rattle.txn_rows.specs.Grouping.{Taken, TakenUnit, Missed, State, Leaving, no_state, nothing_left, then_left, with_new, with_transaction, raised, timed, left_by, forced_one, after_end, ended_one, after_timeouts, after_overflow, is_behind, flush, unfinished, with_all_told, grouped, is_raw, step, steps, passes_over, taken_step, taken_steps}
 use Rattle.txn_rows.specs.Ends.{HasNoEnd, IsEnded, TellsEnd, HasEnded}
 use Rattle.txn_rows.proofs.LineLemmas.{by_cases, either}
 use Rattle.txn_rows.proofs.KeepLemmas.{HoldsOn, often_holds, down_holds, timeouts_hold, Keeps, begun_kept, told_kept}
@@ -123,7 +123,7 @@ tells_keeps = record {
   new = new_tells;
   kind = λ vxid claim state all. newest_all Tells vxid (claimed_kind claim) state.pending (λ t is tells. claimed_tells claim t tells) all;
   link = λ child parent state all. parent_tells (newest child state.pending) (newest parent state.pending) state.pending all;
-  time = λ now state all. All-map Tells (timed now) state.pending all;
+  time = λ told state all. All-map Tells (timed (raised told state.time)) state.pending all;
 }
 
 -- a record that is no End

@@ -1,5 +1,5 @@
 -- What each rule of a record keeps is kept up to an End, and what holds of one force-completion holds of many.
-use Rattle.std.proofs.Common.{◌≡◌, ℕ, zero, suc, eqb, ltb, length, cond, Option, Some, None, List, refl}
+use Rattle.std.proofs.Common.{◌≡◌, ℕ, zero, suc, Bool, eqb, ltb, length, map, cond, Option, Some, None, List, [], ◌∷◌, refl, ap}
 use Rattle.std.specs.Prelude.{count_by}
 use Rattle.vsl_tags.specs.Tags.{timestamp_tag, begin_tag, link_tag}
 use Rattle.vsl_record.specs.declared.record_type.Record.{Record}
@@ -11,9 +11,9 @@ use Rattle.txn_rows.specs.declared.force.Which.TheVariants.{Unfinished, Late}
 use Rattle.txn_rows.specs.declared.claim.Claim.{Claim}
 use Rattle.txn_rows.specs.Claim.{claim_of}
 use Rattle.txn_rows.specs.Time.{time_of}
-use Rattle.txn_rows.specs.Transaction.{Transaction, is_pending, is_open, is_unknown, with_newest, with_record, claimed_kind}
+use Rattle.txn_rows.specs.Transaction.{Transaction, is_pending, is_open, is_unknown, with_newest, with_oldest, with_record, with_kind, claimed_kind}
 use Rattle.txn_rows.specs.Links.{with_link}
-use Rattle.txn_rows.specs.Grouping.{State, Leaving, nothing_left, then_left, forced_one, forced_often, forced_down, forced_all, after_timeouts, has_risen, is_late, is_unfinished, with_new, with_transaction, with_other, gives_parent, with_parent_named, with_child_named, with_claim, at_time, raised, with_all_told}
+use Rattle.txn_rows.specs.Grouping.{State, Leaving, nothing_left, then_left, forced_one, forced_often, forced_down, forced_all, after_timeouts, has_risen, is_late, is_unfinished, with_new, with_transaction, with_other, gives_parent, with_parent_named, with_child_named, with_claim, with_time, with_all_told}
 use Rattle.txn_rows.specs.inside.Steps.{test_of}
 use Rattle.txn_rows.proofs.LineLemmas.{either}
 
@@ -22,12 +22,32 @@ pub claimed_same : {A : Type 0} (f : Transaction → A) → ((t : Transaction) (
 claimed_same f keeps None t = refl
 claimed_same f keeps (Some claim) t = either (λ u. f u ≡ f t) (is_unknown t.kind) (record t { kind = claim.kind; reason = claim.reason }) t (keeps t claim) refl
 
+-- what a change of one transaction keeps of it, it keeps of all
+pub newest_same : {A : Type 0} (f : Transaction → A) (vxid : ℕ) (change : Transaction → Transaction) → ((t : Transaction) → f (change t) ≡ f t) → (pending : List Transaction) → map f (with_newest vxid change pending) ≡ map f pending
+newest_same {A} f vxid change keeps [] = refl
+newest_same {A} f vxid change keeps (t ∷ pending) =
+    let P : List Transaction → Type 0 = λ ts. map f ts ≡ map f (t ∷ pending) in
+    either P (is_pending vxid pending) (t ∷ with_newest vxid change pending) (cond (eqb t.vxid vxid) (change t ∷ pending) (t ∷ pending))
+    (ap (λ (xs : List A). f t ∷ xs) (newest_same f vxid change keeps pending))
+    (either P (eqb t.vxid vxid) (change t ∷ pending) (t ∷ pending) (ap (λ (x : A). x ∷ map f pending) (keeps t)) refl)
+
+pub oldest_same : {A : Type 0} (f : Transaction → A) (test : Transaction → Bool) (change : Transaction → Transaction) → ((t : Transaction) → f (change t) ≡ f t) → (pending : List Transaction) → map f (with_oldest test change pending) ≡ map f pending
+oldest_same {A} f test change keeps [] = refl
+oldest_same {A} f test change keeps (t ∷ pending) =
+    either (λ ts. map f ts ≡ map f (t ∷ pending)) (test t) (change t ∷ pending) (t ∷ with_oldest test change pending)
+    (ap (λ (x : A). x ∷ map f pending) (keeps t))
+    (ap (λ (xs : List A). f t ∷ xs) (oldest_same f test change keeps pending))
+
+-- a record goes to its transaction, and may tell the kind and a link
+abbrev pub with_linked : Grouping → ℕ → Record → State → State
+with_linked grouping vxid rec state = with_claim grouping vxid rec (record state { pending = with_kind vxid rec (with_record vxid rec state.pending) })
+
 -- a fact of a state that each rule keeps
 pub record Keeps (P : State → Type 0) : Type 0 where
   pub new : (vxid : ℕ) (state : State) → P state → P (with_new vxid state)
   pub kind : (vxid : ℕ) (claim : Option Claim) (state : State) → P state → P (record state { pending = with_newest vxid (claimed_kind claim) state.pending })
   pub link : (child parent : ℕ) (state : State) → P state → P (record state { pending = with_link child parent state.pending })
-  pub time : (now : Option ℕ) (state : State) → P state → P (at_time now state)
+  pub time : (told : Option ℕ) (state : State) → P state → P (with_time told state)
 
 pub begun_kept : (P : State → Type 0) → Keeps P → (vxid : ℕ) (state : State) → P state → P (with_transaction vxid state)
 begun_kept P keeps vxid state p = either P (is_open vxid state.pending) state (with_new vxid state) p (keeps.new vxid state p)
@@ -47,23 +67,26 @@ child_kept : (P : State → Type 0) → Keeps P → (grouping : Grouping) (vxid 
 child_kept P keeps grouping vxid None state p = p
 child_kept P keeps grouping vxid (Some claim) state p = both_kept P keeps grouping claim claim.vxid vxid state p
 
--- the rules after the record went to its transaction
+-- the rules after the record went to its transaction: it may tell the kind and a link
+pub linked_kept : (P : State → Type 0) → Keeps P → (grouping : Grouping) (vxid : ℕ) (rec : Record) (state : State) → P (record state { pending = with_record vxid rec state.pending }) → P (with_linked grouping vxid rec state)
+linked_kept P keeps grouping vxid rec state p =
+    let claim : Option Claim = claim_of rec.payload in
+    let added : List Transaction = with_record vxid rec state.pending in
+    let told : List Transaction = with_newest vxid (claimed_kind claim) added in
+    let kind : State = record state { pending = cond (eqb rec.tag begin_tag) told added } in
+    let kind_kept : P kind = either (λ ts. P (record state { pending = ts })) (eqb rec.tag begin_tag) told added (keeps.kind vxid claim (record state { pending = added }) p) p in
+    let child : State = with_child_named grouping vxid claim kind in
+    either P (eqb rec.tag begin_tag) (with_parent_named grouping vxid claim kind) (cond (eqb rec.tag link_tag) child kind) (parent_kept P keeps grouping vxid claim kind kind_kept)
+    (either P (eqb rec.tag link_tag) child kind (child_kept P keeps grouping vxid claim kind kind_kept) kind_kept)
+
+-- and the time
 pub told_kept : (P : State → Type 0) → Keeps P → (grouping : Grouping) (vxid : ℕ) (rec : Record) (state : State) →
     P (record (with_transaction vxid state) { pending = with_record vxid rec (with_transaction vxid state).pending }) → P (with_all_told grouping vxid rec state)
 told_kept P keeps grouping vxid rec state p =
-    let claim : Option Claim = claim_of rec.payload in
-    let begun : State = with_transaction vxid state in
-    let added : List Transaction = with_record vxid rec begun.pending in
-    let told : List Transaction = with_newest vxid (claimed_kind claim) added in
-    let kind : State = record begun { pending = cond (eqb rec.tag begin_tag) told added } in
-    let kind_kept : P kind = either (λ ts. P (record begun { pending = ts })) (eqb rec.tag begin_tag) told added (keeps.kind vxid claim (record begun { pending = added }) p) p in
-    let child : State = with_child_named grouping vxid claim kind in
-    let linked : State = with_claim grouping vxid rec kind in
-    let linked_kept : P linked =
-    either P (eqb rec.tag begin_tag) (with_parent_named grouping vxid claim kind) (cond (eqb rec.tag link_tag) child kind) (parent_kept P keeps grouping vxid claim kind kind_kept)
-    (either P (eqb rec.tag link_tag) child kind (child_kept P keeps grouping vxid claim kind kind_kept) kind_kept) in
-    let now : Option ℕ = raised (time_of rec.payload) linked.time in
-    either P (eqb rec.tag timestamp_tag) (at_time now linked) linked (keeps.time now linked linked_kept) linked_kept
+    let linked : State = with_linked grouping vxid rec (with_transaction vxid state) in
+    let kept : P linked = linked_kept P keeps grouping vxid rec (with_transaction vxid state) p in
+    let told : Option ℕ = time_of rec.payload in
+    either P (eqb rec.tag timestamp_tag) (with_time told linked) linked (keeps.time told linked kept) kept
 
 -- what holds of a step from a state, of one after another and of each force-completion
 pub record HoldsOn (Q : State → Leaving → Type 0) : Type 0 where

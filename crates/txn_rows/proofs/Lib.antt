@@ -3,6 +3,7 @@ pub mod GroupingLemmas
 mod Examples
 pub mod LineLemmas
 mod KeepLemmas
+mod TimeLemmas
 pub mod TreeLemmas
 pub mod JoinLemmas
 mod LeaveLemmas

@@ -12,10 +12,10 @@ use Rattle.txn_rows.specs.declared.group.ParentLink.{ParentLink}
 use Rattle.txn_rows.specs.declared.group.Grouping.{Grouping}
 use Rattle.txn_rows.specs.Transaction.{Transaction, empty_transaction, is_pending, newest, with_newest, with_oldest, claimed_kind}
 use Rattle.txn_rows.specs.Links.{with_parent, can_join, is_in_line, children, leads_to}
-use Rattle.txn_rows.specs.Grouping.{State, with_new, with_transaction, timed, with_all_told}
+use Rattle.txn_rows.specs.Grouping.{State, with_new, with_transaction, raised, timed, with_all_told}
 use Rattle.txn_rows.specs.inside.Rows.{transaction_of, row_of, IsTop, IsBelow, AreTrees, Each, rows_beside}
 use Rattle.txn_rows.proofs.LineLemmas.{by_cases}
-use Rattle.txn_rows.proofs.KeepLemmas.{claimed_same, Keeps, begun_kept, told_kept}
+use Rattle.txn_rows.proofs.KeepLemmas.{claimed_same, newest_same, oldest_same, Keeps, begun_kept, told_kept}
 use Rattle.txn_rows.proofs.TreeLemmas.{each_weaker, each_found}
 use Rattle.txn_rows.proofs.JoinLemmas.{count_map, none_from}
 use Rattle.txn_rows.proofs.RunLemmas.{newest_vxid}
@@ -56,30 +56,15 @@ abbrev pub IsNumbered : State → Type 0
 IsNumbered state = Numbered state.begun (map place_of state.pending)
 
 -- changes that keep places
-newest_places : (vxid : ℕ) (change : Transaction → Transaction) → ((t : Transaction) → place_of (change t) ≡ place_of t) → (pending : List Transaction) → map place_of (with_newest vxid change pending) ≡ map place_of pending
-newest_places vxid change keeps [] = refl
-newest_places vxid change keeps (t ∷ pending) =
-    let P : List Transaction → Type 0 = λ ts. map place_of ts ≡ map place_of (t ∷ pending) in
-    cond_both (is_pending vxid pending) (t ∷ with_newest vxid change pending) (cond (eqb t.vxid vxid) (change t ∷ pending) (t ∷ pending)) P
-    (λ e. ap (λ (ps : List Place). place_of t ∷ ps) (newest_places vxid change keeps pending))
-    (λ e. cond_both (eqb t.vxid vxid) (change t ∷ pending) (t ∷ pending) P (λ f. ap (λ (p : Place). p ∷ map place_of pending) (keeps t)) (λ f. refl))
-
-oldest_places : (test : Transaction → Bool) (change : Transaction → Transaction) → ((t : Transaction) → place_of (change t) ≡ place_of t) → (pending : List Transaction) → map place_of (with_oldest test change pending) ≡ map place_of pending
-oldest_places test change keeps [] = refl
-oldest_places test change keeps (t ∷ pending) =
-    cond_both (test t) (change t ∷ pending) (t ∷ with_oldest test change pending) (λ ts. map place_of ts ≡ map place_of (t ∷ pending))
-    (λ e. ap (λ (p : Place). p ∷ map place_of pending) (keeps t))
-    (λ e. ap (λ (ps : List Place). place_of t ∷ ps) (oldest_places test change keeps pending))
-
 timed_places : (now : Option ℕ) (pending : List Transaction) → map place_of (map (timed now) pending) ≡ map place_of pending
 timed_places now [] = refl
 timed_places now (t ∷ pending) = ap (λ (ps : List Place). place_of t ∷ ps) (timed_places now pending)
 
 pub newest_kept : (vxid : ℕ) (change : Transaction → Transaction) → ((t : Transaction) → place_of (change t) ≡ place_of t) → (state : State) → IsNumbered state → IsNumbered (record state { pending = with_newest vxid change state.pending })
-newest_kept vxid change keeps state n = subst (Numbered state.begun) (sym (newest_places vxid change keeps state.pending)) n
+newest_kept vxid change keeps state n = subst (Numbered state.begun) (sym (newest_same place_of vxid change keeps state.pending)) n
 
 pub oldest_kept : (test : Transaction → Bool) (change : Transaction → Transaction) → ((t : Transaction) → place_of (change t) ≡ place_of t) → (state : State) → IsNumbered state → IsNumbered (record state { pending = with_oldest test change state.pending })
-oldest_kept test change keeps state n = subst (Numbered state.begun) (sym (oldest_places test change keeps state.pending)) n
+oldest_kept test change keeps state n = subst (Numbered state.begun) (sym (oldest_same place_of test change keeps state.pending)) n
 
 -- a transaction begins
 numbered_push : (begun vxid : ℕ) (places : List Place) → Numbered begun places → Numbered (begun + 1) (places ++ record { serial = begun; vxid = vxid; parent = None } ∷ [])
@@ -191,7 +176,7 @@ numbered_keeps = record {
   new = new_numbered;
   kind = λ vxid claim state n. newest_kept vxid (claimed_kind claim) (claimed_same place_of (λ t c. refl) claim) state n;
   link = λ cv pv state n. parent_numbered cv pv state n (newest cv state.pending) (newest pv state.pending) refl refl;
-  time = λ now state n. subst (Numbered state.begun) (sym (timed_places now state.pending)) n;
+  time = λ told state n. subst (Numbered state.begun) (sym (timed_places (raised told state.time) state.pending)) n;
 }
 
 -- the rules up to an end

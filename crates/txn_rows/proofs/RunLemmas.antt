@@ -19,7 +19,7 @@ use Rattle.txn_rows.specs.declared.group.Cause.TheVariants.{Flush}
 use Rattle.txn_rows.specs.declared.force.Which.TheVariants.{Unfinished}
 use Rattle.txn_rows.specs.Transaction.{Transaction, empty_transaction, is_pending, newest, with_newest, claimed_kind, ended, forced, oldest, with_oldest}
 use Rattle.txn_rows.specs.Links.{with_parent, with_link, leads_to, line_of, root_of}
-use Rattle.txn_rows.specs.Grouping.{Taken, TakenUnit, Missed, State, Leaving, no_state, nothing_left, with_new, with_transaction, timed, left_by, forced_one, after_end, after_timeouts, unfinished, with_all_told, grouped, is_raw, raw_group, step, steps, passes_over, unit_step, flush, taken_step, taken_steps}
+use Rattle.txn_rows.specs.Grouping.{Taken, TakenUnit, Missed, State, Leaving, no_state, nothing_left, with_new, with_transaction, raised, timed, left_by, forced_one, after_end, after_timeouts, unfinished, with_all_told, grouped, is_raw, raw_group, step, steps, passes_over, unit_step, flush, taken_step, taken_steps}
 use Rattle.txn_rows.specs.inside.Rows.{transaction_of, row_of, Rising, AreTrees, Each, joined, Rows, left_rows, rows_below, rows_beside, row_timed}
 use Rattle.txn_rows.specs.inside.Steps.{state_with, test_of}
 use Rattle.txn_rows.specs.inside.States.{HasOpen, OpenTrees, Standing}
@@ -335,7 +335,7 @@ stands_keeps = record {
   new = new_stands;
   kind = λ vxid claim state s. with_newest_stands vxid (claimed_kind claim) state (record { serial = claimed_same (λ t. t.serial) (λ t c. refl) claim; parent = claimed_same (λ t. t.parent) (λ t c. refl) claim }) (claimed_same (λ t. t.ended) (λ t c. refl) claim) s;
   link = link_stands;
-  time = λ now state s. record {
+  time = λ told state s. let now : Option ℕ = raised told state.time in record {
     rows = map (row_timed now) s.rows;
     trees = trees_kept state.begun (row_timed now) s.rows (record { serial = λ row. refl; parent = λ row. refl; root = λ row. refl; path = λ row. refl }) s.trees;
     told = rows_timed now s.rows ∙ ap (map (timed now)) s.told;

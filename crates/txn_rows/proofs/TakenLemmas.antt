@@ -21,7 +21,7 @@ use Rattle.txn_rows.specs.inside.Steps.{test_of}
 use Rattle.txn_rows.specs.declared.force.Which.TheVariants.{Unfinished}
 use Rattle.txn_rows.specs.Transaction.{Transaction, cause_text, empty_transaction, is_pending, is_open, newest, with_newest, with_record, claimed_kind, ended, forced, first_mark, oldest, with_oldest}
 use Rattle.txn_rows.specs.Links.{with_parent, can_join, children, root_of, tree_of, others, path_of, preorder, member_of, group_of}
-use Rattle.txn_rows.specs.Grouping.{Taken, TakenUnit, Missed, State, Leaving, no_state, nothing_left, then_left, with_new, with_transaction, timed, left_by, forced_one, after_end, after_timeouts, after_overflow, flush, unfinished, with_all_told, grouped, is_raw, raw_group, step, steps, passes_over, unit_step, taken_step, taken_steps}
+use Rattle.txn_rows.specs.Grouping.{Taken, TakenUnit, Missed, State, Leaving, no_state, nothing_left, then_left, with_new, with_transaction, raised, timed, left_by, forced_one, after_end, after_timeouts, after_overflow, flush, unfinished, with_all_told, grouped, is_raw, raw_group, step, steps, passes_over, unit_step, taken_step, taken_steps}
 use Rattle.txn_rows.specs.Taken.{count_in_groups, count_in_pending, count_members, count_taken, Forcing, synthesized, count_synthesized}
 use Rattle.txn_rows.proofs.LineLemmas.{by_cases, either}
 use Rattle.txn_rows.proofs.KeepLemmas.{HoldsOn, often_holds, down_holds, timeouts_hold, claimed_same, Keeps, begun_kept, told_kept}
@@ -113,7 +113,7 @@ grows_keeps grouping m before n = record {
   new = λ vxid state g. omega (arith, g, new_grows grouping m vxid state);
   kind = λ vxid claim state g. omega (arith, g, newest_keeps (size_of m.size) vxid (claimed_kind claim) (claimed_same (size_of m.size) (λ t c. refl) claim) state.pending);
   link = λ child parent state g. omega (arith, g, parent_size m.size (newest child state.pending) (newest parent state.pending) state.pending);
-  time = λ now state g. omega (arith, g, timed_size m.size now state.pending);
+  time = λ told state g. omega (arith, g, timed_size m.size (raised told state.time) state.pending);
 }
 
 -- one record more is measured once

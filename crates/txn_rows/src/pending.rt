@@ -4,7 +4,7 @@ ghost use Rattle.std.specs.Prelude.{◌≡◌, ◌+◌, ◌<◌, length, map, If
 ghost use Rattle.txn_rows.specs.Transaction.{is_pending, with_record, with_kind};
 ghost use Rattle.txn_rows.specs.Grouping.{with_new, with_transaction, with_other, gives_parent, with_claim, ended_one, after_end, raised, with_time};
 ghost use Rattle.txn_rows.specs.inside.Rows.{transaction_of, IsNewestRow, AreTrees};
-ghost use Rattle.txn_rows.specs.inside.States.{state_of, Went, WentBy};
+ghost use Rattle.txn_rows.specs.inside.States.{state_of, AreOrdered, Went, WentBy};
 
 use crate::claim::{Claim, read_claim};
 use crate::group::{Group, Grouping, Kind, Reason};
@@ -160,11 +160,15 @@ fn raised(told: Option<u128>, old: Option<u128>) -> Option<u128>
     }
 }
 
-/// A time that was told may raise the log time.
+/// A time that was told may raise the log time. Where one was known, each row has a time already.
 pub(crate) fn raise(pending: &mut Pending, told: Option<u128>)
-    ensures { AreTrees pending.old.begun pending.old.rows.items → Went (with_time told (state_of pending.old)) pending.new }
+    ensures { AreOrdered pending.old → Went (with_time told (state_of pending.old)) pending.new }
 {
     let now = raised(told, pending.time);
+    if pending.time.is_some() {
+        pending.time = now;
+        return;
+    }
     time_rows(&mut pending.rows, now);
     pending.time = now;
 }

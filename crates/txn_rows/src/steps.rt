@@ -5,7 +5,7 @@ ghost use Rattle.txn_rows.specs.Grouping.{is_reported, reported, step, steps, fo
 ghost use Rattle.txn_rows.specs.Table.{GainsPrefix};
 ghost use Rattle.txn_rows.specs.inside.Rows.{AreTrees};
 ghost use Rattle.txn_rows.specs.inside.Steps.{AddsPart};
-ghost use Rattle.txn_rows.specs.inside.States.{state_of, WentBy, WentReported};
+ghost use Rattle.txn_rows.specs.inside.States.{state_of, AreOrdered, WentBy, WentReported};
 
 use crate::force::{Which, force_all, force_at, oldest_of};
 use crate::group::{Cause, Group, GroupOptions, Grouping, Kind, Member};
@@ -48,8 +48,8 @@ fn take_one(
     rec: &Record,
     left: &mut Vec<Group>,
 ) -> Result<(), NoMemory>
-    ensures ok { AreTrees pending.old.begun pending.old.rows.items → OnOk result (WentBy (step options vxid rec.now (state_of pending.old)) pending.new left.old.items left.new.items) }
-    ensures err { AreTrees pending.old.begun pending.old.rows.items → OnErr result (AddsPart (step options vxid rec.now (state_of pending.old)).groups left.old.items left.new.items) }
+    ensures ok { AreOrdered pending.old → OnOk result (WentBy (step options vxid rec.now (state_of pending.old)) pending.new left.old.items left.new.items) }
+    ensures err { AreOrdered pending.old → OnErr result (AddsPart (step options vxid rec.now (state_of pending.old)).groups left.old.items left.new.items) }
 {
     if options.grouping == Grouping::Raw {
         return take_raw(alloc, vxid, rec, left);
@@ -66,8 +66,8 @@ fn take_all(
     records: &[Record],
     left: &mut Vec<Group>,
 ) -> Result<(), NoMemory>
-    ensures ok { AreTrees pending.old.begun pending.old.rows.items → OnOk result (WentBy (steps options vxid records.now (state_of pending.old)) pending.new left.old.items left.new.items) }
-    ensures err { AreTrees pending.old.begun pending.old.rows.items → OnErr result (AddsPart (steps options vxid records.now (state_of pending.old)).groups left.old.items left.new.items) }
+    ensures ok { AreOrdered pending.old → OnOk result (WentBy (steps options vxid records.now (state_of pending.old)) pending.new left.old.items left.new.items) }
+    ensures err { AreOrdered pending.old → OnErr result (AddsPart (steps options vxid records.now (state_of pending.old)).groups left.old.items left.new.items) }
 {
     for rec in records {
         take_one(alloc, options, pending, vxid, rec, left)?;
@@ -85,8 +85,8 @@ pub(crate) fn take_records(
     records: &[Record],
     out: &mut Vec<Group>,
 ) -> Result<(), NoMemory>
-    ensures ok { AreTrees pending.old.begun pending.old.rows.items → OnOk result (WentReported options.grouping (steps options vxid records.now (state_of pending.old)) pending.new out.old.items out.new.items) }
-    ensures err { AreTrees pending.old.begun pending.old.rows.items →
+    ensures ok { AreOrdered pending.old → OnOk result (WentReported options.grouping (steps options vxid records.now (state_of pending.old)) pending.new out.old.items out.new.items) }
+    ensures err { AreOrdered pending.old →
         OnErr result (GainsPrefix (reported options.grouping (steps options vxid records.now (state_of pending.old)).groups) out.old.items out.new.items) }
 {
     let mut left = Vec::new(alloc);

@@ -4,7 +4,7 @@ ghost use Rattle.std.specs.Prelude.{◌≡◌, OnOk, OnErr};
 ghost use Rattle.txn_rows.specs.Grouping.{with_log_time, with_all_told, after_end, after_timeouts, has_risen, grouped};
 ghost use Rattle.txn_rows.specs.inside.Rows.{AreTrees};
 ghost use Rattle.txn_rows.specs.inside.Steps.{AddsPart};
-ghost use Rattle.txn_rows.specs.inside.States.{state_of, Went, WentBy};
+ghost use Rattle.txn_rows.specs.inside.States.{state_of, AreOrdered, Went, WentBy};
 
 use crate::force::{Which, force_all, keep_within};
 use crate::group::{Cause, Group, GroupOptions, Grouping};
@@ -18,7 +18,7 @@ use vsl_tags::Tag;
 
 /// A Timestamp may raise the log time.
 fn take_time(pending: &mut Pending, rec: &Record)
-    ensures { AreTrees pending.old.begun pending.old.rows.items → Went (with_log_time rec.now (state_of pending.old)) pending.new }
+    ensures { AreOrdered pending.old → Went (with_log_time rec.now (state_of pending.old)) pending.new }
 {
     if rec.tag == Tag::TIMESTAMP {
         raise(pending, time_told(rec.payload.as_slice()));
@@ -33,7 +33,7 @@ fn tell(
     vxid: Vxid,
     rec: &Record,
 ) -> Result<(), NoMemory>
-    ensures { AreTrees pending.old.begun pending.old.rows.items → OnOk result (Went (with_all_told grouping vxid rec.now (state_of pending.old)) pending.new) }
+    ensures { AreOrdered pending.old → OnOk result (Went (with_all_told grouping vxid rec.now (state_of pending.old)) pending.new) }
 {
     let at = open_row(alloc, pending, vxid)?;
     add_to(alloc, pending, at, vxid, rec)?;
@@ -103,8 +103,8 @@ pub(crate) fn take_record(
     rec: &Record,
     out: &mut Vec<Group>,
 ) -> Result<(), NoMemory>
-    ensures ok { AreTrees pending.old.begun pending.old.rows.items → OnOk result (WentBy (grouped options vxid rec.now (state_of pending.old)) pending.new out.old.items out.new.items) }
-    ensures err { AreTrees pending.old.begun pending.old.rows.items → OnErr result (AddsPart (grouped options vxid rec.now (state_of pending.old)).groups out.old.items out.new.items) }
+    ensures ok { AreOrdered pending.old → OnOk result (WentBy (grouped options vxid rec.now (state_of pending.old)) pending.new out.old.items out.new.items) }
+    ensures err { AreOrdered pending.old → OnErr result (AddsPart (grouped options vxid rec.now (state_of pending.old)).groups out.old.items out.new.items) }
 {
     let before = pending.time;
     tell(alloc, options.grouping, pending, vxid, rec)?;

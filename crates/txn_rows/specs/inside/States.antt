@@ -6,11 +6,17 @@ use Rattle.txn_rows.specs.declared.group.Grouping.{Grouping}
 use Rattle.txn_rows.specs.declared.group.Group.{Group}
 use Rattle.txn_rows.specs.Grouping.{State, Leaving, reported}
 use Rattle.txn_rows.specs.inside.Rows.{transaction_of, row_of, AreTrees}
+use Rattle.txn_rows.specs.inside.Times.{IsTimed}
 use Rattle.txn_rows.specs.inside.Steps.{state_with, RowsStep}
 
 -- what rows, their number and a time say
 abbrev pub state_of : Pending → State
 state_of p = state_with p.begun p.time p.rows.items
+
+-- pending rows stand in trees, and their times rise up to the log time
+pub record AreOrdered (p : Pending) : Type 0 where
+  pub trees : AreTrees p.begun p.rows.items
+  pub times : IsTimed (state_of p)
 
 -- the rows went to this state
 pub record Went (state : State) (p : Pending) : Type 0 where
@@ -45,8 +51,8 @@ pub record Standing (state : State) : Type 0 where
   pub told : map transaction_of rows ≡ state.pending
   pub unended : OpenTrees rows
 
--- pending rows stand in trees, of each of which one has not ended, and are no more than the limit
+-- pending rows stand in trees, of each of which one has not ended, their times rise, and they are no more than the limit
 pub record IsSound (limit : ℕ) (p : Pending) : Type 0 where
-  pub trees : AreTrees p.begun p.rows.items
+  pub ordered : AreOrdered p
   pub standing : Standing (state_of p)
   pub within : length p.rows.items ≤ limit

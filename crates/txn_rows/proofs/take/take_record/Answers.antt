@@ -5,24 +5,24 @@ use Rattle.txn_rows.proofs.TakeLemmas.{step_then, part_then, part_first, told_en
 use Rattle.txn_rows.proofs.take.take_record.Goals as goal
 
 pub returns-in_err-take_timeouts-clause-err : goal.returns-in_err-take_timeouts-clause-err
-returns-in_err-take_timeouts-clause-err c = λ trees.
+returns-in_err-take_timeouts-clause-err c = λ ordered.
     let state : State = state_of c.args.pending.now in
     let late : State → Leaving = after_timeouts c.args.options.timeout state.time in
-    let told = c.in_ok-tell.ensures trees in
+    let told = c.in_ok-tell.ensures ordered in
     let end = told_end c.args.options.grouping c.args.vxid c.args.rec.now state told (c.in_ok-take_end.ensures.ok told.trees) in
     let q = err_from_is_err_and c.from_residual-in_err-take_timeouts.result c.from_residual-in_err-take_timeouts.ensures.1 in
     rw q.1 (part_first (then_left (after_end c.args.vxid c.args.rec.now (with_all_told c.args.options.grouping c.args.vxid c.args.rec.now state)) late) (after_overflow c.args.options.limit) (part_then _ late end (c.in_err-take_timeouts.ensures.err end.trees)))
 
 pub returns-clause-ok : goal.returns-clause-ok
-returns-clause-ok c = λ trees.
-    let told = c.in_ok-tell.ensures trees in
+returns-clause-ok c = λ ordered.
+    let told = c.in_ok-tell.ensures ordered in
     let end = told_end c.args.options.grouping c.args.vxid c.args.rec.now (state_of c.args.pending.now) told (c.in_ok-take_end.ensures.ok told.trees) in
     let late = step_then _ (after_timeouts c.args.options.timeout c.args.pending.now.time) end (c.in_ok-take_timeouts.ensures.ok end.trees) in
     on_ok_weaker c.keep_within.result (λ last. step_then _ (after_overflow c.args.options.limit) late last) (c.keep_within.ensures.ok c.take_timeouts.new.pending.begun c.take_timeouts.new.pending.time late.trees)
 
 pub returns-clause-err : goal.returns-clause-err
-returns-clause-err c = λ trees.
-    let told = c.in_ok-tell.ensures trees in
+returns-clause-err c = λ ordered.
+    let told = c.in_ok-tell.ensures ordered in
     let end = told_end c.args.options.grouping c.args.vxid c.args.rec.now (state_of c.args.pending.now) told (c.in_ok-take_end.ensures.ok told.trees) in
     let late = step_then _ (after_timeouts c.args.options.timeout c.args.pending.now.time) end (c.in_ok-take_timeouts.ensures.ok end.trees) in
     on_err_weaker c.keep_within.result (λ part. part_then _ (after_overflow c.args.options.limit) late part) (c.keep_within.ensures.err c.take_timeouts.new.pending.begun c.take_timeouts.new.pending.time late.trees)

@@ -1,0 +1,27 @@
+-- The times of pending transactions, which rise in the order in which they began.
+use Rattle.std.specs.Prelude.{◌≡◌, ℕ, ◌≤◌, List, [], ◌∷◌, map, ⊤, Option, Some, None}
+use Rattle.txn_rows.specs.Transaction.{Transaction}
+use Rattle.txn_rows.specs.Grouping.{State}
+
+-- each time is known, and they rise, from one on and up to another
+abbrev pub TimesRise : ℕ → ℕ → List (Option ℕ) → Type 0
+TimesRise low high [] = low ≤ high
+TimesRise low high (told ∷ times) = (time : ℕ) × (told ≡ Some time) × (low ≤ time) × TimesRise time high times
+
+-- no time is known
+abbrev pub NoneKnown : List (Option ℕ) → Type 0
+NoneKnown [] = ⊤
+NoneKnown (told ∷ times) = (told ≡ None) × NoneKnown times
+
+-- where a log time is known, times are known and rise up to it, else none is known
+abbrev pub RiseTo : Option ℕ → List (Option ℕ) → Type 0
+RiseTo None times = NoneKnown times
+RiseTo (Some now) times = TimesRise 0 now times
+
+-- the times of transactions
+abbrev pub times_of : List Transaction → List (Option ℕ)
+times_of pending = map (λ t. t.time) pending
+
+-- the times of the pending transactions rise up to the log time
+abbrev pub IsTimed : State → Type 0
+IsTimed state = RiseTo state.time (times_of state.pending)
