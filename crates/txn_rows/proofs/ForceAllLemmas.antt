@@ -1,5 +1,5 @@
 -- Rows that are force-completed one after another.
-use Rattle.std.proofs.Common.{◌≡◌, ◌+◌, ◌-◌, ◌<◌, ◌≤◌, ℕ, zero, suc, Bool, true, false, not, eqb, ltb, cond, Option, Some, None, List, [], ◌∷◌, ◌++◌, length, map, get_or, refl, ap, sym, ◌∙◌, append_assoc, arith}
+use Rattle.std.proofs.Common.{◌≡◌, ◌+◌, ◌-◌, ◌<◌, ◌≤◌, ℕ, zero, suc, Bool, true, false, not, eqb, ltb, cond, Option, Some, None, List, [], ◌∷◌, ◌++◌, length, map, get_or, refl, ap, sym, ◌∙◌, subst, append_assoc, arith}
 use Rattle.std.specs.Prelude.{count_by}
 use Rattle.std.specs.List.{list_any, list_all, filter}
 use Rattle.std.specs.Option.{option_map}
@@ -16,8 +16,10 @@ use Rattle.txn_rows.specs.Transaction.{Transaction, forced, oldest, with_oldest}
 use Rattle.txn_rows.specs.Links.{root_of, tree_of}
 use Rattle.txn_rows.specs.Grouping.{State, Leaving, nothing_left, then_left, left_by, forced_one, forced_often, forced_all, forced_down, after_overflow, is_unfinished}
 use Rattle.txn_rows.specs.inside.Rows.{transaction_of, IsOldestRow, AreTrees}
+use Rattle.txn_rows.specs.inside.Times.{IsTimed}
 use Rattle.txn_rows.specs.inside.Steps.{state_with, RowsStep, AddsPart, test_of, after_groups, ForcesOn, KeepsOn}
 use Rattle.txn_rows.proofs.LineLemmas.{by_cases}
+use Rattle.txn_rows.proofs.TimeLemmas.{one_timed}
 use Rattle.txn_rows.proofs.RunLemmas.{oldest_none_stays}
 
 -- where none passes, nothing happens
@@ -141,6 +143,7 @@ forced_more which cause turns begun at time first now next out_before out_now ou
     (on.whole ∙ ap (λ (n : ℕ). after_groups on.done (forced_often n test cause state)) some) on.groups step in
     record {
       trees = step.trees;
+      times = subst IsTimed (sym step.state) (one_timed test cause state on.times);
       left = left;
       enough = omega (arith, one_fewer which cause state, ap (λ (s : State). count_by test s.pending) step.state, on.enough);
       few = omega (arith, on.few, some);

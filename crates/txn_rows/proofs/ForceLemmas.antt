@@ -27,6 +27,12 @@ with_oldest_in test change (f ∷ front) t back none passes =
     let parts = or_parts (test f) (list_any test front) none in
     rw (parts.0) (ap (λ (ts : List Transaction). f ∷ ts) (with_oldest_in test change front t back parts.1 passes))
 
+-- the oldest row that passes is the oldest transaction
+pub oldest_at : (test : Transaction → Bool) (at : ℕ) (rows : List Row) (row : Row) → IsOldestRow test at rows → row ≡ get_or rows at row → oldest test (map transaction_of rows) ≡ Some (transaction_of row)
+oldest_at test at rows row is read =
+    ap (oldest test) (split_at_row at rows row is.within read)
+    ∙ oldest_in test (map transaction_of (take at rows)) (transaction_of row) (map transaction_of (drop (at + 1) rows)) is.none_before (ap (λ (r : Row). test (transaction_of r)) read ∙ is.passes row)
+
 -- rows after a write at a place
 pub written : (at : ℕ) (rows : List Row) (new : Row) → at < length rows → map transaction_of (set rows at new) ≡ map transaction_of (take at rows) ++ transaction_of new ∷ map transaction_of (drop (at + 1) rows)
 written at rows new within = rw (add-one, set_split rows at new within) (map-append transaction_of (take at rows) (new ∷ drop (suc at) rows))
@@ -59,8 +65,7 @@ forced_step test cause begun at time rows row new now out_before out_now is tree
     let split : pending ≡ front ++ t ∷ back = split_at_row at rows row is.within read in
     let passes : test t ≡ true = ap (λ (r : Row). test (transaction_of r)) read ∙ is.passes row in
     let told : transaction_of new ≡ forced cause t = ap transaction_of forced_is in
-    let first : option_map (forced cause) (oldest test pending) ≡ Some (transaction_of new) =
-    ap (λ (ts : List Transaction). option_map (forced cause) (oldest test ts)) split ∙ ap (option_map (forced cause)) (oldest_in test front t back is.none_before passes) ∙ ap Some (sym told) in
+    let first : option_map (forced cause) (oldest test pending) ≡ Some (transaction_of new) = ap (option_map (forced cause)) (oldest_at test at rows row is read) ∙ ap Some (sym told) in
     let all : with_oldest test (forced cause) pending ≡ map transaction_of (set rows at new) =
     ap (with_oldest test (forced cause)) split ∙ with_oldest_in test (forced cause) front t back is.none_before passes ∙ ap (λ (x : Transaction). front ++ x ∷ back) (sym told) ∙ sym (written at rows new is.within) in
     let same : IsInPlaceOf row new = subst (IsInPlaceOf row) (sym forced_is) (record { serial = refl; parent = refl; root = refl; path = refl }) in

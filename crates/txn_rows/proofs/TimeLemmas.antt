@@ -149,6 +149,13 @@ end_timed vxid rec state h =
     either (λ r. IsTimed r.state) (eqb rec.tag end_tag) (ended_one vxid state) (nothing_left state)
     (left_timed (newest vxid now.pending) now (newest_timed vxid ended (λ t. refl) state h)) h
 
+-- and so do those of the rows
+pub ended_ordered : (grouping : Grouping) (vxid : ℕ) (rec : Record) {p now : Pending} {out out_now : List Group} → AreOrdered p → WentBy (after_end vxid rec (with_all_told grouping vxid rec (state_of p))) now out out_now → AreOrdered now
+ended_ordered grouping vxid rec {p} o went = record {
+  trees = went.trees;
+  times = subst IsTimed (sym went.state) (end_timed vxid rec (with_all_told grouping vxid rec (state_of p)) (told_timed grouping vxid rec (state_of p) o.times));
+}
+
 pub one_timed : (test : Transaction → Bool) (cause : Cause) (state : State) → IsTimed state → IsTimed (forced_one test cause state).state
 one_timed test cause state h =
     left_timed (option_map (forced cause) (oldest test state.pending)) (record state { pending = with_oldest test (forced cause) state.pending })

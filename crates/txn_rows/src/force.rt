@@ -6,6 +6,7 @@ ghost use Rattle.vsl_record.specs.Payload.{most_payload};
 ghost use Rattle.txn_rows.specs.Transaction.{Transaction, first_mark, cause_text};
 ghost use Rattle.txn_rows.specs.Grouping.{forced_one, forced_all, after_overflow, is_behind, is_unfinished};
 ghost use Rattle.txn_rows.specs.inside.Rows.{transaction_of, forced_row, AreTrees, IsOldestRow};
+ghost use Rattle.txn_rows.specs.inside.Times.{RiseTo, times_of, IsTimed};
 ghost use Rattle.txn_rows.specs.inside.Steps.{RowsStep, AddsPart, state_with, test_of};
 
 use crate::group::{Cause, Group};
@@ -92,15 +93,29 @@ fn is_one(which: Which, row: &Row) -> bool
     }
 }
 
-/// The place of the oldest of those rows.
-pub(crate) fn oldest_of(which: Which, rows: &[Row]) -> Option<usize>
-    ensures some { IfSome result (λ at. IsOldestRow (test_of which) at rows.now) }
-    ensures none { IfNone result (list_any (test_of which) (map transaction_of rows.now) ≡ false) }
+/// The place of the oldest row that has not ended.
+pub(crate) fn oldest_unfinished(rows: &[Row]) -> Option<usize>
+    ensures some { IfSome result (λ at. IsOldestRow is_unfinished at rows.now) }
+    ensures none { IfNone result (list_any is_unfinished (map transaction_of rows.now) ≡ false) }
 {
     for i in 0..rows.len() {
-        if is_one(which, &rows[i]) {
+        if !rows[i].ended {
             return Some(i);
         }
+    }
+    None
+}
+
+/// The place of the oldest of those rows. Times rise: where the oldest row that has not ended isn't late, none is.
+fn oldest_of(which: Which, rows: &[Row]) -> Option<usize>
+    ensures some { IfSome result (λ at. IsOldestRow (test_of which) at rows.now) }
+    ensures none { (time : Option ℕ) → RiseTo time (times_of (map transaction_of rows.now)) → IfNone result (list_any (test_of which) (map transaction_of rows.now) ≡ false) }
+{
+    let Some(at) = oldest_unfinished(rows) else {
+        return None;
+    };
+    if is_one(which, &rows[at]) {
+        return Some(at);
     }
     None
 }
@@ -138,9 +153,9 @@ pub(crate) fn force_all(
     cause: Cause,
     out: &mut Vec<Group>,
 ) -> Result<(), NoMemory>
-    ensures ok { (begun : ℕ) (time : Option ℕ) → AreTrees begun rows.old.items →
+    ensures ok { (begun : ℕ) (time : Option ℕ) → AreTrees begun rows.old.items → IsTimed (state_with begun time rows.old.items) →
         OnOk result (RowsStep (forced_all (test_of which) cause (state_with begun time rows.old.items)) begun time rows.new.items out.old.items out.new.items) }
-    ensures err { (begun : ℕ) (time : Option ℕ) → AreTrees begun rows.old.items →
+    ensures err { (begun : ℕ) (time : Option ℕ) → AreTrees begun rows.old.items → IsTimed (state_with begun time rows.old.items) →
         OnErr result (AddsPart (forced_all (test_of which) cause (state_with begun time rows.old.items)).groups out.old.items out.new.items) }
 {
     for i in 0..rows.len() {
@@ -168,7 +183,7 @@ pub(crate) fn keep_within(
         if rows.len() <= limit as usize {
             return Ok(());
         }
-        let Some(at) = oldest_of(Which::Unfinished, rows) else {
+        let Some(at) = oldest_unfinished(rows) else {
             return Ok(());
         };
         force_at(alloc, rows, at, Cause::Overflow, out)?;

@@ -7,7 +7,7 @@ ghost use Rattle.txn_rows.specs.inside.Rows.{AreTrees};
 ghost use Rattle.txn_rows.specs.inside.Steps.{AddsPart};
 ghost use Rattle.txn_rows.specs.inside.States.{state_of, AreOrdered, WentBy, WentReported};
 
-use crate::force::{Which, force_all, force_at, oldest_of};
+use crate::force::{Which, force_all, force_at, oldest_unfinished};
 use crate::group::{Cause, Group, GroupOptions, Grouping, Kind, Member};
 use crate::pending::Pending;
 use crate::raw::take_raw;
@@ -107,7 +107,7 @@ pub(crate) fn force_oldest(
     ensures err { AreTrees pending.old.begun pending.old.rows.items →
         OnErr result (GainsPrefix (reported grouping (force cause (state_of pending.old)).groups) out.old.items out.new.items) }
 {
-    let Some(at) = oldest_of(Which::Unfinished, &pending.rows) else {
+    let Some(at) = oldest_unfinished(&pending.rows) else {
         return Ok(());
     };
     let mut left = Vec::new(alloc);
@@ -117,8 +117,8 @@ pub(crate) fn force_oldest(
 
 /// Force-completes every row that has not ended, the oldest first, and adds the groups that leave.
 fn end_all(alloc: Global, pending: &mut Pending, left: &mut Vec<Group>) -> Result<(), NoMemory>
-    ensures ok { AreTrees pending.old.begun pending.old.rows.items → OnOk result (WentBy (flush (state_of pending.old)) pending.new left.old.items left.new.items) }
-    ensures err { AreTrees pending.old.begun pending.old.rows.items → OnErr result (AddsPart (flush (state_of pending.old)).groups left.old.items left.new.items) }
+    ensures ok { AreOrdered pending.old → OnOk result (WentBy (flush (state_of pending.old)) pending.new left.old.items left.new.items) }
+    ensures err { AreOrdered pending.old → OnErr result (AddsPart (flush (state_of pending.old)).groups left.old.items left.new.items) }
 {
     force_all(
         alloc,
@@ -137,8 +137,8 @@ pub(crate) fn flush_all(
     pending: &mut Pending,
     out: &mut Vec<Group>,
 ) -> Result<(), NoMemory>
-    ensures ok { AreTrees pending.old.begun pending.old.rows.items → OnOk result (WentReported grouping (flush (state_of pending.old)) pending.new out.old.items out.new.items) }
-    ensures err { AreTrees pending.old.begun pending.old.rows.items →
+    ensures ok { AreOrdered pending.old → OnOk result (WentReported grouping (flush (state_of pending.old)) pending.new out.old.items out.new.items) }
+    ensures err { AreOrdered pending.old →
         OnErr result (GainsPrefix (reported grouping (flush (state_of pending.old)).groups) out.old.items out.new.items) }
 {
     let mut left = Vec::new(alloc);

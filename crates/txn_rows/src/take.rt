@@ -81,8 +81,8 @@ fn take_timeouts(
     before: Option<u128>,
     out: &mut Vec<Group>,
 ) -> Result<(), NoMemory>
-    ensures ok { AreTrees pending.old.begun pending.old.rows.items → OnOk result (WentBy (after_timeouts seconds before (state_of pending.old)) pending.new out.old.items out.new.items) }
-    ensures err { AreTrees pending.old.begun pending.old.rows.items → OnErr result (AddsPart (after_timeouts seconds before (state_of pending.old)).groups out.old.items out.new.items) }
+    ensures ok { AreOrdered pending.old → OnOk result (WentBy (after_timeouts seconds before (state_of pending.old)) pending.new out.old.items out.new.items) }
+    ensures err { AreOrdered pending.old → OnErr result (AddsPart (after_timeouts seconds before (state_of pending.old)).groups out.old.items out.new.items) }
 {
     if !has_risen(before, pending.time) {
         return Ok(());

@@ -8,6 +8,7 @@ use Rattle.txn_rows.specs.declared.group.Cause.{Cause}
 use Rattle.txn_rows.specs.Transaction.{Transaction}
 use Rattle.txn_rows.specs.Grouping.{State, Leaving, is_unfinished, is_late, forced_often, forced_all, forced_down, after_overflow}
 use Rattle.txn_rows.specs.inside.Rows.{transaction_of, AreTrees}
+use Rattle.txn_rows.specs.inside.Times.{IsTimed}
 
 -- the state that rows hold
 abbrev pub state_with : ℕ → Option ℕ → List Row → State
@@ -38,6 +39,7 @@ after_groups done r = record { state = r.state; groups = done ++ r.groups }
 -- some were force-completed, and so many more are at most
 pub record ForcesOn (which : Which) (cause : Cause) (turns begun : ℕ) (time : Option ℕ) (first now : List Row) (out_before out_now : List Group) : Type 0 where
   pub trees : AreTrees begun now
+  pub times : IsTimed (state_with begun time now)
   pub left : ℕ
   pub enough : count_by (test_of which) (map transaction_of now) ≤ left
   pub few : left + turns ≤ length first
