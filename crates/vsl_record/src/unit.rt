@@ -96,6 +96,13 @@ impl Unit {
     {
         &self.records
     }
+
+    /// The records, in order, with no copy.
+    pub fn into_records(self) -> Vec<Record>
+        ensures { result.items ≡ self.records }
+    {
+        self.records
+    }
 }
 
 /// How many words the records and a unit's header take, or 2^64 - 1 where that is greater.
