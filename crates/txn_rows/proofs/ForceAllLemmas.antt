@@ -162,7 +162,7 @@ forced_part which cause turns begun time first now out_before out_now on = recor
 }
 
 -- within the limit, nothing more is force-completed
-down_within : (limit n : ℕ) (state : State) → length state.pending ≤ limit → forced_down limit n state ≡ nothing_left state
+pub down_within : (limit n : ℕ) (state : State) → length state.pending ≤ limit → forced_down limit n state ≡ nothing_left state
 down_within limit zero state within = refl
 down_within limit (suc n) state within = ap (λ (b : Bool). cond b (then_left (forced_one is_unfinished Overflow state) (forced_down limit n)) (nothing_left state)) (le-ltb limit (length state.pending) within)
 

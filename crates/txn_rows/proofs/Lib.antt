@@ -17,6 +17,7 @@ mod LimitLemmas
 mod EndLemmas
 mod PendingLemmas
 mod TakeLemmas
+mod PlainLemmas
 mod TakenLemmas
 mod StepLemmas
 mod TableLemmas

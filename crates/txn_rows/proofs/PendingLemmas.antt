@@ -1,7 +1,7 @@
 -- Rows that begin, and which is open.
 use Rattle.std.proofs.Common.{◌≡◌, ◌+◌, ℕ, Bool, true, false, not, eqb, cond, Option, Some, None, List, [], ◌∷◌, ◌++◌, set, map, take, drop, get_or, refl, ap, sym, ◌∙◌, subst, arith}
 use Rattle.std.proofs.lemmas.Bool.{eq-eqb, or_parts}
-use Rattle.std.proofs.lemmas.List.{map-append, get_or_default}
+use Rattle.std.proofs.lemmas.List.{map-append, length-set, drop-set-lt, get_or_default, get_or-set_same}
 use Rattle.vsl_tags.specs.Tags.{begin_tag}
 use Rattle.txn_rows.specs.declared.rows.Row.{Row}
 use Rattle.txn_rows.specs.declared.group.Kind.TheVariants as kinds
@@ -107,6 +107,16 @@ added begun vxid at rec rows row new trees is read told root path =
           ∙ ap (with_kind vxid rec) (newest_changed vxid (λ s. record s { records = s.records ++ rec ∷ [] }) front t back same is.none_after)
           ∙ changed_if (eqb rec.tag begin_tag) vxid (claimed_kind (claim_of rec.payload)) front longer back same is.none_after);
     }
+
+-- and the newest stays where it is
+pub added_newest : (vxid at : ℕ) (rec : Record) (rows : List Row) (row new : Row) → IsNewestRow vxid at rows → row ≡ get_or rows at row → transaction_of new ≡ with_one rec (transaction_of row) → IsNewestRow vxid at (set rows at new)
+added_newest vxid at rec rows row new is read told = record {
+  within = omega (arith, is.within, length-set rows at new);
+  is = λ other.
+      ap (λ (r : Row). r.vxid) (get_or-set_same rows at new other is.within) ∙ ap (λ (x : Transaction). x.vxid) told ∙ one_same (λ x. x.vxid) (λ x c. refl) rec (transaction_of row) refl
+      ∙ ap (λ (r : Row). r.vxid) read ∙ is.is row;
+  none_after = ap (λ (rs : List Row). is_pending vxid (map transaction_of rs)) (drop-set-lt (at + 1) rows at new (omega arith)) ∙ is.none_after;
+}
 
 -- a row that ends is its transaction, ended
 pub ended_step : (begun vxid at : ℕ) (time : Option ℕ) (rows : List Row) (row new : Row) (now : List Row) (out_before out_now : List Group) → AreTrees begun rows → IsNewestRow vxid at rows → row ≡ get_or rows at row → new ≡ record row { ended = true } →

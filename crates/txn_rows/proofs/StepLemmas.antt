@@ -1,7 +1,7 @@
 -- Records one after another, and the groups that are reported of those that left.
-use Rattle.std.proofs.Common.{◌≡◌, ◌<◌, ◌+◌, ℕ, List, [], ◌∷◌, ◌++◌, length, take, drop, get_or, refl, ap, sym, ◌∙◌, subst, append_assoc, Result, Ok, Err}
+use Rattle.std.proofs.Common.{◌≡◌, ℕ, List, [], ◌∷◌, ◌++◌, refl, ap, sym, ◌∙◌, subst, append_assoc, Result, Ok, Err}
 use Rattle.std.specs.Result.{OnOk, OnErr}
-use Rattle.std.proofs.lemmas.List.{append-nil, take_more}
+use Rattle.std.proofs.lemmas.List.{append-nil}
 use Rattle.std.proofs.lemmas.List.Elements.{filter-append}
 use Rattle.log_model.proofs.PrefixLemmas.{prefix_same, prefix_then}
 use Rattle.vsl_record.specs.declared.record_type.Record.{Record}
@@ -13,7 +13,6 @@ use Rattle.txn_rows.specs.Grouping.{State, Leaving, then_left, step, steps, is_r
 use Rattle.txn_rows.specs.Table.{GainsPrefix}
 use Rattle.txn_rows.specs.inside.Steps.{AddsPart}
 use Rattle.txn_rows.specs.inside.States.{state_of, WentBy, WentReported}
-use Rattle.txn_rows.proofs.JoinLemmas.{around}
 use Rattle.txn_rows.proofs.TakeLemmas.{step_then, part_then, part_first}
 
 -- records, and more records
@@ -27,26 +26,21 @@ steps_append options vxid (x ∷ xs) ys s =
     ∙ ap (λ (gs : List Group). record { state = last.state; groups = gs }) (sym (append_assoc first.groups more.groups last.groups))
 
 -- one record more was taken
-pub taken_more : (options : GroupOptions) (vxid i : ℕ) (records : List Record) (rec : Record) (first : State) (p now : Pending) (out mid out_now : List Group) → i < length records → rec ≡ get_or records i rec →
-    WentBy (steps options vxid (take i records) first) p out mid → WentBy (step options vxid rec (state_of p)) now mid out_now → WentBy (steps options vxid (take (i + 1) records) first) now out out_now
-taken_more options vxid i records rec first p now out mid out_now within read before last =
-    let xs : List Record = take i records in
-    let more : take (i + 1) records ≡ xs ++ rec ∷ [] = take_more records i rec within ∙ ap (λ (r : Record). xs ++ r ∷ []) (sym read) in
+pub taken_more : (options : GroupOptions) (vxid : ℕ) (xs : List Record) (rec : Record) (first : State) (p now : Pending) (out mid out_now : List Group) →
+    WentBy (steps options vxid xs first) p out mid → WentBy (step options vxid rec (state_of p)) now mid out_now → WentBy (steps options vxid (xs ++ rec ∷ []) first) now out out_now
+taken_more options vxid xs rec first p now out mid out_now before last =
     let one : WentBy (steps options vxid (rec ∷ []) (state_of p)) now mid out_now = record {
       trees = last.trees;
       state = last.state;
       groups = last.groups ∙ ap (λ (gs : List Group). mid ++ gs) (sym (append-nil (step options vxid rec (state_of p)).groups));
     } in
     let both = step_then (steps options vxid xs first) (steps options vxid (rec ∷ [])) before one in
-    subst (λ (r : Leaving). WentBy r now out out_now) (sym (ap (λ (rs : List Record). steps options vxid rs first) more ∙ steps_append options vxid xs (rec ∷ []) first)) both
+    subst (λ (r : Leaving). WentBy r now out out_now) (sym (steps_append options vxid xs (rec ∷ []) first)) both
 
 -- of one record more a part was taken
-pub taken_part : (options : GroupOptions) (vxid i : ℕ) (records : List Record) (rec : Record) (first : State) (p : Pending) (out mid out_now : List Group) → i < length records → rec ≡ get_or records i rec →
-    WentBy (steps options vxid (take i records) first) p out mid → AddsPart (step options vxid rec (state_of p)).groups mid out_now → AddsPart (steps options vxid records first).groups out out_now
-taken_part options vxid i records rec first p out mid out_now within read before part =
-    let xs : List Record = take i records in
-    let ys : List Record = drop (i + 1) records in
-    let whole : records ≡ xs ++ rec ∷ ys = around i records rec within read in
+pub taken_part : (options : GroupOptions) (vxid : ℕ) (records xs : List Record) (rec : Record) (ys : List Record) (first : State) (p : Pending) (out mid out_now : List Group) → records ≡ xs ++ rec ∷ ys →
+    WentBy (steps options vxid xs first) p out mid → AddsPart (step options vxid rec (state_of p)).groups mid out_now → AddsPart (steps options vxid records first).groups out out_now
+taken_part options vxid records xs rec ys first p out mid out_now whole before part =
     let both = part_then (steps options vxid xs first) (steps options vxid (rec ∷ ys)) before (part_first (step options vxid rec (state_of p)) (steps options vxid ys) part) in
     subst (λ (r : Leaving). AddsPart r.groups out out_now) (sym (ap (λ (rs : List Record). steps options vxid rs first) whole ∙ steps_append options vxid xs (rec ∷ ys) first)) both
 

@@ -1,10 +1,10 @@
 -- The times of pending transactions rise in the order in which they began, whatever is taken.
-use Rattle.std.proofs.Common.{◌≡◌, ◌≤◌, ℕ, Bool, true, not, eqb, ltb, Option, Some, None, List, [], ◌∷◌, ◌++◌, map, take, refl, ap, sym, ◌∙◌, subst, arith}
+use Rattle.std.proofs.Common.{◌≡◌, ◌≤◌, ℕ, Bool, true, not, eqb, ltb, Option, Some, None, List, [], ◌∷◌, ◌++◌, map, refl, ap, sym, ◌∙◌, subst, arith}
 use Rattle.std.specs.List.{list_all, filter}
 use Rattle.std.specs.Option.{option_map, is_some}
 use Rattle.std.proofs.lemmas.Bool.{cond_both, ltb-true}
 use Rattle.std.proofs.lemmas.List.{map-append}
-use Rattle.vsl_tags.specs.Tags.{end_tag}
+use Rattle.vsl_tags.specs.Tags.{begin_tag, end_tag}
 use Rattle.vsl_record.specs.declared.record_type.Record.{Record}
 use Rattle.txn_rows.specs.declared.group.Grouping.{Grouping}
 use Rattle.txn_rows.specs.declared.group.GroupOptions.{GroupOptions}
@@ -13,9 +13,10 @@ use Rattle.txn_rows.specs.declared.group.Cause.{Cause}
 use Rattle.txn_rows.specs.declared.group.Cause.TheVariants.{Flush}
 use Rattle.txn_rows.specs.declared.pending.Pending.{Pending}
 use Rattle.txn_rows.specs.declared.force.Which.TheVariants.{Unfinished}
+use Rattle.txn_rows.specs.Claim.{claim_of}
 use Rattle.txn_rows.specs.Transaction.{Transaction, empty_transaction, newest, with_newest, with_record, with_kind, oldest, with_oldest, claimed_kind, ended, forced}
 use Rattle.txn_rows.specs.Links.{with_parent, can_join, children, root_of, tree_of, others, group_of}
-use Rattle.txn_rows.specs.Grouping.{State, Leaving, nothing_left, first_known, timed, raised, with_transaction, with_claim, with_all_told, left_by, ended_one, forced_one, after_end, after_timeouts, unfinished, grouped, is_raw, raw_group, step, steps, flush}
+use Rattle.txn_rows.specs.Grouping.{State, Leaving, nothing_left, first_known, timed, raised, with_transaction, with_all_told, left_by, ended_one, forced_one, after_end, after_timeouts, unfinished, grouped, is_raw, raw_group, step, steps, flush}
 use Rattle.txn_rows.specs.inside.Steps.{test_of}
 use Rattle.txn_rows.specs.inside.Times.{TimesRise, NoneKnown, RiseTo, times_of, IsTimed}
 use Rattle.txn_rows.specs.inside.States.{state_of, AreOrdered, Went, WentBy}
@@ -126,13 +127,18 @@ linked_timed grouping vxid rec state h = linked_kept IsTimed timed_keeps groupin
 told_timed : (grouping : Grouping) (vxid : ℕ) (rec : Record) (state : State) → IsTimed state → IsTimed (with_all_told grouping vxid rec state)
 told_timed grouping vxid rec state h = told_kept IsTimed timed_keeps grouping vxid rec state (added_timed vxid rec (with_transaction vxid state) (begun_timed vxid state h))
 
--- rows after a record was added and may have told a link
-pub linked_ordered : (grouping : Grouping) (vxid : ℕ) (rec : Record) (state : State) {b a l : Pending} → IsTimed state → Went (with_transaction vxid state) b → Went (record (state_of b) { pending = with_kind vxid rec (with_record vxid rec (state_of b).pending) }) a → Went (with_claim grouping vxid rec (state_of a)) l →
-    AreOrdered l × (state_of l ≡ with_linked grouping vxid rec (with_transaction vxid state))
-linked_ordered grouping vxid rec state {b} {a} {l} h begun added linked =
-    let told : state_of l ≡ with_linked grouping vxid rec (with_transaction vxid state) =
-    linked.told ∙ ap (with_claim grouping vxid rec) added.told ∙ ap (with_linked grouping vxid rec) begun.told in
-    (record { trees = linked.trees; times = subst IsTimed (sym told) (linked_timed grouping vxid rec (with_transaction vxid state) (begun_timed vxid state h)) }, told)
+-- a record may tell the kind
+kind_timed : (vxid : ℕ) (rec : Record) (state : State) → IsTimed state → IsTimed (record state { pending = with_kind vxid rec state.pending })
+kind_timed vxid rec state h =
+    either (λ ts. IsTimed (record state { pending = ts })) (eqb rec.tag begin_tag) (with_newest vxid (claimed_kind (claim_of rec.payload)) state.pending) state.pending
+    (timed_keeps.kind vxid (claim_of rec.payload) state h) h
+
+-- rows to which a record was added
+pub added_ordered : (vxid : ℕ) (rec : Record) (state : State) {b a : Pending} → IsTimed state → Went (with_transaction vxid state) b → Went (record (state_of b) { pending = with_kind vxid rec (with_record vxid rec (state_of b).pending) }) a →
+    AreOrdered a
+added_ordered vxid rec state {b} {a} h begun added =
+    let open_times : IsTimed (state_of b) = subst IsTimed (sym begun.told) (begun_timed vxid state h) in
+    record { trees = added.trees; times = subst IsTimed (sym added.told) (kind_timed vxid rec (record (state_of b) { pending = with_record vxid rec (state_of b).pending }) (added_timed vxid rec (state_of b) open_times)) }
 
 -- whatever leaves
 left_timed : (o : Option Transaction) (state : State) → IsTimed state → IsTimed (left_by o state).state
@@ -185,8 +191,8 @@ steps_timed options vxid [] state h = h
 steps_timed options vxid (rec ∷ records) state h = steps_timed options vxid records (step options vxid rec state).state (step_timed options vxid rec state h)
 
 -- and so do those of the rows
-pub went_ordered : (options : GroupOptions) (vxid i : ℕ) (records : List Record) {p now : Pending} {out out_now : List Group} → AreOrdered p → WentBy (steps options vxid (take i records) (state_of p)) now out out_now → AreOrdered now
-went_ordered options vxid i records {p} o went = record { trees = went.trees; times = subst IsTimed (sym went.state) (steps_timed options vxid (take i records) (state_of p) o.times) }
+pub went_ordered : (options : GroupOptions) (vxid : ℕ) (records : List Record) {p now : Pending} {out out_now : List Group} → AreOrdered p → WentBy (steps options vxid records (state_of p)) now out out_now → AreOrdered now
+went_ordered options vxid records {p} o went = record { trees = went.trees; times = subst IsTimed (sym went.state) (steps_timed options vxid records (state_of p) o.times) }
 
 pub flush_timed : (state : State) → IsTimed state → IsTimed (flush state).state
 flush_timed state = often_holds TimedOn timed_on (unfinished state) Unfinished Flush state

@@ -1,12 +1,12 @@
 //! What stands between two records, and how a record begins, names and links transactions.
 
-ghost use Rattle.std.specs.Prelude.{◌≡◌, ◌+◌, ◌<◌, length, map, IfOk, OnOk, OnErr};
+ghost use Rattle.std.specs.Prelude.{◌≡◌, ◌+◌, ◌<◌, if◌then◌else◌, length, map, IfOk, OnOk, OnErr};
 ghost use Rattle.txn_rows.specs.Transaction.{is_pending, with_record, with_kind};
-ghost use Rattle.txn_rows.specs.Grouping.{with_new, with_transaction, with_other, gives_parent, with_claim, ended_one, after_end, raised, with_time};
+ghost use Rattle.txn_rows.specs.Grouping.{with_new, with_transaction, with_other, gives_parent, with_parent_named, with_child_named, ended_one, after_end, raised, with_time};
 ghost use Rattle.txn_rows.specs.inside.Rows.{transaction_of, IsNewestRow, AreTrees};
 ghost use Rattle.txn_rows.specs.inside.States.{state_of, AreOrdered, Went, WentBy};
 
-use crate::claim::{Claim, read_claim};
+use crate::claim::Claim;
 use crate::group::{Group, Grouping, Kind, Reason};
 use crate::join::link_rows;
 use crate::leave::leave;
@@ -14,7 +14,6 @@ use crate::rows::{Row, add_record, empty_row, newest_row, time_rows};
 use log_model::NoMemory;
 use std::alloc::Global;
 use vsl_record::{Record, Vxid};
-use vsl_tags::Tag;
 
 /// The pending transactions, oldest first, and the log time.
 #[derive(Drop)]
@@ -89,21 +88,21 @@ fn gives_parent(grouping: Grouping, claim: Claim) -> bool
     }
 }
 
-/// A Begin or a Link may link two transactions: a Begin names the parent of its transaction, a Link a child.
+/// What a Begin or a Link claims may link two transactions: a Begin names the parent of its transaction, a Link a child.
 pub(crate) fn take_claim(
     alloc: Global,
     grouping: Grouping,
     pending: &mut Pending,
+    at: usize,
     vxid: Vxid,
-    rec: &Record,
+    begins: bool,
+    claim: Option<Claim>,
 ) -> Result<(), NoMemory>
-    ensures { AreTrees pending.old.begun pending.old.rows.items → OnOk result (Went (with_claim grouping vxid rec.now (state_of pending.old)) pending.new) }
+    requires { IsNewestRow vxid at pending.old.rows.items }
+    ensures { AreTrees pending.old.begun pending.old.rows.items →
+        OnOk result (Went (if begins then with_parent_named grouping vxid claim (state_of pending.old) else with_child_named grouping vxid claim (state_of pending.old)) pending.new) }
 {
-    let begins = rec.tag == Tag::BEGIN;
-    if !begins && rec.tag != Tag::LINK {
-        return Ok(());
-    }
-    let Some(claim) = read_claim(rec.payload.as_slice()) else {
+    let Some(claim) = claim else {
         return Ok(());
     };
     if !gives_parent(grouping, claim) {
@@ -118,17 +117,17 @@ pub(crate) fn take_claim(
 
 /// Adds a record to the newest row of its VXID; a Begin may tell the row's kind.
 pub(crate) fn add_to(
-    alloc: Global,
     pending: &mut Pending,
     at: usize,
     vxid: Vxid,
-    rec: &Record,
+    rec: Record,
 ) -> Result<(), NoMemory>
     requires { IsNewestRow vxid at pending.old.rows.items }
-    ensures { AreTrees pending.old.begun pending.old.rows.items →
-        OnOk result (Went (record (state_of pending.old) { pending = with_kind vxid rec.now (with_record vxid rec.now (state_of pending.old).pending) }) pending.new) }
+    ensures went { AreTrees pending.old.begun pending.old.rows.items →
+        OnOk result (Went (record (state_of pending.old) { pending = with_kind vxid rec (with_record vxid rec (state_of pending.old).pending) }) pending.new) }
+    ensures newest { OnOk result (IsNewestRow vxid at pending.new.rows.items) }
 {
-    add_record(alloc, &mut pending.rows[at], rec)?;
+    add_record(&mut pending.rows[at], rec)?;
     Ok(())
 }
 

@@ -12,15 +12,14 @@ use vsl_record::{Record, Records, Vxid};
 pub(crate) fn take_raw(
     alloc: Global,
     vxid: Vxid,
-    rec: &Record,
+    rec: Record,
     out: &mut Vec<Group>,
 ) -> Result<(), NoMemory>
-    ensures ok { OnOk result (out.new.items ≡ out.old.items ++ raw_group vxid rec.now ∷ []) }
+    ensures ok { OnOk result (out.new.items ≡ out.old.items ++ raw_group vxid rec ∷ []) }
     ensures err { OnErr result (out.new.items ≡ out.old.items) }
 {
-    let copy = rec.to_owned(alloc)?;
     let mut records = Records::new(alloc);
-    records.push(copy)?;
+    records.push(rec)?;
     let member = Member {
         vxid,
         kind: Kind::Record,

@@ -2,7 +2,7 @@
 
 ghost use Rattle.std.specs.Prelude.{◌≡◌, ◌<◌, length, false, true, map, [], ◌∷◌, IfOk, OnOk, IfSome, IfNone, None};
 ghost use Rattle.txn_rows.specs.Transaction.{is_pending, claimed_kind};
-ghost use Rattle.txn_rows.specs.inside.Rows.{transaction_of, IsNewestRow, with_one, row_timed};
+ghost use Rattle.txn_rows.specs.inside.Rows.{transaction_of, IsNewestRow, with_one, own_claim, row_timed};
 
 use crate::claim::{Claim, read_claim};
 use crate::group::{Kind, ParentLink, Reason};
@@ -76,18 +76,26 @@ fn make_room(records: &mut Records) -> Result<(), NoMemory>
     Ok(())
 }
 
-/// Adds a copy of a record to a row; a Begin may tell the row's kind.
-pub(crate) fn add_record(alloc: Global, row: &mut Row, rec: &Record) -> Result<(), NoMemory>
-    ensures told { OnOk result (transaction_of row.new ≡ with_one rec.now (transaction_of row.old)) }
+/// The claim of a Begin.
+fn own_claim(rec: &Record) -> Option<Claim>
+    ensures { result ≡ own_claim rec.now }
+{
+    if rec.tag != Tag::BEGIN {
+        return None;
+    }
+    read_claim(rec.payload.as_slice())
+}
+
+/// Adds a record to a row; a Begin may tell the row's kind.
+pub(crate) fn add_record(row: &mut Row, rec: Record) -> Result<(), NoMemory>
+    ensures told { OnOk result (transaction_of row.new ≡ with_one rec (transaction_of row.old)) }
     ensures root { OnOk result (row.new.root ≡ row.old.root) }
     ensures path { OnOk result (row.new.path ≡ row.old.path) }
 {
-    let copy = rec.to_owned(alloc)?;
+    let claim = own_claim(&rec);
     make_room(&mut row.records)?;
-    row.records.push(copy)?;
-    if rec.tag == Tag::BEGIN {
-        take_claim(row, read_claim(rec.payload.as_slice()));
-    }
+    row.records.push(rec)?;
+    take_claim(row, claim);
     Ok(())
 }
 

@@ -1,9 +1,9 @@
 //! The steps of a table: records one after another, a force-completion, and a flush.
 
-ghost use Rattle.std.specs.Prelude.{◌≡◌, ◌++◌, OnOk, OnErr};
+ghost use Rattle.std.specs.Prelude.{◌≡◌, ◌++◌, IfOk, IfSome, OnOk, OnErr};
 ghost use Rattle.txn_rows.specs.Grouping.{is_reported, reported, step, steps, force, flush};
 ghost use Rattle.txn_rows.specs.Table.{GainsPrefix};
-ghost use Rattle.txn_rows.specs.inside.Rows.{AreTrees};
+ghost use Rattle.txn_rows.specs.inside.Rows.{AreTrees, IsNewestRow};
 ghost use Rattle.txn_rows.specs.inside.Steps.{AddsPart};
 ghost use Rattle.txn_rows.specs.inside.States.{state_of, AreOrdered, WentBy, WentReported};
 
@@ -39,22 +39,27 @@ fn report(grouping: Grouping, left: Vec<Group>, out: &mut Vec<Group>) -> Result<
     Ok(())
 }
 
-/// Takes one record, and adds the groups that leave.
+/// Takes one record, and adds the groups that leave. It is told and tells the place of the newest row of the VXID,
+/// where that is known.
 fn take_one(
     alloc: Global,
     options: GroupOptions,
     pending: &mut Pending,
     vxid: Vxid,
-    rec: &Record,
+    known: Option<usize>,
+    rec: Record,
     left: &mut Vec<Group>,
-) -> Result<(), NoMemory>
-    ensures ok { AreOrdered pending.old → OnOk result (WentBy (step options vxid rec.now (state_of pending.old)) pending.new left.old.items left.new.items) }
-    ensures err { AreOrdered pending.old → OnErr result (AddsPart (step options vxid rec.now (state_of pending.old)).groups left.old.items left.new.items) }
+) -> Result<Option<usize>, NoMemory>
+    requires { IfSome known (λ at. IsNewestRow vxid at pending.old.rows.items) }
+    ensures ok { AreOrdered pending.old → OnOk result (WentBy (step options vxid rec (state_of pending.old)) pending.new left.old.items left.new.items) }
+    ensures known { IfOk result (λ known. IfSome known (λ at. IsNewestRow vxid at pending.new.rows.items)) }
+    ensures err { AreOrdered pending.old → OnErr result (AddsPart (step options vxid rec (state_of pending.old)).groups left.old.items left.new.items) }
 {
     if options.grouping == Grouping::Raw {
-        return take_raw(alloc, vxid, rec, left);
+        take_raw(alloc, vxid, rec, left)?;
+        return Ok(None);
     }
-    take_record(alloc, options, pending, vxid, rec, left)
+    take_record(alloc, options, pending, vxid, known, rec, left)
 }
 
 /// Takes records of one VXID in order, and adds the groups that leave.
@@ -63,14 +68,15 @@ fn take_all(
     options: GroupOptions,
     pending: &mut Pending,
     vxid: Vxid,
-    records: &[Record],
+    records: Vec<Record>,
     left: &mut Vec<Group>,
 ) -> Result<(), NoMemory>
-    ensures ok { AreOrdered pending.old → OnOk result (WentBy (steps options vxid records.now (state_of pending.old)) pending.new left.old.items left.new.items) }
-    ensures err { AreOrdered pending.old → OnErr result (AddsPart (steps options vxid records.now (state_of pending.old)).groups left.old.items left.new.items) }
+    ensures ok { AreOrdered pending.old → OnOk result (WentBy (steps options vxid records.items (state_of pending.old)) pending.new left.old.items left.new.items) }
+    ensures err { AreOrdered pending.old → OnErr result (AddsPart (steps options vxid records.items (state_of pending.old)).groups left.old.items left.new.items) }
 {
+    let mut known = None;
     for rec in records {
-        take_one(alloc, options, pending, vxid, rec, left)?;
+        known = take_one(alloc, options, pending, vxid, known, rec, left)?;
     }
     Ok(())
 }
@@ -82,12 +88,12 @@ pub(crate) fn take_records(
     options: GroupOptions,
     pending: &mut Pending,
     vxid: Vxid,
-    records: &[Record],
+    records: Vec<Record>,
     out: &mut Vec<Group>,
 ) -> Result<(), NoMemory>
-    ensures ok { AreOrdered pending.old → OnOk result (WentReported options.grouping (steps options vxid records.now (state_of pending.old)) pending.new out.old.items out.new.items) }
+    ensures ok { AreOrdered pending.old → OnOk result (WentReported options.grouping (steps options vxid records.items (state_of pending.old)) pending.new out.old.items out.new.items) }
     ensures err { AreOrdered pending.old →
-        OnErr result (GainsPrefix (reported options.grouping (steps options vxid records.now (state_of pending.old)).groups) out.old.items out.new.items) }
+        OnErr result (GainsPrefix (reported options.grouping (steps options vxid records.items (state_of pending.old)).groups) out.old.items out.new.items) }
 {
     let mut left = Vec::new(alloc);
     let taken = take_all(alloc, options, pending, vxid, records, &mut left);

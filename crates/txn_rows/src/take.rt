@@ -1,27 +1,74 @@
 //! Taking one record of a transaction.
 
-ghost use Rattle.std.specs.Prelude.{◌≡◌, OnOk, OnErr};
-ghost use Rattle.txn_rows.specs.Grouping.{with_log_time, with_all_told, after_end, after_timeouts, has_risen, grouped};
-ghost use Rattle.txn_rows.specs.inside.Rows.{AreTrees};
+ghost use Rattle.std.specs.Prelude.{◌≡◌, ◌≤◌, true, length, map, IfOk, IfSome, OnOk, OnErr};
+ghost use Rattle.txn_rows.specs.Transaction.{is_open};
+ghost use Rattle.txn_rows.specs.Grouping.{with_log_time, with_claim, with_all_told, after_end, after_timeouts, has_risen, grouped};
+ghost use Rattle.txn_rows.specs.inside.Rows.{transaction_of, AreTrees, IsNewestRow};
+ghost use Rattle.txn_rows.specs.inside.Told.{Tells, is_plain};
 ghost use Rattle.txn_rows.specs.inside.Steps.{AddsPart};
 ghost use Rattle.txn_rows.specs.inside.States.{state_of, AreOrdered, Went, WentBy};
 
+use crate::claim::{Claim, read_claim};
 use crate::force::{Which, force_all, keep_within};
 use crate::group::{Cause, Group, GroupOptions, Grouping};
 use crate::pending::{Pending, add_to, end_row, open_row, raise, take_claim};
-use crate::rows::newest_row;
+use crate::rows::{Row, newest_row};
 use crate::time::time_told;
 use log_model::NoMemory;
 use std::alloc::Global;
 use vsl_record::{Record, Vxid};
 use vsl_tags::Tag;
 
-/// A Timestamp may raise the log time.
-fn take_time(pending: &mut Pending, rec: &Record)
-    ensures { AreOrdered pending.old → Went (with_log_time rec.now (state_of pending.old)) pending.new }
+/// What a record tells of its transaction's links, or of the time.
+#[derive(Clone, Copy)]
+pub(crate) enum Told {
+    /// A Begin, and what it claims.
+    Begin(Option<Claim>),
+    /// A Link, and what it claims.
+    Link(Option<Claim>),
+    /// A Timestamp, and its time.
+    Time(Option<u128>),
+    /// No record of these.
+    Nothing,
+}
+
+/// What a record tells.
+fn read_told(rec: &Record) -> Told
+    ensures { Tells rec.now result }
 {
-    if rec.tag == Tag::TIMESTAMP {
-        raise(pending, time_told(rec.payload.as_slice()));
+    let payload = rec.payload.as_slice();
+    if rec.tag == Tag::BEGIN {
+        Told::Begin(read_claim(payload))
+    } else if rec.tag == Tag::LINK {
+        Told::Link(read_claim(payload))
+    } else if rec.tag == Tag::TIMESTAMP {
+        Told::Time(time_told(payload))
+    } else {
+        Told::Nothing
+    }
+}
+
+/// What a record told may link its transaction, the newest row of which is at this place, or raise the log time.
+fn follow(
+    alloc: Global,
+    grouping: Grouping,
+    pending: &mut Pending,
+    at: usize,
+    vxid: Vxid,
+    told: Told,
+) -> Result<(), NoMemory>
+    requires { IsNewestRow vxid at pending.old.rows.items }
+    ensures { (rec : Record) → Tells rec told → AreOrdered pending.old →
+        OnOk result (Went (with_log_time rec (with_claim grouping vxid rec (state_of pending.old))) pending.new) }
+{
+    match told {
+        Told::Begin(claim) => take_claim(alloc, grouping, pending, at, vxid, true, claim),
+        Told::Link(claim) => take_claim(alloc, grouping, pending, at, vxid, false, claim),
+        Told::Time(time) => {
+            raise(pending, time);
+            Ok(())
+        }
+        Told::Nothing => Ok(()),
     }
 }
 
@@ -31,15 +78,14 @@ fn tell(
     grouping: Grouping,
     pending: &mut Pending,
     vxid: Vxid,
-    rec: &Record,
+    rec: Record,
 ) -> Result<(), NoMemory>
-    ensures { AreOrdered pending.old → OnOk result (Went (with_all_told grouping vxid rec.now (state_of pending.old)) pending.new) }
+    ensures { AreOrdered pending.old → OnOk result (Went (with_all_told grouping vxid rec (state_of pending.old)) pending.new) }
 {
+    let told = read_told(&rec);
     let at = open_row(alloc, pending, vxid)?;
-    add_to(alloc, pending, at, vxid, rec)?;
-    take_claim(alloc, grouping, pending, vxid, rec)?;
-    take_time(pending, rec);
-    Ok(())
+    add_to(pending, at, vxid, rec)?;
+    follow(alloc, grouping, pending, at, vxid, told)
 }
 
 /// An End ends its row.
@@ -47,13 +93,13 @@ fn take_end(
     alloc: Global,
     pending: &mut Pending,
     vxid: Vxid,
-    rec: &Record,
+    tag: Tag,
     out: &mut Vec<Group>,
 ) -> Result<(), NoMemory>
-    ensures ok { AreTrees pending.old.begun pending.old.rows.items → OnOk result (WentBy (after_end vxid rec.now (state_of pending.old)) pending.new out.old.items out.new.items) }
+    ensures ok { (rec : Record) → rec.tag ≡ tag → AreTrees pending.old.begun pending.old.rows.items → OnOk result (WentBy (after_end vxid rec (state_of pending.old)) pending.new out.old.items out.new.items) }
     ensures err { OnErr result (out.new.items ≡ out.old.items) }
 {
-    if rec.tag != Tag::END {
+    if tag != Tag::END {
         return Ok(());
     }
     match newest_row(&pending.rows, vxid) {
@@ -94,21 +140,83 @@ fn take_timeouts(
     force_all(alloc, &mut pending.rows, late, Cause::Timeout, out)
 }
 
-/// Takes one record of a transaction, and adds the groups that it completes.
+/// Takes a record that may tell more than itself, and adds the groups that it completes.
+fn take_telling(
+    alloc: Global,
+    options: GroupOptions,
+    pending: &mut Pending,
+    vxid: Vxid,
+    rec: Record,
+    out: &mut Vec<Group>,
+) -> Result<(), NoMemory>
+    ensures ok { AreOrdered pending.old → OnOk result (WentBy (grouped options vxid rec (state_of pending.old)) pending.new out.old.items out.new.items) }
+    ensures err { AreOrdered pending.old → OnErr result (AddsPart (grouped options vxid rec (state_of pending.old)).groups out.old.items out.new.items) }
+{
+    let before = pending.time;
+    let tag = rec.tag;
+    tell(alloc, options.grouping, pending, vxid, rec)?;
+    take_end(alloc, pending, vxid, tag, out)?;
+    take_timeouts(alloc, pending, options.timeout, before, out)?;
+    keep_within(alloc, &mut pending.rows, options.limit, out)
+}
+
+/// Whether a record of this tag tells nothing but itself: it is no Begin, Link, Timestamp or End.
+fn is_plain(tag: Tag) -> bool
+    ensures { result ≡ is_plain tag }
+{
+    tag != Tag::BEGIN && tag != Tag::LINK && tag != Tag::TIMESTAMP && tag != Tag::END
+}
+
+/// The place of the newest row of a VXID. It is searched where it isn't known.
+fn place_of(rows: &[Row], vxid: Vxid, known: Option<usize>) -> Option<usize>
+    requires { IfSome known (λ at. IsNewestRow vxid at rows.now) }
+    ensures { IfSome result (λ at. IsNewestRow vxid at rows.now) }
+{
+    match known {
+        Some(at) => Some(at),
+        None => newest_row(rows, vxid),
+    }
+}
+
+/// The place of the newest row of a VXID, where one stands that has not ended, and no more rows than the limit.
+fn open_place(rows: &[Row], limit: u32, vxid: Vxid, known: Option<usize>) -> Option<usize>
+    requires { IfSome known (λ at. IsNewestRow vxid at rows.now) }
+    ensures newest { IfSome result (λ at. IsNewestRow vxid at rows.now) }
+    ensures open { IfSome result (λ _. is_open vxid (map transaction_of rows.now) ≡ true) }
+    ensures few { IfSome result (λ _. length rows.now ≤ limit) }
+{
+    if rows.len() > limit as usize {
+        return None;
+    }
+    let at = place_of(rows, vxid, known)?;
+    if rows[at].ended {
+        return None;
+    }
+    Some(at)
+}
+
+/// Takes one record of a transaction, and adds the groups that it completes. It is told and tells the place of the
+/// newest row of the VXID, where that is known: most records go to the row of the one before.
 pub(crate) fn take_record(
     alloc: Global,
     options: GroupOptions,
     pending: &mut Pending,
     vxid: Vxid,
-    rec: &Record,
+    known: Option<usize>,
+    rec: Record,
     out: &mut Vec<Group>,
-) -> Result<(), NoMemory>
-    ensures ok { AreOrdered pending.old → OnOk result (WentBy (grouped options vxid rec.now (state_of pending.old)) pending.new out.old.items out.new.items) }
-    ensures err { AreOrdered pending.old → OnErr result (AddsPart (grouped options vxid rec.now (state_of pending.old)).groups out.old.items out.new.items) }
+) -> Result<Option<usize>, NoMemory>
+    requires { IfSome known (λ at. IsNewestRow vxid at pending.old.rows.items) }
+    ensures ok { AreOrdered pending.old → OnOk result (WentBy (grouped options vxid rec (state_of pending.old)) pending.new out.old.items out.new.items) }
+    ensures known { IfOk result (λ known. IfSome known (λ at. IsNewestRow vxid at pending.new.rows.items)) }
+    ensures err { AreOrdered pending.old → OnErr result (AddsPart (grouped options vxid rec (state_of pending.old)).groups out.old.items out.new.items) }
 {
-    let before = pending.time;
-    tell(alloc, options.grouping, pending, vxid, rec)?;
-    take_end(alloc, pending, vxid, rec, out)?;
-    take_timeouts(alloc, pending, options.timeout, before, out)?;
-    keep_within(alloc, &mut pending.rows, options.limit, out)
+    if is_plain(rec.tag) {
+        if let Some(at) = open_place(&pending.rows, options.limit, vxid, known) {
+            add_to(pending, at, vxid, rec)?;
+            return Ok(Some(at));
+        }
+    }
+    take_telling(alloc, options, pending, vxid, rec, out)?;
+    Ok(None)
 }

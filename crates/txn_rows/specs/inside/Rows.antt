@@ -9,6 +9,7 @@ use Rattle.txn_rows.specs.declared.join.Join.{Join}
 use Rattle.txn_rows.specs.declared.group.Member.{Member}
 use Rattle.txn_rows.specs.declared.group.Group.{Group}
 use Rattle.txn_rows.specs.Claim.{claim_of}
+use Rattle.txn_rows.specs.declared.claim.Claim.{Claim}
 use Rattle.txn_rows.specs.declared.group.Cause.{Cause}
 use Rattle.txn_rows.specs.Transaction.{Transaction, is_pending, claimed_kind, first_mark, cause_text}
 use Rattle.txn_rows.specs.Links.{is_path_before, parent_vxid}
@@ -23,6 +24,10 @@ pub record IsNewestRow (vxid at : ℕ) (rows : List Row) : Type 0 where
   pub within : at < length rows
   pub is : HoldsAt (λ row. row.vxid ≡ vxid) rows at
   pub none_after : is_pending vxid (map transaction_of (drop (at + 1) rows)) ≡ false
+
+-- what a Begin claims
+abbrev pub own_claim : Record → Option Claim
+own_claim rec = if rec.tag == begin_tag then claim_of rec.payload else None
 
 -- a transaction with a record at its end, of which it takes the claim if that is a Begin
 abbrev pub with_one : Record → Transaction → Transaction

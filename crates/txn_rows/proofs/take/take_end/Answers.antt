@@ -1,4 +1,4 @@
-use Rattle.std.proofs.Common.{◌≡◌, Bool, true, eqb, cond, sym, ap, ◌∙◌}
+use Rattle.std.proofs.Common.{◌≡◌, ℕ, Bool, true, eqb, cond, sym, ap, ◌∙◌}
 use Rattle.std.proofs.lemmas.Bool.{not-false}
 use Rattle.vsl_tags.specs.Tags.{end_tag}
 use Rattle.txn_rows.specs.Grouping.{ended_one, nothing_left}
@@ -7,8 +7,8 @@ use Rattle.txn_rows.proofs.TakeLemmas.{ended_none, nothing_step}
 use Rattle.txn_rows.proofs.take.take_end.Goals as goal
 
 pub returns-in-None-clause-ok : goal.returns-in-None-clause-ok
-returns-in-None-clause-ok c = λ trees.
+returns-in-None-clause-ok c = λ rec is trees.
     let p = c.args.pending.now in
-    let is_end : eqb c.args.rec.now.tag end_tag ≡ true = not-false (eqb c.args.rec.now.tag end_tag) (sym c.ne.ensures ∙ c.if-ne.false) in
+    let is_end : eqb rec.tag end_tag ≡ true = ap (λ (t : ℕ). eqb t end_tag) is ∙ not-false (eqb c.args.tag end_tag) (sym c.ne.ensures ∙ c.if-ne.false) in
     nothing_step p.begun p.time p.rows.items c.args.out.now.items _ trees
     (ap (λ (b : Bool). cond b (ended_one c.args.vxid (state_of p)) (nothing_left (state_of p))) is_end ∙ ended_none c.args.vxid (state_of p) (rw c.deref.ensures.value at c.in-None.ensures.none))

@@ -1,29 +1,12 @@
-use Rattle.std.proofs.lemmas.Result.{on_ok_weaker, on_err_weaker, err_from_is_err_and}
-use Rattle.txn_rows.specs.Grouping.{State, Leaving, then_left, with_all_told, after_end, after_timeouts, after_overflow}
-use Rattle.txn_rows.specs.inside.States.{state_of}
-use Rattle.txn_rows.proofs.TakeLemmas.{step_then, part_then, part_first, told_end}
-use Rattle.txn_rows.proofs.TimeLemmas.{ended_ordered}
+use Rattle.std.proofs.Common.{sym, ◌∙◌, arith}
+use Rattle.std.proofs.lemmas.List.{length-map}
+use Rattle.txn_rows.specs.inside.Rows.{transaction_of}
+use Rattle.txn_rows.proofs.PlainLemmas.{plain_went}
 use Rattle.txn_rows.proofs.take.take_record.Goals as goal
 
-pub returns-in_err-take_timeouts-clause-err : goal.returns-in_err-take_timeouts-clause-err
-returns-in_err-take_timeouts-clause-err c = λ ordered.
-    let state : State = state_of c.args.pending.now in
-    let late : State → Leaving = after_timeouts c.args.options.timeout state.time in
-    let told = c.in_ok-tell.ensures ordered in
-    let end = told_end c.args.options.grouping c.args.vxid c.args.rec.now state told (c.in_ok-take_end.ensures.ok told.trees) in
-    let q = err_from_is_err_and c.from_residual-in_err-take_timeouts.result c.from_residual-in_err-take_timeouts.ensures.1 in
-    rw q.1 (part_first (then_left (after_end c.args.vxid c.args.rec.now (with_all_told c.args.options.grouping c.args.vxid c.args.rec.now state)) late) (after_overflow c.args.options.limit) (part_then _ late end (c.in_err-take_timeouts.ensures.err (ended_ordered c.args.options.grouping c.args.vxid c.args.rec.now ordered end))))
-
-pub returns-clause-ok : goal.returns-clause-ok
-returns-clause-ok c = λ ordered.
-    let told = c.in_ok-tell.ensures ordered in
-    let end = told_end c.args.options.grouping c.args.vxid c.args.rec.now (state_of c.args.pending.now) told (c.in_ok-take_end.ensures.ok told.trees) in
-    let late = step_then _ (after_timeouts c.args.options.timeout c.args.pending.now.time) end (c.in_ok-take_timeouts.ensures.ok (ended_ordered c.args.options.grouping c.args.vxid c.args.rec.now ordered end)) in
-    on_ok_weaker c.keep_within.result (λ last. step_then _ (after_overflow c.args.options.limit) late last) (c.keep_within.ensures.ok c.take_timeouts.new.pending.begun c.take_timeouts.new.pending.time late.trees)
-
-pub returns-clause-err : goal.returns-clause-err
-returns-clause-err c = λ ordered.
-    let told = c.in_ok-tell.ensures ordered in
-    let end = told_end c.args.options.grouping c.args.vxid c.args.rec.now (state_of c.args.pending.now) told (c.in_ok-take_end.ensures.ok told.trees) in
-    let late = step_then _ (after_timeouts c.args.options.timeout c.args.pending.now.time) end (c.in_ok-take_timeouts.ensures.ok (ended_ordered c.args.options.grouping c.args.vxid c.args.rec.now ordered end)) in
-    on_err_weaker c.keep_within.result (λ part. part_then _ (after_overflow c.args.options.limit) late part) (c.keep_within.ensures.err c.take_timeouts.new.pending.begun c.take_timeouts.new.pending.time late.trees)
+pub returns-in-Some-clause-ok : goal.returns-in-Some-clause-ok
+returns-in-Some-clause-ok c = λ ordered.
+    let p = c.args.pending.now in
+    let here = c.deref.ensures.value in
+    plain_went c.args.options c.args.vxid c.args.rec p c.add_to.new.pending c.args.out.now.items (sym c.is_plain.ensures ∙ c.if-is_plain.true) (rw here at c.in-Some.ensures.open)
+    (omega (arith, rw here at c.in-Some.ensures.few, length-map p.rows.items transaction_of)) (c.in_ok-add_to.ensures.went ordered.trees)
