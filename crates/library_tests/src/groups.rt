@@ -74,7 +74,7 @@ fn expect_table(
     let mut groups = Vec::new(alloc);
     let begin = record_of(alloc, Tag::BEGIN, b"req 1 rxreq")?;
     let records = Vec::from_array(alloc, [begin])?;
-    table.step(&Unit::new(9, Mark::Client, records)?, &mut groups)?;
+    table.step(Unit::new(9, Mark::Client, records)?, &mut groups)?;
     expect_text(rt, alloc, &groups, false, stepped)?;
     assert_eq!(rt; table.rows(), pending);
     assert_eq!(rt; table.unfinished(), pending);

@@ -38,13 +38,13 @@ fn a_table_over_its_limit_ends_the_oldest(rt: HostRuntime) -> Result<(), Fail> {
     let mut table = small_table(rt.alloc())?;
     let mut groups = Vec::new(rt.alloc());
     let open = begun(rt.alloc())?;
-    table.step(&open, &mut groups)?;
+    table.step(open, &mut groups)?;
     assert_eq!(&rt; groups.len(), 0);
     let begin = record_of(rt.alloc(), Tag::BEGIN, b"req 1 rxreq")?;
     let end = record_of(rt.alloc(), Tag::END, b"")?;
     let records = Vec::from_array(rt.alloc(), [begin, end])?;
     let unit = Unit::new(4, Mark::Client, records)?;
-    table.step(&unit, &mut groups)?;
+    table.step(unit, &mut groups)?;
     assert_eq!(&rt;
         firsts(rt.alloc(), &groups)?.as_slice(),
         [(2, 3), (4, 2)].as_slice()
@@ -60,7 +60,7 @@ fn a_table_ends_what_is_open_on_demand(rt: HostRuntime) -> Result<(), Fail> {
     table.force(Cause::Timeout, &mut groups)?;
     assert_eq!(&rt; groups.len(), 0);
     let open = begun(rt.alloc())?;
-    table.step(&open, &mut groups)?;
+    table.step(open, &mut groups)?;
     assert_eq!(&rt; table.unfinished(), 1);
     table.force(Cause::Timeout, &mut groups)?;
     assert_eq!(&rt;

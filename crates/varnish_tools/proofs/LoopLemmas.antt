@@ -236,7 +236,3 @@ module _ {C : Type 0} (keep : C → Option ℕ) (output : C → List Group → B
   named_still IsGiven reads p q n s t u run read given named =
       let kept : u.names Writing p.sink p.name ≡ s.names Writing p.sink p.name = read.names Writing p.sink p.name (run.touches.given p.sink given) ∙ run.touches.names Writing p.sink p.name given in
       rw (run.represents_units.sink, run.represents_units.name, kept) named
-
--- the unit at which a cursor stands is the one that it gave
-pub unit_given : (IsGiven : Log → Type 0) (current : Option LogUnit) (units : Log) (u : LogUnit) → (w : LogUnit) × (current ≡ Some w) × IsGiven (units ++ w ∷ []) → current ≡ Some u → IsGiven (units ++ u ∷ [])
-unit_given IsGiven current units u next is = let same : next.0 ≡ u = cc (next.1, is) in subst (λ (x : LogUnit). IsGiven (units ++ x ∷ [])) same next.2

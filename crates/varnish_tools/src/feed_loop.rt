@@ -159,7 +159,7 @@ pub fn print_feeds<W: World, C: Consumer>(
             Advanced::Took => {
                 met = met.and_unit()?;
                 let unit = replay.unit().to_unit(alloc)?;
-                match printer.unit(world, &unit) {
+                match printer.unit(world, unit) {
                     Ok(Go::More) => continue,
                     Ok(Go::Done) => return Ok(met),
                     Err(fault) => return Err(stopped_by(fault, met)),

@@ -10,11 +10,10 @@ use vio::{NoMemory, World};
 use vsl_file::{FileFault, FileReader, FileStep};
 use vsl_record::Unit;
 
-/// A log file that is read in pieces, and the last unit that it gave.
+/// A log file that is read in pieces.
 #[derive(Drop)]
 pub struct LogFile {
     pub reader: FileReader,
-    pub unit: Option<Unit>,
 }
 
 impl LogFile {
@@ -24,7 +23,7 @@ impl LogFile {
         ensures fresh { IfOk result (λ log. (s : Seen) → GaveUnits log log s s [] false) }
     {
         let reader = FileReader::new(alloc, handle)?;
-        Ok(LogFile { reader, unit: None })
+        Ok(LogFile { reader })
     }
 }
 
@@ -50,26 +49,17 @@ impl Source for LogFile {
 
     ghost stopped = { λ start now fault first world units. StoppedSo start.reader.handle fault first world units };
 
-    ghost current = { λ log. log.unit };
-
     ghost most = { λ log. most_bytes - log.reader.place };
 
     ghost reads = { λ log. log.reader.handle ∷ [] };
 
     ghost stays = { GaveUnits-stays };
 
-    fn advance<W: World>(&mut self, world: &mut W) -> Result<bool, SourceFault> {
+    fn advance<W: World>(&mut self, world: &mut W) -> Result<Option<Unit>, SourceFault> {
         match self.reader.next(world) {
-            Ok(FileStep::Unit(unit)) => {
-                self.unit = Some(unit);
-                Ok(true)
-            }
-            Ok(FileStep::End) => Ok(false),
+            Ok(FileStep::Unit(unit)) => Ok(Some(unit)),
+            Ok(FileStep::End) => Ok(None),
             Err(fault) => Err(source_fault(fault)),
         }
-    }
-
-    fn unit(&self) -> &Unit {
-        self.unit.as_ref().unwrap()
     }
 }

@@ -86,12 +86,12 @@ impl<C: Consumer> OneConsumer<C> {
         &mut self,
         table: &mut Table,
         asker: &mut Asker<'_>,
-        unit: &Unit,
+        unit: Unit,
     ) -> Result<(), NoMemory>
         ensures query { asker_query asker.new ≡ asker_query asker.old }
-        ensures took { OnOk result (TookItem C.keep C.output C.represents (asker_query asker.old) (TakenUnit unit.now) table.old table.new (entries_of self.old.dispatch) (entries_of self.new.dispatch)) }
+        ensures took { OnOk result (TookItem C.keep C.output C.represents (asker_query asker.old) (TakenUnit unit) table.old table.new (entries_of self.old.dispatch) (entries_of self.new.dispatch)) }
     {
-        if self.offer(table, asker, unit)? {
+        if self.offer(table, asker, &unit)? {
             return Ok(());
         }
         let mut groups = Vec::new(self.alloc);

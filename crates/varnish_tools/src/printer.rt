@@ -104,15 +104,15 @@ impl<'q, C: Consumer> Printer<'q, C> {
 
     /// Takes a unit, and writes what the consumer hands out of the groups that it completed and for which the query holds. It is
     /// done with the unit that completes the last group that is kept; no more may follow then.
-    pub fn unit<W: World>(&mut self, world: &mut W, unit: &Unit) -> Result<Go, PrintFault>
+    pub fn unit<W: World>(&mut self, world: &mut W, unit: Unit) -> Result<Go, PrintFault>
         requires named { IsTrue ((W.seen world.old).names Writing (printer_state self.old).sink (printer_state self.old).name) }
         ensures same { IsSameSink (printer_state self.old) (printer_state self.new) }
-        ensures takes { result ≡ Ok Go.More → (plan : Plan) (taken : List Taken) → Represents C.keep C.output C.represents plan (printer_state self.old) taken → Represents C.keep C.output C.represents plan (printer_state self.new) (taken ++ TakenUnit unit.now ∷ []) }
-        ensures done { IfOk result (λ go. (plan : Plan) (taken : List Taken) → Represents C.keep C.output C.represents plan (printer_state self.old) taken → has_all plan (taken ++ TakenUnit unit.now ∷ []) ≡ is_done go) }
+        ensures takes { result ≡ Ok Go.More → (plan : Plan) (taken : List Taken) → Represents C.keep C.output C.represents plan (printer_state self.old) taken → Represents C.keep C.output C.represents plan (printer_state self.new) (taken ++ TakenUnit unit ∷ []) }
+        ensures done { IfOk result (λ go. (plan : Plan) (taken : List Taken) → Represents C.keep C.output C.represents plan (printer_state self.old) taken → has_all plan (taken ++ TakenUnit unit ∷ []) ≡ is_done go) }
         ensures writes { OnOk result ((plan : Plan) (taken : List Taken) → Represents C.keep C.output C.represents plan (printer_state self.old) taken →
-            WroteOn plan.sink (due plan taken false) (λ text. text ≡ due plan (taken ++ TakenUnit unit.now ∷ []) false) (W.seen world.old) (W.seen world.new)) }
+            WroteOn plan.sink (due plan taken false) (λ text. text ≡ due plan (taken ++ TakenUnit unit ∷ []) false) (W.seen world.old) (W.seen world.new)) }
         ensures refused { IfErr result (λ f. (plan : Plan) (taken : List Taken) → Represents C.keep C.output C.represents plan (printer_state self.old) taken →
-            WroteOn plan.sink (due plan taken false) (IsLeft f (due plan (taken ++ TakenUnit unit.now ∷ []) false)) (W.seen world.old) (W.seen world.new)) }
+            WroteOn plan.sink (due plan taken false) (IsLeft f (due plan (taken ++ TakenUnit unit ∷ []) false)) (W.seen world.old) (W.seen world.new)) }
         ensures cause { IfErr result (λ f. HasPrintCause f (printer_state self.old).name (W.seen world.old) (W.seen world.new)) }
     {
         if let Err(NoMemory) = self.consumer.unit(&mut self.table, &mut self.asker, unit) {

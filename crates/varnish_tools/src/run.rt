@@ -40,15 +40,15 @@ pub fn print_source<W: World, S: Source, C: Consumer>(
     let mut units = 0;
     loop {
         match source.advance(world) {
-            Ok(true) => {
+            Ok(Some(unit)) => {
                 units += 1;
-                match printer.unit(world, source.unit()) {
+                match printer.unit(world, unit) {
                     Ok(Go::More) => {}
                     Ok(Go::Done) => return Ok(units),
                     Err(fault) => return Err(Stopped::ByPrinter(fault, units)),
                 }
             }
-            Ok(false) => {
+            Ok(None) => {
                 if let Err(fault) = printer.end(world) {
                     return Err(Stopped::ByPrinter(fault, units));
                 }

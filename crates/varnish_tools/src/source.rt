@@ -1,8 +1,8 @@
 //! Where a run takes its units from.
 
-ghost use Rattle.std.specs.Prelude.{◌≡◌, ◌<◌, ℕ, Bool, true, false, List, [], Option, Some, IsSome, IfOk};
+ghost use Rattle.std.specs.Prelude.{◌≡◌, ◌<◌, ℕ, Bool, false, List, [], IfOk, IfSome};
 ghost use Rattle.vio.specs.World.{Seen, Wrote};
-ghost use Rattle.vsl_record.specs.Unit.{LogUnit, Log};
+ghost use Rattle.vsl_record.specs.Unit.{Log};
 ghost use Rattle.vio.specs.Touches.{Touches};
 ghost use Rattle.varnish_tools.specs.inside.Source.{Advanced};
 ghost use Rattle.varnish_tools.specs.declared.source.SourceFault.{SourceFault};
@@ -33,27 +33,19 @@ pub trait Source: Drop {
     /// From a source and a world on, until a later source and world, these units were given, and then it stopped so.
     ghost stopped: { Self → Self → SourceFault → Seen → Seen → Log → Type 0 };
 
-    /// The unit at which the cursor stands.
-    ghost current: { Self → Option LogUnit };
-
     /// At most so many units are still to come.
     ghost most: { Self → ℕ };
 
     /// The handles that are read.
     ghost reads: { Self → List ℕ };
 
-    /// Moves to the next unit; `false` at the end.
-    fn advance<W: World>(&mut self, world: &mut W) -> Result<bool, SourceFault>
+    /// Gives the next unit; none at the end.
+    fn advance<W: World>(&mut self, world: &mut W) -> Result<Option<Unit>, SourceFault>
         ensures advanced { (start : Self) (first : Seen) (units : Log) → gave start self.old first (W.seen world.old) units false →
-            Advanced (gave start self.new first (W.seen world.new)) (λ fault given. stopped start self.new fault first (W.seen world.new) given) (current self.new) result units }
-        ensures fewer { IfOk result (λ more. more ≡ true → most self.new < most self.old) }
+            Advanced (gave start self.new first (W.seen world.new)) (λ fault given. stopped start self.new fault first (W.seen world.new) given) result units }
+        ensures fewer { IfOk result (λ next. IfSome next (λ _. most self.new < most self.old)) }
         ensures touches { Touches (reads self.old) [] [] [] (W.seen world.old) (W.seen world.new) }
         ensures same { reads self.new ≡ reads self.old };
-
-    /// The unit at which the cursor stands.
-    fn unit(&self) -> &Unit
-        requires { IsSome (current self.now) }
-        ensures { current self.now ≡ Some result.now };
 
     /// What is written changes nothing of what was given.
     ghost stays: { (start now : Self) (first s t : Seen) (units : Log) (all : Bool) (h : ℕ) (bytes : List ℕ) → gave start now first s units all → Wrote h bytes s t → gave start now first t units all };

@@ -3,54 +3,54 @@ use Rattle.vsl_record.specs.Unit.{Log}
 use Rattle.txn_rows.specs.Grouping.{all_taken}
 use Rattle.varnish_tools.specs.inside.Given.{is_done}
 use Rattle.varnish_tools.specs.Printer.{plan_of, printer_state}
-use Rattle.varnish_tools.proofs.LoopLemmas.{running_more, running_none, open_more, printer_stopped, end_stopped, ran_to_end, ran_to_kept, source_stopped, touches_printed, named_still, unit_given}
+use Rattle.varnish_tools.proofs.LoopLemmas.{running_more, running_none, open_more, printer_stopped, end_stopped, ran_to_end, ran_to_kept, source_stopped, touches_printed, named_still}
 use Rattle.varnish_tools.proofs.run.print_source.Goals as goal
 
-pub unit-requires-in-Ok-true : goal.unit-requires-in-Ok-true
-unit-requires-in-Ok-true g c =
-    let read = rw c.loop-units.invariant.same at c.in-Ok-true.ensures.touches in
+pub unit-requires : goal.unit-requires
+unit-requires g c =
+    let read = rw c.loop-units.invariant.same at c.in-Ok-Some.ensures.touches in
     record { named = named_still _ _ _ _ _ _ _ _ _ _ _ c.loop-units.invariant.running read c.requires.given c.requires.named }
 
 pub end-requires : goal.end-requires
 end-requires g c =
-    let read = rw c.loop-units.invariant.same at c.in-Ok-false.ensures.touches in
+    let read = rw c.loop-units.invariant.same at c.in-Ok-None.ensures.touches in
     record { named = named_still _ _ _ _ _ _ _ _ _ _ _ c.loop-units.invariant.running read c.requires.given c.requires.named }
 
 pub loop-units-preserved : goal.loop-units-preserved
 loop-units-preserved g c =
     let run = c.loop-units.invariant.running in
-    let read = rw c.loop-units.invariant.same at c.in-Ok-true.ensures.touches in
-    let next = rw c.in-Ok-true.field-0-test at (c.in-Ok-true.ensures.advanced _ _ run.units run.given) in
-    let more = running_more _ _ _ _ _ _ _ _ _ _ c.unit.result.now _ _ _ _ run c.requires.given read
-    (λ bytes wrote. g.met.S.Source.stays _ _ _ _ _ _ _ _ _ (unit_given (λ us. g.S.Source.gave c.args.source.now c.advance.new.self (g.W.World.seen c.args.world.now) (g.W.World.seen c.advance.new.world) us false) _ run.units c.unit.result.now next c.unit.ensures) wrote)
+    let read = rw c.loop-units.invariant.same at c.in-Ok-Some.ensures.touches in
+    let next = rw c.in-Ok-Some.field-0-is at (c.in-Ok-Some.ensures.advanced _ _ run.units run.given) in
+    let more = running_more _ _ _ _ _ _ _ _ _ _ c.in-Ok-Some.unit _ _ _ _ run c.requires.given read
+    (λ bytes wrote. g.met.S.Source.stays _ _ _ _ _ _ _ _ _ next wrote)
     (c.in-Ok-More.ensures.takes (search rules)) c.in-Ok-More.ensures.writes in record {
       running = more.0;
-      fewer = open_more _ run.units _ c.unit.result.now more.1 c.loop-units.invariant.fewer (c.in-Ok-More.ensures.done _ (all_taken run.units) run.represents_units ∙ ap is_done c.in-Ok-More.field-0-is);
-      same = c.in-Ok-true.ensures.same ∙ c.loop-units.invariant.same;
-      few = omega (arith, c.loop-units.invariant.few, c.in-Ok-true.ensures.fewer c.in-Ok-true.field-0-test);
+      fewer = open_more _ run.units _ c.in-Ok-Some.unit more.1 c.loop-units.invariant.fewer (c.in-Ok-More.ensures.done _ (all_taken run.units) run.represents_units ∙ ap is_done c.in-Ok-More.field-0-is);
+      same = c.in-Ok-Some.ensures.same ∙ c.loop-units.invariant.same;
+      few = omega (arith, c.loop-units.invariant.few, rw c.in-Ok-Some.field-0-is at c.in-Ok-Some.ensures.fewer);
     }
 
 pub returns-in-Err-unit-clause-stopped : goal.returns-in-Err-unit-clause-stopped
 returns-in-Err-unit-clause-stopped g c =
     let run = c.loop-units.invariant.running in
-    let read = rw c.loop-units.invariant.same at c.in-Ok-true.ensures.touches in
-    let next = rw c.in-Ok-true.field-0-test at (c.in-Ok-true.ensures.advanced _ _ run.units run.given) in
-    printer_stopped _ _ _ _ _ (λ us all. g.S.Source.gave c.args.source.now c.advance.new.self (g.W.World.seen c.args.world.now) (g.W.World.seen c.unit-in-Ok-true.new.world) us all) (λ fault us. g.S.Source.stopped c.args.source.now c.advance.new.self fault (g.W.World.seen c.args.world.now) (g.W.World.seen c.advance.new.world) us) _ _ _ _ c.unit.result.now _ _ _ _ run c.requires.given read
-    (λ bytes wrote. g.met.S.Source.stays _ _ _ _ _ _ _ _ _ (unit_given (λ us. g.S.Source.gave c.args.source.now c.advance.new.self (g.W.World.seen c.args.world.now) (g.W.World.seen c.advance.new.world) us false) _ run.units c.unit.result.now next c.unit.ensures) wrote)
+    let read = rw c.loop-units.invariant.same at c.in-Ok-Some.ensures.touches in
+    let next = rw c.in-Ok-Some.field-0-is at (c.in-Ok-Some.ensures.advanced _ _ run.units run.given) in
+    printer_stopped _ _ _ _ _ (λ us all. g.S.Source.gave c.args.source.now c.advance.new.self (g.W.World.seen c.args.world.now) (g.W.World.seen c.unit.new.world) us all) (λ fault us. g.S.Source.stopped c.args.source.now c.advance.new.self fault (g.W.World.seen c.args.world.now) (g.W.World.seen c.advance.new.world) us) _ _ _ _ c.in-Ok-Some.unit _ _ _ _ run c.requires.given read
+    (λ bytes wrote. g.met.S.Source.stays _ _ _ _ _ _ _ _ _ next wrote)
     c.in-Err-unit.ensures.cause c.in-Err-unit.ensures.refused c.loop-units.invariant.fewer
 
 pub returns-in-Err-end-clause-stopped : goal.returns-in-Err-end-clause-stopped
 returns-in-Err-end-clause-stopped g c =
     let run = c.loop-units.invariant.running in
-    let read = rw c.loop-units.invariant.same at c.in-Ok-false.ensures.touches in
-    let next = rw c.in-Ok-false.field-0-test at (c.in-Ok-false.ensures.advanced _ _ run.units run.given) in
+    let read = rw c.loop-units.invariant.same at c.in-Ok-None.ensures.touches in
+    let next = rw c.in-Ok-None.field-0-is at (c.in-Ok-None.ensures.advanced _ _ run.units run.given) in
     end_stopped _ _ _ _ _ (λ us all. g.S.Source.gave c.args.source.now c.advance.new.self (g.W.World.seen c.args.world.now) (g.W.World.seen c.end.new.world) us all) (λ fault us. g.S.Source.stopped c.args.source.now c.advance.new.self fault (g.W.World.seen c.args.world.now) (g.W.World.seen c.advance.new.world) us) _ _ _ _ _ _ _ _ run c.requires.given read (λ bytes wrote. g.met.S.Source.stays _ _ _ _ _ _ _ _ _ next wrote) c.in-Err-end.ensures.cause c.in-Err-end.ensures.refused c.loop-units.invariant.fewer
 
-pub returns-in-Ok-false-clause-ran : goal.returns-in-Ok-false-clause-ran
-returns-in-Ok-false-clause-ran g c =
+pub returns-in-Ok-None-clause-ran : goal.returns-in-Ok-None-clause-ran
+returns-in-Ok-None-clause-ran g c =
     let run = c.loop-units.invariant.running in
-    let read = rw c.loop-units.invariant.same at c.in-Ok-false.ensures.touches in
-    let next = rw c.in-Ok-false.field-0-test at (c.in-Ok-false.ensures.advanced _ _ run.units run.given) in
+    let read = rw c.loop-units.invariant.same at c.in-Ok-None.ensures.touches in
+    let next = rw c.in-Ok-None.field-0-is at (c.in-Ok-None.ensures.advanced _ _ run.units run.given) in
     inl (ran_to_end _ _ _ _ _ (λ us all. g.S.Source.gave c.args.source.now c.advance.new.self (g.W.World.seen c.args.world.now) (g.W.World.seen c.end.new.world) us all) _ _ _ _ _ _ _ run c.requires.given read (λ bytes wrote. g.met.S.Source.stays _ _ _ _ _ _ _ _ _ next wrote) c.in_default.ensures.writes c.loop-units.invariant.fewer)
 
 -- the last group that is kept was written
@@ -58,11 +58,11 @@ returns-in-Ok-false-clause-ran g c =
 pub returns-in-Ok-Done-clause-ran : goal.returns-in-Ok-Done-clause-ran
 returns-in-Ok-Done-clause-ran g c =
     let run = c.loop-units.invariant.running in
-    let read = rw c.loop-units.invariant.same at c.in-Ok-true.ensures.touches in
-    let next = rw c.in-Ok-true.field-0-test at (c.in-Ok-true.ensures.advanced _ _ run.units run.given) in
-    let gave : Log → Bool → Type 0 = λ us all. g.S.Source.gave c.args.source.now c.advance.new.self (g.W.World.seen c.args.world.now) (g.W.World.seen c.unit-in-Ok-true.new.world) us all in
-    inr (ran_to_kept _ _ _ _ gave _ _ _ _ c.unit.result.now _ _ _ _ run c.requires.given read
-    (λ bytes wrote. g.met.S.Source.stays _ _ _ _ _ _ _ _ _ (unit_given (λ us. g.S.Source.gave c.args.source.now c.advance.new.self (g.W.World.seen c.args.world.now) (g.W.World.seen c.advance.new.world) us false) _ run.units c.unit.result.now next c.unit.ensures) wrote)
+    let read = rw c.loop-units.invariant.same at c.in-Ok-Some.ensures.touches in
+    let next = rw c.in-Ok-Some.field-0-is at (c.in-Ok-Some.ensures.advanced _ _ run.units run.given) in
+    let gave : Log → Bool → Type 0 = λ us all. g.S.Source.gave c.args.source.now c.advance.new.self (g.W.World.seen c.args.world.now) (g.W.World.seen c.unit.new.world) us all in
+    inr (ran_to_kept _ _ _ _ gave _ _ _ _ c.in-Ok-Some.unit _ _ _ _ run c.requires.given read
+    (λ bytes wrote. g.met.S.Source.stays _ _ _ _ _ _ _ _ _ next wrote)
     c.in-Ok-Done.ensures.writes (λ plan taken old. c.in-Ok-Done.ensures.done plan taken old ∙ ap is_done c.in-Ok-Done.field-0-is) c.loop-units.invariant.fewer)
 
 pub loop-units-init : goal.loop-units-init
@@ -75,25 +75,25 @@ loop-units-init g c =
 pub returns-in-Ok-Done-clause-touches : goal.returns-in-Ok-Done-clause-touches
 returns-in-Ok-Done-clause-touches g c =
     let run = c.loop-units.invariant.running in
-    let read = rw c.loop-units.invariant.same at c.in-Ok-true.ensures.touches in
+    let read = rw c.loop-units.invariant.same at c.in-Ok-Some.ensures.touches in
     touches_printed _ _ _ _ _ _ _ _ run.touches read (c.in-Ok-Done.ensures.writes _ (all_taken run.units) run.represents_units)
 
 pub returns-in-Err-unit-clause-touches : goal.returns-in-Err-unit-clause-touches
 returns-in-Err-unit-clause-touches g c =
     let run = c.loop-units.invariant.running in
-    let read = rw c.loop-units.invariant.same at c.in-Ok-true.ensures.touches in
+    let read = rw c.loop-units.invariant.same at c.in-Ok-Some.ensures.touches in
     touches_printed _ _ _ _ _ _ _ _ run.touches read (c.in-Err-unit.ensures.refused _ (all_taken run.units) run.represents_units)
 
 pub returns-in-Err-end-clause-touches : goal.returns-in-Err-end-clause-touches
 returns-in-Err-end-clause-touches g c =
     let run = c.loop-units.invariant.running in
-    let read = rw c.loop-units.invariant.same at c.in-Ok-false.ensures.touches in
+    let read = rw c.loop-units.invariant.same at c.in-Ok-None.ensures.touches in
     touches_printed _ _ _ _ _ _ _ _ run.touches read (c.in-Err-end.ensures.refused _ (all_taken run.units) run.represents_units)
 
-pub returns-in-Ok-false-clause-touches : goal.returns-in-Ok-false-clause-touches
-returns-in-Ok-false-clause-touches g c =
+pub returns-in-Ok-None-clause-touches : goal.returns-in-Ok-None-clause-touches
+returns-in-Ok-None-clause-touches g c =
     let run = c.loop-units.invariant.running in
-    let read = rw c.loop-units.invariant.same at c.in-Ok-false.ensures.touches in
+    let read = rw c.loop-units.invariant.same at c.in-Ok-None.ensures.touches in
     touches_printed _ _ _ _ _ _ _ _ run.touches read (c.in_default.ensures.writes _ (all_taken run.units) run.represents_units)
 
 pub returns-in-Err-clause-stopped : goal.returns-in-Err-clause-stopped

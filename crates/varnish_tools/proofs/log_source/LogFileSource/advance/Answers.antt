@@ -1,10 +1,9 @@
 use Rattle.varnish_tools.proofs.LogSourceLemmas.{gave_unit, gave_end, stopped_so}
-use Rattle.std.proofs.Common.{refl}
 use Rattle.vio.proofs.TouchLemmas.{touches_reads}
 use Rattle.varnish_tools.proofs.log_source.LogFileSource.advance.Goals as goal
 
 pub returns-in-Ok-Unit-clause-advanced : goal.returns-in-Ok-Unit-clause-advanced
-returns-in-Ok-Unit-clause-advanced g c = λ start first units gave. (c.in-Ok-Unit.unit, refl, gave_unit start _ _ first _ _ units _ gave c.next.ensures.handle (rw c.in-Ok-Unit.field-0-is at (c.in-Ok-Unit.ensures.stepped _ _ gave.represents)))
+returns-in-Ok-Unit-clause-advanced g c = λ start first units gave. gave_unit start _ _ first _ _ units _ gave c.next.ensures.handle (rw c.in-Ok-Unit.field-0-is at (c.in-Ok-Unit.ensures.stepped _ _ gave.represents))
 
 pub returns-in-Ok-Unit-clause-touches : goal.returns-in-Ok-Unit-clause-touches
 returns-in-Ok-Unit-clause-touches g c = touches_reads _ c.next.ensures.reads.bytes _ _ c.next.ensures.reads.read
