@@ -1,11 +1,12 @@
 //! Taking one record of a transaction.
 
 ghost use Rattle.std.specs.Prelude.{◌≡◌, OnOk, OnErr};
-ghost use Rattle.txn_rows.specs.Grouping.{with_log_time, with_all_told, after_end, after_timeouts, has_risen, grouped};
+ghost use Rattle.txn_rows.specs.Grouping.{with_log_time, with_claim, with_all_told, after_end, after_timeouts, has_risen, grouped};
 ghost use Rattle.txn_rows.specs.inside.Rows.{AreTrees};
 ghost use Rattle.txn_rows.specs.inside.Steps.{AddsPart};
 ghost use Rattle.txn_rows.specs.inside.States.{state_of, AreOrdered, Went, WentBy};
 
+use crate::claim::read_claim;
 use crate::force::{Which, force_all, keep_within};
 use crate::group::{Cause, Group, GroupOptions, Grouping};
 use crate::pending::{Pending, add_to, end_row, open_row, raise, take_claim};
@@ -25,6 +26,27 @@ fn take_time(pending: &mut Pending, rec: &Record)
     }
 }
 
+/// A Begin or a Link may link two transactions.
+fn tell_link(
+    alloc: Global,
+    grouping: Grouping,
+    pending: &mut Pending,
+    vxid: Vxid,
+    rec: &Record,
+) -> Result<(), NoMemory>
+    ensures { AreTrees pending.old.begun pending.old.rows.items → OnOk result (Went (with_claim grouping vxid rec.now (state_of pending.old)) pending.new) }
+{
+    let begins = rec.tag == Tag::BEGIN;
+    if !begins && rec.tag != Tag::LINK {
+        return Ok(());
+    }
+    let Some(at) = newest_row(&pending.rows, vxid) else {
+        return Err(NoMemory);
+    };
+    let claim = read_claim(rec.payload.as_slice());
+    take_claim(alloc, grouping, pending, at, vxid, begins, claim)
+}
+
 /// A record goes to its row, and may tell the kind, a link and the time.
 fn tell(
     alloc: Global,
@@ -37,7 +59,7 @@ fn tell(
 {
     let at = open_row(alloc, pending, vxid)?;
     add_to(alloc, pending, at, vxid, rec)?;
-    take_claim(alloc, grouping, pending, vxid, rec)?;
+    tell_link(alloc, grouping, pending, vxid, rec)?;
     take_time(pending, rec);
     Ok(())
 }
