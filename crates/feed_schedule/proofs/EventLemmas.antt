@@ -47,10 +47,6 @@ unit_events u (UnitRun r ∷ items) h = run_events (record r { units = r.units +
     ∙ sym (append_assoc (events_of (reverse items)) (map TookUnit r.units) (TookUnit u ∷ [])) ∙ ap (λ l. l ++ TookUnit u ∷ []) (sym (run_events r items))
 unit_events u (Overrun at seen ∷ items) h = absurd h
 
--- a writer's turn adds nothing
-pub writer_events : (k : ℕ) (s : Stage) → met (after_writer k s) ≡ met s
-writer_events k s = refl
-
 -- an overrun is met last
 pub overrun_events : (seg : ℕ) (s : Stage) → met (after_overrun seg s) ≡ met s ++ WasOverrun (s.place / seg) (last_segment seg s) ∷ []
 overrun_events seg s = run_events (record { segment = last_segment seg s - 4; first = first_number unit_words seg s.log (last_segment seg s - 4); units = [] }) (Overrun (s.place / seg) (last_segment seg s) ∷ s.history)

@@ -66,15 +66,6 @@ pub turns_after_end : (n seg : ℕ) (in_turns : Bool) (s : Stage) → has_ended 
 turns_after_end zero seg in_turns s e = refl
 turns_after_end (suc n) seg in_turns s e = ap (after_turns n seg in_turns) (turn_after_end seg in_turns s e) ∙ turns_after_end n seg in_turns s e
 
--- turns, and then more turns
-pub turns_then : (m n seg : ℕ) (in_turns : Bool) (s : Stage) → after_turns (m + n) seg in_turns s ≡ after_turns n seg in_turns (after_turns m seg in_turns s)
-turns_then zero n seg in_turns s = let e : 0 + n ≡ n = omega arith in ap (λ (k : ℕ). after_turns k seg in_turns s) e
-turns_then (suc m) n seg in_turns s = let e : suc m + n ≡ suc (m + n) = omega arith in ap (λ (k : ℕ). after_turns k seg in_turns s) e ∙ turns_then m n seg in_turns (after_turn seg in_turns s)
-
--- one turn more
-pub turn_more : (n seg : ℕ) (in_turns : Bool) (s : Stage) → after_turns (n + 1) seg in_turns s ≡ after_turn seg in_turns (after_turns n seg in_turns s)
-turn_more n seg in_turns s = turns_then n 1 seg in_turns s
-
 -- what each turn keeps is so after any number of turns
 pub turns_keep : (P : Stage → Type 0) (seg : ℕ) (in_turns : Bool) → ((s : Stage) → P s → P (after_turn seg in_turns s)) → (n : ℕ) (s : Stage) → P s → P (after_turns n seg in_turns s)
 turns_keep P seg in_turns keep zero s h = h

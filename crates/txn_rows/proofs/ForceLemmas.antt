@@ -68,5 +68,5 @@ forced_step test cause begun at time rows row new now out_before out_now is tree
     let first : option_map (forced cause) (oldest test pending) ≡ Some (transaction_of new) = ap (option_map (forced cause)) (oldest_at test at rows row is read) ∙ ap Some (sym told) in
     let all : with_oldest test (forced cause) pending ≡ map transaction_of (set rows at new) =
     ap (with_oldest test (forced cause)) split ∙ with_oldest_in test (forced cause) front t back is.none_before passes ∙ ap (λ (x : Transaction). front ++ x ∷ back) (sym told) ∙ sym (written at rows new is.within) in
-    let same : IsInPlaceOf row new = subst (IsInPlaceOf row) (sym forced_is) (record { serial = refl; parent = refl; root = refl; path = refl }) in
+    let same : IsInPlaceOf row new = subst (IsInPlaceOf row) (sym forced_is) (record { serial = refl; parent = refl; root = refl; path = refl; children = refl }) in
     written_leaves begun at time rows row new now out_before out_now (option_map (forced cause) (oldest test pending)) (with_oldest test (forced cause) pending) trees is.within read same left first all

@@ -5,7 +5,7 @@ use Rattle.std.specs.List.{Contains}
 use Rattle.std.specs.Option.{option_map}
 use Rattle.std.proofs.Math.Bool.{or-true}
 use Rattle.std.proofs.lemmas.Bool.{eqb-true, eqb-false, eq-eqb, ne_eqb, or_parts, and_parts, not-true}
-use Rattle.std.proofs.lemmas.List.{length-map, length-take-le, map-append, take-append-drop, drop_more, set_at, map_more, get_or_at}
+use Rattle.std.proofs.lemmas.List.{length-map, length-take-le, map-append, take-append-drop, drop_more, set_at, map_more, get_or_at, get_or-map}
 use Rattle.std.proofs.lemmas.List.Sums.{sum_by-cons, get_or-le-sum_by}
 use Rattle.std.proofs.lemmas.List.Elements.{Contains-append_right}
 use Rattle.txn_rows.specs.declared.rows.Row.{Row}
@@ -13,9 +13,9 @@ use Rattle.txn_rows.specs.declared.group.ParentLink.{ParentLink}
 use Rattle.txn_rows.specs.declared.join.Join.{Join}
 use Rattle.txn_rows.specs.Transaction.{Transaction, newest, with_newest, is_pending}
 use Rattle.txn_rows.specs.Links.{can_join, with_parent, with_link, children, leads_to}
-use Rattle.txn_rows.specs.inside.Rows.{transaction_of, row_of, Rising, IsTop, IsBelow, IsForest, AreTrees, Each, moved, joined, IsNewestRow, Rows}
-use Rattle.txn_rows.proofs.LineLemmas.{by_cases, row_of_serial}
-use Rattle.txn_rows.proofs.TreeLemmas.{line_whole, each_found}
+use Rattle.txn_rows.specs.inside.Rows.{transaction_of, row_of, Rising, IsTop, IsBelow, IsForest, AreTrees, Each, moved, joined, joined_at, IsNewestRow, Rows}
+use Rattle.txn_rows.proofs.LineLemmas.{by_cases, row_of_serial, deeper}
+use Rattle.txn_rows.proofs.TreeLemmas.{line_whole, each_found, each_weaker, rising_above}
 
 -- a change that keeps serial numbers
 pub row_of_map : (f : Row → Row) → ((row : Row) → (f row).serial ≡ row.serial) → (s : ℕ) (rows : List Row) → row_of s (map f rows) ≡ option_map f (row_of s rows)
@@ -109,19 +109,23 @@ child_root rows join c = c.top.root ∙ row_of_serial join.child rows c.child c.
 same_row : (rows : List Row) (s : ℕ) (row other : Row) → row_of s rows ≡ Some row → row_of s rows ≡ Some other → row ≡ other
 same_row rows s row other here there = let e : Some row ≡ Some other = sym here ∙ there in cc
 
--- a row outside of the tree that joins stays
-stays : (rows : List Row) (join : Join) (c : CanJoin rows join) (s : ℕ) (row : Row) → row_of s rows ≡ Some row → eqb row.root join.child ≡ false → joined join row ≡ row
-stays rows join c s row here outside =
-    let other : eqb row.serial join.child ≡ false =
+-- a row outside of the tree that joins is not its first
+not_first : (rows : List Row) (join : Join) (c : CanJoin rows join) (s : ℕ) (row : Row) → row_of s rows ≡ Some row → eqb row.root join.child ≡ false → eqb row.serial join.child ≡ false
+not_first rows join c s row here outside =
     ne_eqb row.serial join.child (λ e.
     let at : row_of join.child rows ≡ Some row = ap (λ (n : ℕ). row_of n rows) (sym e ∙ row_of_serial s rows row here) ∙ here in
     let same : row ≡ c.child = same_row rows join.child row c.child at c.here in
-    eqb-false row.root join.child outside (ap (λ (r : Row). r.root) same ∙ child_root rows join c)) in
-    rw (other, outside) refl
+    eqb-false row.root join.child outside (ap (λ (r : Row). r.root) same ∙ child_root rows join c))
 
--- the parent stays
-parent_stays : (rows : List Row) (join : Join) (c : CanJoin rows join) → joined join c.parent ≡ c.parent
-parent_stays rows join c = stays rows join c join.link.serial c.parent c.there c.apart
+-- the root and the path of a row outside stay
+root_stays : (join : Join) (row : Row) → eqb row.root join.child ≡ false → (joined join row).root ≡ row.root
+root_stays join row outside = joined_root join row ∙ ap (λ (b : Bool). cond b join.root row.root) outside
+
+path_stays : (join : Join) (row : Row) → eqb row.root join.child ≡ false → (joined join row).path ≡ row.path
+path_stays join row outside = joined_path join row ∙ ap (λ (b : Bool). cond b (join.path ++ join.link.number ∷ row.path) row.path) outside
+
+parent_stays : (join : Join) (row : Row) → eqb row.serial join.child ≡ false → (joined join row).parent ≡ row.parent
+parent_stays join row other = joined_parent join row ∙ ap (λ (b : Bool). cond b (Some join.link) row.parent) other
 
 -- what is found after the join
 found_joined : (rows : List Row) (join : Join) (s : ℕ) (row : Row) → row_of s rows ≡ Some row → row_of s (map (joined join) rows) ≡ Some (joined join row)
@@ -135,11 +139,11 @@ child_below rows join c =
     record {
       link = join.link;
       linked = joined_parent join c.child ∙ ap (λ (b : Bool). cond b (Some join.link) c.child.parent) (eq-eqb c.child.serial join.child is);
-      above = c.parent;
-      found = found_joined rows join join.link.serial c.parent c.there ∙ ap Some (parent_stays rows join c);
-      root = joined_root join c.child ∙ ap (λ (b : Bool). cond b join.root c.child.root) inside ∙ c.root;
+      above = joined join c.parent;
+      found = found_joined rows join join.link.serial c.parent c.there;
+      root = joined_root join c.child ∙ ap (λ (b : Bool). cond b join.root c.child.root) inside ∙ c.root ∙ sym (root_stays join c.parent c.apart);
       path = joined_path join c.child ∙ ap (λ (b : Bool). cond b (join.path ++ join.link.number ∷ c.child.path) c.child.path) inside
-          ∙ ap (λ (p : List ℕ). join.path ++ join.link.number ∷ p) c.top.path ∙ ap (λ (p : List ℕ). p ++ join.link.number ∷ []) c.path;
+          ∙ ap (λ (p : List ℕ). join.path ++ join.link.number ∷ p) c.top.path ∙ ap (λ (p : List ℕ). p ++ join.link.number ∷ []) (c.path ∙ sym (path_stays join c.parent c.apart));
     }
 
 -- a row of the tree that joins, but for the first, is below the same as before
@@ -148,7 +152,7 @@ inner_below rows join c row below other inside =
     let above_inside : eqb below.above.root join.child ≡ true = ap (λ (n : ℕ). eqb n join.child) (sym below.root) ∙ inside in
     record {
       link = below.link;
-      linked = joined_parent join row ∙ ap (λ (b : Bool). cond b (Some join.link) row.parent) other ∙ below.linked;
+      linked = parent_stays join row other ∙ below.linked;
       above = joined join below.above;
       found = found_joined rows join below.link.serial below.above below.found;
       root = joined_root join row ∙ ap (λ (b : Bool). cond b join.root row.root) inside ∙ sym (joined_root join below.above ∙ ap (λ (b : Bool). cond b join.root below.above.root) above_inside);
@@ -163,10 +167,24 @@ pub still_below : (rows now : List Row) (row : Row) (below : IsBelow rows row) �
 still_below rows now row below found = record { link = below.link; linked = below.linked; above = below.above; found = found; root = below.root; path = below.path }
 
 -- a row outside is where it was
-outer_below : (rows : List Row) (join : Join) (c : CanJoin rows join) (row : Row) (below : IsBelow rows row) → eqb row.root join.child ≡ false → IsBelow (map (joined join) rows) row
-outer_below rows join c row below outside =
+outer_below : (rows : List Row) (join : Join) (row : Row) (below : IsBelow rows row) → eqb row.serial join.child ≡ false → eqb row.root join.child ≡ false → IsBelow (map (joined join) rows) (joined join row)
+outer_below rows join row below other outside =
     let above_outside : eqb below.above.root join.child ≡ false = ap (λ (n : ℕ). eqb n join.child) (sym below.root) ∙ outside in
-    still_below rows (map (joined join) rows) row below (found_joined rows join below.link.serial below.above below.found ∙ ap Some (stays rows join c below.link.serial below.above below.found above_outside))
+    record {
+      link = below.link;
+      linked = parent_stays join row other ∙ below.linked;
+      above = joined join below.above;
+      found = found_joined rows join below.link.serial below.above below.found;
+      root = root_stays join row outside ∙ below.root ∙ sym (root_stays join below.above above_outside);
+      path = path_stays join row outside ∙ below.path ∙ ap (λ (p : List ℕ). p ++ below.link.number ∷ []) (sym (path_stays join below.above above_outside));
+    }
+
+outer_top : (join : Join) (row : Row) → IsTop row → eqb row.serial join.child ≡ false → eqb row.root join.child ≡ false → IsTop (joined join row)
+outer_top join row top other outside = record {
+  none = parent_stays join row other ∙ top.none;
+  root = root_stays join row outside ∙ top.root ∙ sym (joined_serial join row);
+  path = path_stays join row outside ∙ top.path;
+}
 
 joined_linked : (rows : List Row) → IsForest rows → (join : Join) (c : CanJoin rows join) (s : ℕ) (row : Row) → row_of s rows ≡ Some row → IsTop (joined join row) ⊎ IsBelow (map (joined join) rows) (joined join row)
 joined_linked rows forest join c s row here =
@@ -181,10 +199,10 @@ joined_linked rows forest join c s row here =
     (λ (below : IsBelow rows row). inr (inner_below rows join c row below other inside))
     (forest.linked s row here)))
     (λ outside.
-    let stay : row ≡ joined join row = sym (stays rows join c s row here outside) in
+    let other : eqb row.serial join.child ≡ false = not_first rows join c s row here outside in
     ⊎_elim
-    (λ (top : IsTop row). inl (subst IsTop stay top))
-    (λ (below : IsBelow rows row). inr (subst (IsBelow (map (joined join) rows)) stay (outer_below rows join c row below outside)))
+    (λ (top : IsTop row). inl (outer_top join row top other outside))
+    (λ (below : IsBelow rows row). inr (outer_below rows join row below other outside))
     (forest.linked s row here))
 
 joined_shallow : (rows : List Row) → IsForest rows → (join : Join) (c : CanJoin rows join) (s : ℕ) (row : Row) → row_of s rows ≡ Some row → length (joined join row).path < count_by (λ (r : Row). eqb r.root (joined join row).root) (map (joined join) rows)
@@ -203,6 +221,49 @@ joined_shallow rows forest join c s row here =
     let more = count_other join row.root (ne_eqb join.child row.root (λ e. eqb-false row.root join.child outside (sym e))) rows in
     rw (joined_path join row, joined_root join row, outside) (omega (arith, shallow, more)))
 
+-- no later row gets the link
+count_later : (join : Join) (x low high : ℕ) (rows : List Row) → Rising low high rows → join.child < low → count_by (λ (r : Row). leads_to x r.parent) (map (joined join) rows) ≡ count_by (λ (r : Row). leads_to x r.parent) rows
+count_later join x low high [] r passed = refl
+count_later join x low high (row ∷ rows) r passed =
+    let ih = count_later join x (row.serial + 1) high rows r.1 (omega (arith, r.0, passed)) in
+    let p : Row → ℕ = λ r. cond (leads_to x r.parent) 1 0 in
+    let other : eqb row.serial join.child ≡ false = ne_eqb row.serial join.child (λ e. omega (arith, r.0, passed, e)) in
+    let one : p (joined join row) ≡ p row = ap (λ (o : Option ParentLink). cond (leads_to x o) 1 0) (parent_stays join row other) in
+    omega (arith, ih, sum_by-cons p row rows, sum_by-cons p (joined join row) (map (joined join) rows), one)
+
+-- the first of the tree that joins is one child more
+count_linked : (join : Join) (x low high : ℕ) (rows : List Row) (child : Row) → Rising low high rows → row_of join.child rows ≡ Some child → child.parent ≡ None →
+    count_by (λ (r : Row). leads_to x r.parent) (map (joined join) rows) ≡ count_by (λ (r : Row). leads_to x r.parent) rows + cond (eqb join.link.serial x) 1 0
+count_linked join x low high [] child r here none = absurd (cc)
+count_linked join x low high (row ∷ rows) child r here none =
+    let p : Row → ℕ = λ r. cond (leads_to x r.parent) 1 0 in
+    let whole = sum_by-cons p row rows in
+    let now = sum_by-cons p (joined join row) (map (joined join) rows) in
+    by_cases (count_by (λ (r : Row). leads_to x r.parent) (map (joined join) (row ∷ rows)) ≡ count_by (λ (r : Row). leads_to x r.parent) (row ∷ rows) + cond (eqb join.link.serial x) 1 0) (eqb row.serial join.child)
+    (λ t. let same : Some row ≡ Some child = rw t at here in
+    let is : row ≡ child = (cc) in
+    let was : p row ≡ 0 = ap (λ (o : Option ParentLink). cond (leads_to x o) 1 0) (ap (λ (r : Row). r.parent) is ∙ none) in
+    let one : p (joined join row) ≡ cond (eqb join.link.serial x) 1 0 = ap (λ (o : Option ParentLink). cond (leads_to x o) 1 0) (joined_parent join row ∙ ap (λ (b : Bool). cond b (Some join.link) row.parent) t) in
+    let later = count_later join x (row.serial + 1) high rows r.1 (omega (arith, eqb-true row.serial join.child t)) in
+    omega (arith, whole, now, was, one, later))
+    (λ other. let ih = count_linked join x (row.serial + 1) high rows child r.1 (rw other at here) none in
+    let one : p (joined join row) ≡ p row = ap (λ (o : Option ParentLink). cond (leads_to x o) 1 0) (parent_stays join row other) in
+    omega (arith, whole, now, one, ih))
+
+joined_counted : (begun : ℕ) (rows : List Row) → AreTrees begun rows → (join : Join) (c : CanJoin rows join) (s : ℕ) (row : Row) → row_of s rows ≡ Some row → (joined join row).children ≡ count_by (λ (r : Row). leads_to (joined join row).serial r.parent) (map (joined join) rows)
+joined_counted begun rows trees join c s row here =
+    let was : row.children ≡ count_by (λ (r : Row). leads_to row.serial r.parent) rows = trees.forest.counted s row here in
+    let more = count_linked join row.serial 0 begun rows c.child trees.rising c.here c.top.none in
+    let now : (joined join row).children ≡ count_by (λ (r : Row). leads_to row.serial r.parent) (map (joined join) rows) =
+    by_cases ((joined join row).children ≡ count_by (λ (r : Row). leads_to row.serial r.parent) (map (joined join) rows)) (eqb row.serial join.link.serial)
+    (λ t. let back : cond (eqb join.link.serial row.serial) 1 0 ≡ 1 = ap {B = ℕ} (λ (b : Bool). cond b 1 0) (eq-eqb join.link.serial row.serial (sym (eqb-true row.serial join.link.serial t))) in
+    let one : (joined join row).children ≡ row.children + 1 = ap (λ (b : Bool). cond b (row.children + 1) row.children) t in
+    omega (arith, was, more, back, one))
+    (λ t. let back : cond (eqb join.link.serial row.serial) 1 0 ≡ 0 = ap {B = ℕ} (λ (b : Bool). cond b 1 0) (ne_eqb join.link.serial row.serial (λ e. eqb-false row.serial join.link.serial t (sym e))) in
+    let one : (joined join row).children ≡ row.children = ap (λ (b : Bool). cond b (row.children + 1) row.children) t in
+    omega (arith, was, more, back, one)) in
+    now ∙ ap (λ (n : ℕ). count_by (λ (r : Row). leads_to n r.parent) (map (joined join) rows)) (sym (joined_serial join row))
+
 -- the rows stand in trees again
 joined_trees : (begun : ℕ) (rows : List Row) (join : Join) → AreTrees begun rows → CanJoin rows join → AreTrees begun (map (joined join) rows)
 joined_trees begun rows join trees c =
@@ -215,6 +276,9 @@ joined_trees begun rows join trees c =
         shallow = λ s now here.
             let was = before_map (joined join) s rows (row_of s rows) now refl (sym (row_of_map (joined join) (joined_serial join) s rows) ∙ here) in
             subst (λ (r : Row). length r.path < count_by (λ (x : Row). eqb x.root r.root) (map (joined join) rows)) (sym was.2) (joined_shallow rows trees.forest join c s was.0 was.1);
+        counted = λ s now here.
+            let was = before_map (joined join) s rows (row_of s rows) now refl (sym (row_of_map (joined join) (joined_serial join) s rows) ∙ here) in
+            subst (λ (r : Row). r.children ≡ count_by (λ (x : Row). leads_to r.serial x.parent) (map (joined join) rows)) (sym was.2) (joined_counted begun rows trees join c s was.0 was.1);
       };
     }
 
@@ -371,6 +435,104 @@ row_counted q s rows row here passes =
     let at = row_contained s rows row here in
     omega (arith, get_or-le-sum_by c rows at.0 row at.1, ap c at.2, ap {B = ℕ} (λ (b : Bool). cond b 1 0) passes)
 
+-- a row whose tree nothing is below is the whole of it
+alone_in_tree : (rows : List Row) → IsForest rows → (child : Row) → row_of child.serial rows ≡ Some child → child.children ≡ 0 → (n s : ℕ) (row : Row) → row_of s rows ≡ Some row → row.root ≡ child.serial → length row.path < n → row.serial ≡ child.serial
+alone_in_tree rows forest child at none zero s row here inside short = absurd (omega arith)
+alone_in_tree rows forest child at none (suc n) s row here inside short = ⊎_elim
+    (λ (top : IsTop row). sym top.root ∙ inside)
+    (λ (below : IsBelow rows row).
+    let above : below.above.serial ≡ child.serial = alone_in_tree rows forest child at none n below.link.serial below.above below.found (sym below.root ∙ inside) (omega (arith, short, deeper rows row below)) in
+    let leads : leads_to child.serial row.parent ≡ true = ap (leads_to child.serial) below.linked ∙ eq-eqb below.link.serial child.serial (sym (row_of_serial below.link.serial rows below.above below.found) ∙ above) in
+    let some = row_counted (λ r. leads_to child.serial r.parent) s rows row here leads in
+    absurd (omega (arith, some, forest.counted child.serial child at, none)))
+    (forest.linked s row here)
+
+-- the row of a serial number takes its part in a join
+abbrev joined_of : Join → ℕ → Row → Row
+joined_of join s row = cond (eqb row.serial s) (joined join row) row
+
+joined_of_serial : (join : Join) (s : ℕ) (row : Row) → (joined_of join s row).serial ≡ row.serial
+joined_of_serial join s row = by_cases ((joined_of join s row).serial ≡ row.serial) (eqb row.serial s) (λ t. rw t (joined_serial join row)) (λ t. rw t refl)
+
+-- no later row is meant
+joined_of_later : (join : Join) (s low high : ℕ) (rows : List Row) → Rising low high rows → s < low → map (joined_of join s) rows ≡ rows
+joined_of_later join s low high [] r passed = refl
+joined_of_later join s low high (row ∷ rows) r passed =
+    let other : eqb row.serial s ≡ false = ne_eqb row.serial s (λ e. omega (arith, r.0, e, passed)) in
+    ap (λ (b : Bool). cond b (joined join row) row ∷ map (joined_of join s) rows) other
+    ∙ ap (λ (rs : List Row). row ∷ rs) (joined_of_later join s (row.serial + 1) high rows r.1 (omega (arith, r.0, passed)))
+
+-- the row at a place is that of its serial number
+joined_at_is : (join : Join) (low high at : ℕ) (rows : List Row) (row : Row) → Rising low high rows → at < length rows → row ≡ get_or rows at row → joined_at join at rows ≡ map (joined_of join row.serial) rows
+joined_at_is join low high at [] row r within read = absurd (omega (arith, within))
+joined_at_is join low high zero (first ∷ rows) row r within read =
+    let is : first.serial ≡ row.serial = ap (λ (x : Row). x.serial) (sym read) in
+    sym (ap (λ (b : Bool). cond b (joined join first) first ∷ map (joined_of join row.serial) rows) (eq-eqb first.serial row.serial is)
+    ∙ ap (λ (rs : List Row). joined join first ∷ rs) (joined_of_later join row.serial (first.serial + 1) high rows r.1 (omega (arith, is))))
+joined_at_is join low high (suc at) (first ∷ rows) row r within read =
+    let above : first.serial + 1 ≤ row.serial = each_at (λ x. first.serial + 1 ≤ x.serial) rows at row (rising_above (first.serial + 1) high rows r.1) (omega (arith, within)) read in
+    let other : eqb first.serial row.serial ≡ false = ne_eqb first.serial row.serial (λ e. omega (arith, above, e)) in
+    ap (λ (rs : List Row). first ∷ rs) (joined_at_is join (first.serial + 1) high at rows row r.1 (omega (arith, within)) read)
+    ∙ ap (λ (b : Bool). cond b (joined join first) first ∷ map (joined_of join row.serial) rows) (sym other)
+
+-- a row that is neither the first of the tree nor the parent stays, where that tree has no other row
+joined_neither : (join : Join) (row : Row) → eqb row.root join.child ≡ false → eqb row.serial join.child ≡ false → eqb row.serial join.link.serial ≡ false → joined join row ≡ row
+joined_neither join row outside first above = rw (outside, first, above) refl
+
+-- what both rows do in turn is the join of all
+both_joined : (join : Join) (row : Row) → eqb join.child join.link.serial ≡ false → (eqb row.root join.child ≡ true → row.serial ≡ join.child) → joined_of join join.link.serial (joined_of join join.child row) ≡ joined join row
+both_joined join row apart alone =
+    let Goal : Type 0 = joined_of join join.link.serial (joined_of join join.child row) ≡ joined join row in
+    by_cases Goal (eqb row.serial join.child)
+    (λ t. let first : joined_of join join.child row ≡ joined join row = ap (λ (b : Bool). cond b (joined join row) row) t in
+    let other : eqb (joined join row).serial join.link.serial ≡ false = ap (λ (n : ℕ). eqb n join.link.serial) (joined_serial join row ∙ eqb-true row.serial join.child t) ∙ apart in
+    ap (joined_of join join.link.serial) first ∙ ap (λ (b : Bool). cond b (joined join (joined join row)) (joined join row)) other)
+    (λ other. let first : joined_of join join.child row ≡ row = ap (λ (b : Bool). cond b (joined join row) row) other in
+    let outside : eqb row.root join.child ≡ false = ne_eqb row.root join.child (λ e. eqb-false row.serial join.child other (alone (eq-eqb row.root join.child e))) in
+    ap (joined_of join join.link.serial) first
+    ∙ by_cases (joined_of join join.link.serial row ≡ joined join row) (eqb row.serial join.link.serial)
+    (λ t. ap (λ (b : Bool). cond b (joined join row) row) t)
+    (λ t. ap (λ (b : Bool). cond b (joined join row) row) t ∙ sym (joined_neither join row outside other t)))
+
+both_map : (join : Join) (rows : List Row) → eqb join.child join.link.serial ≡ false → Each (λ row. eqb row.root join.child ≡ true → row.serial ≡ join.child) rows → map (joined_of join join.link.serial) (map (joined_of join join.child) rows) ≡ map (joined join) rows
+both_map join [] apart e = refl
+both_map join (row ∷ rows) apart e =
+    ap (λ (r : Row). r ∷ map (joined_of join join.link.serial) (map (joined_of join join.child) rows)) (both_joined join row apart e.0)
+    ∙ ap (λ (rs : List Row). joined join row ∷ rs) (both_map join rows apart e.1)
+
+-- where the tree that joins is one row, that row and the parent alone change
+pub alone_joined : (begun below above : ℕ) (rows : List Row) (child parent : Row) (join : Join) → AreTrees begun rows → below < length rows → child ≡ get_or rows below child → above < length rows → parent ≡ get_or rows above parent →
+    join.child ≡ child.serial → join.link.serial ≡ parent.serial → child.children ≡ 0 → eqb child.serial parent.serial ≡ false → joined_at join above (joined_at join below rows) ≡ map (joined join) rows
+alone_joined begun below above rows child parent join trees below_within child_read above_within parent_read child_is parent_is none apart =
+    let f : Row → Row = joined_of join child.serial in
+    let here : row_of child.serial rows ≡ Some child = each_at (λ r. row_of r.serial rows ≡ Some r) rows below child (each_found 0 begun rows trees.rising) below_within child_read in
+    let first : joined_at join below rows ≡ map f rows = joined_at_is join 0 begun below rows child trees.rising below_within child_read in
+    let now : Row = f parent in
+    let now_is : now.serial ≡ parent.serial = joined_of_serial join child.serial parent in
+    let read : now ≡ get_or (map f rows) above now = ap f parent_read ∙ sym (get_or-map f rows above parent now above_within) in
+    let second : joined_at join above (map f rows) ≡ map (joined_of join now.serial) (map f rows) =
+    joined_at_is join 0 begun above (map f rows) now (rising_map f (joined_of_serial join child.serial) 0 begun rows trees.rising) (omega (arith, above_within, length-map rows f)) read in
+    let alone : Each (λ row. eqb row.root join.child ≡ true → row.serial ≡ join.child) rows =
+    each_weaker (λ r. row_of r.serial rows ≡ Some r) (λ r. eqb r.root join.child ≡ true → r.serial ≡ join.child)
+    (λ r found inside. alone_in_tree rows trees.forest child here none (length r.path + 1) r.serial r found (eqb-true r.root join.child inside ∙ child_is) (omega arith) ∙ sym child_is)
+    rows (each_found 0 begun rows trees.rising) in
+    let other : eqb join.child join.link.serial ≡ false = ap (λ (n : ℕ). eqb n join.link.serial) child_is ∙ ap (eqb child.serial) parent_is ∙ apart in
+    ap (joined_at join above) first ∙ second
+    ∙ ap (λ (n : ℕ). map (joined_of join n) (map f rows)) (now_is ∙ sym parent_is)
+    ∙ ap (λ (n : ℕ). map (joined_of join join.link.serial) (map (joined_of join n) rows)) (sym child_is)
+    ∙ both_map join rows other alone
+
+-- a row that is written where it takes its part in a join
+pub joined_written : (join : Join) (at : ℕ) (rows : List Row) (row new : Row) → at < length rows → row ≡ get_or rows at row → new ≡ joined join row → set rows at new ≡ joined_at join at rows
+joined_written join at [] row new within read is = absurd (omega (arith, within))
+joined_written join zero (first ∷ rows) row new within read is = ap (λ (r : Row). r ∷ rows) (is ∙ ap (joined join) read)
+joined_written join (suc at) (first ∷ rows) row new within read is = ap (λ (rs : List Row). first ∷ rs) (joined_written join at rows row new (omega (arith, within)) read is)
+
+pub joined_at_length : (join : Join) (at : ℕ) (rows : List Row) → length (joined_at join at rows) ≡ length rows
+joined_at_length join at [] = refl
+joined_at_length join zero (row ∷ rows) = refl
+joined_at_length join (suc at) (row ∷ rows) = ap suc (joined_at_length join at rows)
+
 top_from : (rows : List Row) (row : Row) → IsTop row ⊎ IsBelow rows row → row.parent ≡ None → IsTop row
 top_from rows row linked none = ⊎_elim (λ (top : IsTop row). top) (λ (below : IsBelow rows row). absurd (let e : Some below.link ≡ None = sym below.linked ∙ none in cc)) linked
 
@@ -414,12 +576,6 @@ link_refused begun cv pv rows child parent trees pair cannot =
       told = sym (link_is cv pv rows child parent pair ∙ rw can refl);
     }
 
-pub link_none_child : (begun cv pv : ℕ) (rows : List Row) → AreTrees begun rows → is_pending cv (map transaction_of rows) ≡ false → Rows begun (with_link cv pv (map transaction_of rows)) rows
-link_none_child begun cv pv rows trees none = record {
-  trees = trees;
-  told = sym (ap (λ (c : Option Transaction). with_parent c (newest pv (map transaction_of rows)) (map transaction_of rows)) (newest_none cv (map transaction_of rows) none));
-}
-
 -- a link that takes effect
 pub link_joins : (begun cv pv : ℕ) (rows : List Row) (child parent : Row) (join : Join) → AreTrees begun rows → Pair cv pv rows child parent → (is_none child.parent && not child.ended && not (eqb parent.root child.serial)) ≡ true →
     join ≡ record { child = child.serial; link = record { serial = parent.serial; vxid = parent.vxid; number = count_by (λ row. leads_to parent.serial row.parent) rows }; root = parent.root; path = parent.path } →
@@ -452,3 +608,30 @@ link_joins begun cv pv rows child parent join trees pair yes_can is =
           ∙ ap (λ (v : ℕ). with_newest v (λ t. record t { parent = Some link }) pending) (sym same)
           ∙ sym (link_is cv pv rows child parent pair ∙ rw can refl);
     }
+
+-- rows that can join are two
+apart_rows : (begun : ℕ) (rows : List Row) (child parent : Row) → AreTrees begun rows → row_of child.serial rows ≡ Some child → row_of parent.serial rows ≡ Some parent → (is_none child.parent && not child.ended && not (eqb parent.root child.serial)) ≡ true → eqb child.serial parent.serial ≡ false
+apart_rows begun rows child parent trees here there can =
+    let parts = and_parts (is_none child.parent && not child.ended) (not (eqb parent.root child.serial)) can in
+    let first = and_parts (is_none child.parent) (not child.ended) parts.0 in
+    let top : IsTop child = top_from rows child (trees.forest.linked child.serial child here) (none_from child.parent first.0) in
+    ne_eqb child.serial parent.serial (λ e.
+    let at : row_of child.serial rows ≡ Some parent = ap (λ (n : ℕ). row_of n rows) e ∙ there in
+    let same : parent ≡ child = same_row rows child.serial parent child at here in
+    eqb-false parent.root child.serial (not-true (eqb parent.root child.serial) parts.1) (ap (λ (r : Row). r.root) same ∙ top.root))
+
+-- a link that takes effect, where the number of the child is read from the parent
+pub link_joins_rows : (begun cv pv : ℕ) (rows : List Row) (child parent : Row) (join : Join) → AreTrees begun rows → Pair cv pv rows child parent → (is_none child.parent && not child.ended && not (eqb parent.root child.serial)) ≡ true →
+    join ≡ record { child = child.serial; link = record { serial = parent.serial; vxid = parent.vxid; number = parent.children }; root = parent.root; path = parent.path } → Rows begun (with_link cv pv (map transaction_of rows)) (map (joined join) rows)
+link_joins_rows begun cv pv rows child parent join trees pair can is =
+    link_joins begun cv pv rows child parent join trees pair can
+    (is ∙ ap (λ (n : ℕ). record { child = child.serial; link = record { serial = parent.serial; vxid = parent.vxid; number = n }; root = parent.root; path = parent.path }) (trees.forest.counted parent.serial parent pair.parent_here))
+
+-- the same, where the child has no children
+pub link_joins_alone : (begun cv pv below above : ℕ) (rows : List Row) (child parent : Row) (join : Join) → AreTrees begun rows → Pair cv pv rows child parent → (is_none child.parent && not child.ended && not (eqb parent.root child.serial)) ≡ true →
+    join ≡ record { child = child.serial; link = record { serial = parent.serial; vxid = parent.vxid; number = parent.children }; root = parent.root; path = parent.path } →
+    below < length rows → child ≡ get_or rows below child → above < length rows → parent ≡ get_or rows above parent → child.children ≡ 0 → Rows begun (with_link cv pv (map transaction_of rows)) (joined_at join above (joined_at join below rows))
+link_joins_alone begun cv pv below above rows child parent join trees pair can is below_within child_read above_within parent_read none =
+    subst (Rows begun (with_link cv pv (map transaction_of rows)))
+    (sym (alone_joined begun below above rows child parent join trees below_within child_read above_within parent_read (ap (λ (j : Join). j.child) is) (ap (λ (j : Join). j.link.serial) is) none (apart_rows begun rows child parent trees pair.child_here pair.parent_here can)))
+    (link_joins_rows begun cv pv rows child parent join trees pair can is)

@@ -1,7 +1,7 @@
 -- Rows that begin, and which is open.
 use Rattle.std.proofs.Common.{◌≡◌, ◌+◌, ℕ, Bool, true, false, not, eqb, cond, Option, Some, None, List, [], ◌∷◌, ◌++◌, set, map, take, drop, get_or, refl, ap, sym, ◌∙◌, subst, arith}
 use Rattle.std.proofs.lemmas.Bool.{eq-eqb, or_parts}
-use Rattle.std.proofs.lemmas.List.{map-append, length-set, drop-set-lt, get_or_default, get_or-set_same}
+use Rattle.std.proofs.lemmas.List.{map-append, length-set, drop-set-lt, get_or_default, get_or-set_same, get_or_append_left, drop-append-le, length_push}
 use Rattle.vsl_tags.specs.Tags.{begin_tag}
 use Rattle.txn_rows.specs.declared.rows.Row.{Row}
 use Rattle.txn_rows.specs.declared.group.Kind.TheVariants as kinds
@@ -22,7 +22,7 @@ use Rattle.txn_rows.proofs.ForceLemmas.{written, written_leaves}
 
 -- a row of which no record was seen
 abbrev pub empty_row : ℕ → ℕ → Option ℕ → Row
-empty_row serial vxid time = record { serial = serial; vxid = vxid; kind = kinds.Unknown; reason = reasons.Other; records = []; parent = None; ended = false; time = time; root = serial; path = [] }
+empty_row serial vxid time = record { serial = serial; vxid = vxid; kind = kinds.Unknown; reason = reasons.Other; records = []; parent = None; children = 0; ended = false; time = time; root = serial; path = [] }
 
 -- rows after one more began
 pub record Began (begun vxid : ℕ) (time : Option ℕ) (rows now : List Row) : Type 0 where
@@ -34,7 +34,7 @@ began begun vxid time rows now row trees is all =
     let new : Row = empty_row begun vxid time in
     let whole : now ≡ rows ++ new ∷ [] = all ∙ ap (λ (r : Row). rows ++ r ∷ []) is in
     record {
-      trees = subst (AreTrees (begun + 1)) (sym whole) (trees_push begun rows new trees refl (record { none = refl; root = refl; path = refl }));
+      trees = subst (AreTrees (begun + 1)) (sym whole) (trees_push begun rows new trees refl (record { none = refl; root = refl; path = refl }) refl);
       told = ap (state_with (begun + 1) time) whole ∙ ap (λ (ts : List Transaction). record { pending = ts; begun = begun + 1; time = time }) (map-append transaction_of rows (new ∷ []));
     }
 
@@ -66,6 +66,24 @@ pending_at vxid at (first ∷ rest) is =
     ap (is_pending vxid) (split_at_row at rows row is.within read)
     ∙ pending_in vxid (map transaction_of (take at rows)) (transaction_of row) (map transaction_of (drop (at + 1) rows)) (eq-eqb row.vxid vxid same)
 
+-- one more of another VXID
+none_push : (vxid : ℕ) (pending : List Transaction) (t : Transaction) → is_pending vxid pending ≡ false → eqb t.vxid vxid ≡ false → is_pending vxid (pending ++ t ∷ []) ≡ false
+none_push vxid [] t none other = rw other refl
+none_push vxid (f ∷ pending) t none other =
+    let parts = or_parts (eqb f.vxid vxid) (is_pending vxid pending) none in
+    rw parts.0 (none_push vxid pending t parts.1 other)
+
+-- the newest row stays where it is when one of another VXID begins
+pub newest_kept : (vxid at : ℕ) (rows : List Row) (row : Row) → eqb row.vxid vxid ≡ false → IsNewestRow vxid at rows → IsNewestRow vxid at (rows ++ row ∷ [])
+newest_kept vxid at rows row other is = record {
+  within = omega (arith, is.within, length_push rows row);
+  is = λ d. ap (λ (r : Row). r.vxid) (get_or_append_left rows (row ∷ []) d at is.within) ∙ is.is d;
+  none_after =
+      ap (λ (rs : List Row). is_pending vxid (map transaction_of rs)) (drop-append-le (at + 1) rows (row ∷ []) (omega (arith, is.within)))
+      ∙ ap (is_pending vxid) (map-append transaction_of (drop (at + 1) rows) (row ∷ []))
+      ∙ none_push vxid (map transaction_of (drop (at + 1) rows)) (transaction_of row) is.none_after other;
+}
+
 -- the newest transaction of a VXID is changed where it stands
 newest_changed : (vxid : ℕ) (change : Transaction → Transaction) (front : List Transaction) (t : Transaction) (back : List Transaction) → eqb t.vxid vxid ≡ true → is_pending vxid back ≡ false → with_newest vxid change (front ++ t ∷ back) ≡ front ++ change t ∷ back
 newest_changed vxid change [] t back same none = rw (none, same) refl
@@ -85,8 +103,8 @@ pub record Added (begun vxid : ℕ) (rec : Record) (rows now : List Row) : Type 
   pub trees : AreTrees begun now
   pub told : map transaction_of now ≡ with_kind vxid rec (with_record vxid rec (map transaction_of rows))
 
-pub added : (begun vxid at : ℕ) (rec : Record) (rows : List Row) (row new : Row) → AreTrees begun rows → IsNewestRow vxid at rows → row ≡ get_or rows at row → transaction_of new ≡ with_one rec (transaction_of row) → new.root ≡ row.root → new.path ≡ row.path → Added begun vxid rec rows (set rows at new)
-added begun vxid at rec rows row new trees is read told root path =
+pub added : (begun vxid at : ℕ) (rec : Record) (rows : List Row) (row new : Row) → AreTrees begun rows → IsNewestRow vxid at rows → row ≡ get_or rows at row → transaction_of new ≡ with_one rec (transaction_of row) → new.root ≡ row.root → new.path ≡ row.path → new.children ≡ row.children → Added begun vxid rec rows (set rows at new)
+added begun vxid at rec rows row new trees is read told root path children =
     let t : Transaction = transaction_of row in
     let longer : Transaction = record t { records = t.records ++ rec ∷ [] } in
     let front : List Transaction = map transaction_of (take at rows) in
@@ -97,6 +115,7 @@ added begun vxid at rec rows row new trees is read told root path =
       parent = ap (λ (x : Transaction). x.parent) told ∙ one_same (λ x. x.parent) (λ x c. refl) rec t refl;
       root = root;
       path = path;
+      children = children;
     } in
     record {
       trees = trees_set begun at rows row new trees is.within read in_place;
@@ -131,5 +150,5 @@ ended_step begun vxid at time rows row new now out_before out_now trees is read 
     let changed : with_newest vxid ended pending ≡ front ++ ended t ∷ back = ap (with_newest vxid ended) (split_at_row at rows row is.within read) ∙ newest_changed vxid ended front t back same is.none_after in
     let all : with_newest vxid ended pending ≡ map transaction_of (set rows at new) = changed ∙ ap (λ (x : Transaction). front ++ x ∷ back) (sym told) ∙ sym (written at rows new is.within) in
     let first : newest vxid (with_newest vxid ended pending) ≡ Some (transaction_of new) = ap (newest vxid) changed ∙ newest_in vxid front (ended t) back same is.none_after ∙ ap Some (sym told) in
-    let in_place : IsInPlaceOf row new = subst (IsInPlaceOf row) (sym ended_is) (record { serial = refl; parent = refl; root = refl; path = refl }) in
+    let in_place : IsInPlaceOf row new = subst (IsInPlaceOf row) (sym ended_is) (record { serial = refl; parent = refl; root = refl; path = refl; children = refl }) in
     written_leaves begun at time rows row new now out_before out_now (newest vxid (with_newest vxid ended pending)) (with_newest vxid ended pending) trees is.within read in_place left first all

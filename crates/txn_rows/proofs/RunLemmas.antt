@@ -115,6 +115,7 @@ changed_keeps s change rows = record {
   parent = λ row. by_cases ((changed s change row).parent ≡ row.parent) (eqb row.serial s) (λ t. rw t refl) (λ t. rw t refl);
   root = λ row. by_cases ((changed s change row).root ≡ row.root) (eqb row.serial s) (λ t. rw t refl) (λ t. rw t refl);
   path = λ row. by_cases ((changed s change row).path ≡ row.path) (eqb row.serial s) (λ t. rw t refl) (λ t. rw t refl);
+  children = λ row. by_cases ((changed s change row).children ≡ row.children) (eqb row.serial s) (λ t. rw t refl) (λ t. rw t refl);
 }
 
 row_with_is : (t : Transaction) (row : Row) → t.serial ≡ row.serial → t.parent ≡ row.parent → transaction_of (row_with t row) ≡ t
@@ -288,10 +289,10 @@ ending_open change begun rows t found unended s now here beside =
 -- a transaction that begins
 new_stands : (vxid : ℕ) (state : State) → Standing state → Standing (with_new vxid state)
 new_stands vxid state s =
-    let row : Row = record { serial = state.begun; vxid = vxid; kind = (empty_transaction 0 0 None).kind; reason = (empty_transaction 0 0 None).reason; records = []; parent = None; ended = false; time = state.time; root = state.begun; path = [] } in
+    let row : Row = record { serial = state.begun; vxid = vxid; kind = (empty_transaction 0 0 None).kind; reason = (empty_transaction 0 0 None).reason; records = []; parent = None; children = 0; ended = false; time = state.time; root = state.begun; path = [] } in
     record {
       rows = s.rows ++ row ∷ [];
-      trees = trees_push state.begun s.rows row s.trees refl (record { none = refl; root = refl; path = refl });
+      trees = trees_push state.begun s.rows row s.trees refl (record { none = refl; root = refl; path = refl }) refl;
       told = map-append transaction_of s.rows (row ∷ []) ∙ ap (λ (ts : List Transaction). ts ++ empty_transaction state.begun vxid state.time ∷ []) s.told;
       unended = open_push s.rows row refl s.unended;
     }
@@ -337,7 +338,7 @@ stands_keeps = record {
   link = link_stands;
   time = λ told state s. let now : Option ℕ = raised told state.time in record {
     rows = map (row_timed now) s.rows;
-    trees = trees_kept state.begun (row_timed now) s.rows (record { serial = λ row. refl; parent = λ row. refl; root = λ row. refl; path = λ row. refl }) s.trees;
+    trees = trees_kept state.begun (row_timed now) s.rows (record { serial = λ row. refl; parent = λ row. refl; root = λ row. refl; path = λ row. refl; children = λ row. refl }) s.trees;
     told = rows_timed now s.rows ∙ ap (map (timed now)) s.told;
     unended = open_map (row_timed now) (λ x. x) s.rows (λ row. refl) (λ row. refl) (λ row. refl) s.unended;
   };
@@ -507,7 +508,7 @@ items_stand options (item ∷ taken) state s = items_stand options taken (taken_
 pub taken_stand : (options : GroupOptions) (taken : List Taken) → Standing (taken_steps options taken no_state).state
 taken_stand options taken = items_stand options taken no_state (record {
   rows = [];
-  trees = record { rising = omega arith; forest = record { linked = λ s row e. absurd (cc); shallow = λ s row e. absurd (cc) } };
+  trees = record { rising = omega arith; forest = record { linked = λ s row e. absurd (cc); shallow = λ s row e. absurd (cc); counted = λ s row e. absurd (cc) } };
   told = refl;
   unended = λ s row e. absurd (cc);
 })

@@ -10,12 +10,12 @@ use Rattle.txn_rows.specs.declared.rows.Row.{Row}
 use Rattle.txn_rows.specs.declared.group.ParentLink.{ParentLink}
 use Rattle.txn_rows.specs.declared.group.Group.{Group}
 use Rattle.txn_rows.specs.Transaction.{Transaction}
-use Rattle.txn_rows.specs.Links.{root_of, tree_of, others, group_of}
+use Rattle.txn_rows.specs.Links.{leads_to, root_of, tree_of, others, group_of}
 use Rattle.txn_rows.specs.Grouping.{Leaving, left_by, nothing_left}
-use Rattle.txn_rows.specs.inside.Rows.{transaction_of, row_of, Rising, IsTop, IsBelow, AreTrees, rows_below, rows_beside, left_rows}
+use Rattle.txn_rows.specs.inside.Rows.{transaction_of, row_of, Rising, IsTop, IsBelow, AreTrees, Each, rows_below, rows_beside, left_rows}
 use Rattle.txn_rows.specs.inside.Steps.{state_with}
 use Rattle.txn_rows.proofs.LineLemmas.{by_cases, row_of_serial}
-use Rattle.txn_rows.proofs.TreeLemmas.{line_whole, tree_rows, other_rows, group_rows, rising_above}
+use Rattle.txn_rows.proofs.TreeLemmas.{line_whole, tree_rows, other_rows, group_rows, rising_above, each_weaker, each_found}
 use Rattle.txn_rows.proofs.JoinLemmas.{row_of_map, rising_map, before_map, still_below, each_at}
 
 -- a row that is found is no older than the first
@@ -82,6 +82,47 @@ count_beside root x other (row ∷ rows) =
     rw t (omega (arith, ih, whole, zero_here)))
     (λ t. rw t (omega (arith, ih, whole, sum_by-cons p row (rows_beside root rows))))
 
+-- a row and the one to which its link leads are of one tree
+pub child_in_tree : (rows : List Row) (row child : Row) → row_of row.serial rows ≡ Some row → IsTop child ⊎ IsBelow rows child → leads_to row.serial child.parent ≡ true → child.root ≡ row.root
+child_in_tree rows row child here linked leads = ⊎_elim
+    (λ (top : IsTop child). let none : leads_to row.serial None ≡ true = ap (leads_to row.serial) (sym top.none) ∙ leads in absurd (cc))
+    (λ (below : IsBelow rows child).
+    let is : below.link.serial ≡ row.serial = eqb-true below.link.serial row.serial (ap (leads_to row.serial) (sym below.linked) ∙ leads) in
+    let found : row_of row.serial rows ≡ Some below.above = ap (λ (n : ℕ). row_of n rows) (sym is) ∙ below.found in
+    let same : Some below.above ≡ Some row = sym found ∙ here in
+    let above : below.above ≡ row = (cc) in
+    below.root ∙ ap (λ (r : Row). r.root) above)
+    linked
+
+-- rows that are all kept where they count
+count_filter : (p q : Row → Bool) (rows : List Row) → Each (λ r. p r ≡ true → q r ≡ true) rows → count_by p (filter q rows) ≡ count_by p rows
+count_filter p q [] e = refl
+count_filter p q (row ∷ rows) e =
+    let n : Row → ℕ = λ r. cond (p r) 1 0 in
+    let ih = count_filter p q rows e.1 in
+    let whole = sum_by-cons n row rows in
+    by_cases (count_by p (filter q (row ∷ rows)) ≡ count_by p (row ∷ rows)) (q row)
+    (λ t. rw t (omega (arith, ih, whole, sum_by-cons n row (filter q rows))))
+    (λ t. let none : n row ≡ 0 = by_cases (n row ≡ 0) (p row) (λ u. let kept : q row ≡ true = e.0 u in let both : false ≡ true = sym t ∙ kept in absurd (cc)) (λ u. ap {B = ℕ} (λ (b : Bool). cond b 1 0) u) in
+    rw t (omega (arith, ih, whole, none)))
+
+-- rows of which none counts
+count_none : (p : Row → Bool) (rows : List Row) → Each (λ r. p r ≡ false) rows → count_by p rows ≡ 0
+count_none p [] e = refl
+count_none p (row ∷ rows) e =
+    let n : Row → ℕ = λ r. cond (p r) 1 0 in
+    let none : n row ≡ 0 = ap {B = ℕ} (λ (b : Bool). cond b 1 0) e.0 in
+    omega (arith, count_none p rows e.1, sum_by-cons n row rows, none)
+
+-- a child stays where its parent does
+children_beside : (begun root s : ℕ) (rows : List Row) (row : Row) → AreTrees begun rows → row_of s rows ≡ Some row → not (eqb row.root root) ≡ true → count_by (λ (r : Row). leads_to row.serial r.parent) (rows_beside root rows) ≡ count_by (λ (r : Row). leads_to row.serial r.parent) rows
+children_beside begun root s rows row trees here beside =
+    let own : row_of row.serial rows ≡ Some row = ap (λ (n : ℕ). row_of n rows) (row_of_serial s rows row here) ∙ here in
+    count_filter (λ r. leads_to row.serial r.parent) (λ r. not (eqb r.root root)) rows
+    (each_weaker (λ r. row_of r.serial rows ≡ Some r) (λ r. leads_to row.serial r.parent ≡ true → not (eqb r.root root) ≡ true)
+    (λ r found leads. ap (λ (n : ℕ). not (eqb n root)) (child_in_tree rows row r own (trees.forest.linked r.serial r found) leads) ∙ beside)
+    rows (each_found 0 begun rows trees.rising))
+
 -- where a tree leaves, the others stand
 trees_left : (begun root : ℕ) (rows : List Row) → AreTrees begun rows → AreTrees begun (rows_beside root rows)
 trees_left begun root rows trees =
@@ -98,6 +139,9 @@ trees_left begun root rows trees =
         shallow = λ s row here.
             let was = found_filter q s 0 begun rows row trees.rising here in
             omega (arith, trees.forest.shallow s row was.0, count_beside root row.root (not-true (eqb row.root root) was.1) rows);
+        counted = λ s row here.
+            let was = found_filter q s 0 begun rows row trees.rising here in
+            trees.forest.counted s row was.0 ∙ sym (children_beside begun root s rows row trees was.0 was.1);
       };
     }
 
@@ -133,6 +177,7 @@ pub record KeepsPlaces (f : Row → Row) (rows : List Row) : Type 0 where
   pub parent : (row : Row) → (f row).parent ≡ row.parent
   pub root : (row : Row) → (f row).root ≡ row.root
   pub path : (row : Row) → (f row).path ≡ row.path
+  pub children : (row : Row) → (f row).children ≡ row.children
 
 count_kept : (f : Row → Row) → ((row : Row) → (f row).root ≡ row.root) → (x : ℕ) (rows : List Row) → count_by (λ (r : Row). eqb r.root x) (map f rows) ≡ count_by (λ (r : Row). eqb r.root x) rows
 count_kept f keeps x [] = refl
@@ -140,6 +185,13 @@ count_kept f keeps x (row ∷ rows) =
     let p : Row → ℕ = λ r. cond (eqb r.root x) 1 0 in
     sum_by-cons p (f row) (map f rows) ∙ ap (λ (n : ℕ). cond (eqb n x) 1 0 + count_by (λ (r : Row). eqb r.root x) (map f rows)) (keeps row)
     ∙ ap (λ (n : ℕ). p row + n) (count_kept f keeps x rows) ∙ sym (sum_by-cons p row rows)
+
+children_kept : (f : Row → Row) → ((row : Row) → (f row).parent ≡ row.parent) → (x : ℕ) (rows : List Row) → count_by (λ (r : Row). leads_to x r.parent) (map f rows) ≡ count_by (λ (r : Row). leads_to x r.parent) rows
+children_kept f keeps x [] = refl
+children_kept f keeps x (row ∷ rows) =
+    let p : Row → ℕ = λ r. cond (leads_to x r.parent) 1 0 in
+    let one : p (f row) ≡ p row = ap (λ (o : Option ParentLink). cond (leads_to x o) 1 0) (keeps row) in
+    omega (arith, sum_by-cons p (f row) (map f rows), one, children_kept f keeps x rows, sum_by-cons p row rows)
 
 -- rows that keep their places stand in trees
 pub trees_kept : (begun : ℕ) (f : Row → Row) (rows : List Row) → KeepsPlaces f rows → AreTrees begun rows → AreTrees begun (map f rows)
@@ -168,6 +220,12 @@ trees_kept begun f rows keeps trees = record {
         (subst (λ (p : List ℕ). length p < count_by (λ (x : Row). eqb x.root (f row).root) (map f rows)) (sym (keeps.path row))
         (subst (λ (n : ℕ). length row.path < count_by (λ (x : Row). eqb x.root n) (map f rows)) (sym (keeps.root row))
         (omega (arith, few, count_kept f keeps.root row.root rows))));
+    counted = λ s now here.
+        let was = before_map f s rows (row_of s rows) now refl (sym (row_of_map f keeps.serial s rows) ∙ here) in
+        let row : Row = was.0 in
+        subst (λ (r : Row). r.children ≡ count_by (λ (x : Row). leads_to r.serial x.parent) (map f rows)) (sym was.2)
+        (keeps.children row ∙ trees.forest.counted s row was.1 ∙ sym (children_kept f keeps.parent row.serial rows)
+        ∙ ap (λ (n : ℕ). count_by (λ (x : Row). leads_to n x.parent) (map f rows)) (sym (keeps.serial row)));
   };
 }
 
@@ -185,6 +243,7 @@ swapped_keeps new rows = record {
   parent = λ row. by_cases ((swapped new row).parent ≡ row.parent) (eqb row.serial new.serial) (λ t. rw t refl) (λ t. rw t refl);
   root = λ row. by_cases ((swapped new row).root ≡ row.root) (eqb row.serial new.serial) (λ t. rw t refl) (λ t. rw t refl);
   path = λ row. by_cases ((swapped new row).path ≡ row.path) (eqb row.serial new.serial) (λ t. rw t refl) (λ t. rw t refl);
+  children = λ row. by_cases ((swapped new row).children ≡ row.children) (eqb row.serial new.serial) (λ t. rw t refl) (λ t. rw t refl);
 }
 
 -- a row in the place of another
@@ -193,6 +252,7 @@ pub record IsInPlaceOf (row new : Row) : Type 0 where
   pub parent : new.parent ≡ row.parent
   pub root : new.root ≡ row.root
   pub path : new.path ≡ row.path
+  pub children : new.children ≡ row.children
 
 retold_is : (row new : Row) → IsInPlaceOf row new → retold new row ≡ new
 retold_is row new same =
@@ -200,6 +260,7 @@ retold_is row new same =
     ∙ ap (λ (p : Option ParentLink). record (retold new row) { serial = new.serial; parent = p }) (sym same.parent)
     ∙ ap (λ (n : ℕ). record (retold new row) { serial = new.serial; parent = new.parent; root = n }) (sym same.root)
     ∙ ap (λ (p : List ℕ). record (retold new row) { serial = new.serial; parent = new.parent; root = new.root; path = p }) (sym same.path)
+    ∙ ap (λ (n : ℕ). record (retold new row) { serial = new.serial; parent = new.parent; root = new.root; path = new.path; children = n }) (sym same.children)
 
 -- later rows are not meant
 swapped_later : (new : Row) (low high : ℕ) (rows : List Row) → Rising low high rows → new.serial < low → map (swapped new) rows ≡ rows
@@ -246,9 +307,33 @@ found_push s rows new row None e here =
 pub found_still : (s : ℕ) (rows : List Row) (new row : Row) → row_of s rows ≡ Some row → row_of s (rows ++ new ∷ []) ≡ Some row
 found_still s rows new row here = find-append (λ (r : Row). eqb r.serial s) rows (new ∷ []) ∙ ap (λ (o : Option Row). option_or o (row_of s (new ∷ []))) here
 
+rising_ends : (low high : ℕ) (rows : List Row) → Rising low high rows → low ≤ high
+rising_ends low high [] r = r
+rising_ends low high (row ∷ rows) r = omega (arith, r.0, rising_ends (row.serial + 1) high rows r.1)
+
+-- a row that is found is older than the next
+found_under : (s low high : ℕ) (rows : List Row) (row : Row) → Rising low high rows → row_of s rows ≡ Some row → row.serial < high
+found_under s low high [] row r here = absurd (cc)
+found_under s low high (first ∷ rows) row r here =
+    by_cases (row.serial < high) (eqb first.serial s)
+    (λ t. let same : Some first ≡ Some row = rw t at here in let is : first ≡ row = (cc) in omega (arith, rising_ends (first.serial + 1) high rows r.1, ap (λ (x : Row). x.serial) is))
+    (λ t. found_under s (first.serial + 1) high rows row r.1 (rw t at here))
+
+-- no link leads to the serial number that is next
+leads_to_none : (begun : ℕ) (rows : List Row) (row : Row) → AreTrees begun rows → row_of row.serial rows ≡ Some row → leads_to begun row.parent ≡ false
+leads_to_none begun rows row trees here = ⊎_elim
+    (λ (top : IsTop row). ap (leads_to begun) top.none)
+    (λ (below : IsBelow rows row). ap (leads_to begun) below.linked ∙ ne_eqb below.link.serial begun (λ e.
+    omega (arith, e, found_under below.link.serial 0 begun rows below.above trees.rising below.found, row_of_serial below.link.serial rows below.above below.found)))
+    (trees.forest.linked row.serial row here)
+
+no_children : (begun : ℕ) (rows : List Row) → AreTrees begun rows → count_by (λ (r : Row). leads_to begun r.parent) rows ≡ 0
+no_children begun rows trees = count_none (λ r. leads_to begun r.parent) rows
+    (each_weaker (λ r. row_of r.serial rows ≡ Some r) (λ r. leads_to begun r.parent ≡ false) (λ r here. leads_to_none begun rows r trees here) rows (each_found 0 begun rows trees.rising))
+
 -- a row begins at the top of a tree of its own
-pub trees_push : (begun : ℕ) (rows : List Row) (new : Row) → AreTrees begun rows → new.serial ≡ begun → IsTop new → AreTrees (begun + 1) (rows ++ new ∷ [])
-trees_push begun rows new trees is top = record {
+pub trees_push : (begun : ℕ) (rows : List Row) (new : Row) → AreTrees begun rows → new.serial ≡ begun → IsTop new → new.children ≡ 0 → AreTrees (begun + 1) (rows ++ new ∷ [])
+trees_push begun rows new trees is top none = record {
   rising = rising_push 0 begun rows new trees.rising is;
   forest = record {
     linked = λ s row here. ⊎_elim
@@ -267,6 +352,17 @@ trees_push begun rows new trees is top = record {
         let own : q new ≡ 1 = ap (λ (b : Bool). cond b 1 0) (eq-eqb new.root row.root (ap (λ (r : Row). r.root) (sym same))) in
         let short : length row.path ≡ 0 = ap (λ (r : Row). length r.path) same ∙ ap (λ (p : List ℕ). length p) top.path in
         omega (arith, more, own, short))
+        (found_push s rows new row (row_of s rows) refl here);
+    counted = λ s row here.
+        let q : Row → ℕ = λ r. cond (leads_to row.serial r.parent) 1 0 in
+        let more = sum_by_push q rows new in
+        let own : q new ≡ 0 = ap (λ (o : Option ParentLink). cond (leads_to row.serial o) 1 0) top.none in
+        ⊎_elim
+        (λ (was : row_of s rows ≡ Some row). omega (arith, trees.forest.counted s row was, more, own))
+        (λ (same : row ≡ new).
+        let few : count_by (λ (r : Row). leads_to row.serial r.parent) rows ≡ 0 = ap (λ (n : ℕ). count_by (λ (r : Row). leads_to n r.parent) rows) (ap (λ (r : Row). r.serial) same ∙ is) ∙ no_children begun rows trees in
+        let zero_here : row.children ≡ 0 = ap (λ (r : Row). r.children) same ∙ none in
+        omega (arith, more, own, few, zero_here))
         (found_push s rows new row (row_of s rows) refl here);
   };
 }

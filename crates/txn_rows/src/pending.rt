@@ -1,9 +1,9 @@
 //! What stands between two records, and how a record begins, names and links transactions.
 
-ghost use Rattle.std.specs.Prelude.{◌≡◌, ◌+◌, ◌<◌, if◌then◌else◌, length, map, IfOk, OnOk, OnErr};
-ghost use Rattle.txn_rows.specs.Transaction.{is_pending, with_record, with_kind};
-ghost use Rattle.txn_rows.specs.Grouping.{with_new, with_transaction, with_other, gives_parent, with_parent_named, with_child_named, ended_one, after_end, raised, with_time};
-ghost use Rattle.txn_rows.specs.inside.Rows.{transaction_of, IsNewestRow, AreTrees};
+ghost use Rattle.std.specs.Prelude.{◌≡◌, ◌≢◌, ℕ, if◌then◌else◌, length, IfOk, OnOk, OnErr};
+ghost use Rattle.txn_rows.specs.Transaction.{with_record, with_kind};
+ghost use Rattle.txn_rows.specs.Grouping.{with_new, with_transaction, with_other, gives_parent, with_parent_named, with_child_named, ended_one, raised, with_time};
+ghost use Rattle.txn_rows.specs.inside.Rows.{IsNewestRow, AreTrees};
 ghost use Rattle.txn_rows.specs.inside.States.{state_of, AreOrdered, Went, WentBy};
 
 use crate::claim::Claim;
@@ -29,6 +29,7 @@ pub(crate) struct Pending {
 fn begin(alloc: Global, pending: &mut Pending, vxid: Vxid) -> Result<(), NoMemory>
     ensures went { AreTrees pending.old.begun pending.old.rows.items → OnOk result (Went (with_new vxid (state_of pending.old)) pending.new) }
     ensures newest { OnOk result (IsNewestRow vxid (length pending.old.rows.items) pending.new.rows.items) }
+    ensures keeps { OnOk result ((v at : ℕ) → v ≢ vxid → IsNewestRow v at pending.old.rows.items → IsNewestRow v at pending.new.rows.items) }
 {
     if pending.begun == u64::MAX {
         return Err(NoMemory);
@@ -54,24 +55,18 @@ pub(crate) fn open_row(alloc: Global, pending: &mut Pending, vxid: Vxid) -> Resu
     Ok(at)
 }
 
-/// Whether a row of a VXID stands.
-fn stands(rows: &[Row], vxid: Vxid) -> bool
-    ensures { result ≡ is_pending vxid (map transaction_of rows.now) }
+/// The place of the newest row of a VXID; where there is none, one begins.
+fn other_row(alloc: Global, pending: &mut Pending, vxid: Vxid) -> Result<usize, NoMemory>
+    ensures went { AreTrees pending.old.begun pending.old.rows.items → OnOk result (Went (with_other vxid (state_of pending.old)) pending.new) }
+    ensures newest { IfOk result (λ at. IsNewestRow vxid at pending.new.rows.items) }
+    ensures keeps { OnOk result ((v at : ℕ) → IsNewestRow v at pending.old.rows.items → IsNewestRow v at pending.new.rows.items) }
 {
-    match newest_row(rows, vxid) {
-        Some(_) => true,
-        None => false,
+    if let Some(at) = newest_row(&pending.rows, vxid) {
+        return Ok(at);
     }
-}
-
-/// Where no row of a VXID stands, one begins.
-fn other_row(alloc: Global, pending: &mut Pending, vxid: Vxid) -> Result<(), NoMemory>
-    ensures { AreTrees pending.old.begun pending.old.rows.items → OnOk result (Went (with_other vxid (state_of pending.old)) pending.new) }
-{
-    if stands(&pending.rows, vxid) {
-        return Ok(());
-    }
-    begin(alloc, pending, vxid)
+    let at = pending.rows.len();
+    begin(alloc, pending, vxid)?;
+    Ok(at)
 }
 
 /// Whether a claim gives a parent.
@@ -88,7 +83,8 @@ fn gives_parent(grouping: Grouping, claim: Claim) -> bool
     }
 }
 
-/// What a Begin or a Link claims may link two transactions: a Begin names the parent of its transaction, a Link a child.
+/// The claim of a Begin or a Link may link two transactions: a Begin names the parent of its transaction, a Link a
+/// child. The newest row of the VXID stands at `at`.
 pub(crate) fn take_claim(
     alloc: Global,
     grouping: Grouping,
@@ -108,11 +104,11 @@ pub(crate) fn take_claim(
     if !gives_parent(grouping, claim) {
         return Ok(());
     }
-    other_row(alloc, pending, claim.vxid)?;
+    let other = other_row(alloc, pending, claim.vxid)?;
     if begins {
-        return link_rows(alloc, &mut pending.rows, vxid, claim.vxid);
+        return link_rows(alloc, &mut pending.rows, at, vxid, other, claim.vxid);
     }
-    link_rows(alloc, &mut pending.rows, claim.vxid, vxid)
+    link_rows(alloc, &mut pending.rows, other, claim.vxid, at, vxid)
 }
 
 /// Adds a record to the newest row of its VXID; a Begin may tell the row's kind.

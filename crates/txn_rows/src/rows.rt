@@ -24,6 +24,8 @@ pub(crate) struct Row {
     pub(crate) reason: Reason,
     pub(crate) records: Records,
     pub(crate) parent: Option<ParentLink>,
+    /// How many children it has.
+    pub(crate) children: u64,
     pub(crate) ended: bool,
     /// The log time when it began, in units of 10^-18 seconds.
     pub(crate) time: Option<u128>,
@@ -50,7 +52,7 @@ pub(crate) fn newest_row(rows: &[Row], vxid: Vxid) -> Option<usize>
 
 /// A row of which no record was seen.
 pub(crate) fn empty_row(alloc: Global, serial: u64, vxid: Vxid, time: Option<u128>) -> Row
-    ensures { result ≡ record { serial = serial; vxid = vxid; kind = Kind.Unknown; reason = Reason.Other; records = []; parent = None; ended = false; time = time; root = serial; path = [] } }
+    ensures { result ≡ record { serial = serial; vxid = vxid; kind = Kind.Unknown; reason = Reason.Other; records = []; parent = None; children = 0; ended = false; time = time; root = serial; path = [] } }
 {
     Row {
         serial,
@@ -59,6 +61,7 @@ pub(crate) fn empty_row(alloc: Global, serial: u64, vxid: Vxid, time: Option<u12
         reason: Reason::Other,
         records: Records::new(alloc),
         parent: None,
+        children: 0,
         ended: false,
         time,
         root: serial,
@@ -91,6 +94,7 @@ pub(crate) fn add_record(row: &mut Row, rec: Record) -> Result<(), NoMemory>
     ensures told { OnOk result (transaction_of row.new ≡ with_one rec (transaction_of row.old)) }
     ensures root { OnOk result (row.new.root ≡ row.old.root) }
     ensures path { OnOk result (row.new.path ≡ row.old.path) }
+    ensures children { OnOk result (row.new.children ≡ row.old.children) }
 {
     let claim = own_claim(&rec);
     make_room(&mut row.records)?;
@@ -104,6 +108,7 @@ fn take_claim(row: &mut Row, claim: Option<Claim>)
     ensures told { transaction_of row.new ≡ claimed_kind claim (transaction_of row.old) }
     ensures root { row.new.root ≡ row.old.root }
     ensures path { row.new.path ≡ row.old.path }
+    ensures children { row.new.children ≡ row.old.children }
 {
     let Some(claim) = claim else {
         return;

@@ -1,5 +1,5 @@
 -- The rows of a table as pending transactions.
-use Rattle.std.specs.Prelude.{◌≡◌, ℕ, ◌+◌, ◌<◌, ◌≤◌, ◌==◌, ◌⊎◌, if◌then◌else◌, Bool, true, false, List, [], ◌∷◌, ◌++◌, length, take, drop, map, not, ⊤, Option, Some, None, count_by, codes}
+use Rattle.std.specs.Prelude.{◌≡◌, ℕ, zero, suc, ◌+◌, ◌<◌, ◌≤◌, ◌==◌, ◌⊎◌, if◌then◌else◌, Bool, true, false, List, [], ◌∷◌, ◌++◌, length, take, drop, map, not, ⊤, Option, Some, None, count_by, codes}
 use Rattle.std.specs.List.{HoldsAt, find, filter, list_all, list_any}
 use Rattle.vsl_tags.specs.Tags.{begin_tag, end_tag, vsl_tag}
 use Rattle.vsl_record.specs.declared.record_type.Record.{Record}
@@ -12,7 +12,7 @@ use Rattle.txn_rows.specs.Claim.{claim_of}
 use Rattle.txn_rows.specs.declared.claim.Claim.{Claim}
 use Rattle.txn_rows.specs.declared.group.Cause.{Cause}
 use Rattle.txn_rows.specs.Transaction.{Transaction, is_pending, claimed_kind, first_mark, cause_text}
-use Rattle.txn_rows.specs.Links.{is_path_before, parent_vxid}
+use Rattle.txn_rows.specs.Links.{leads_to, is_path_before, parent_vxid}
 use Rattle.txn_rows.specs.Grouping.{first_known}
 
 -- a row is a transaction, with the serial number at the top of its tree and its path beside it
@@ -59,10 +59,11 @@ pub record IsBelow (rows : List Row) (row : Row) : Type 0 where
   pub root : row.root ≡ above.root
   pub path : row.path ≡ above.path ++ link.number ∷ []
 
--- rows stand in trees: each is at the top of one or below another row, no deeper than its tree has rows
+-- rows stand in trees: each is at the top of one or below another row, no deeper than its tree has rows, and tells how many children it has
 pub record IsForest (rows : List Row) : Type 0 where
   pub linked : (serial : ℕ) (row : Row) → row_of serial rows ≡ Some row → IsTop row ⊎ IsBelow rows row
   pub shallow : (serial : ℕ) (row : Row) → row_of serial rows ≡ Some row → length row.path < count_by (λ r. r.root == row.root) rows
+  pub counted : (serial : ℕ) (row : Row) → row_of serial rows ≡ Some row → row.children ≡ count_by (λ r. leads_to row.serial r.parent) rows
 
 -- the fact holds of each row
 abbrev pub Each : (Row → Type 0) → List Row → Type 0
@@ -100,9 +101,19 @@ pub record AreTrees (begun : ℕ) (rows : List Row) : Type 0 where
 abbrev pub moved : Join → Row → Row
 moved join row = if row.root == join.child then record row { root = join.root; path = join.path ++ join.link.number ∷ row.path } else row
 
--- a row after its tree, or another, was joined to a parent
+-- a row of the tree that is joined, where its first gets the link to the parent
+abbrev pub linked_row : Join → Row → Row
+linked_row join row = if row.serial == join.child then record (moved join row) { parent = Some join.link } else moved join row
+
+-- a row after its tree, or another, was joined to a parent, which has one child more
 abbrev pub joined : Join → Row → Row
-joined join row = if row.serial == join.child then record (moved join row) { parent = Some join.link } else moved join row
+joined join row = record (linked_row join row) { children = if row.serial == join.link.serial then row.children + 1 else row.children }
+
+-- rows of which the one at a place takes its part in a join
+abbrev pub joined_at : Join → ℕ → List Row → List Row
+joined_at join at [] = []
+joined_at join zero (row ∷ rows) = joined join row ∷ rows
+joined_at join (suc at) (row ∷ rows) = row ∷ joined_at join at rows
 
 -- the rows are those of these transactions, and stand in trees
 pub record Rows (begun : ℕ) (pending : List Transaction) (rows : List Row) : Type 0 where
