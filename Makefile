@@ -34,6 +34,7 @@ definitions: ## makes docs/DEFINITIONS.md from specs/ and src/
 	tools/definitions.py --write
 
 build: ## proves and builds bin/vtools
+	tools/build.py vtools
 	cd crates/vtools && rt run -- --version
 	install -D crates/vtools/out/vtools bin/vtools
 
