@@ -1,9 +1,10 @@
 #!/usr/bin/env python3
 """Proves and builds the crates that a crate stands on, side by side where none waits for another.
 
-Each is a call of `rt lib` in its folder, once all below it are built: those first that the longest chain of others
-waits for, and at most one a processor. A line tells the seconds of each; what a call printed is shown where it fails,
-and then the status is 1. What an earlier call proved is kept. Usage: tools/build.py CRATE.
+Each is a call of `rt lib` in its folder, once all below it are built, and at most one a processor. Each may use all
+processors, and where these don't suffice, those come first for which the longest chain of others waits. A line tells
+the seconds of each; what a call printed is shown where it fails, and then the status is 1. What an earlier call proved
+is kept. Usage: tools/build.py CRATE.
 """
 import os
 import pathlib
@@ -33,28 +34,32 @@ def all_below(top):
     return found
 
 
-def chain_above(name, below):
-    """How many crates wait for this one in the longest chain."""
-    return 1 + max((chain_above(it, below) for it in below if name in below[it]), default=0)
+def lines_of(name):
+    """How many lines of source and of proofs a crate has, which is about how long it takes."""
+    return sum(file.read_text().count("\n") for part in ("src", "proofs") for file in (CRATES / name / part).rglob("*.*t"))
 
 
-def build(name, jobs):
+def chain_from(name, below):
+    """The lines of the longest chain of crates from this one on, of which each waits for the one before."""
+    return lines_of(name) + max((chain_from(it, below) for it in below if name in below[it]), default=0)
+
+
+def build(name, lanes, nice):
     """Proves and builds a crate, whose libraries are built: its name, the status, what was printed, and the seconds."""
     begun = time.monotonic()
-    call = subprocess.run(["rt", "lib", "--jobs", str(jobs)], cwd=CRATES / name, stdout=subprocess.PIPE,
-                          stderr=subprocess.STDOUT, text=True, errors="replace")
+    call = subprocess.run(["nice", "-n", str(nice), "rt", "lib", "--jobs", str(lanes)], cwd=CRATES / name,
+                          stdout=subprocess.PIPE, stderr=subprocess.STDOUT, text=True, errors="replace")
     return name, call.returncode, call.stdout, time.monotonic() - begun
 
 
 def build_all(below):
     """Builds the crates, and answers whether none failed."""
-    lanes = len(os.sched_getaffinity(0))
-    left, built, running = sorted(below, key=lambda it: -chain_above(it, below)), set(), set()
+    lanes, chain = len(os.sched_getaffinity(0)), {it: chain_from(it, below) for it in below}
+    left, built, running = sorted(below, key=lambda it: -chain[it]), set(), set()
     with ThreadPoolExecutor(lanes) as pool:
         while left or running:
             ready = [it for it in left if built.issuperset(below[it])][:lanes - len(running)]
-            jobs = max(1, lanes // max(1, len(running) + len(ready)))
-            running |= {pool.submit(build, it, jobs) for it in ready}
+            running |= {pool.submit(build, it, lanes, 19 - 19 * chain[it] // max(chain.values())) for it in ready}
             left = [it for it in left if it not in ready]
             done, running = wait(running, return_when=FIRST_COMPLETED)
             for name, status, said, seconds in (it.result() for it in done):
