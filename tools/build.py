@@ -1,20 +1,26 @@
 #!/usr/bin/env python3
 """Proves and builds the crates that a crate stands on, side by side where none waits for another.
 
-Each is a call of `rt lib` in its folder, once all below it are built, and at most one a processor. Each may use all
-processors, and where these don't suffice, those come first for which the longest chain of others waits. A line tells
-the seconds of each; what a call printed is shown where it fails, and then the status is 1. What an earlier call proved
-is kept. Usage: tools/build.py CRATE.
+Each is a call of `rt lib`, once all below it are built, and at most one a processor. Each may use all processors, and
+where these don't suffice, those come first for which the longest chain of others waits. rt keeps others out of a
+crate's folder and of those below it, so each call is in one of as many copies of the crates, in a temporary folder; rt
+lends what was built in one to the others, and at last to this repository. A line tells the seconds of each; what a call
+printed is shown where it fails, and then the status is 1. What an earlier call proved is kept.
+Usage: tools/build.py CRATE.
 """
 import os
 import pathlib
+import queue
 import re
+import shutil
 import subprocess
 import sys
+import tempfile
 import time
 from concurrent.futures import FIRST_COMPLETED, ThreadPoolExecutor, wait
 
-CRATES = pathlib.Path(__file__).resolve().parent.parent / "crates"
+TOP = pathlib.Path(__file__).resolve().parent.parent
+CRATES = TOP / "crates"
 
 
 def cited(name):
@@ -36,7 +42,8 @@ def all_below(top):
 
 def lines_of(name):
     """How many lines of source and of proofs a crate has, which is about how long it takes."""
-    return sum(file.read_text().count("\n") for part in ("src", "proofs") for file in (CRATES / name / part).rglob("*.*t"))
+    files = [file for part in ("src", "proofs") for file in (CRATES / name / part).rglob("*.*t")]
+    return sum(file.read_text().count("\n") for file in files)
 
 
 def chain_from(name, below):
@@ -44,22 +51,32 @@ def chain_from(name, below):
     return lines_of(name) + max((chain_from(it, below) for it in below if name in below[it]), default=0)
 
 
-def build(name, lanes, nice):
+def copied_to(room):
+    """Copies what a call reads, without what earlier calls made, and answers the folder."""
+    shutil.copytree(CRATES, room / "crates", ignore=shutil.ignore_patterns("out"))
+    for name in ("HANDLES", "crates.txt"):
+        shutil.copy(TOP / name, room)
+    return room
+
+
+def build(name, rooms, lanes, nice):
     """Proves and builds a crate, whose libraries are built: its name, the status, what was printed, and the seconds."""
-    begun = time.monotonic()
-    call = subprocess.run(["nice", "-n", str(nice), "rt", "lib", "--jobs", str(lanes)], cwd=CRATES / name,
+    begun, room = time.monotonic(), rooms.get()
+    call = subprocess.run(["nice", "-n", str(nice), "rt", "lib", "--jobs", str(lanes)], cwd=room / "crates" / name,
                           stdout=subprocess.PIPE, stderr=subprocess.STDOUT, text=True, errors="replace")
+    rooms.put(room)
     return name, call.returncode, call.stdout, time.monotonic() - begun
 
 
-def build_all(below):
+def build_all(below, rooms):
     """Builds the crates, and answers whether none failed."""
-    lanes, chain = len(os.sched_getaffinity(0)), {it: chain_from(it, below) for it in below}
-    left, built, running = sorted(below, key=lambda it: -chain[it]), set(), set()
+    lanes, chain = rooms.qsize(), {it: chain_from(it, below) for it in below}
+    nice = {it: 19 - 19 * chain[it] // max(chain.values()) for it in below}
+    left, built, running = sorted(below, key=nice.get), set(), set()
     with ThreadPoolExecutor(lanes) as pool:
         while left or running:
             ready = [it for it in left if built.issuperset(below[it])][:lanes - len(running)]
-            running |= {pool.submit(build, it, lanes, 19 - 19 * chain[it] // max(chain.values())) for it in ready}
+            running |= {pool.submit(build, it, rooms, lanes, nice[it]) for it in ready}
             left = [it for it in left if it not in ready]
             done, running = wait(running, return_when=FIRST_COMPLETED)
             for name, status, said, seconds in (it.result() for it in done):
@@ -71,6 +88,18 @@ def build_all(below):
     return True
 
 
+def build_below(top):
+    """Builds the crates below this one, and has them in this repository: the status."""
+    below, rooms = all_below(top), queue.SimpleQueue()
+    with tempfile.TemporaryDirectory(prefix="build-") as folder:
+        for number in range(len(os.sched_getaffinity(0))):
+            rooms.put(copied_to(pathlib.Path(folder) / str(number)))
+        if not build_all(below, rooms):
+            return 1
+        highest = [it for it in below if not any(it in others for others in below.values())]
+        return max((subprocess.run(["rt", "lib"], cwd=CRATES / it).returncode for it in highest), default=0)
+
+
 if len(sys.argv) != 2 or not (CRATES / sys.argv[1]).is_dir():
     sys.exit("usage: tools/build.py CRATE")
-sys.exit(0 if build_all(all_below(sys.argv[1])) else 1)
+sys.exit(build_below(sys.argv[1]))
