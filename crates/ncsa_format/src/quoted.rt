@@ -53,9 +53,11 @@ fn plain_length(bytes: &[u8]) -> usize
     bytes.len()
 }
 
-/// Adds a value, or a part of it, run by run.
+/// Adds a value, or a part of it, run by run. It is kept out of line, since few values have an escape.
+#[cold]
+#[inline(never)]
 #[tactic(auto, using(log_model::proofs::PrefixLemmas::adding))]
-pub(crate) fn put_quoted(out: &mut Vec<u8>, value: &[u8]) -> Result<(), NoMemory>
+fn put_with_escapes(out: &mut Vec<u8>, value: &[u8]) -> Result<(), NoMemory>
     ensures ok { OnOk result (out.new.items ≡ out.old.items ++ quoted value.now) }
     ensures keeps { IsPrefix out.old.items out.new.items }
 {
@@ -69,6 +71,31 @@ pub(crate) fn put_quoted(out: &mut Vec<u8>, value: &[u8]) -> Result<(), NoMemory
         put_byte(out, *byte)?;
         rest = behind;
     }
+    Ok(())
+}
+
+/// Whether all bytes are printed as they are. It looks at all of them, for which the compiler has vectors, and which is faster
+/// than to stop.
+fn are_plain(bytes: &[u8]) -> bool
+    ensures { result ≡ true → quoted bytes.now ≡ bytes.now }
+{
+    let mut plain = true;
+    for byte in bytes {
+        plain &= is_plain(*byte);
+    }
+    plain
+}
+
+/// Adds a value, or a part of it; at once where no byte of it needs an escape, as in most.
+#[tactic(auto, using(log_model::proofs::PrefixLemmas::adding))]
+pub(crate) fn put_quoted(out: &mut Vec<u8>, value: &[u8]) -> Result<(), NoMemory>
+    ensures ok { OnOk result (out.new.items ≡ out.old.items ++ quoted value.now) }
+    ensures keeps { IsPrefix out.old.items out.new.items }
+{
+    if !are_plain(value) {
+        return put_with_escapes(out, value);
+    }
+    out.extend_from_slice(value)?;
     Ok(())
 }
 

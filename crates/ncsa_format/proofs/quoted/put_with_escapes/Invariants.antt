@@ -2,7 +2,7 @@
 use Rattle.std.proofs.Common.{◌≡◌, ◌++◌, length}
 use Rattle.log_model.specs.Prefix.{IsPrefix}
 use Rattle.ncsa_format.specs.Line.{quoted}
-use Rattle.ncsa_format.proofs.quoted.put_quoted.Given as goal
+use Rattle.ncsa_format.proofs.quoted.put_with_escapes.Given as goal
 
 abbrev pub invariant-loop-rest : goal.invariant-loop-rest
 invariant-loop-rest l = record {
