@@ -127,10 +127,11 @@ while read -r text; do
     grep -qF -e "$text" "$work/rows" || fail "docs/FORMATS.md has no words that bring the message \`$text\`"
 done <"$work/texts"
 
-# Each file that a must-fail edit changes is there.
-find crates -path '*/must-fail/*.edit' ! -path '*/out/*' >"$work/edits"
+# Each file that an edit of a wrong body changes is there.
+find crates wrong -name '*.edit' ! -path '*/out/*' >"$work/edits"
 while read -r edit; do
-    crate=${edit%%/must-fail/*}
+    crate=$(dirname "$edit")
+    crate=crates/$(basename "${crate%/must-fail}")
     sed -n 's/^file: //p' "$edit" >"$work/changed"
     [ -s "$work/changed" ] || fail "$edit names no file"
     while read -r changed; do
