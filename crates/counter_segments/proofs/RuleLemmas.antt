@@ -12,7 +12,8 @@ use Rattle.atomic_table.proofs.Lists.{at_set, at_snoc, set_else, set_again}
 use Rattle.counter_segments.specs.declared.rule.View.{View}
 use Rattle.counter_segments.specs.Sums.{counter_count, most_passes, ceiling}
 use Rattle.counter_segments.specs.inside.Rule.{passes_of, sum_of, IsShare, IsSummed, first_view, with_more, without_one, one_of, plus, both_views, no_view, Adds, Looks}
-use Rattle.counter_segments.proofs.SumLemmas.{sum_set, part_le_sum, plus_at, zeros_at}
+use Rattle.log_model.proofs.SumLemmas.{sum_set, part_le_sum}
+use Rattle.counter_segments.proofs.SumLemmas.{plus_at, zeros_at}
 
 abbrev M : Type 0
 M = Me ℕ View

@@ -1,28 +1,11 @@
--- Sums over the views of all seats, where one view is changed or added.
+-- Lists of sums, number by number.
 use Rattle.std.proofs.Common.{◌≡◌, ℕ, zero, suc, ◌+◌, ◌≤◌, ◌<◌, List, [], ◌∷◌, ◌++◌, map, length, get_or, set, replicate, sym, refl, ap, ◌∙◌, arith}
-use Rattle.std.specs.Prelude.{sum_by}
 use Rattle.std.proofs.lemmas.List.{get_or-replicate, get_or_past, length-replicate}
 use Rattle.std.specs.List.{range_with_len}
 use Rattle.std.proofs.lemmas.List.FromFn.{map-range_with_len_more}
-use Rattle.std.proofs.lemmas.List.Sums.{sum_by-cons}
 use mathlib.Core.Logic.{dite}
-use mathlib.Core.Option.{some, some-injective, some-ne-none}
 use native.Mathlib.Decide.{dec_lt}
-use lib.ListN.{get_elem?}
 use Rattle.counter_segments.specs.inside.Rule.{plus}
-
-module _ {X : Type 0} (f : X → ℕ) where
-  -- the sum where one view is another
-  pub sum_set : (xs : List X) (id : ℕ) (v w : X) → get_elem? xs id ≡ some v → sum_by f (set xs id w) + f v ≡ sum_by f xs + f w
-  sum_set [] id v w at = absurd (some-ne-none v (sym at))
-  sum_set (x ∷ xs) zero v w at = let same : f x ≡ f v = ap f (some-injective x v at) in omega (arith, sum_by-cons f x xs, sum_by-cons f w xs)
-  sum_set (x ∷ xs) (suc id) v w at = let rest = sum_set xs id v w at in omega (arith, sum_by-cons f x xs, sum_by-cons f x (set xs id w))
-
-  -- a view's part of the sum is no more than the sum
-  pub part_le_sum : (xs : List X) (id : ℕ) (v : X) → get_elem? xs id ≡ some v → f v ≤ sum_by f xs
-  part_le_sum [] id v at = absurd (some-ne-none v (sym at))
-  part_le_sum (x ∷ xs) zero v at = let same : f x ≡ f v = ap f (some-injective x v at) in omega (arith, sum_by-cons f x xs)
-  part_le_sum (x ∷ xs) (suc id) v at = let rest = part_le_sum xs id v at in omega (arith, sum_by-cons f x xs)
 
 -- lists of sums are added number by number
 pub plus_at : (xs ys : List ℕ) (i : ℕ) → get_or (plus xs ys) i 0 ≡ get_or xs i 0 + get_or ys i 0

@@ -11,7 +11,7 @@ use Rattle.vsl_record.specs.Words.{unit_words}
 use Rattle.ring_layout.specs.declared.history.HistoryItem.{HistoryItem}
 use Rattle.ring_layout.specs.declared.history.HistoryItem.TheVariants.{UnitRun, Overrun}
 use Rattle.ring_layout.specs.Places.{start_at, end_at, if_some, first_in, tail_from, tail, segment_start, AreFit}
-use Rattle.ring_layout.specs.History.{last_seen, starts_below, first_number, UnitStarts, MayFollow, IsReadBack}
+use Rattle.ring_layout.specs.History.{last_seen, with_unit, starts_below, first_number, UnitStarts, MayFollow, IsReadBack}
 use Rattle.ring_layout.specs.Copied.{IsDueAt}
 use Rattle.ring_layout.proofs.PushLemmas.{start_push, tail_push}
 use Rattle.ring_layout.proofs.EntriesLemmas.{at_stay, at_wrap, wrap_last, start_there}
@@ -19,7 +19,6 @@ use Rattle.ring_layout.proofs.TakenLemmas.{start_above, starts_stays, back_stays
 use Rattle.ring_layout.proofs.AgreedLemmas.{div_up, tail_above}
 use Rattle.ring_layout.proofs.ReadingLemmas.{start_leads}
 use Rattle.ring_layout.proofs.ItemsLemmas.{run_more, run_begins}
-use Rattle.feed_schedule.specs.Schedule.{with_unit}
 
 -- the newest item is a run that ends before this unit; where it has none yet, the place is its segment's start
 abbrev pub EndsBefore : ℕ → Log → ℕ → ℕ → List (HistoryItem LogUnit) → Type 0

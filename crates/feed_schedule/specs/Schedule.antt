@@ -6,7 +6,7 @@ use Rattle.vsl_record.specs.Words.{unit_words}
 use Rattle.ring_layout.specs.declared.history.HistoryItem.{HistoryItem}
 use Rattle.ring_layout.specs.declared.history.HistoryItem.TheVariants.{UnitRun, Overrun}
 use Rattle.ring_layout.specs.Places.{tail, segment_start}
-use Rattle.ring_layout.specs.History.{first_number}
+use Rattle.ring_layout.specs.History.{first_number, with_unit}
 use Rattle.traffic_feed.specs.Turns.{first_draw, next_draw}
 
 -- what a reader met, in order: a unit that it took, or that it was overrun in a segment when the writers had come to another
@@ -79,12 +79,6 @@ abbrev pub after_writer : ℕ → Stage → Stage
 after_writer k s = record s { log = s.log ++ put_by k s.writers; writers = without_next k s.writers; reading = Reads }
 
 -- ---- the reader's turn
-
--- a unit more in the newest run
-abbrev pub with_unit : LogUnit → List (HistoryItem LogUnit) → List (HistoryItem LogUnit)
-with_unit u [] = []
-with_unit u (UnitRun r ∷ items) = UnitRun (record r { units = r.units ++ u ∷ [] }) ∷ items
-with_unit u (Overrun at seen ∷ items) = Overrun at seen ∷ items
 
 -- the reader takes the unit that is due; where there is none it waits, or has ended where all writers left
 abbrev pub after_taking : ℕ → Option LogUnit → Stage → Stage

@@ -3,7 +3,7 @@
 ghost use Rattle.std.specs.Prelude.{◌≡◌, ◌*◌, ◌^◌, ◌<◌, ◌≤◌, ℕ, List, [], ◌∷◌, map, length, replicate, Option, IsSome, IfOk};
 ghost use Rattle.std.specs.List.{All};
 ghost use Rattle.vsl_record.specs.Unit.{Log};
-ghost use Rattle.vsl_record.specs.Words.{IsUnit, unit_words};
+ghost use Rattle.vsl_record.specs.Words.{unit_words};
 ghost use Rattle.ring_layout.specs.Places.{AreFit, last_tail};
 ghost use Rattle.ring_plain.specs.Ring.{count_wraps};
 ghost use Rattle.counter_segments.specs.Sums.{counter_count, most_passes};
@@ -21,7 +21,7 @@ use ring_layout::Shape;
 use ring_plain::PlainRing;
 use std::alloc::Global;
 use traffic_feed::{Listing, Turns, count_cuts, count_unit};
-use vsl_record::Unit;
+use vsl_record::is_unit;
 
 /// Writers that put feeds into a ring, each with a pass of its own to count what it puts.
 #[derive(Drop)]
@@ -35,13 +35,6 @@ struct Counting {
     /// How many writers have not left.
     active: u32,
     turns: Option<Turns>,
-}
-
-/// A unit meets what a unit must.
-fn is_unit(unit: &Unit)
-    ensures { IsUnit unit.now }
-{
-    unit.records();
 }
 
 /// Counts what a writer puts in its turn: its next unit, or its cuts where none is left and it leaves.

@@ -3,6 +3,8 @@ pub mod PushLemmas
 pub mod EntriesLemmas
 pub mod TakenLemmas
 pub mod AgreedLemmas
+pub mod StartLemmas
 pub mod ReadingLemmas
 pub mod ItemsLemmas
 pub mod CopiesLemmas
+mod BytesLemmas

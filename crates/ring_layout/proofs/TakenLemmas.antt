@@ -34,23 +34,23 @@ module _ {U : Type 0} (words : U → List ℕ) (seg : ℕ) (pos : 0 < seg) where
   below_more t [] u p l = let s = start_above seg t (length (words u)) pos in rw (le-ltb (start_at seg t (length (words u))) p (omega arith)) (omega arith)
   below_more t (x ∷ xs) u p l = ap (λ (z : ℕ). cond (ltb (start_at seg t (length (words x))) p) 1 0 + z) (below_more (end_at seg t (length (words x))) xs u p l)
 
-  number_stays : (log : List U) (u : U) (s : ℕ) → s ≤ tail words seg log / seg → first_number words seg (log ++ u ∷ []) s ≡ first_number words seg log s
+  pub number_stays : (log : List U) (u : U) (s : ℕ) → s ≤ tail words seg log / seg → first_number words seg (log ++ u ∷ []) s ≡ first_number words seg log s
   number_stays log u s l = below_more 0 log u (s * seg) (let a : s * seg ≤ tail words seg log / seg * seg = mul-le-mul_right seg l in let b = div-mul-le_self (tail words seg log) seg in omega arith)
 
-  entry_stays : (log : List U) (u : U) (s p : ℕ) → segment_start words seg log s ≡ Some p → segment_start words seg (log ++ u ∷ []) s ≡ Some p
+  pub entry_stays : (log : List U) (u : U) (s p : ℕ) → segment_start words seg log s ≡ Some p → segment_start words seg (log ++ u ∷ []) s ≡ Some p
   entry_stays log u s p e = start_push words seg log u s ∙ ap (λ x. option_or x (first_in seg s (start_at seg (tail words seg log) (length (words u)) ∷ end_at seg (tail words seg log) (length (words u)) ∷ []))) e
 
-  tail_grows : (log : List U) (u : U) → tail words seg log / seg ≤ tail words seg (log ++ u ∷ []) / seg
+  pub tail_grows : (log : List U) (u : U) → tail words seg log / seg ≤ tail words seg (log ++ u ∷ []) / seg
   tail_grows log u = let a = start_above seg (tail words seg log) (length (words u)) pos in let b = tail_push words seg log u in let c = div-mul-le_self (tail words seg log) seg in le-div (tail words seg log / seg) (tail words seg (log ++ u ∷ [])) seg pos (omega arith)
 
-  run_stays : (log : List U) (u : U) (r : Run U) → IsRun words seg log r → IsRun words seg (log ++ u ∷ []) r
+  pub run_stays : (log : List U) (u : U) (r : Run U) → IsRun words seg log r → IsRun words seg (log ++ u ∷ []) r
   run_stays log u r h = let i = h.inside in let d = length-drop r.first log in record {
     units = h.units ∙ sym (ap (take (length r.units)) (drop-append-le r.first log (u ∷ []) (omega arith)) ∙ take-append-le (length r.units) (drop r.first log) (u ∷ []) (omega arith));
     inside = let l = length-append log (u ∷ []) in omega arith;
     segment = let g = tail_grows log u in let s = h.segment in omega arith;
   }
 
-  stands_stays : (log : List U) (u : U) (s f c p : ℕ) → f + c ≤ length log → RunStands words seg log s f c p → RunStands words seg (log ++ u ∷ []) s f c p
+  pub stands_stays : (log : List U) (u : U) (s f c p : ℕ) → f + c ≤ length log → RunStands words seg log s f c p → RunStands words seg (log ++ u ∷ []) s f c p
   stands_stays log u s f c p i h = (λ z. entry_stays log u s p (h.0 z), λ z. h.1 z ∙ sym (ap (tail words seg) (take-append-le (f + c) log (u ∷ []) i)))
 
   pub starts_stays : (log : List U) (u : U) (k p : ℕ) → UnitStarts words seg log k p → UnitStarts words seg (log ++ u ∷ []) k p

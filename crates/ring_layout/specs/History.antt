@@ -4,13 +4,19 @@ use Rattle.std.specs.Prelude.{◌≡◌, ◌≢◌, ◌⊎◌, ℕ, ◌+◌, ◌
 use Rattle.ring_layout.specs.declared.history.HistoryItem.{HistoryItem}
 use Rattle.ring_layout.specs.declared.history.HistoryItem.TheVariants.{UnitRun, Overrun}
 use Rattle.ring_layout.specs.declared.history.Run.{Run}
-use Rattle.ring_layout.specs.Places.{start_at, end_at, tail, segment_start}
+use Rattle.ring_layout.specs.Places.{overrun_distance, seek_distance, start_at, end_at, tail, segment_start}
 
 -- the counter that the newest overrun saw, or 0
 abbrev pub last_seen : {U : Type 0} → List (HistoryItem U) → ℕ
 last_seen [] = 0
 last_seen (UnitRun r ∷ is) = last_seen is
 last_seen (Overrun a b ∷ is) = b
+
+-- the newest run with one unit more
+abbrev pub with_unit : {U : Type 0} → U → List (HistoryItem U) → List (HistoryItem U)
+with_unit u [] = []
+with_unit u (UnitRun r ∷ is) = UnitRun (record r { units = r.units ++ u ∷ [] }) ∷ is
+with_unit u (Overrun a b ∷ is) = Overrun a b ∷ is
 
 module _ {U : Type 0} (words : U → List ℕ) (seg : ℕ) where
   -- how many units start below a place, of those behind a tail
@@ -41,19 +47,19 @@ module _ {U : Type 0} (words : U → List ℕ) (seg : ℕ) where
   abbrev pub MayFollow : List U → ℕ → List (HistoryItem U) → Type 0
   MayFollow log a [] = ⊥
   MayFollow log a (UnitRun r ∷ is) = (p : ℕ) × (a ≡ p / seg) × (RunStands log r.segment r.first (length r.units) p ⊎ UnitStarts log (r.first + length r.units) p)
-  MayFollow log a (Overrun a' b' ∷ is) = (a ≡ a') ⊎ (b' ≤ a + 4)
+  MayFollow log a (Overrun a' b' ∷ is) = (a ≡ a') ⊎ (b' ≤ a + seek_distance)
 
   -- a run may follow these items: the first begins with the first unit, and another after an overrun, with the first unit of a segment at most four behind
   abbrev pub MayBegin : List U → Run U → List (HistoryItem U) → Type 0
   MayBegin log r [] = (r.segment ≡ 0) × (r.first ≡ 0)
   MayBegin log r (UnitRun q ∷ is) = ⊥
-  MayBegin log r (Overrun a b ∷ is) = (b ≤ r.segment + 4) × (r.first ≡ first_number log r.segment)
+  MayBegin log r (Overrun a b ∷ is) = (b ≤ r.segment + seek_distance) × (r.first ≡ first_number log r.segment)
 
   -- the items, the newest first, may have been taken while no counter was above this one
   abbrev pub IsReadBack : ℕ → List U → List (HistoryItem U) → Type 0
   IsReadBack most log [] = Unit {0}
   IsReadBack most log (UnitRun r ∷ is) = IsRun log r × MayBegin log r is × IsReadBack most log is
-  IsReadBack most log (Overrun a b ∷ is) = (a + 6 ≤ b) × (b ≤ most) × (last_seen is ≤ b) × MayFollow log a is × IsReadBack most log is
+  IsReadBack most log (Overrun a b ∷ is) = (a + overrun_distance ≤ b) × (b ≤ most) × (last_seen is ≤ b) × MayFollow log a is × IsReadBack most log is
 
   -- the items, the oldest first, are what a reader may have taken of a whole log
   abbrev pub IsReadHistory : List U → List (HistoryItem U) → Type 0

@@ -19,6 +19,14 @@ end_mark = 1162757197
 abbrev pub wrap_mark : ℕ
 wrap_mark = 1465008464
 
+-- a cursor is overrun where the writers came so many segments ahead of its own
+abbrev pub overrun_distance : ℕ
+overrun_distance = 6
+
+-- a cursor that was overrun goes on so many segments behind the writers'
+abbrev pub seek_distance : ℕ
+seek_distance = 4
+
 -- whether a unit of w words, put at the tail t, stays in its lap
 abbrev pub stays : ℕ → ℕ → ℕ → Bool
 stays seg t w = nat_lt (t % (8 * seg) + w) (8 * seg)

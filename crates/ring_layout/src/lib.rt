@@ -10,10 +10,21 @@
 mod history;
 mod shape;
 mod steps;
+mod words;
 
 pub use history::{HistoryItem, Run};
 pub use shape::{Placed, Shape, place_after, segment_of};
 pub use steps::{PutFault, Sought, Step};
+pub use words::{WORD, copy_words, read_word, write_unit, write_word};
+
+/// How many segments a ring has.
+pub const SEGMENTS: usize = 8;
+
+/// A cursor is overrun where the writers came so many segments ahead of its own.
+pub const OVERRUN_DISTANCE: u64 = 6;
+
+/// A cursor that was overrun goes on so many segments behind the writers'.
+pub const SEEK_DISTANCE: u64 = 4;
 
 /// The word behind the last unit.
 pub const END_MARK: u32 = 0x454E_444D;

@@ -1,4 +1,3 @@
-mod BytesLemmas
 mod PutLemmas
 mod ListLemmas
 mod RingLemmas

@@ -9,7 +9,8 @@ use Rattle.ring_layout.specs.Places.{stays, start_at, end_at, if_some, first_in,
 use Rattle.ring_layout.proofs.EntriesLemmas.{at_stay, at_wrap, two_ahead}
 use Rattle.ring_layout.proofs.TakenLemmas.{start_above}
 use Rattle.ring_layout.proofs.AgreedLemmas.{free_place, free_segment, div_up, or_some, if_true, some_same}
-use Rattle.ring_plain.specs.inside.Stores.{with_start, with_words, with_wrap, words_with}
+use Rattle.ring_layout.specs.Stretch.{with_words}
+use Rattle.ring_plain.specs.inside.Stores.{with_start, with_wrap, words_with}
 use Rattle.ring_plain.proofs.PutLemmas.{IsPut}
 
 -- ---- an element that is set under a test

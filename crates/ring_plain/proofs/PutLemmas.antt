@@ -9,6 +9,7 @@ use Rattle.ring_layout.specs.Content.{HoldsLog}
 use Rattle.ring_layout.proofs.PushLemmas.{tail_push, words_push, start_push}
 use Rattle.ring_layout.proofs.EntriesLemmas.{start_there}
 use Rattle.ring_layout.proofs.TakenLemmas.{start_above}
+use Rattle.ring_layout.proofs.StartLemmas.{start_below}
 use Rattle.ring_layout.proofs.AgreedLemmas.{div_up, or_some, if_true, placed_is, tail_above, body_below}
 
 module _ {U : Type 0} (words : U → List ℕ) (seg : ℕ) where
@@ -22,21 +23,6 @@ module _ {U : Type 0} (words : U → List ℕ) (seg : ℕ) where
     pub other_words : (q : ℕ) → q < t → end_at seg t (length (words u)) / seg < q / seg + 8 → word' (q % (8 * seg)) ≡ word (q % (8 * seg))
 
 module _ {U : Type 0} (words : U → List ℕ) (seg : ℕ) (pos : 0 < seg) where
-  -- no segment behind the tail's has a start
-  ends_below : (t : ℕ) (us : List U) (s p : ℕ) → first_in seg s (ends_from words seg t us) ≡ Some p → s ≤ tail_from words seg t us / seg
-  ends_below t [] s p e = cc e
-  ends_below t (u ∷ us) s p e =
-      let st : ℕ = start_at seg t (length (words u)) in
-      let n : ℕ = end_at seg t (length (words u)) in
-      let up = tail_above words seg pos n us in
-      let upto : (q : ℕ) → q ≤ n → if_some (eqb (q / seg) s) q ≡ Some p → s ≤ tail_from words seg n us / seg = λ q l h. let same = eqb-true (q / seg) s (if_true h).0 in let z = div_up seg q (tail_from words seg n us) pos (omega arith) in omega arith in
-      ⊎_elim (upto st (omega arith)) (λ (h : option_or (if_some (eqb (n / seg) s) n) (first_in seg s (ends_from words seg n us)) ≡ Some p). ⊎_elim (upto n (omega arith)) (ends_below n us s p) (or_some h)) (or_some e)
-
-  start_below : (log : List U) (s p : ℕ) → segment_start words seg log s ≡ Some p → s ≤ tail words seg log / seg
-  start_below log s p e = ⊎_elim
-      (λ (h : if_some (eqb (0 / seg) s) 0 ≡ Some p). let same = eqb-true (0 / seg) s (if_true h).0 in let z = div_up seg 0 (tail words seg log) pos (omega arith) in omega arith)
-      (ends_below 0 log s p) (or_some e)
-
   -- the ring has the longer log
   pub put_holds : (log : List U) (u : U) (ent ent' word word' : ℕ → ℕ) → AreFit words seg log → 0 < length (words u) → length (words u) ≤ seg → HoldsLog words seg log (tail words seg log / seg) ent word
       → IsPut words seg (tail words seg log) u ent ent' word word' → HoldsLog words seg (log ++ u ∷ []) (end_at seg (tail words seg log) (length (words u)) / seg) ent' word'
@@ -53,7 +39,7 @@ module _ {U : Type 0} (words : U → List ℕ) (seg : ℕ) (pos : 0 < seg) where
             let same : Some p ≡ Some there.0 = sym i ∙ (start_push words seg log u s ∙ ap (λ x. option_or x (first_in seg s (st ∷ n ∷ []))) there.1) in
             put.other_starts s old m ∙ a.segment_starts s p old (omega arith) (there.1 ∙ sym same))
             (λ new. ⊎_elim
-            (λ (h : segment_start words seg log s ≡ Some p). let z = start_below log s p h in absurd (omega arith))
+            (λ (h : segment_start words seg log s ≡ Some p). let z = start_below words seg pos log s p h in absurd (omega arith))
             (λ (h : first_in seg s (st ∷ n ∷ []) ≡ Some p). put.starts s p (omega arith) h)
             (or_some (sym (start_push words seg log u s) ∙ i)));
         word_at = λ q x i m. ⊎_elim

@@ -7,6 +7,7 @@ use Rattle.vsl_record.proofs.Steps.{all_append}
 use Rattle.ring_layout.specs.Places.{IsSegment, last_tail, stays, start_at, end_at, tail_from, if_some, first_in, tail, AreFit, end_mark}
 use Rattle.ring_layout.specs.Content.{HoldsLog}
 use Rattle.ring_layout.proofs.PushLemmas.{tail_push}
+use Rattle.ring_layout.proofs.StartLemmas.{empty_holds}
 use Rattle.ring_layout.proofs.AgreedLemmas.{or_some, if_true}
 use Rattle.ring_plain.specs.Ring.{RingState, IsRingOf, wraps_from, count_wraps}
 use Rattle.ring_plain.specs.inside.Stores.{with_start, words_with, ring_with}
@@ -15,24 +16,6 @@ use Rattle.ring_plain.proofs.ListLemmas.{length-set_if, put_stored, length-words
 
 zero_div : (n : ℕ) → 0 < n → 0 / n ≡ 0
 zero_div n pos = let b : 0 / n < 1 = div_below 0 n 1 pos (omega arith) in omega arith
-
-zero_times : (n : ℕ) → 0 ≡ 0 * n + 0
-zero_times n = omega arith
-
--- a ring of zeros and the end mark holds no unit
-new_holds : (seg : ℕ) (starts ring : List ℕ) → 0 < seg → get_or starts 0 0 ≡ 0 → get_or ring 0 0 ≡ end_mark → HoldsLog unit_words seg [] 0 (λ i. get_or starts i 0) (λ i. get_or ring i 0)
-new_holds seg starts ring pos start mark = record {
-  segment_starts = λ s p l m e.
-      let z = zero_div seg pos in
-      let s_is : s ≡ 0 = omega arith in
-      let p_is : 0 ≡ p = ⊎_elim (λ (h : if_some (eqb (0 / seg) s) 0 ≡ Some p). (if_true h).1) (λ (h : first_in seg s [] ≡ Some p). cc h) (or_some e) in
-      ap (λ (k : ℕ). get_or starts (k % 8) 0) s_is ∙ (start ∙ p_is);
-  word_at = λ q x e m.
-      let f = if_true e in
-      let q_is : q ≡ 0 = eqb-true q 0 f.0 in
-      let first : 0 % (8 * seg) ≡ 0 = ap (λ (k : ℕ). k % (8 * seg)) (zero_times (8 * seg)) ∙ mod-mul-add 0 (8 * seg) 0 (omega arith) in
-      ap (λ (k : ℕ). get_or ring (k % (8 * seg)) 0) q_is ∙ (ap (λ (k : ℕ). get_or ring k 0) first ∙ (mark ∙ f.1));
-}
 
 pub new_log : (ring : RingState) → IsSegment ring.seg → length ring.starts ≡ 8 → length ring.words ≡ 8 * ring.seg → ring.tail ≡ 0 → ring.counter ≡ 0 → ring.wraps ≡ 0 → get_or ring.starts 0 0 ≡ 0 → get_or ring.words 0 0 ≡ end_mark → IsRingOf ring []
 new_log ring segment eight lap tail_is counter_is wraps_are start mark =
@@ -47,7 +30,7 @@ new_log ring segment eight lap tail_is counter_is wraps_are start mark =
       low = omega arith;
       counter_is = counter_is ∙ (sym z ∙ ap (λ (k : ℕ). k / ring.seg) (sym tail_is));
       wraps_are = wraps_are;
-      holds = subst (λ (c : ℕ). HoldsLog unit_words ring.seg [] c (λ i. get_or ring.starts i 0) (λ i. get_or ring.words i 0)) (sym counter_is) (new_holds ring.seg ring.starts ring.words (omega arith) start mark);
+      holds = subst (λ (c : ℕ). HoldsLog unit_words ring.seg [] c (λ i. get_or ring.starts i 0) (λ i. get_or ring.words i 0)) (sym counter_is) (empty_holds unit_words ring.seg (omega arith) (λ i. get_or ring.starts i 0) (λ i. get_or ring.words i 0) start mark);
     }
 
 fit_push : (seg : ℕ) (log : Log) (u : LogUnit) → AreFit unit_words seg log → length (unit_words u) ≤ seg → AreFit unit_words seg (log ++ u ∷ [])

@@ -5,7 +5,7 @@ use Rattle.vsl_record.specs.Words.{unit_words}
 use Rattle.vsl_record.specs.Views.{Spells}
 use Rattle.ring_layout.specs.declared.steps.Step.{Step}
 use Rattle.ring_layout.specs.declared.steps.Step.TheVariants.{Took, NotYet, Ended, Lost}
-use Rattle.ring_layout.specs.Places.{tail, segment_start}
+use Rattle.ring_layout.specs.Places.{overrun_distance, tail, segment_start}
 use Rattle.ring_layout.specs.History.{first_number}
 use Rattle.ring_layout.specs.Copied.{IsDueAt}
 use Rattle.ring_plain.specs.Ring.{RingState}
@@ -16,14 +16,6 @@ pub record CursorState : Type 0 where
   pub place : ℕ
   pub lost : Option ℕ
   pub words : List ℕ
-
--- a cursor is overrun where the tail came so many segments ahead of its own
-abbrev pub overrun_distance : ℕ
-overrun_distance = 6
-
--- a cursor that was overrun goes on so many segments behind the tail's
-abbrev pub seek_distance : ℕ
-seek_distance = 4
 
 -- the cursor stands where the k-th unit of a log is due
 pub record Stands (cursor : CursorState) (log : Log) (k : ℕ) : Type 0 where

@@ -3,22 +3,16 @@
 ghost use Rattle.std.specs.Prelude.{◌≡◌, ◌+◌, ◌-◌, ◌*◌, ◌%◌, ◌≤◌, ◌<◌, ℕ, [], length, None, Some, IsSome, is_some, IfOk};
 ghost use Rattle.vsl_record.specs.Unit.{LogUnit, Log};
 ghost use Rattle.vsl_record.specs.Views.{Spells};
+ghost use Rattle.ring_layout.specs.Places.{seek_distance};
 ghost use Rattle.ring_plain.specs.Ring.{IsRingOf};
-ghost use Rattle.ring_plain.specs.Cursor.{Answers, IsOverrun, overrun_at, Stands, StandsAtStart, seek_distance};
+ghost use Rattle.ring_plain.specs.Cursor.{Answers, IsOverrun, overrun_at, Stands, StandsAtStart};
 
 use crate::ring::PlainRing;
-use crate::words::WORD;
 use log_model::NoMemory;
-use ring_layout::{Shape, Sought, Step, segment_of};
+use ring_layout::{OVERRUN_DISTANCE, SEEK_DISTANCE, Shape, Sought, Step, WORD, segment_of};
 use std::alloc::Global;
 use std::marker::Model;
 use vsl_record::UnitView;
-
-/// A cursor is overrun where the tail came so many segments ahead of its own.
-const OVERRUN_DISTANCE: u64 = 6;
-
-/// A cursor that was overrun goes on so many segments behind the tail's.
-const SEEK_DISTANCE: u64 = 4;
 
 /// Reads a ring on the thread that puts into it. Contracts see its state.
 #[derive(Drop)]

@@ -8,9 +8,7 @@
 #![tactic(auto)]
 
 mod cursor;
-mod laws;
 mod ring;
-mod words;
 
 pub use cursor::PlainCursor;
 pub use ring::PlainRing;

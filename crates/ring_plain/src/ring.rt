@@ -7,20 +7,18 @@ ghost use Rattle.vsl_record.specs.Words.{unit_words, words_in};
 ghost use Rattle.ring_layout.specs.Places.{last_tail, stays, start_at, end_at, end_mark};
 ghost use Rattle.ring_layout.specs.Copied.{IsDueAt};
 ghost use Rattle.ring_plain.specs.Ring.{IsRingOf, put_fault};
-ghost use Rattle.ring_plain.specs.Cursor.{overrun_distance};
+ghost use Rattle.ring_layout.specs.Places.{overrun_distance};
 ghost use Rattle.ring_plain.specs.inside.Due.{unit_place, IsDue};
 ghost use Rattle.ring_plain.specs.inside.Stores.{with_start, words_with, ring_with};
 
-use crate::laws::is_unit;
-use crate::words::{WORD, copy_words, read_word, write_unit, write_word};
 use log_model::NoMemory;
-use ring_layout::{END_MARK, Placed, PutFault, Shape, WRAP_MARK, place_after, segment_of};
+use ring_layout::{
+    END_MARK, Placed, PutFault, SEGMENTS, Shape, WORD, WRAP_MARK, copy_words, place_after,
+    read_word, segment_of, write_unit, write_word,
+};
 use std::alloc::Global;
 use std::marker::Model;
-use vsl_record::Unit;
-
-/// How many segments a ring has.
-const SEGMENTS: usize = 8;
+use vsl_record::{Unit, is_unit};
 
 /// A unit's header is its top byte so many times, and its number of words below that.
 const TOP_BYTE: u32 = 16_777_216;

@@ -6,10 +6,19 @@ ghost use Rattle.vsl_record.specs.Unit.{LogUnit};
 ghost use Rattle.vsl_record.specs.WordFaults.{FirstFault};
 ghost use Rattle.vsl_record.specs.Words.{IsUnit, unit_words};
 
+use crate::unit::Unit;
+
 /// Bytes are below 256.
 pub(crate) fn are_bytes(bytes: &[u8])
     ensures { (i : ℕ) → slice_index bytes.now i < 256 }
 {}
+
+/// A unit meets what a unit must.
+pub fn is_unit(unit: &Unit)
+    ensures { IsUnit unit.now }
+{
+    unit.records();
+}
 
 /// Each unit has one spelling, and no spelling begins another.
 pub fn one_spelling()

@@ -10,6 +10,7 @@
 //! Source: vsl(7); the words are this project's choice.
 #![tactic(auto)]
 
+mod each_word;
 mod fault;
 mod laws;
 mod mark;
@@ -23,8 +24,9 @@ mod views;
 mod words;
 mod writing;
 
+pub use each_word::UnitWords;
 pub use fault::{RecordFault, UnitFault, WordFault};
-pub use laws::{every_words, one_fault, one_spelling};
+pub use laws::{every_words, is_unit, one_fault, one_spelling};
 pub use mark::Mark;
 pub use payload::{MAX_PAYLOAD, Payload};
 pub use reading::read_unit_bytes;

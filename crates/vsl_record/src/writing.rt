@@ -46,7 +46,7 @@ impl Unit {
     }
 
     /// The first word, which counts all.
-    fn header_word(&self) -> u32
+    pub(crate) fn header_word(&self) -> u32
         ensures { result ≡ header_mark + length (unit_words self.now) }
     {
         HEADER_MARK + self.words() as u32
@@ -55,14 +55,14 @@ impl Unit {
 
 impl Record {
     /// The first word: the tag and the payload's length.
-    fn head_word(&self) -> u32
+    pub(crate) fn head_word(&self) -> u32
         ensures { result ≡ 16777216 * self.now.tag + length self.now.payload }
     {
         TOP_BYTE * u32::from(self.tag.number()) + self.payload.as_slice().len() as u32
     }
 
     /// The second word: the VXID and the mark.
-    fn id_word(&self, vxid: Vxid) -> u32
+    pub(crate) fn id_word(&self, vxid: Vxid) -> u32
         requires { vxid < vxid_end }
         ensures { result ≡ vxid + mark_bits self.now.mark }
     {
@@ -96,16 +96,6 @@ impl Record {
         write_at(out, at + 8, payload);
         write_at(out, at + 8 + payload.len(), padding);
         8 + payload.len() + padding.len()
-    }
-
-    /// Adds the record's words, in a unit of this VXID.
-    fn push_words(&self, vxid: Vxid, words: &mut Vec<u32>) -> Result<(), NoMemory>
-        requires { vxid < vxid_end }
-        ensures { OnOk result (words.new.items ≡ words.old.items ++ record_words vxid self.now) }
-    {
-        words.push(self.head_word())?;
-        words.push(self.id_word(vxid))?;
-        push_payload(self.payload.as_slice(), words)
     }
 }
 
@@ -159,7 +149,7 @@ fn payload_word(bytes: &[u8], place: usize) -> u32
 }
 
 /// The first word of a payload's, or 0 where it has none.
-fn first_packed(bytes: &[u8]) -> u32
+pub(crate) fn first_packed(bytes: &[u8]) -> u32
     ensures { result ≡ slice_index (packed bytes.now) 0 }
 {
     match bytes {
@@ -171,29 +161,14 @@ fn first_packed(bytes: &[u8]) -> u32
     }
 }
 
-/// Adds the words of a payload.
-fn push_payload(bytes: &[u8], words: &mut Vec<u32>) -> Result<(), NoMemory>
-    ensures { OnOk result (words.new.items ≡ words.old.items ++ packed bytes.now) }
-{
-    let mut rest = bytes;
-    while let [a, b, c, d, after @ ..] = rest {
-        words.push(u32::from_le_bytes([*a, *b, *c, *d]))?;
-        rest = after;
-    }
-    if !rest.is_empty() {
-        words.push(first_packed(rest))?;
-    }
-    Ok(())
-}
-
 /// The words of a unit.
 pub fn unit_words(alloc: Global, unit: &Unit) -> Result<Vec<u32>, NoMemory>
     ensures { IfOk result (λ words. words.items ≡ unit_words unit.now) }
 {
     let mut words = Vec::with_capacity(alloc, unit.words())?;
-    words.push(unit.header_word())?;
-    for rec in unit.records() {
-        rec.push_words(unit.vxid(), &mut words)?;
+    let mut left = unit.each_word();
+    while let Some(word) = left.next() {
+        words.push(word)?;
     }
     Ok(words)
 }

@@ -1,13 +1,10 @@
 -- What a put stores (this project's choice).
-use Rattle.std.specs.Prelude.{ℕ, ◌+◌, ◌*◌, ◌/◌, ◌%◌, nat_lt, not, if◌then◌else◌, List, ◌++◌, length, take, drop, slice_set}
+use Rattle.std.specs.Prelude.{ℕ, ◌+◌, ◌*◌, ◌/◌, ◌%◌, nat_lt, not, if◌then◌else◌, List, length, slice_set}
 use Rattle.vsl_record.specs.Unit.{LogUnit}
 use Rattle.vsl_record.specs.Words.{unit_words}
+use Rattle.ring_layout.specs.Stretch.{with_words}
 use Rattle.ring_layout.specs.Places.{stays, start_at, end_at, end_mark, wrap_mark}
 use Rattle.ring_plain.specs.Ring.{RingState}
-
--- words, with others over them from a place on
-abbrev pub with_words : ℕ → List ℕ → List ℕ → List ℕ
-with_words place new words = take place words ++ new ++ drop (place + length new) words
 
 -- the starts of segments, with a place as the start of its segment where that is behind the counter
 abbrev pub with_start : ℕ → ℕ → ℕ → List ℕ → List ℕ

@@ -1,8 +1,10 @@
--- the words so far are those of the header and of the records so far
-use Rattle.std.proofs.Common.{◌≡◌, ◌+◌, ◌∷◌, length, take}
-use Rattle.std.specs.List.{flat_map}
-use Rattle.vsl_record.specs.Words.{header_mark, record_words, unit_words}
+-- the words so far, and those that are left
+use Rattle.std.proofs.Common.{◌≡◌, ◌++◌, length}
+use Rattle.vsl_record.specs.Words.{unit_words}
 use Rattle.vsl_record.proofs.writing.unit_words.Given as goal
 
-abbrev pub invariant-loop-rec : goal.invariant-loop-rec
-invariant-loop-rec l = l.words.items ≡ (header_mark + length (unit_words l.unit)) ∷ flat_map (record_words l.unit.vxid) (take l.rec-index l.unit.records)
+abbrev pub invariant-loop-word : goal.invariant-loop-word
+invariant-loop-word l = l.words.items ++ l.left ≡ unit_words l.unit
+
+abbrev pub decreases-loop-word : goal.decreases-loop-word
+decreases-loop-word l = length l.left

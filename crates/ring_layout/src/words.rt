@@ -2,16 +2,15 @@
 
 ghost use Rattle.std.specs.Prelude.{◌≡◌, ◌+◌, ◌*◌, ◌≤◌, ◌<◌, ◌++◌, length, slice_index, slice_set, take, drop};
 ghost use Rattle.vsl_record.specs.Words.{unit_words, words_in};
-ghost use Rattle.ring_plain.specs.inside.Stores.{with_words};
+ghost use Rattle.ring_layout.specs.Stretch.{with_words};
 
-use crate::laws::is_unit;
-use vsl_record::Unit;
+use vsl_record::{Unit, is_unit};
 
 /// How many bytes a word has.
-pub(crate) const WORD: usize = 4;
+pub const WORD: usize = 4;
 
 /// The word at this place.
-pub(crate) fn read_word(bytes: &[u8], place: usize) -> u32
+pub fn read_word(bytes: &[u8], place: usize) -> u32
     requires { 4 * place + 4 ≤ length bytes.now }
     ensures { result ≡ slice_index (words_in bytes.now) place }
 {
@@ -23,9 +22,10 @@ pub(crate) fn read_word(bytes: &[u8], place: usize) -> u32
 }
 
 /// Writes a word at this place.
-pub(crate) fn write_word(bytes: &mut [u8], place: usize, word: u32)
+pub fn write_word(bytes: &mut [u8], place: usize, word: u32)
     requires { 4 * place + 4 ≤ length bytes.old }
-    ensures { words_in bytes.new ≡ slice_set (words_in bytes.old) place word }
+    ensures words { words_in bytes.new ≡ slice_set (words_in bytes.old) place word }
+    ensures size { length bytes.new ≡ length bytes.old }
 {
     let (_, behind) = bytes.split_at_mut(WORD * place);
     let (here, _) = behind.split_at_mut(WORD);
@@ -33,7 +33,7 @@ pub(crate) fn write_word(bytes: &mut [u8], place: usize, word: u32)
 }
 
 /// Writes the words of a unit, which are so many, from this place on.
-pub(crate) fn write_unit(bytes: &mut [u8], place: usize, count: usize, unit: &Unit)
+pub fn write_unit(bytes: &mut [u8], place: usize, count: usize, unit: &Unit)
     requires count { count ≡ length (unit_words unit.now) }
     requires room { 4 * (place + count) ≤ length bytes.old }
     ensures { words_in bytes.new ≡ with_words place (unit_words unit.now) (words_in bytes.old) }
@@ -45,7 +45,7 @@ pub(crate) fn write_unit(bytes: &mut [u8], place: usize, count: usize, unit: &Un
 }
 
 /// Copies so many words from this place on into the first bytes.
-pub(crate) fn copy_words(to: &mut [u8], bytes: &[u8], place: usize, count: usize)
+pub fn copy_words(to: &mut [u8], bytes: &[u8], place: usize, count: usize)
     requires from { 4 * (place + count) ≤ length bytes.now }
     requires to { 4 * count ≤ length to.old }
     ensures { words_in (take (4 * count) to.new) ≡ take count (drop place (words_in bytes.now)) }

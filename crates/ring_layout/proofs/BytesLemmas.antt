@@ -5,7 +5,7 @@ use Rattle.std.proofs.lemmas.List.{length-take-le, drop-drop, get_or-drop, set_s
 use Rattle.vsl_record.specs.Words.{word_bytes, words_in}
 use Rattle.vsl_record.proofs.Steps.{IsWords, below_cons}
 use Rattle.vsl_record.proofs.WordLemmas.{length-words_in, words_in-take, words_in-drop, words_in-word_bytes}
-use Rattle.ring_plain.specs.inside.Stores.{with_words}
+use Rattle.ring_layout.specs.Stretch.{with_words}
 
 -- the words behind whole words
 words_in-append : (k : ℕ) (xs ys : List ℕ) → length xs ≡ 4 * k → words_in (xs ++ ys) ≡ words_in xs ++ words_in ys

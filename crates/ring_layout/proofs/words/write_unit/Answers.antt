@@ -1,8 +1,8 @@
 use Rattle.std.proofs.Common.{rules, ◌≡◌, ℕ, ◌*◌, List, ◌++◌, take, drop, sym, ap, ◌∙◌}
 use Rattle.vsl_record.specs.Words.{unit_words, word_bytes, words_in}
 use Rattle.vsl_record.proofs.UnitReadingLemmas.{unit_words_small}
-use Rattle.ring_plain.proofs.BytesLemmas.{words_written}
-use Rattle.ring_plain.proofs.words.write_unit.Goals as goal
+use Rattle.ring_layout.proofs.BytesLemmas.{words_written}
+use Rattle.ring_layout.proofs.words.write_unit.Goals as goal
 
 pub returns : goal.returns
 returns c =

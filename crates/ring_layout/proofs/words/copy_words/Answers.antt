@@ -2,7 +2,7 @@ use Rattle.std.proofs.Common.{rules, ◌≡◌, ℕ, ◌*◌, List, take, drop, 
 use Rattle.std.proofs.lemmas.List.{take_at}
 use Rattle.vsl_record.specs.Words.{words_in}
 use Rattle.vsl_record.proofs.WordLemmas.{words_in-take, words_in-drop}
-use Rattle.ring_plain.proofs.words.copy_words.Goals as goal
+use Rattle.ring_layout.proofs.words.copy_words.Goals as goal
 
 pub returns : goal.returns
 returns c =

@@ -1,0 +1,80 @@
+//! The words of a unit, taken one by one.
+
+ghost use Rattle.std.specs.Prelude.{◌≡◌, ◌∷◌, [], drop, IfSome, IfNone};
+ghost use Rattle.vsl_record.specs.Words.{packed, unit_words};
+
+use crate::record_type::Record;
+use crate::unit::{Unit, Vxid};
+use crate::writing::first_packed;
+use std::marker::Model;
+
+/// The words of a unit from its header on, each record looked at once. Contracts see those that are left.
+#[derive(Drop)]
+pub struct UnitWords<'a> {
+    vxid: Vxid,
+    /// The word before the payload: a unit's header, or a record's second word.
+    pending: Option<u32>,
+    /// What is left of a record's payload.
+    payload: &'a [u8],
+    /// The records behind it.
+    records: &'a [Record],
+}
+
+impl<'a> Model for UnitWords<'a> {
+    ghost use Rattle.std.specs.Prelude.{List, ℕ, ◌<◌, ◌++◌, option_to_list};
+    ghost use Rattle.std.specs.List.{flat_map};
+    ghost use Rattle.vsl_record.specs.Unit.{vxid_end};
+    ghost use Rattle.vsl_record.specs.Words.{packed, record_words};
+
+    ghost Value = { List ℕ };
+
+    ghost view = { λ w. option_to_list w.pending ++ packed w.payload.now ++ flat_map (record_words w.vxid) w.records.now };
+
+    ghost invariant = { λ w. w.vxid < vxid_end };
+}
+
+impl Unit {
+    /// The words of the unit, from its header on.
+    pub fn each_word(&self) -> UnitWords<'_>
+        ensures { result ≡ unit_words self.now }
+    {
+        UnitWords {
+            vxid: self.vxid(),
+            pending: Some(self.header_word()),
+            payload: &[],
+            records: self.records(),
+        }
+    }
+}
+
+impl UnitWords<'_> {
+    /// Takes the next word.
+    pub fn next(&mut self) -> Option<u32>
+        ensures word { IfSome result (λ word. self.old ≡ word ∷ self.new) }
+        ensures none { IfNone result (self.old ≡ []) }
+    {
+        if let Some(word) = self.pending.take() {
+            return Some(word);
+        }
+        if !self.payload.is_empty() {
+            let word = first_packed(self.payload);
+            self.payload = behind_first(self.payload);
+            return Some(word);
+        }
+        let (first, others) = self.records.split_first()?;
+        self.records = others;
+        self.pending = Some(first.id_word(self.vxid));
+        self.payload = first.payload.as_slice();
+        Some(first.head_word())
+    }
+}
+
+/// What is left of a payload behind its first word.
+fn behind_first(bytes: &[u8]) -> &[u8]
+    ensures { packed result.now ≡ drop 1 (packed bytes.now) }
+{
+    match bytes {
+        [_, _, _, _, rest @ ..] => rest,
+        _ => &[],
+    }
+}
