@@ -1,0 +1,170 @@
+-- What a reader answers after a check.
+use Rattle.std.proofs.Common.{◌≡◌, ℕ, ◌+◌, ◌*◌, ◌/◌, ◌%◌, ◌<◌, ◌≤◌, List, [], ◌∷◌, ◌++◌, length, take, drop, sym, refl, ap, ◌∙◌, subst, ⊎_elim, arith, Option, Some, None, le-leb}
+use Rattle.std.proofs.lemmas.Nat.{mod-mul-add}
+use Rattle.std.proofs.lemmas.List.{take_at}
+use Rattle.vsl_record.specs.Words.{unit_words, words_in}
+use Rattle.vsl_record.proofs.WordLemmas.{words_in-take}
+use Rattle.ring_layout.specs.declared.history.HistoryItem.TheVariants.{Overrun}
+use Rattle.ring_layout.specs.declared.steps.Step.{Step}
+use Rattle.ring_layout.specs.declared.steps.Step.TheVariants.{Took, NotYet, Ended, Lost}
+use Rattle.ring_layout.specs.Places.{end_mark}
+use Rattle.ring_layout.specs.History.{with_unit}
+use Rattle.log_ring.specs.declared.rule.RingKey.{RingKey}
+use Rattle.log_ring.specs.declared.rule.ReaderView.{ReaderView}
+use Rattle.log_ring.specs.declared.rule.Observation.{Observation}
+use Rattle.log_ring.specs.declared.rule.Observation.TheVariants.{CounterSeen, FinishedSeen, WordSeen}
+use Rattle.log_ring.specs.Ring.{RingSet, ReaderState, IsAnswer, HasFound, HasMoved}
+use Rattle.log_ring.specs.inside.Steps.{FoundWord, HasChecked, HasTried}
+use Rattle.log_ring.specs.inside.Rule.{unchecked_words, overrun_at, with_end, Checks, FindsEnd, FindsLap, FindsUnit, FindsNothing}
+
+-- a reader that was overrun
+pub lost_answer : (old new : ReaderState) (at seen : ℕ) → new.reader ≡ overrun_at at seen old.reader → at + 6 ≤ seen → IsAnswer old (Lost at seen) new
+lost_answer old new at seen is far = (ap (λ (r : ReaderView). r.items) is, ap (λ (r : ReaderView). r.lost) is, ap (λ (r : ReaderView). r.loaded) is, far)
+
+module _ (T : RingKey → ℕ → ReaderView → ReaderView → Type 0) (key : RingKey) (x at : ℕ) (old new : ReaderState) where
+  pub far_answer : Checks T key x old.reader new.reader → at ≡ old.reader.place / key.seg → at + 6 ≤ x → IsAnswer old (Lost at x) new
+  far_answer told is far = ⊎_elim
+      (λ (t : (old.reader.place / key.seg + 6 ≤ x) × (new.reader ≡ overrun_at (old.reader.place / key.seg) x old.reader)). lost_answer old new at x (t.1 ∙ ap (λ (z : ℕ). overrun_at z x old.reader) (sym is)) far)
+      (λ (t : (x < old.reader.place / key.seg + 6) × T key x old.reader new.reader). let near = t.0 in absurd (omega arith)) told
+
+  pub near_told : Checks T key x old.reader new.reader → at ≡ old.reader.place / key.seg → x < at + 6 → T key x old.reader new.reader
+  near_told told is near = ⊎_elim
+      (λ (t : (old.reader.place / key.seg + 6 ≤ x) × (new.reader ≡ overrun_at (old.reader.place / key.seg) x old.reader)). let far = t.0 in absurd (omega arith))
+      (λ (t : (x < old.reader.place / key.seg + 6) × T key x old.reader new.reader). t.1) told
+
+-- where no log's word was found, it was overrun
+pub nothing_answer : (key : RingKey) (x at : ℕ) (old new : ReaderState) → Checks FindsNothing key x old.reader new.reader → at ≡ old.reader.place / key.seg → IsAnswer old (Lost at x) new
+nothing_answer key x at old new told is = ⊎_elim
+    (λ (t : (old.reader.place / key.seg + 6 ≤ x) × (new.reader ≡ overrun_at (old.reader.place / key.seg) x old.reader)). let far = t.0 in lost_answer old new at x (t.1 ∙ ap (λ (z : ℕ). overrun_at z x old.reader) (sym is)) (omega arith))
+    (λ (t : (x < old.reader.place / key.seg + 6) × FindsNothing key x old.reader new.reader). absurd t.1) told
+
+module _ (key : RingKey) (x at : ℕ) (old new : ReaderState) (told : Checks FindsEnd key x old.reader new.reader) (is : at ≡ old.reader.place / key.seg) (near : x < at + 6) (seg : old.ring.seg ≡ key.seg) (writers : old.ring.writers ≡ key.writers) (free : old.reader.lost ≡ None) where
+  end_is : new.reader ≡ with_end key x old.reader
+  end_is = near_told FindsEnd key x at old new told is near
+
+  loaded_near : new.reader.loaded < old.reader.place / old.ring.seg + 6
+  loaded_near = let loaded = ap (λ (r : ReaderView). r.loaded) end_is in let same : old.reader.place / key.seg ≡ old.reader.place / old.ring.seg = ap (λ (z : ℕ). old.reader.place / z) (sym seg) in omega arith
+
+  pub ended_answer : key.writers ≤ old.reader.finished_seen → IsAnswer old Ended new
+  ended_answer all =
+      let place : new.reader.place ≡ old.reader.place = ap (λ (r : ReaderView). r.place) end_is in
+      let finished_seen : new.reader.finished_seen ≡ old.reader.finished_seen = ap (λ (r : ReaderView). r.finished_seen) end_is in (
+        ap (λ (r : ReaderView). r.items) end_is,
+        ap (λ (r : ReaderView). r.ended) end_is ∙ le-leb key.writers old.reader.finished_seen all,
+        ap (λ (r : ReaderView). r.lost) end_is ∙ free,
+        omega arith,
+        subst (λ (z : ℕ). new.reader.loaded < z / old.ring.seg + 6) (sym place) loaded_near,
+      )
+
+  pub not_yet_answer : old.reader.finished_seen < key.writers → (p : ℕ) → p ≡ old.reader.place → IsAnswer old (NotYet p) new
+  not_yet_answer some_left p p_is =
+      let finished_seen : new.reader.finished_seen ≡ old.reader.finished_seen = ap (λ (r : ReaderView). r.finished_seen) end_is in (
+        ap (λ (r : ReaderView). r.items) end_is,
+        ap (λ (r : ReaderView). r.lost) end_is ∙ free,
+        omega arith,
+        subst (λ (z : ℕ). new.reader.loaded < z / old.ring.seg + 6) (sym p_is) loaded_near,
+      )
+
+-- the cursor went on at the next lap
+pub lap_moved : (key : RingKey) (x at seg : ℕ) (old new : ReaderState) → Checks FindsLap key x old.reader new.reader → at ≡ old.reader.place / key.seg → x < at + 6 → key.seg ≡ seg → 0 < seg → old.reader.lost ≡ None
+    → (new.reader.lost ≡ None) × (new.reader.items ≡ old.reader.items) × (new.reader.place % (8 * seg) ≡ 0)
+lap_moved key x at seg old new told is near same pos free =
+    let t = near_told FindsLap key x at old new told is near in
+    let zero_mod : (n : ℕ) → 0 < n → (k : ℕ) → k * n % n ≡ 0 = λ n p k. ap (λ (z : ℕ). z % n) (omega arith) ∙ mod-mul-add k n 0 p in
+    let place : new.reader.place ≡ (old.reader.place / (8 * seg) + 1) * (8 * seg) = ap (λ (r : ReaderView). r.place) t.0 ∙ ap (λ (z : ℕ). (old.reader.place / (8 * z) + 1) * (8 * z)) same in (
+      ap (λ (r : ReaderView). r.lost) t.0 ∙ free,
+      ap (λ (r : ReaderView). r.items) t.0,
+      ap (λ (z : ℕ). z % (8 * seg)) place ∙ zero_mod (8 * seg) (omega arith) (old.reader.place / (8 * seg) + 1),
+    )
+
+-- the words of a unit in a buffer
+pub front_words : (buffer items : List ℕ) (len count : ℕ) → length buffer ≡ len → 4 * count ≤ len → words_in (take (4 * count) (take len (buffer ++ drop (length buffer) items))) ≡ take count (words_in buffer)
+front_words buffer items len count same room = ap (λ (z : List ℕ). words_in (take (4 * count) z)) (take_at buffer (drop (length buffer) items) len same) ∙ words_in-take count buffer
+
+-- the cursor took the unit that it copied
+pub took_answer : (key : RingKey) (x at : ℕ) (mid : ReaderView) (old new : ReaderState) → Checks (FindsUnit unit_words) key x mid new.reader → at ≡ mid.place / key.seg → x < at + 6 → old.ring.seg ≡ key.seg → mid.items ≡ old.reader.items → mid.lost ≡ None → new.words ≡ unchecked_words mid.unchecked
+    → IsAnswer old Took new
+took_answer key x at mid old new told is near seg items free words_are =
+    let before : ReaderState = record { ring = old.ring; reader = mid; words = old.words } in
+    let t = near_told (FindsUnit unit_words) key x at before new told is near in
+    let loaded : new.reader.loaded ≡ x = ap (λ (r : ReaderView). r.loaded) t.3 in
+    let same : mid.place / key.seg ≡ mid.place / old.ring.seg = ap (λ (z : ℕ). mid.place / z) (sym seg) in (
+      t.0,
+      record { unit = t.1; spelled = words_are ∙ t.2 },
+      ap (λ (r : ReaderView). r.items) t.3 ∙ ap (with_unit t.0) items,
+      ap (λ (r : ReaderView). r.lost) t.3 ∙ free,
+      (mid.place, ap (λ (r : ReaderView). r.place) t.3, omega arith),
+    )
+
+-- an answer is one of the reader before, which took the same
+pub answer_as : (old mid new : ReaderState) (step : Step) → IsAnswer mid step new → mid.reader.items ≡ old.reader.items → mid.ring ≡ old.ring → IsAnswer old step new
+answer_as old mid new Took a items ring = (a.0, a.1, a.2 ∙ ap (with_unit a.0) items, a.3, subst (λ (r : RingSet). (p : ℕ) × (new.reader.place ≡ p + length (unit_words a.0)) × (new.reader.loaded < p / r.seg + 6)) ring a.4)
+answer_as old mid new (NotYet p) a items ring = (a.0 ∙ items, a.1, subst (λ (r : RingSet). new.reader.finished_seen < r.writers) ring a.2, subst (λ (r : RingSet). new.reader.loaded < p / r.seg + 6) ring a.3)
+answer_as old mid new Ended a items ring = (a.0 ∙ items, a.1, a.2, subst (λ (r : RingSet). r.writers ≤ new.reader.finished_seen) ring a.3, subst (λ (r : RingSet). new.reader.loaded < new.reader.place / r.seg + 6) ring a.4)
+answer_as old mid new (Lost at seen) a items ring = (a.0 ∙ ap (λ l. Overrun at seen ∷ l) items, a.1, a.2, a.3)
+
+-- a cursor goes on at the next lap once
+pub one_lap : (old mid new : ReaderState) → mid.ring ≡ old.ring → HasMoved old mid → HasMoved mid new → 0 < old.ring.seg → ⊥
+one_lap old mid new same first second pos =
+    let at : mid.reader.place % (8 * mid.ring.seg) ≡ 0 = ap (λ (r : RingSet). mid.reader.place % (8 * r.seg)) same ∙ first.lap in
+    let wraps = second.wraps in
+    let seg : mid.ring.seg ≡ old.ring.seg = ap (λ (r : RingSet). r.seg) same in omega arith
+
+-- what was loaded by a check
+checked_so : (T : RingKey → ℕ → ReaderView → ReaderView → Type 0) (key : RingKey) (x : ℕ) (mid : ReaderView) (old new : ReaderState) → Checks T key x mid new.reader → mid.observed ≡ old.reader.observed → mid.finished_seen ≡ old.reader.finished_seen
+    → (T key x mid new.reader → (new.reader.observed ≡ CounterSeen x ∷ mid.observed) × (new.reader.loaded ≡ x) × (new.reader.finished_seen ≡ mid.finished_seen)) → HasChecked old new
+checked_so T key x mid old new told observed finished_seen so =
+    let done : (new.reader.observed ≡ CounterSeen x ∷ mid.observed) × (new.reader.loaded ≡ x) × (new.reader.finished_seen ≡ mid.finished_seen) → HasChecked old new = λ h. (h.0 ∙ (λ i. CounterSeen (sym h.1 i) ∷ observed i), h.2 ∙ finished_seen) in
+    ⊎_elim
+    (λ (t : (mid.place / key.seg + 6 ≤ x) × (new.reader ≡ overrun_at (mid.place / key.seg) x mid)). done (ap (λ (r : ReaderView). r.observed) t.1, ap (λ (r : ReaderView). r.loaded) t.1, ap (λ (r : ReaderView). r.finished_seen) t.1))
+    (λ (t : (x < mid.place / key.seg + 6) × T key x mid new.reader). done (so t.1)) told
+
+module _ (key : RingKey) (x : ℕ) (old new : ReaderState) where
+  pub end_checked : Checks FindsEnd key x old.reader new.reader → HasChecked old new
+  end_checked told = checked_so FindsEnd key x old.reader old new told refl refl (λ e. (ap (λ (r : ReaderView). r.observed) e, ap (λ (r : ReaderView). r.loaded) e, ap (λ (r : ReaderView). r.finished_seen) e))
+
+  pub lap_checked : Checks FindsLap key x old.reader new.reader → HasChecked old new
+  lap_checked told = checked_so FindsLap key x old.reader old new told refl refl (λ e. (ap (λ (r : ReaderView). r.observed) e.0, ap (λ (r : ReaderView). r.loaded) e.0, ap (λ (r : ReaderView). r.finished_seen) e.0))
+
+  pub nothing_checked : Checks FindsNothing key x old.reader new.reader → HasChecked old new
+  nothing_checked told = checked_so FindsNothing key x old.reader old new told refl refl (λ e. absurd e)
+
+  pub unit_checked : (mid : ReaderView) → Checks (FindsUnit unit_words) key x mid new.reader → mid.observed ≡ old.reader.observed → mid.finished_seen ≡ old.reader.finished_seen → HasChecked old new
+  unit_checked mid told observed finished_seen = checked_so (FindsUnit unit_words) key x mid old new told observed finished_seen (λ e. (ap (λ (r : ReaderView). r.observed) e.3, ap (λ (r : ReaderView). r.loaded) e.3, ap (λ (r : ReaderView). r.finished_seen) e.3))
+
+-- a cursor that was overrun loads the counter once
+pub lost_observed : (old new : ReaderState) (at seen : ℕ) → new.reader ≡ overrun_at at seen old.reader → HasFound old (Lost at seen) new
+lost_observed old new at seen is = ([], ap (λ (r : ReaderView). r.observed) is)
+
+-- a word that is the end mark is what was found
+pub found_as : (p x : ℕ) (step : Option Step) → x ≡ end_mark → FoundWord p end_mark step → FoundWord p x step
+found_as p x (Some (NotYet q)) is f = (f.0, is)
+found_as p x (Some Ended) is f = is
+found_as p x (Some Took) is f = tt
+found_as p x (Some (Lost at seen)) is f = tt
+found_as p x None is f = tt
+
+-- a check after a load of the number of writers that left and of the word at the place
+pub tried_as : (old mid new : ReaderState) (n x : ℕ) (step : Option Step) → HasChecked mid new → FoundWord old.reader.place x step → mid.reader.observed ≡ WordSeen old.reader.place x ∷ FinishedSeen n ∷ old.reader.observed → mid.reader.finished_seen ≡ n
+    → HasTried step old new
+tried_as old mid new n x step checked word found finished_seen =
+    (x, checked.0 ∙ ap (λ l. CounterSeen new.reader.loaded ∷ l) (found ∙ ap (λ (z : ℕ). WordSeen old.reader.place x ∷ FinishedSeen z ∷ old.reader.observed) (sym finished_seen ∙ sym checked.1)), word)
+
+found_so : (old new : ReaderState) (step : Step) (more : List Observation) (a : ReaderState) (p x : ℕ) → IsAnswer a step new → FoundWord p x (Some step)
+    → new.reader.observed ≡ CounterSeen new.reader.loaded ∷ WordSeen p x ∷ FinishedSeen new.reader.finished_seen ∷ (more ++ old.reader.observed) → HasFound old step new
+found_so old new Took more a p x told word is = (more, (p, (x, is)))
+found_so old new (NotYet q) more a p x told word is = (more, is ∙ (λ i. CounterSeen new.reader.loaded ∷ WordSeen (sym word.0 i) (word.1 i) ∷ FinishedSeen new.reader.finished_seen ∷ (more ++ old.reader.observed)))
+found_so old new Ended more a p x told word is = (more, (p, is ∙ (λ i. CounterSeen new.reader.loaded ∷ WordSeen p (word i) ∷ FinishedSeen new.reader.finished_seen ∷ (more ++ old.reader.observed))))
+found_so old new (Lost at seen) more a p x told word is = (
+  WordSeen p x ∷ FinishedSeen new.reader.finished_seen ∷ more,
+  is ∙ ap (λ (z : ℕ). CounterSeen z ∷ WordSeen p x ∷ FinishedSeen new.reader.finished_seen ∷ (more ++ old.reader.observed)) told.2,
+)
+
+-- an answer at the first try, and at the second
+pub found_once : (old new : ReaderState) (step : Step) → IsAnswer old step new → HasTried (Some step) old new → HasFound old step new
+found_once old new step told t = found_so old new step [] old old.reader.place t.0 told t.2 t.1
+
+pub found_twice : (old mid new : ReaderState) (step : Step) → IsAnswer mid step new → HasTried None old mid → HasTried (Some step) mid new → HasFound old step new
+found_twice old mid new step told first t =
+    found_so old new step (CounterSeen mid.reader.loaded ∷ WordSeen old.reader.place first.0 ∷ FinishedSeen mid.reader.finished_seen ∷ []) mid mid.reader.place t.0 told t.2
+    (t.1 ∙ ap (λ l. CounterSeen new.reader.loaded ∷ WordSeen mid.reader.place t.0 ∷ FinishedSeen new.reader.finished_seen ∷ l) first.1)

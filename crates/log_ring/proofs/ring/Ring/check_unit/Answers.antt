@@ -1,0 +1,9 @@
+use Rattle.std.proofs.Common.{sym, ap, ◌∙◌, arith}
+use Rattle.log_ring.proofs.ReadLemmas.{finds_unit}
+use Rattle.log_ring.proofs.ring.Ring.check_unit.Goals as goal
+
+pub load-requires : goal.load-requires
+load-requires c =
+    let wide = c.self.invariant.0 in
+    let least = c.self.invariant.2.0 in
+    (c.requires.ours ∙ sym (ap (λ z. z.table) c.self.view_is), omega arith, finds_unit _ _ _ _ _ _ c.requires.one (omega arith) c.requires.reading c.requires.copied c.requires.unit c.requires.starts c.requires.whole)

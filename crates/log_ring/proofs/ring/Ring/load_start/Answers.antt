@@ -1,0 +1,9 @@
+use Rattle.std.proofs.Common.{◌+◌, ◌%◌, ℕ, sym, ap, ◌∙◌, arith}
+use Rattle.log_ring.proofs.ReadLemmas.{loads_start}
+use Rattle.log_ring.proofs.ring.Ring.load_start.Goals as goal
+
+pub load-requires : goal.load-requires
+load-requires c =
+    let wide = c.self.invariant.0 in
+    let least = c.self.invariant.2.0 in
+    (c.requires.ours ∙ sym (ap (λ z. z.table) c.self.view_is), omega arith, loads_start _ _ _ _ _ _ c.requires.one (omega arith) (ap (λ (z : ℕ). 2 + z % 8) c.requires.segment))

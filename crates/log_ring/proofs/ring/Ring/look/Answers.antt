@@ -1,0 +1,9 @@
+use Rattle.std.proofs.Common.{sym, ap, ◌∙◌, arith}
+use Rattle.log_ring.proofs.ReadLemmas.{looks_first}
+use Rattle.log_ring.proofs.ring.Ring.look.Goals as goal
+
+pub load-requires : goal.load-requires
+load-requires c =
+    let wide = c.self.invariant.0 in
+    let least = c.self.invariant.2.0 in
+    (c.requires.ours ∙ sym (ap (λ z. z.table) c.self.view_is), omega arith, looks_first _ _ _ _ _ c.requires.one)

@@ -1,0 +1,13 @@
+use Rattle.std.proofs.Common.{sym, ap, ◌∙◌, arith}
+use Rattle.log_ring.proofs.StepLemmas.{publish_allowed}
+use Rattle.log_ring.proofs.ring.Ring.publish.Goals as goal
+
+pub store-requires : goal.store-requires
+store-requires g c =
+    let wide = c.self.invariant.0 in
+    let seg = ap (λ z. z.seg) c.self.view_is in
+    let least = c.self.invariant.2.0 in
+    let there = c.word_of.ensures in
+    let word = c.from.ensures in
+    let small = c.last_word-word.type_inv in
+    (c.requires.ours ∙ sym (ap (λ z. z.table) c.self.view_is), omega arith, publish_allowed _ _ seg _ _ c.args.tail c.args.unit.now c.args.placed _ _ _ _ (omega arith) c.is_unit.ensures c.requires.marked c.requires.placed (omega arith) c.requires.fits c.requires.one c.requires.stays there (word ∙ c.last_word-word.ensures) (omega arith))

@@ -1,0 +1,8 @@
+use Rattle.std.proofs.Common.{sym, ap, refl, ◌∙◌, arith}
+use Rattle.log_ring.proofs.StepLemmas.{release_allowed}
+use Rattle.log_ring.proofs.ring.Ring.release.Goals as goal
+
+pub store-requires : goal.store-requires
+store-requires g c =
+    let wide = c.self.invariant.0 in
+    (c.requires.ours ∙ sym (ap (λ z. z.table) c.self.view_is), omega arith, release_allowed _ _ (ap (λ z. z.seg) c.self.view_is) _ _ c.args.tail c.args.unit.now c.args.placed _ _ c.requires.stored c.requires.placed refl)

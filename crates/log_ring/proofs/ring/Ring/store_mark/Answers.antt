@@ -1,0 +1,11 @@
+use Rattle.std.proofs.Common.{sym, ap, ◌∙◌, arith}
+use Rattle.log_ring.proofs.StepLemmas.{mark_allowed}
+use Rattle.log_ring.proofs.ring.Ring.store_mark.Goals as goal
+
+pub store-requires : goal.store-requires
+store-requires g c =
+    let wide = c.self.invariant.0 in
+    let seg = ap (λ z. z.seg) c.self.view_is in
+    let least = c.self.invariant.2.0 in
+    let there = c.word_of.ensures in
+    (c.requires.ours ∙ sym (ap (λ z. z.table) c.self.view_is), omega arith, mark_allowed _ _ seg _ _ c.args.tail c.args.unit.now c.args.placed _ _ _ (omega arith) c.requires.written c.requires.placed (omega arith) c.requires.fits there c.from.ensures)

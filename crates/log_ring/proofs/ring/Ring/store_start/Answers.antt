@@ -1,0 +1,10 @@
+use Rattle.std.proofs.Common.{sym, ap, refl, ◌∙◌, arith}
+use Rattle.log_ring.proofs.StepLemmas.{start_allowed}
+use Rattle.log_ring.proofs.ring.Ring.store_start.Goals as goal
+
+pub store-requires : goal.store-requires
+store-requires c =
+    let wide = c.self.invariant.0 in
+    let seg = ap (λ z. z.seg) c.self.view_is in
+    let least = c.self.invariant.2.0 in
+    (c.requires.ours ∙ sym (ap (λ z. z.table) c.self.view_is), omega arith, start_allowed _ _ seg _ _ c.args.tail c.args.unit.now c.args.placed _ _ c.args.segment _ (omega arith) c.requires.started c.requires.placed c.requires.fits c.requires.above c.requires.upto c.requires.place refl)

@@ -1,0 +1,23 @@
+use Rattle.std.proofs.Common.{rules, sym, ◌∙◌, arith}
+use Rattle.vsl_record.specs.Words.{unit_words}
+use Rattle.log_ring.proofs.WalkLemmas.{next_is, some_left}
+use Rattle.log_ring.proofs.ring.Ring.store_words.Goals as goal
+
+pub unreachable-requires : goal.unreachable-requires
+unreachable-requires g c =
+    let more = c.loop-place-test.true in
+    let upto = c.requires.placed.tail in
+    let from = c.requires.placed.start in
+    some_left (unit_words c.args.unit.now) c.loop-place.place (omega arith) (sym c.loop-place.invariant.4 ∙ c.in_default.ensures.none)
+
+pub store_word-requires-clause-word : goal.store_word-requires-clause-word
+store_word-requires-clause-word g c = (next_is (unit_words c.args.unit.now) _ c.loop-place.place _ (sym c.loop-place.invariant.4 ∙ c.in-Some.ensures.word)).0
+
+pub loop-place-preserved : goal.loop-place-preserved
+loop-place-preserved g c =
+    let before = c.loop-place.invariant in
+    let more = c.loop-place-test.true in
+    let upto = c.requires.placed.tail in
+    let from = c.requires.placed.start in
+    let low = before.2 in
+    (search rules, search rules, omega arith, omega arith, (next_is (unit_words c.args.unit.now) _ c.loop-place.place _ (sym before.4 ∙ c.in-Some.ensures.word)).1)

@@ -1,0 +1,352 @@
+//! The steps of a put.
+
+ghost use Rattle.std.specs.Prelude.{◌≡◌, ◌+◌, ◌*◌, ◌/◌, ◌%◌, ◌<◌, ◌≤◌, [], ◌∷◌, length, drop, slice_index};
+ghost use Rattle.vsl_record.specs.Words.{IsUnit, unit_words};
+ghost use Rattle.ring_layout.specs.Places.{last_tail};
+ghost use Rattle.ring_layout.specs.Content.{first_word, last_word};
+ghost use Rattle.log_ring.specs.declared.rule.Progress.TheVariants.{Free, Storing, Stored};
+ghost use Rattle.log_ring.specs.inside.Rule.{begun, first_entries, after_acquire, after_publish, after_leave};
+ghost use Rattle.log_ring.specs.inside.Steps.{IsPlaced, with_progress, announced, started, written, marked, first_of, first_writer_of, with_put};
+
+use crate::pause::{Pause, stop};
+use crate::ring::{Ring, RingSeat};
+use crate::rule::{
+    Acquiring, Announcing, Coming, Leaving, Marking, Publishing, Releasing, Starting, Wording,
+};
+use ring_layout::{END_MARK, Placed, SEGMENTS, WRAP_MARK, segment_of};
+use vsl_record::{Unit, UnitWords, is_unit};
+
+/// The word of the write token.
+const WRITE_TOKEN: usize = 0;
+
+/// The word of the counter.
+pub(crate) const SEGMENT_COUNTER: usize = 1;
+
+/// The first of the words that keep the starts of segments.
+pub(crate) const SEGMENT_STARTS: usize = 2;
+
+/// The word that counts the writers that left.
+pub(crate) const FINISHED_WRITERS: usize = 10;
+
+/// The first of the ring's words.
+const FIRST: usize = 11;
+
+/// Passes over a unit's header, which is its word 0, and answers the number of the next one.
+fn skip_header(words: &mut UnitWords<'_>) -> usize
+    requires { 0 < length words.old }
+    ensures rest { words.new ≡ drop 1 words.old }
+    ensures next { result ≡ 1 }
+{
+    let _header = words.next();
+    1
+}
+
+impl Ring {
+    /// The word in which a place lies.
+    pub(crate) fn word_of(&self, place: u64) -> usize
+        ensures { result ≡ 11 + place % (8 * self.now.seg) }
+    {
+        FIRST + (place % (SEGMENTS as u64 * u64::from(self.shape.seg()))) as usize
+    }
+
+    /// Swaps the write token with 0, with a unit to be put. Where another writer has it, it answers 0.
+    pub(crate) fn acquire<N: Coming>(&self, seat: &mut RingSeat) -> u64
+        requires ours { seat.old.table_id ≡ self.now.table }
+        requires free { seat.old.me.0.progress ≡ Free }
+        requires stays { seat.old.me.0.finished < length seat.old.me.0.writers }
+        ensures same { seat.new.table_id ≡ seat.old.table_id }
+        ensures taken { seat.new.me ≡ (after_acquire unit_words N.unit result seat.old.me.0, seat.old.me.1) }
+        ensures found { 0 < result → (length (first_entries seat.old.me.0.writers) < result) × (result ≤ last_tail + 1) }
+    {
+        self.table.shared.swap::<Acquiring<N>>(seat, WRITE_TOKEN, 0)
+    }
+
+    /// Gives the write token back where the unit has no place.
+    pub(crate) fn withdraw<P: Pause>(
+        &self,
+        seat: &mut RingSeat,
+        tail: u64,
+        unit: &Unit,
+        pause: &mut P,
+        step: &mut u64,
+    )
+        requires ours { seat.old.table_id ≡ self.now.table }
+        requires begun { seat.old.me.0.progress ≡ Storing (begun unit_words self.now.seg tail unit.now) }
+        requires low { tail ≤ last_tail }
+        ensures same { seat.new.table_id ≡ seat.old.table_id }
+        ensures given { seat.new.me ≡ (with_progress Free seat.old.me.0, seat.old.me.1) }
+    {
+        stop(pause, step);
+        self.table
+            .shared
+            .store::<Releasing>(seat, WRITE_TOKEN, tail + 1);
+    }
+
+    /// Stores the counter where the unit ends in another segment than the tail's.
+    fn announce<P: Pause>(
+        &self,
+        seat: &mut RingSeat,
+        tail: u64,
+        placed: Placed,
+        unit: &Unit,
+        pause: &mut P,
+        step: &mut u64,
+    )
+        requires ours { seat.old.table_id ≡ self.now.table }
+        requires begun { seat.old.me.0.progress ≡ Storing (begun unit_words self.now.seg tail unit.now) }
+        requires placed { IsPlaced self.now.seg tail (length (unit_words unit.now)) placed }
+        requires fits { length (unit_words unit.now) ≤ self.now.seg }
+        ensures same { seat.new.table_id ≡ seat.old.table_id }
+        ensures announced { seat.new.me ≡ (with_progress (Storing (announced self.now.seg tail unit.now)) seat.old.me.0, seat.old.me.1) }
+    {
+        let counter = segment_of(self.shape, placed.tail);
+        if counter > segment_of(self.shape, tail) {
+            stop(pause, step);
+            self.table
+                .shared
+                .store::<Announcing>(seat, SEGMENT_COUNTER, counter);
+        }
+    }
+
+    /// Stores the starts of the segments that the unit enters.
+    fn store_starts<P: Pause>(
+        &self,
+        seat: &mut RingSeat,
+        tail: u64,
+        placed: Placed,
+        unit: &Unit,
+        pause: &mut P,
+        step: &mut u64,
+    )
+        requires ours { seat.old.table_id ≡ self.now.table }
+        requires announced { seat.old.me.0.progress ≡ Storing (announced self.now.seg tail unit.now) }
+        requires placed { IsPlaced self.now.seg tail (length (unit_words unit.now)) placed }
+        requires fits { length (unit_words unit.now) ≤ self.now.seg }
+        ensures same { seat.new.table_id ≡ seat.old.table_id }
+        ensures started { seat.new.me ≡ (with_progress (Storing (started self.now.seg tail unit.now)) seat.old.me.0, seat.old.me.1) }
+    {
+        let from = segment_of(self.shape, tail) + 1;
+        let upto = segment_of(self.shape, placed.tail) + 1;
+        for segment in from..upto {
+            let starts_here = segment_of(self.shape, placed.start) == segment;
+            let place = if starts_here {
+                placed.start
+            } else {
+                placed.tail
+            };
+            stop(pause, step);
+            self.store_start(seat, tail, placed, unit, segment, place);
+        }
+    }
+
+    /// Stores the start of a segment that the unit enters.
+    fn store_start(
+        &self,
+        seat: &mut RingSeat,
+        tail: u64,
+        placed: Placed,
+        unit: &Unit,
+        segment: u64,
+        place: u64,
+    )
+        requires ours { seat.old.table_id ≡ self.now.table }
+        requires started { seat.old.me.0.progress ≡ Storing (record (announced self.now.seg tail unit.now) { start = segment }) }
+        requires placed { IsPlaced self.now.seg tail (length (unit_words unit.now)) placed }
+        requires fits { length (unit_words unit.now) ≤ self.now.seg }
+        requires above { tail / self.now.seg < segment }
+        requires upto { segment ≤ placed.tail / self.now.seg }
+        requires place { place ≡ first_of segment self.now.seg placed.start placed.tail }
+        ensures same { seat.new.table_id ≡ seat.old.table_id }
+        ensures stored { seat.new.me ≡ (with_progress (Storing (record (announced self.now.seg tail unit.now) { start = segment + 1 })) seat.old.me.0, seat.old.me.1) }
+    {
+        self.table.shared.store::<Starting>(
+            seat,
+            SEGMENT_STARTS + (segment % SEGMENTS as u64) as usize,
+            place,
+        );
+    }
+
+    /// Stores the words of the unit, but for the one at the tail.
+    fn store_words<P: Pause>(
+        &self,
+        seat: &mut RingSeat,
+        tail: u64,
+        placed: Placed,
+        unit: &Unit,
+        pause: &mut P,
+        step: &mut u64,
+    )
+        requires ours { seat.old.table_id ≡ self.now.table }
+        requires started { seat.old.me.0.progress ≡ Storing (started self.now.seg tail unit.now) }
+        requires placed { IsPlaced self.now.seg tail (length (unit_words unit.now)) placed }
+        requires fits { length (unit_words unit.now) ≤ self.now.seg }
+        ensures same { seat.new.table_id ≡ seat.old.table_id }
+        ensures written { seat.new.me ≡ (with_progress (Storing (written self.now.seg tail unit.now)) seat.old.me.0, seat.old.me.1) }
+    {
+        let count = (placed.tail - placed.start) as usize;
+        let mut words = unit.each_word();
+        let first = if placed.wraps {
+            0
+        } else {
+            skip_header(&mut words)
+        };
+        for place in first..count {
+            let Some(word) = words.next() else {
+                unreachable!();
+            };
+            stop(pause, step);
+            self.store_word(seat, tail, placed, unit, place, word);
+        }
+    }
+
+    /// Stores a word of the unit that isn't the one at the tail.
+    fn store_word(
+        &self,
+        seat: &mut RingSeat,
+        tail: u64,
+        placed: Placed,
+        unit: &Unit,
+        place: usize,
+        word: u32,
+    )
+        requires ours { seat.old.table_id ≡ self.now.table }
+        requires started { seat.old.me.0.progress ≡ Storing (record (started self.now.seg tail unit.now) { word = place }) }
+        requires placed { IsPlaced self.now.seg tail (length (unit_words unit.now)) placed }
+        requires fits { length (unit_words unit.now) ≤ self.now.seg }
+        requires inside { place < length (unit_words unit.now) }
+        requires behind { first_word unit_words self.now.seg tail (length (unit_words unit.now)) ≤ place }
+        requires word { word ≡ slice_index (unit_words unit.now) place }
+        ensures same { seat.new.table_id ≡ seat.old.table_id }
+        ensures stored { seat.new.me ≡ (with_progress (Storing (record (started self.now.seg tail unit.now) { word = place + 1 })) seat.old.me.0, seat.old.me.1) }
+    {
+        self.table.shared.store::<Wording>(
+            seat,
+            self.word_of(placed.start + place as u64),
+            u64::from(word),
+        );
+    }
+
+    /// Stores the end mark.
+    fn store_mark<P: Pause>(
+        &self,
+        seat: &mut RingSeat,
+        tail: u64,
+        placed: Placed,
+        unit: &Unit,
+        pause: &mut P,
+        step: &mut u64,
+    )
+        requires ours { seat.old.table_id ≡ self.now.table }
+        requires written { seat.old.me.0.progress ≡ Storing (written self.now.seg tail unit.now) }
+        requires placed { IsPlaced self.now.seg tail (length (unit_words unit.now)) placed }
+        requires fits { length (unit_words unit.now) ≤ self.now.seg }
+        ensures same { seat.new.table_id ≡ seat.old.table_id }
+        ensures marked { seat.new.me ≡ (with_progress (Storing (marked self.now.seg tail unit.now)) seat.old.me.0, seat.old.me.1) }
+    {
+        stop(pause, step);
+        self.table
+            .shared
+            .store::<Marking>(seat, self.word_of(placed.tail), u64::from(END_MARK));
+    }
+
+    /// Stores the word at the tail: the unit enters the log.
+    fn publish<P: Pause>(
+        &self,
+        seat: &mut RingSeat,
+        tail: u64,
+        placed: Placed,
+        unit: &Unit,
+        pause: &mut P,
+        step: &mut u64,
+    )
+        requires ours { seat.old.table_id ≡ self.now.table }
+        requires marked { seat.old.me.0.progress ≡ Storing (marked self.now.seg tail unit.now) }
+        requires placed { IsPlaced self.now.seg tail (length (unit_words unit.now)) placed }
+        requires fits { length (unit_words unit.now) ≤ self.now.seg }
+        requires one { seat.old.me.0.writers ≡ first_writer_of seat.old.me.0 ∷ [] }
+        requires stays { seat.old.me.0.finished ≡ 0 }
+        ensures same { seat.new.table_id ≡ seat.old.table_id }
+        ensures put { seat.new.me ≡ (after_publish seat.old.me.0, seat.old.me.1) }
+    {
+        let word = self.last_word(tail, placed, unit);
+        is_unit(unit);
+        stop(pause, step);
+        self.table
+            .shared
+            .store::<Publishing>(seat, self.word_of(tail), u64::from(word));
+    }
+
+    /// The word that is stored last, at the tail.
+    fn last_word(&self, tail: u64, placed: Placed, unit: &Unit) -> u32
+        requires placed { IsPlaced self.now.seg tail (length (unit_words unit.now)) placed }
+        ensures { result ≡ last_word unit_words self.now.seg tail unit.now }
+    {
+        if placed.wraps {
+            WRAP_MARK
+        } else {
+            unit.word_at(0)
+        }
+    }
+
+    /// Gives the write token back once the unit is in the log.
+    fn release<P: Pause>(
+        &self,
+        seat: &mut RingSeat,
+        tail: u64,
+        placed: Placed,
+        unit: &Unit,
+        pause: &mut P,
+        step: &mut u64,
+    )
+        requires ours { seat.old.table_id ≡ self.now.table }
+        requires stored { seat.old.me.0.progress ≡ Stored (marked self.now.seg tail unit.now) }
+        requires placed { IsPlaced self.now.seg tail (length (unit_words unit.now)) placed }
+        ensures same { seat.new.table_id ≡ seat.old.table_id }
+        ensures given { seat.new.me ≡ (with_progress Free seat.old.me.0, seat.old.me.1) }
+    {
+        stop(pause, step);
+        self.table
+            .shared
+            .store::<Releasing>(seat, WRITE_TOKEN, placed.tail + 1);
+    }
+
+    /// Stores a unit where it has a place, and gives the write token back.
+    pub(crate) fn store<P: Pause>(
+        &self,
+        seat: &mut RingSeat,
+        tail: u64,
+        placed: Placed,
+        unit: &Unit,
+        pause: &mut P,
+        step: &mut u64,
+    )
+        requires ours { seat.old.table_id ≡ self.now.table }
+        requires begun { seat.old.me.0.progress ≡ Storing (begun unit_words self.now.seg tail unit.now) }
+        requires placed { IsPlaced self.now.seg tail (length (unit_words unit.now)) placed }
+        requires fits { length (unit_words unit.now) ≤ self.now.seg }
+        requires one { seat.old.me.0.writers ≡ first_writer_of seat.old.me.0 ∷ [] }
+        requires stays { seat.old.me.0.finished ≡ 0 }
+        ensures same { seat.new.table_id ≡ seat.old.table_id }
+        ensures put { seat.new.me ≡ (with_put tail unit.now seat.old.me.0, seat.old.me.1) }
+    {
+        self.announce(seat, tail, placed, unit, pause, step);
+        self.store_starts(seat, tail, placed, unit, pause, step);
+        self.store_words(seat, tail, placed, unit, pause, step);
+        self.store_mark(seat, tail, placed, unit, pause, step);
+        self.publish(seat, tail, placed, unit, pause, step);
+        self.release(seat, tail, placed, unit, pause, step);
+    }
+
+    /// Counts a writer that left.
+    pub(crate) fn count_finished(&self, seat: &mut RingSeat)
+        requires ours { seat.old.table_id ≡ self.now.table }
+        requires free { seat.old.me.0.progress ≡ Free }
+        requires stays { seat.old.me.0.finished < length seat.old.me.0.writers }
+        ensures same { seat.new.table_id ≡ seat.old.table_id }
+        ensures finished { seat.new.me ≡ (after_leave seat.old.me.0, seat.old.me.1) }
+    {
+        self.table
+            .shared
+            .fetch_add::<Leaving>(seat, FINISHED_WRITERS, 1);
+    }
+}
