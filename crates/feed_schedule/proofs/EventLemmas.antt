@@ -7,12 +7,12 @@ use Rattle.log_model.specs.Prefix.{IsPrefix}
 use Rattle.log_model.proofs.PrefixLemmas.{prefix_same, prefix_past}
 use Rattle.vsl_record.specs.Unit.{LogUnit}
 use Rattle.vsl_record.specs.Words.{unit_words}
-use Rattle.ring_layout.specs.History.{first_number, with_unit}
+use Rattle.ring_layout.specs.History.{first_number, HasRun, with_unit}
 use Rattle.ring_layout.specs.declared.history.Run.{Run}
 use Rattle.ring_layout.specs.declared.history.HistoryItem.{HistoryItem}
 use Rattle.ring_layout.specs.declared.history.HistoryItem.TheVariants.{UnitRun, Overrun}
 use Rattle.traffic_feed.specs.Turns.{next_draw}
-use Rattle.feed_schedule.specs.Schedule.{Event, TookUnit, WasOverrun, Stage, count_writers, after_writer, after_taking, last_segment, is_overrun, after_overrun, after_reader, has_ended, count_active, after_turn_of, after_turn, after_turns, events_of, met, HasRun}
+use Rattle.feed_schedule.specs.Schedule.{Event, TookUnit, WasOverrun, Stage, count_writers, after_writer, after_taking, last_segment, is_overrun, after_overrun, after_reader, has_ended, count_active, after_turn_of, after_turn, after_turns, events_of, met}
 
 -- what a turn of the reader adds
 abbrev pub reader_meets : ℕ → Stage → List Event

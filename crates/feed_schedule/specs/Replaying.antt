@@ -10,7 +10,8 @@ use Rattle.ring_plain.specs.Cursor.{CursorState, Stands}
 use Rattle.traffic_feed.specs.Listing.{word_count}
 use Rattle.feed_schedule.specs.declared.replay.Advanced.{Advanced}
 use Rattle.feed_schedule.specs.declared.replay.Advanced.TheVariants.{Took, Overrun, Ended}
-use Rattle.feed_schedule.specs.Schedule.{Event, TookUnit, WasOverrun, Reading, Waits, Stage, after_turns, count_writers, has_ended, is_drawn, met, HasRun}
+use Rattle.ring_layout.specs.History.{HasRun}
+use Rattle.feed_schedule.specs.Schedule.{Event, TookUnit, WasOverrun, Reading, Waits, Stage, after_turns, count_writers, has_ended, is_drawn, met}
 
 -- how many words the units of feeds have
 abbrev pub count_feed_words : List Log → ℕ

@@ -169,9 +169,3 @@ events_of (Overrun at seen ∷ items) = WasOverrun at seen ∷ events_of items
 -- what the reader met up to a stage
 abbrev pub met : Stage → List Event
 met s = events_of (reverse s.history)
-
--- the newest item is a run, into which the next unit goes
-abbrev pub HasRun : List (HistoryItem LogUnit) → Type 0
-HasRun [] = ⊥
-HasRun (UnitRun r ∷ items) = Unit {0}
-HasRun (Overrun at seen ∷ items) = ⊥

@@ -4,22 +4,24 @@ use Rattle.std.proofs.lemmas.Nat.{mod-mul-add}
 use Rattle.std.proofs.lemmas.List.{take_at}
 use Rattle.vsl_record.specs.Words.{unit_words, words_in}
 use Rattle.vsl_record.proofs.WordLemmas.{words_in-take}
+use Rattle.vsl_record.specs.Unit.{LogUnit}
+use Rattle.ring_layout.specs.declared.history.HistoryItem.{HistoryItem}
 use Rattle.ring_layout.specs.declared.history.HistoryItem.TheVariants.{Overrun}
 use Rattle.ring_layout.specs.declared.steps.Step.{Step}
 use Rattle.ring_layout.specs.declared.steps.Step.TheVariants.{Took, NotYet, Ended, Lost}
 use Rattle.ring_layout.specs.Places.{end_mark}
-use Rattle.ring_layout.specs.History.{with_unit}
+use Rattle.ring_layout.specs.History.{HasRun, with_unit}
 use Rattle.log_ring.specs.declared.rule.RingKey.{RingKey}
 use Rattle.log_ring.specs.declared.rule.ReaderView.{ReaderView}
 use Rattle.log_ring.specs.declared.rule.Observation.{Observation}
 use Rattle.log_ring.specs.declared.rule.Observation.TheVariants.{CounterSeen, FinishedSeen, WordSeen}
-use Rattle.log_ring.specs.Ring.{RingSet, ReaderState, IsAnswer, HasFound, HasMoved}
+use Rattle.log_ring.specs.Ring.{RingSet, ReaderState, TookNothing, IsAnswer, HasFound, StaysLost, HasMoved}
 use Rattle.log_ring.specs.inside.Steps.{FoundWord, HasChecked, HasTried}
-use Rattle.log_ring.specs.inside.Rule.{unchecked_words, overrun_at, with_end, Checks, FindsEnd, FindsLap, FindsUnit, FindsNothing}
+use Rattle.log_ring.specs.inside.Reading.{unchecked_words, overrun_at, with_end, Checks, FindsEnd, FindsLap, FindsUnit, FindsNothing}
 
 -- a reader that was overrun
 pub lost_answer : (old new : ReaderState) (at seen : ℕ) → new.reader ≡ overrun_at at seen old.reader → at + 6 ≤ seen → IsAnswer old (Lost at seen) new
-lost_answer old new at seen is far = (ap (λ (r : ReaderView). r.items) is, ap (λ (r : ReaderView). r.lost) is, ap (λ (r : ReaderView). r.loaded) is, far)
+lost_answer old new at seen is far = record { far = far; loaded = ap (λ (r : ReaderView). r.loaded) is; lost = ap (λ (r : ReaderView). r.lost) is; items = ap (λ (r : ReaderView). r.items) is }
 
 module _ (T : RingKey → ℕ → ReaderView → ReaderView → Type 0) (key : RingKey) (x at : ℕ) (old new : ReaderState) where
   pub far_answer : Checks T key x old.reader new.reader → at ≡ old.reader.place / key.seg → at + 6 ≤ x → IsAnswer old (Lost at x) new
@@ -45,25 +47,21 @@ module _ (key : RingKey) (x at : ℕ) (old new : ReaderState) (told : Checks Fin
   loaded_near : new.reader.loaded < old.reader.place / old.ring.seg + 6
   loaded_near = let loaded = ap (λ (r : ReaderView). r.loaded) end_is in let same : old.reader.place / key.seg ≡ old.reader.place / old.ring.seg = ap (λ (z : ℕ). old.reader.place / z) (sym seg) in omega arith
 
+  nothing_taken : (p : ℕ) → p ≡ old.reader.place → TookNothing p old new
+  nothing_taken p p_is = record {
+    place_is = ap (λ (r : ReaderView). r.place) end_is ∙ sym p_is;
+    items = ap (λ (r : ReaderView). r.items) end_is;
+    not_lost = ap (λ (r : ReaderView). r.lost) end_is ∙ free;
+    near = subst (λ (z : ℕ). new.reader.loaded < z / old.ring.seg + 6) (sym p_is) loaded_near;
+  }
+
   pub ended_answer : key.writers ≤ old.reader.finished_seen → IsAnswer old Ended new
   ended_answer all =
-      let place : new.reader.place ≡ old.reader.place = ap (λ (r : ReaderView). r.place) end_is in
-      let finished_seen : new.reader.finished_seen ≡ old.reader.finished_seen = ap (λ (r : ReaderView). r.finished_seen) end_is in (
-        ap (λ (r : ReaderView). r.items) end_is,
-        ap (λ (r : ReaderView). r.ended) end_is ∙ le-leb key.writers old.reader.finished_seen all,
-        ap (λ (r : ReaderView). r.lost) end_is ∙ free,
-        omega arith,
-        subst (λ (z : ℕ). new.reader.loaded < z / old.ring.seg + 6) (sym place) loaded_near,
-      )
+      let finished_seen : new.reader.finished_seen ≡ old.reader.finished_seen = ap (λ (r : ReaderView). r.finished_seen) end_is in
+      (nothing_taken new.reader.place (ap (λ (r : ReaderView). r.place) end_is), omega arith, ap (λ (r : ReaderView). r.ended) end_is ∙ le-leb key.writers old.reader.finished_seen all)
 
   pub not_yet_answer : old.reader.finished_seen < key.writers → (p : ℕ) → p ≡ old.reader.place → IsAnswer old (NotYet p) new
-  not_yet_answer some_left p p_is =
-      let finished_seen : new.reader.finished_seen ≡ old.reader.finished_seen = ap (λ (r : ReaderView). r.finished_seen) end_is in (
-        ap (λ (r : ReaderView). r.items) end_is,
-        ap (λ (r : ReaderView). r.lost) end_is ∙ free,
-        omega arith,
-        subst (λ (z : ℕ). new.reader.loaded < z / old.ring.seg + 6) (sym p_is) loaded_near,
-      )
+  not_yet_answer some_left p p_is = let finished_seen : new.reader.finished_seen ≡ old.reader.finished_seen = ap (λ (r : ReaderView). r.finished_seen) end_is in (nothing_taken p p_is, omega arith)
 
 -- the cursor went on at the next lap
 pub lap_moved : (key : RingKey) (x at seg : ℕ) (old new : ReaderState) → Checks FindsLap key x old.reader new.reader → at ≡ old.reader.place / key.seg → x < at + 6 → key.seg ≡ seg → 0 < seg → old.reader.lost ≡ None
@@ -87,21 +85,36 @@ pub took_answer : (key : RingKey) (x at : ℕ) (mid : ReaderView) (old new : Rea
 took_answer key x at mid old new told is near seg items free words_are =
     let before : ReaderState = record { ring = old.ring; reader = mid; words = old.words } in
     let t = near_told (FindsUnit unit_words) key x at before new told is near in
-    let loaded : new.reader.loaded ≡ x = ap (λ (r : ReaderView). r.loaded) t.3 in
-    let same : mid.place / key.seg ≡ mid.place / old.ring.seg = ap (λ (z : ℕ). mid.place / z) (sym seg) in (
-      t.0,
-      record { unit = t.1; spelled = words_are ∙ t.2 },
-      ap (λ (r : ReaderView). r.items) t.3 ∙ ap (with_unit t.0) items,
-      ap (λ (r : ReaderView). r.lost) t.3 ∙ free,
-      (mid.place, ap (λ (r : ReaderView). r.place) t.3, omega arith),
-    )
+    let loaded : new.reader.loaded ≡ x = ap (λ (r : ReaderView). r.loaded) t.4 in
+    let same : mid.place / key.seg ≡ mid.place / old.ring.seg = ap (λ (z : ℕ). mid.place / z) (sym seg) in record {
+      reads_on = subst (λ (l : List (HistoryItem LogUnit)). HasRun l) items t.3;
+      unit = t.0;
+      spells = record { unit = t.1; spelled = words_are ∙ t.2 };
+      items = ap (λ (r : ReaderView). r.items) t.4 ∙ ap (with_unit t.0) items;
+      not_lost = ap (λ (r : ReaderView). r.lost) t.4 ∙ free;
+      start = mid.place;
+      behind = ap (λ (r : ReaderView). r.place) t.4;
+      near = omega arith;
+    }
+
+nothing_as : (old mid new : ReaderState) (p : ℕ) → TookNothing p mid new → mid.reader.items ≡ old.reader.items → mid.ring ≡ old.ring → TookNothing p old new
+nothing_as old mid new p a items ring = record { place_is = a.place_is; items = a.items ∙ items; not_lost = a.not_lost; near = subst (λ (r : RingSet). new.reader.loaded < p / r.seg + 6) ring a.near }
 
 -- an answer is one of the reader before, which took the same
 pub answer_as : (old mid new : ReaderState) (step : Step) → IsAnswer mid step new → mid.reader.items ≡ old.reader.items → mid.ring ≡ old.ring → IsAnswer old step new
-answer_as old mid new Took a items ring = (a.0, a.1, a.2 ∙ ap (with_unit a.0) items, a.3, subst (λ (r : RingSet). (p : ℕ) × (new.reader.place ≡ p + length (unit_words a.0)) × (new.reader.loaded < p / r.seg + 6)) ring a.4)
-answer_as old mid new (NotYet p) a items ring = (a.0 ∙ items, a.1, subst (λ (r : RingSet). new.reader.finished_seen < r.writers) ring a.2, subst (λ (r : RingSet). new.reader.loaded < p / r.seg + 6) ring a.3)
-answer_as old mid new Ended a items ring = (a.0 ∙ items, a.1, a.2, subst (λ (r : RingSet). r.writers ≤ new.reader.finished_seen) ring a.3, subst (λ (r : RingSet). new.reader.loaded < new.reader.place / r.seg + 6) ring a.4)
-answer_as old mid new (Lost at seen) a items ring = (a.0 ∙ ap (λ l. Overrun at seen ∷ l) items, a.1, a.2, a.3)
+answer_as old mid new Took a items ring = record {
+  reads_on = subst (λ (l : List (HistoryItem LogUnit)). HasRun l) items a.reads_on;
+  unit = a.unit;
+  spells = a.spells;
+  items = a.items ∙ ap (with_unit a.unit) items;
+  not_lost = a.not_lost;
+  start = a.start;
+  behind = a.behind;
+  near = subst (λ (r : RingSet). new.reader.loaded < a.start / r.seg + 6) ring a.near;
+}
+answer_as old mid new (NotYet p) a items ring = (nothing_as old mid new p a.0 items ring, subst (λ (r : RingSet). new.reader.finished_seen < r.writers) ring a.1)
+answer_as old mid new Ended a items ring = (nothing_as old mid new new.reader.place a.0 items ring, subst (λ (r : RingSet). r.writers ≤ new.reader.finished_seen) ring a.1, a.2)
+answer_as old mid new (Lost at seen) a items ring = record { far = a.far; loaded = a.loaded; lost = a.lost; items = a.items ∙ ap (λ l. Overrun at seen ∷ l) items }
 
 -- a cursor goes on at the next lap once
 pub one_lap : (old mid new : ReaderState) → mid.ring ≡ old.ring → HasMoved old mid → HasMoved mid new → 0 < old.ring.seg → ⊥
@@ -130,11 +143,26 @@ module _ (key : RingKey) (x : ℕ) (old new : ReaderState) where
   nothing_checked told = checked_so FindsNothing key x old.reader old new told refl refl (λ e. absurd e)
 
   pub unit_checked : (mid : ReaderView) → Checks (FindsUnit unit_words) key x mid new.reader → mid.observed ≡ old.reader.observed → mid.finished_seen ≡ old.reader.finished_seen → HasChecked old new
-  unit_checked mid told observed finished_seen = checked_so (FindsUnit unit_words) key x mid old new told observed finished_seen (λ e. (ap (λ (r : ReaderView). r.observed) e.3, ap (λ (r : ReaderView). r.loaded) e.3, ap (λ (r : ReaderView). r.finished_seen) e.3))
+  unit_checked mid told observed finished_seen = checked_so (FindsUnit unit_words) key x mid old new told observed finished_seen (λ e. (ap (λ (r : ReaderView). r.observed) e.4, ap (λ (r : ReaderView). r.loaded) e.4, ap (λ (r : ReaderView). r.finished_seen) e.4))
 
 -- a cursor that was overrun loads the counter once
 pub lost_observed : (old new : ReaderState) (at seen : ℕ) → new.reader ≡ overrun_at at seen old.reader → HasFound old (Lost at seen) new
-lost_observed old new at seen is = ([], ap (λ (r : ReaderView). r.observed) is)
+lost_observed old new at seen is = record { before = []; observed = ap (λ (r : ReaderView). r.observed) is }
+
+same_some : {x y : ℕ} → Some x ≡ Some y → x ≡ y
+same_some e = cc e
+
+-- and stays overrun there
+pub lost_stays : (old new : ReaderState) (at seen : ℕ) → old.reader.lost ≡ Some at → new.reader ≡ overrun_at at seen old.reader → StaysLost old (Lost at seen) new
+lost_stays old new at seen lost is =
+    let loaded : seen ≡ new.reader.loaded = sym (ap (λ (r : ReaderView). r.loaded) is) in record {
+      again = λ a e. let same : at ≡ a = same_some (sym lost ∙ e) in (λ i. Lost (same i) (loaded i));
+      observed = λ a e. ap (λ (r : ReaderView). r.observed) is ∙ ap (λ (z : ℕ). CounterSeen z ∷ old.reader.observed) loaded;
+    }
+
+-- a cursor that wasn't overrun needn't stay so
+pub free_stays : (old new : ReaderState) (step : Step) → old.reader.lost ≡ None → StaysLost old step new
+free_stays old new step free = record { again = λ a e. cc (sym free ∙ e); observed = λ a e. cc (sym free ∙ e) }
 
 -- a word that is the end mark is what was found
 pub found_as : (p x : ℕ) (step : Option Step) → x ≡ end_mark → FoundWord p end_mark step → FoundWord p x step
@@ -152,13 +180,13 @@ tried_as old mid new n x step checked word found finished_seen =
 
 found_so : (old new : ReaderState) (step : Step) (more : List Observation) (a : ReaderState) (p x : ℕ) → IsAnswer a step new → FoundWord p x (Some step)
     → new.reader.observed ≡ CounterSeen new.reader.loaded ∷ WordSeen p x ∷ FinishedSeen new.reader.finished_seen ∷ (more ++ old.reader.observed) → HasFound old step new
-found_so old new Took more a p x told word is = (more, (p, (x, is)))
-found_so old new (NotYet q) more a p x told word is = (more, is ∙ (λ i. CounterSeen new.reader.loaded ∷ WordSeen (sym word.0 i) (word.1 i) ∷ FinishedSeen new.reader.finished_seen ∷ (more ++ old.reader.observed)))
-found_so old new Ended more a p x told word is = (more, (p, is ∙ (λ i. CounterSeen new.reader.loaded ∷ WordSeen p (word i) ∷ FinishedSeen new.reader.finished_seen ∷ (more ++ old.reader.observed))))
-found_so old new (Lost at seen) more a p x told word is = (
-  WordSeen p x ∷ FinishedSeen new.reader.finished_seen ∷ more,
-  is ∙ ap (λ (z : ℕ). CounterSeen z ∷ WordSeen p x ∷ FinishedSeen new.reader.finished_seen ∷ (more ++ old.reader.observed)) told.2,
-)
+found_so old new Took more a p x told word is = (p, (x, record { before = more; observed = is }))
+found_so old new (NotYet q) more a p x told word is = record { before = more; observed = is ∙ (λ i. CounterSeen new.reader.loaded ∷ WordSeen (sym word.0 i) (word.1 i) ∷ FinishedSeen new.reader.finished_seen ∷ (more ++ old.reader.observed)) }
+found_so old new Ended more a p x told word is = (p, record { before = more; observed = is ∙ (λ i. CounterSeen new.reader.loaded ∷ WordSeen p (word i) ∷ FinishedSeen new.reader.finished_seen ∷ (more ++ old.reader.observed)) })
+found_so old new (Lost at seen) more a p x told word is = record {
+  before = WordSeen p x ∷ FinishedSeen new.reader.finished_seen ∷ more;
+  observed = is ∙ ap (λ (z : ℕ). CounterSeen z ∷ WordSeen p x ∷ FinishedSeen new.reader.finished_seen ∷ (more ++ old.reader.observed)) told.loaded;
+}
 
 -- an answer at the first try, and at the second
 pub found_once : (old new : ReaderState) (step : Step) → IsAnswer old step new → HasTried (Some step) old new → HasFound old step new

@@ -20,7 +20,8 @@ use Rattle.log_ring.specs.declared.rule.Progress.TheVariants.{Free, Storing, Sto
 use Rattle.log_ring.specs.declared.rule.ReaderView.{ReaderView}
 use Rattle.log_ring.specs.declared.rule.View.{View}
 use Rattle.log_ring.specs.Ring.{AreObserved}
-use Rattle.log_ring.specs.inside.Rule.{KnowsToken, entries_from, PutAll, IsWithout, AreApart, IsNext, IsOverrunAt, IsReader, IsUnderWay, HoldsOneLog, writers_of, HasNumber, IsSeated, units_of, IsDone, Settles}
+use Rattle.log_ring.specs.inside.Rule.{KnowsToken, entries_from, PutAll, IsWithout, AreApart, IsNext, IsOverrunAt, IsReader, IsUnderWay, HoldsOneLog, writers_of, HasNumber, IsSeated}
+use Rattle.log_ring.specs.inside.Closing.{units_of, IsDone, Settles}
 use Rattle.log_model.proofs.SumLemmas.{rest_zero}
 use Rattle.log_ring.proofs.SeatLemmas.{all_map, some_at}
 use Rattle.log_ring.proofs.WordLemmas.{ent, word}

@@ -3,7 +3,7 @@ use Rattle.std.proofs.Common.{◌≡◌, ℕ, zero, suc, ◌+◌, ◌<◌, List,
 use Rattle.atomic_table.specs.Table.{Me}
 use Rattle.log_ring.specs.declared.rule.Unchecked.TheVariants.{Words}
 use Rattle.log_ring.specs.declared.rule.View.{View}
-use Rattle.log_ring.specs.inside.Rule.{reader_of, with_copy, Becomes, LoadsMore}
+use Rattle.log_ring.specs.inside.Reading.{reader_of, with_copy, Becomes, LoadsMore}
 use Rattle.log_ring.specs.inside.Steps.{HasCopied}
 
 -- the front of words, with the next one written

@@ -18,7 +18,10 @@ use Rattle.log_ring.specs.declared.rule.WriterView.{WriterView}
 use Rattle.log_ring.specs.declared.rule.ReaderView.{ReaderView}
 use Rattle.log_ring.specs.declared.rule.View.{View}
 use Rattle.log_ring.specs.Ring.{RingSet, WriterState, ReaderState, units_put, busy_of, history_taken, AreWritersOf, AreReadersOf, IsDoneWith, HasReached}
-use Rattle.log_ring.specs.inside.Rule.{HoldsOneLog, first_entries, units_of, history_of, both_views, no_view, Settles, IsDone, reader_of}
+use Rattle.log_ring.specs.inside.Rule.{HoldsOneLog}
+use Rattle.log_ring.specs.inside.Writing.{first_entries, both_views, no_view}
+use Rattle.log_ring.specs.inside.Reading.{reader_of}
+use Rattle.log_ring.specs.inside.Closing.{units_of, history_of, Settles, IsDone}
 use Rattle.log_ring.specs.inside.Steps.{set_of, first_number, writer_of, IsLeftSeat, writer_in, reader_in, IsJoined, IsJoinedWith, IsReaderSeat}
 use Rattle.log_ring.proofs.SeatingLemmas.{joins}
 use Rattle.log_ring.proofs.CloseLemmas.{settles}

@@ -17,7 +17,8 @@ use Rattle.log_ring.specs.declared.rule.WriterView.{WriterView}
 use Rattle.log_ring.specs.declared.rule.Put.{Put}
 use Rattle.log_ring.specs.declared.rule.Progress.TheVariants.{Free, Storing, Stored}
 use Rattle.log_ring.specs.declared.rule.View.{View}
-use Rattle.log_ring.specs.inside.Rule.{SharedState, KnowsToken, IsToken, PutAll, AreApart, IsReader, HoldsOneLog, finished_of, writers_of, HasNumber, IsSeated, going_on, with_stored, with_entry, after_announce, after_publish, after_leave, Makes}
+use Rattle.log_ring.specs.inside.Rule.{SharedState, KnowsToken, IsToken, PutAll, AreApart, IsReader, HoldsOneLog, finished_of, writers_of, HasNumber, IsSeated}
+use Rattle.log_ring.specs.inside.Writing.{going_on, with_stored, with_entry, after_announce, after_publish, after_leave, Makes}
 use Rattle.log_model.proofs.SumLemmas.{sums_lt}
 use Rattle.log_ring.proofs.SeatLemmas.{all_map, all_push, inside_at}
 use Rattle.log_ring.proofs.EntryLemmas.{entry_here, entry_else}

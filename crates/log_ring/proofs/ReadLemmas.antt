@@ -14,7 +14,7 @@ use Rattle.ring_layout.specs.declared.history.HistoryItem.TheVariants.{UnitRun, 
 use Rattle.ring_layout.specs.Places.{last_tail, stays, start_at, end_at, tail_from, tail, word_at, segment_start, AreFit, end_mark, wrap_mark}
 use Rattle.ring_layout.specs.Content.{HoldsLog}
 use Rattle.ring_layout.specs.Copied.{IsDueAt, AreCopied}
-use Rattle.ring_layout.specs.History.{last_seen, first_number, UnitStarts, MayFollow, IsReadBack, with_unit}
+use Rattle.ring_layout.specs.History.{HasRun, last_seen, first_number, UnitStarts, MayFollow, IsReadBack, with_unit}
 use Rattle.ring_layout.proofs.EntriesLemmas.{at_stay, at_wrap, start_there}
 use Rattle.ring_layout.proofs.TakenLemmas.{get_inside}
 use Rattle.ring_layout.proofs.AgreedLemmas.{tail_above}
@@ -28,7 +28,8 @@ use Rattle.log_ring.specs.declared.rule.Unchecked.TheVariants.{Words, Start}
 use Rattle.log_ring.specs.declared.rule.ReaderView.{ReaderView}
 use Rattle.log_ring.specs.declared.rule.View.{View}
 use Rattle.log_ring.specs.Ring.{new_reader, WasTail, AreObserved}
-use Rattle.log_ring.specs.inside.Rule.{SharedState, IsUnderWay, IsNext, IsOverrunAt, AreWords, IsUnchecked, CursorStands, IsReader, HoldsOneLog, with_finished, unchecked_words, with_head, with_copy, overrun_at, with_end, with_lap, with_taken, with_loaded, with_start_of, with_run, reader_of, Reads, LoadsFinished, LoadsHead, LoadsMore, Checks, FindsEnd, FindsLap, FindsUnit, FindsNothing, ChecksAgain, Looks, LoadsStart, unchecked_start, Seeks}
+use Rattle.log_ring.specs.inside.Rule.{SharedState, IsUnderWay, IsNext, IsOverrunAt, AreWords, IsUnchecked, CursorStands, IsReader, HoldsOneLog}
+use Rattle.log_ring.specs.inside.Reading.{with_finished, unchecked_words, with_head, with_copy, overrun_at, with_end, with_lap, with_taken, with_loaded, with_start_of, with_run, reader_of, Reads, LoadsFinished, LoadsHead, LoadsMore, Checks, FindsEnd, FindsLap, FindsUnit, FindsNothing, ChecksAgain, Looks, LoadsStart, unchecked_start, Seeks}
 use Rattle.log_ring.proofs.WordLemmas.{ent, word}
 use Rattle.log_ring.proofs.RuleLemmas.{looks}
 
@@ -262,6 +263,11 @@ module _ (key : RingKey) where
   stands_start log k p (UnitRun q ∷ is) next t = inr (subst (λ (z : ℕ). UnitStarts words key.seg log z p) next t)
   stands_start log k p (Overrun a b ∷ is) next t = absurd next
 
+  next_has_run : (k : ℕ) (items : List (HistoryItem LogUnit)) → IsNext k items → HasRun items
+  next_has_run k [] next = absurd next
+  next_has_run k (UnitRun q ∷ is) next = tt
+  next_has_run k (Overrun a b ∷ is) next = absurd next
+
   taken_more : (most : ℕ) (log : Log) (k : ℕ) (items : List (HistoryItem LogUnit)) (u : LogUnit) → slice_get log k ≡ Some u → IsNext k items → IsReadBack words key.seg most log items → IsReadBack words key.seg most log (with_unit u items)
   taken_more most log k [] u kth next h = absurd next
   taken_more most log k (UnitRun q ∷ is) u kth next h = run_more words key.seg most log q is u (subst (λ (z : ℕ). slice_get log z ≡ Some u) next kth) h
@@ -375,7 +381,7 @@ module _ (key : RingKey) where
           finished_seen = h.finished_seen;
           ended = λ e. cc e;
         },
-        (u, kth_of IsUnit w.log r.number u k.are_words.units kth, copied ∙ xs_is, refl, low.1),
+        (u, kth_of IsUnit w.log r.number u k.are_words.units kth, copied ∙ xs_is, next_has_run r.number r.items g.next, refl, low.1),
       ))
 
   -- a word that is none of a log's

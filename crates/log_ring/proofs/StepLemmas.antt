@@ -16,7 +16,8 @@ use Rattle.log_ring.specs.declared.rule.RingKey.{RingKey}
 use Rattle.log_ring.specs.declared.rule.WriterView.{WriterView}
 use Rattle.log_ring.specs.declared.rule.Progress.TheVariants.{Storing, Stored}
 use Rattle.log_ring.specs.declared.rule.View.{View}
-use Rattle.log_ring.specs.inside.Rule.{HoldsOneLog, begun, after_announce, after_start, after_word, after_mark, after_publish, after_release, Makes}
+use Rattle.log_ring.specs.inside.Rule.{HoldsOneLog}
+use Rattle.log_ring.specs.inside.Writing.{begun, after_announce, after_start, after_word, after_mark, after_publish, after_release, Makes}
 use Rattle.log_ring.specs.inside.Steps.{IsPlaced, announced, started, written, marked, first_of}
 use Rattle.log_ring.proofs.TokenLemmas.{releases, withdraws}
 use Rattle.log_ring.proofs.StoreLemmas.{starts, writes, ends}

@@ -15,7 +15,8 @@ use Rattle.log_ring.specs.declared.rule.Put.{Put}
 use Rattle.log_ring.specs.declared.rule.Progress.{Progress}
 use Rattle.log_ring.specs.declared.rule.Progress.TheVariants.{Storing}
 use Rattle.log_ring.specs.declared.rule.View.{View}
-use Rattle.log_ring.specs.inside.Rule.{SharedState, KnowsToken, IsToken, IsUnderWay, AreWords, HoldsOneLog, going_on, after_start, after_word, after_mark, Makes}
+use Rattle.log_ring.specs.inside.Rule.{SharedState, KnowsToken, IsToken, IsUnderWay, AreWords, HoldsOneLog}
+use Rattle.log_ring.specs.inside.Writing.{going_on, after_start, after_word, after_mark, Makes}
 use Rattle.log_ring.proofs.WordLemmas.{ent, word, start_set, word_set, holds_as, stored_as}
 use Rattle.log_ring.proofs.RuleLemmas.{M, storing_free, others_stay, changed, owners_stay, acts}
 

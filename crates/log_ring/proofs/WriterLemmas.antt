@@ -7,7 +7,7 @@ use Rattle.ring_layout.specs.Places.{stays}
 use Rattle.log_ring.specs.declared.rule.Progress.TheVariants.{Storing}
 use Rattle.log_ring.specs.declared.rule.View.{View}
 use Rattle.log_ring.specs.Ring.{count_wrapped}
-use Rattle.log_ring.specs.inside.Rule.{begun, first_entries, after_acquire}
+use Rattle.log_ring.specs.inside.Writing.{begun, first_entries, after_acquire}
 use Rattle.log_ring.specs.inside.Steps.{IsWriterSeat, first_number, with_put}
 
 abbrev one_if : Bool → ℕ

@@ -18,7 +18,7 @@ use Rattle.log_ring.specs.declared.rule.Unchecked.TheVariants.{Nothing}
 use Rattle.log_ring.specs.declared.rule.Observation.{Observation}
 use Rattle.log_ring.specs.declared.rule.Observation.TheVariants.{CounterSeen, FinishedSeen, WordSeen, StartSeen}
 use Rattle.ring_layout.specs.Places.{overrun_distance, seek_distance, last_tail, end_mark, stays, end_at, tail, segment_start}
-use Rattle.ring_layout.specs.History.{with_unit, IsReadHistory, ReachesTail}
+use Rattle.ring_layout.specs.History.{HasRun, with_unit, IsReadHistory, ReachesTail}
 use Rattle.ring_layout.specs.declared.history.HistoryItem.{HistoryItem}
 
 -- which ring it is: the table that has its words, how many words a segment has, and how many writers and readers there are
@@ -105,18 +105,32 @@ new_pass ring = record { ring = ring; reader = new_reader; words = [] }
 abbrev pub new_passes : RingSet → ℕ → List ReaderState
 new_passes ring m = map (λ (k : ℕ). new_pass ring) (range_with_len 0 m)
 
--- a call that seeks found this counter first, then this start of a segment, and then the counter again
-abbrev pub HasLooked : ℕ → ℕ → ℕ → ℕ → ReaderState → ReaderState → Type 0
-HasLooked c s p seen old new = new.reader.observed ≡ CounterSeen seen ∷ StartSeen s p ∷ CounterSeen c ∷ old.reader.observed
+-- a reader was overrun in this segment, by this counter, which it found last and which is six segments ahead or more; and this is what it took last
+pub record WasOverrun (at seen : ℕ) (old new : ReaderState) : Type 0 where
+  pub far : at + overrun_distance ≤ seen
+  pub loaded : new.reader.loaded ≡ seen
+  pub lost : new.reader.lost ≡ Some at
+  pub items : new.reader.items ≡ Overrun at seen ∷ old.reader.items
 
--- where a reader that sought goes on: at the start of the segment four behind the counter that this call found first, with a run of no unit; or it was overrun there, by
--- the counter that it found last
+-- a call that seeks found a counter first, then a place as the start of the segment four behind it, and then another counter
+pub record HasLooked (segment place seen : ℕ) (old new : ReaderState) : Type 0 where
+  pub counter : ℕ
+  pub segment_is : segment ≡ counter - seek_distance
+  pub observed : new.reader.observed ≡ CounterSeen seen ∷ StartSeen segment place ∷ CounterSeen counter ∷ old.reader.observed
+
+-- a reader goes on at this place in this segment, to which no counter is six segments ahead yet, with a run of no unit
+pub record GoesOn (segment place : ℕ) (old new : ReaderState) : Type 0 where
+  pub looked : HasLooked segment place new.reader.loaded old new
+  pub near : new.reader.loaded < segment + overrun_distance
+  pub place_is : new.reader.place ≡ place
+  pub not_lost : new.reader.lost ≡ None
+  pub first : ℕ
+  pub items : new.reader.items ≡ UnitRun (record { segment = segment; first = first; units = [] }) ∷ old.reader.items
+
+-- where a reader that sought goes on: at the start of the segment four behind the counter that this call found first; or it was overrun there
 abbrev pub IsSought : ReaderState → Sought → ReaderState → Type 0
-IsSought old (sought.At s p) new =
-    ((c : ℕ) × ((seen : ℕ) × HasLooked c s p seen old new × (seen < s + overrun_distance)) × (s ≡ c - seek_distance)) × (new.reader.place ≡ p) × (new.reader.lost ≡ None)
-    × ((k : ℕ) × (new.reader.items ≡ UnitRun (record { segment = s; first = k; units = [] }) ∷ old.reader.items))
-IsSought old (sought.Lost at seen) new =
-    ((c : ℕ) × ((p : ℕ) × HasLooked c at p seen old new) × (at ≡ c - seek_distance)) × (at + overrun_distance ≤ seen) × (new.reader.lost ≡ Some at) × (new.reader.items ≡ Overrun at seen ∷ old.reader.items)
+IsSought old (sought.At s p) new = GoesOn s p old new
+IsSought old (sought.Lost at seen) new = WasOverrun at seen old new × ((p : ℕ) × HasLooked at p seen old new)
 
 -- the units that a writer put
 abbrev pub units_put : WriterState → Log
@@ -177,26 +191,54 @@ HasTaken k u (Overrun a b ∷ is) = HasTaken k u is
 abbrev pub AgreesWith : ReaderState → ReaderState → Type 0
 AgreesWith r q = (k : ℕ) (u v : LogUnit) → HasTaken k u r.reader.items → HasTaken k v q.reader.items → u ≡ v
 
--- what a reader answers, and what it is left with: it took a unit; it stands at the end of what was put; nothing more comes; or it was overrun. The counter that it
--- loaded last is less than six segments ahead of the place where it loaded, but for the last
-abbrev pub IsAnswer : ReaderState → Step → ReaderState → Type 0
-IsAnswer old Took new =
-    (u : LogUnit) × Spells new.words u × (new.reader.items ≡ with_unit u old.reader.items) × (new.reader.lost ≡ None)
-    × ((p : ℕ) × (new.reader.place ≡ p + length (unit_words u)) × (new.reader.loaded < p / old.ring.seg + overrun_distance))
-IsAnswer old (NotYet p) new =
-    (new.reader.items ≡ old.reader.items) × (new.reader.lost ≡ None) × (new.reader.finished_seen < old.ring.writers) × (new.reader.loaded < p / old.ring.seg + overrun_distance)
-IsAnswer old Ended new =
-    (new.reader.items ≡ old.reader.items) × (new.reader.ended ≡ true) × (new.reader.lost ≡ None) × (old.ring.writers ≤ new.reader.finished_seen) × (new.reader.loaded < new.reader.place / old.ring.seg + overrun_distance)
-IsAnswer old (Lost at seen) new =
-    (new.reader.items ≡ Overrun at seen ∷ old.reader.items) × (new.reader.lost ≡ Some at) × (new.reader.loaded ≡ seen) × (at + overrun_distance ≤ seen)
+-- a reader whose newest item is a run took the unit that starts at a place into it, and lends it. The counter that it found last is less than six segments ahead of that
+-- place
+pub record TookUnit (old new : ReaderState) : Type 0 where
+  pub reads_on : HasRun old.reader.items
+  pub unit : LogUnit
+  pub spells : Spells new.words unit
+  pub items : new.reader.items ≡ with_unit unit old.reader.items
+  pub not_lost : new.reader.lost ≡ None
+  pub start : ℕ
+  pub behind : new.reader.place ≡ start + length (unit_words unit)
+  pub near : new.reader.loaded < start / old.ring.seg + overrun_distance
 
--- what a call of `next` found last: the counter; and before it, unless the cursor was overrun, the word at its place, and before that the number of writers that left. Where
--- it waits or ends, that word is the end mark
+-- a reader stands at a place where it took nothing. The counter that it found last is less than six segments ahead
+pub record TookNothing (place : ℕ) (old new : ReaderState) : Type 0 where
+  pub place_is : new.reader.place ≡ place
+  pub items : new.reader.items ≡ old.reader.items
+  pub not_lost : new.reader.lost ≡ None
+  pub near : new.reader.loaded < place / old.ring.seg + overrun_distance
+
+-- what a reader answers, and what it is left with: it took a unit; it found that a writer was there and no unit is due yet; it found that all writers had left and none will
+-- be; or it was overrun
+abbrev pub IsAnswer : ReaderState → Step → ReaderState → Type 0
+IsAnswer old Took new = TookUnit old new
+IsAnswer old (NotYet p) new = TookNothing p old new × (new.reader.finished_seen < old.ring.writers)
+IsAnswer old Ended new = TookNothing new.reader.place old new × (old.ring.writers ≤ new.reader.finished_seen) × (new.reader.ended ≡ true)
+IsAnswer old (Lost at seen) new = WasOverrun at seen old new
+
+-- a call found the number of writers that left, then this word at this place, and then the counter, and these last
+pub record FoundAt (place word : ℕ) (old new : ReaderState) : Type 0 where
+  pub before : List Observation
+  pub observed : new.reader.observed ≡ CounterSeen new.reader.loaded ∷ WordSeen place word ∷ FinishedSeen new.reader.finished_seen ∷ (before ++ old.reader.observed)
+
+-- a call found this counter last
+pub record FoundCounter (seen : ℕ) (old new : ReaderState) : Type 0 where
+  pub before : List Observation
+  pub observed : new.reader.observed ≡ CounterSeen seen ∷ (before ++ old.reader.observed)
+
+-- what a call of `next` found: the end mark at its place where it answers that no unit is due, and the counter that it tells where it was overrun
 abbrev pub HasFound : ReaderState → Step → ReaderState → Type 0
-HasFound old Took new = (more : List Observation) × ((p : ℕ) × ((x : ℕ) × (new.reader.observed ≡ CounterSeen new.reader.loaded ∷ WordSeen p x ∷ FinishedSeen new.reader.finished_seen ∷ (more ++ old.reader.observed))))
-HasFound old (NotYet p) new = (more : List Observation) × (new.reader.observed ≡ CounterSeen new.reader.loaded ∷ WordSeen p end_mark ∷ FinishedSeen new.reader.finished_seen ∷ (more ++ old.reader.observed))
-HasFound old Ended new = (more : List Observation) × ((p : ℕ) × (new.reader.observed ≡ CounterSeen new.reader.loaded ∷ WordSeen p end_mark ∷ FinishedSeen new.reader.finished_seen ∷ (more ++ old.reader.observed)))
-HasFound old (Lost at seen) new = (more : List Observation) × (new.reader.observed ≡ CounterSeen seen ∷ (more ++ old.reader.observed))
+HasFound old Took new = (place : ℕ) × ((word : ℕ) × FoundAt place word old new)
+HasFound old (NotYet p) new = FoundAt p end_mark old new
+HasFound old Ended new = (place : ℕ) × FoundAt place end_mark old new
+HasFound old (Lost at seen) new = FoundCounter seen old new
+
+-- a cursor that was overrun and didn't seek is overrun in the same segment again, by the counter, which is all that the call looks at
+pub record StaysLost (old : ReaderState) (step : Step) (new : ReaderState) : Type 0 where
+  pub again : (at : ℕ) → old.reader.lost ≡ Some at → step ≡ Lost at new.reader.loaded
+  pub observed : (at : ℕ) → old.reader.lost ≡ Some at → new.reader.observed ≡ CounterSeen new.reader.loaded ∷ old.reader.observed
 
 -- a cursor went on at the next lap: a unit at its place could wrap
 pub record HasMoved (old new : ReaderState) : Type 0 where

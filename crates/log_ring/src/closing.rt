@@ -22,7 +22,7 @@ pub struct ClosedRing {
 impl Model for ClosedRing {
     ghost use Rattle.std.specs.Prelude.{map};
     ghost use Rattle.log_ring.specs.Ring.{ClosedState};
-    ghost use Rattle.log_ring.specs.inside.Rule.{history_of};
+    ghost use Rattle.log_ring.specs.inside.Closing.{history_of};
 
     ghost Value = { ClosedState };
 

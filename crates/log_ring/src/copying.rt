@@ -4,7 +4,7 @@ ghost use Rattle.std.specs.Prelude.{◌≡◌, ℕ, ◌+◌, ◌*◌, ◌<◌, �
 ghost use Rattle.vsl_record.specs.Words.{header_mark, words_in};
 ghost use Rattle.ring_layout.specs.Places.{last_tail};
 ghost use Rattle.log_ring.specs.declared.rule.Unchecked.TheVariants.{Words};
-ghost use Rattle.log_ring.specs.inside.Rule.{reader_of};
+ghost use Rattle.log_ring.specs.inside.Reading.{reader_of};
 ghost use Rattle.log_ring.specs.inside.Steps.{HasCopied};
 
 use crate::pause::{Pause, stop};

@@ -4,7 +4,7 @@ ghost use Rattle.std.specs.Prelude.{◌≡◌, ◌≢◌, ℕ, ◌+◌, ◌-◌,
 ghost use Rattle.vsl_record.specs.Words.{header_mark, unit_words};
 ghost use Rattle.ring_layout.specs.Places.{seek_distance, end_mark, wrap_mark};
 ghost use Rattle.log_ring.specs.declared.rule.Unchecked.TheVariants.{Words, Start};
-ghost use Rattle.log_ring.specs.inside.Rule.{reader_of, unchecked_words, unchecked_start, Becomes, LoadsFinished, LoadsHead, LoadsMore, Checks, FindsEnd, FindsLap, FindsUnit, FindsNothing, ChecksAgain, Looks, LoadsStart, Seeks};
+ghost use Rattle.log_ring.specs.inside.Reading.{reader_of, unchecked_words, unchecked_start, Becomes, LoadsFinished, LoadsHead, LoadsMore, Checks, FindsEnd, FindsLap, FindsUnit, FindsNothing, ChecksAgain, Looks, LoadsStart, Seeks};
 
 use crate::reading_rule::{
     CheckingAgain, CheckingEnd, CheckingLap, CheckingNothing, CheckingUnit, LoadingFinished,

@@ -4,7 +4,8 @@ ghost use Rattle.std.specs.Prelude.{◌≡◌, ℕ, ◌+◌, ◌-◌, ◌*◌, �
 ghost use Rattle.std.specs.List.{range_with_len};
 ghost use Rattle.ring_layout.specs.Places.{end_mark};
 ghost use Rattle.log_ring.specs.Ring.{RingSet, most_writers, most_readers, new_writer, new_writers, new_reader, new_passes};
-ghost use Rattle.log_ring.specs.inside.Rule.{new_writer_views, reader_of, first_view};
+ghost use Rattle.log_ring.specs.inside.Writing.{new_writer_views, first_view};
+ghost use Rattle.log_ring.specs.inside.Reading.{reader_of};
 ghost use Rattle.log_ring.specs.inside.Steps.{AreFirstWords, IsFirstSeat, IsReaderSeat, set_of};
 
 use crate::reader::ReaderPass;

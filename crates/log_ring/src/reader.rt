@@ -6,8 +6,8 @@ ghost use Rattle.vsl_record.specs.Views.{Spells};
 ghost use Rattle.vsl_record.specs.Words.{header_mark};
 ghost use Rattle.ring_layout.specs.Places.{end_mark, wrap_mark};
 ghost use Rattle.log_ring.specs.declared.rule.Unchecked.TheVariants.{Words};
-ghost use Rattle.log_ring.specs.Ring.{new_reader, new_pass, IsSought, IsAnswer, HasFound, HasMoved};
-ghost use Rattle.log_ring.specs.inside.Rule.{reader_of};
+ghost use Rattle.log_ring.specs.Ring.{new_reader, new_pass, IsSought, IsAnswer, HasFound, StaysLost, HasMoved};
+ghost use Rattle.log_ring.specs.inside.Reading.{reader_of};
 ghost use Rattle.log_ring.specs.inside.Steps.{IsReaderSeat, FoundWord, HasChecked, HasTried, set_of};
 
 use crate::pause::{NoPause, Pause, stop};
@@ -39,7 +39,7 @@ impl Model for ReaderPass {
     ghost use Rattle.vsl_record.specs.Words.{words_in};
     ghost use Rattle.ring_layout.specs.Places.{last_tail};
     ghost use Rattle.log_ring.specs.Ring.{ReaderState};
-    ghost use Rattle.log_ring.specs.inside.Rule.{reader_of};
+    ghost use Rattle.log_ring.specs.inside.Reading.{reader_of};
     ghost use Rattle.log_ring.specs.inside.Steps.{IsReaderSeat, reader_seen};
 
     ghost Value = { ReaderState };
@@ -120,6 +120,7 @@ impl ReaderPass {
         requires lost { self.old.reader.lost ≡ Some at }
         ensures answer { IsAnswer self.old result self.new }
         ensures found { HasFound self.old result self.new }
+        ensures lost { StaysLost self.old result self.new }
         ensures same { self.new.ring ≡ self.old.ring }
         ensures words { self.new.words ≡ self.old.words }
     {
@@ -349,17 +350,19 @@ impl ReaderPass {
         requires ours { self.old.ring ≡ ring.now }
         ensures answer { IsAnswer self.old result self.new }
         ensures found { HasFound self.old result self.new }
+        ensures lost { StaysLost self.old result self.new }
         ensures same { self.new.ring ≡ self.old.ring }
     {
         self.next_with(ring, &mut NoPause)
     }
 
     /// Takes the next unit as `next` does, and calls `pause` before each load.
-    #[tactic(auto, using(crate::proofs::AnswerLemmas::answer_as, crate::proofs::AnswerLemmas::found_once, crate::proofs::AnswerLemmas::found_twice))]
+    #[tactic(auto, using(crate::proofs::AnswerLemmas::answer_as, crate::proofs::AnswerLemmas::found_once, crate::proofs::AnswerLemmas::found_twice, crate::proofs::AnswerLemmas::free_stays))]
     pub fn next_with<P: Pause>(&mut self, ring: &Ring, pause: &mut P) -> Step
         requires ours { self.old.ring ≡ ring.now }
         ensures answer { IsAnswer self.old result self.new }
         ensures found { HasFound self.old result self.new }
+        ensures lost { StaysLost self.old result self.new }
         ensures same { self.new.ring ≡ self.old.ring }
     {
         let mut step: u64 = 0;

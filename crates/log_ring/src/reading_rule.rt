@@ -7,7 +7,7 @@ use atomic_table::Play;
 pub struct LoadingFinished;
 
 impl Play<u64, View> for LoadingFinished {
-    ghost use Rattle.log_ring.specs.inside.Rule.{Reads, LoadsFinished};
+    ghost use Rattle.log_ring.specs.inside.Reading.{Reads, LoadsFinished};
 
     ghost then = { Reads LoadsFinished };
 }
@@ -16,7 +16,7 @@ impl Play<u64, View> for LoadingFinished {
 pub struct LoadingHead;
 
 impl Play<u64, View> for LoadingHead {
-    ghost use Rattle.log_ring.specs.inside.Rule.{Reads, LoadsHead};
+    ghost use Rattle.log_ring.specs.inside.Reading.{Reads, LoadsHead};
 
     ghost then = { Reads LoadsHead };
 }
@@ -25,7 +25,7 @@ impl Play<u64, View> for LoadingHead {
 pub struct LoadingMore;
 
 impl Play<u64, View> for LoadingMore {
-    ghost use Rattle.log_ring.specs.inside.Rule.{Reads, LoadsMore};
+    ghost use Rattle.log_ring.specs.inside.Reading.{Reads, LoadsMore};
 
     ghost then = { Reads LoadsMore };
 }
@@ -34,7 +34,7 @@ impl Play<u64, View> for LoadingMore {
 pub struct CheckingEnd;
 
 impl Play<u64, View> for CheckingEnd {
-    ghost use Rattle.log_ring.specs.inside.Rule.{Reads, Checks, FindsEnd};
+    ghost use Rattle.log_ring.specs.inside.Reading.{Reads, Checks, FindsEnd};
 
     ghost then = { Reads (Checks FindsEnd) };
 }
@@ -43,7 +43,7 @@ impl Play<u64, View> for CheckingEnd {
 pub struct CheckingLap;
 
 impl Play<u64, View> for CheckingLap {
-    ghost use Rattle.log_ring.specs.inside.Rule.{Reads, Checks, FindsLap};
+    ghost use Rattle.log_ring.specs.inside.Reading.{Reads, Checks, FindsLap};
 
     ghost then = { Reads (Checks FindsLap) };
 }
@@ -53,7 +53,7 @@ pub struct CheckingUnit;
 
 impl Play<u64, View> for CheckingUnit {
     ghost use Rattle.vsl_record.specs.Words.{unit_words};
-    ghost use Rattle.log_ring.specs.inside.Rule.{Reads, Checks, FindsUnit};
+    ghost use Rattle.log_ring.specs.inside.Reading.{Reads, Checks, FindsUnit};
 
     ghost then = { Reads (Checks (FindsUnit unit_words)) };
 }
@@ -62,7 +62,7 @@ impl Play<u64, View> for CheckingUnit {
 pub struct CheckingNothing;
 
 impl Play<u64, View> for CheckingNothing {
-    ghost use Rattle.log_ring.specs.inside.Rule.{Reads, Checks, FindsNothing};
+    ghost use Rattle.log_ring.specs.inside.Reading.{Reads, Checks, FindsNothing};
 
     ghost then = { Reads (Checks FindsNothing) };
 }
@@ -71,7 +71,7 @@ impl Play<u64, View> for CheckingNothing {
 pub struct CheckingAgain;
 
 impl Play<u64, View> for CheckingAgain {
-    ghost use Rattle.log_ring.specs.inside.Rule.{Reads, ChecksAgain};
+    ghost use Rattle.log_ring.specs.inside.Reading.{Reads, ChecksAgain};
 
     ghost then = { Reads ChecksAgain };
 }
@@ -80,7 +80,7 @@ impl Play<u64, View> for CheckingAgain {
 pub struct Looking;
 
 impl Play<u64, View> for Looking {
-    ghost use Rattle.log_ring.specs.inside.Rule.{Reads, Looks};
+    ghost use Rattle.log_ring.specs.inside.Reading.{Reads, Looks};
 
     ghost then = { Reads Looks };
 }
@@ -89,7 +89,7 @@ impl Play<u64, View> for Looking {
 pub struct LoadingStart;
 
 impl Play<u64, View> for LoadingStart {
-    ghost use Rattle.log_ring.specs.inside.Rule.{Reads, LoadsStart};
+    ghost use Rattle.log_ring.specs.inside.Reading.{Reads, LoadsStart};
 
     ghost then = { Reads LoadsStart };
 }
@@ -98,7 +98,7 @@ impl Play<u64, View> for LoadingStart {
 pub struct Seeking;
 
 impl Play<u64, View> for Seeking {
-    ghost use Rattle.log_ring.specs.inside.Rule.{Reads, Seeks};
+    ghost use Rattle.log_ring.specs.inside.Reading.{Reads, Seeks};
 
     ghost then = { Reads Seeks };
 }

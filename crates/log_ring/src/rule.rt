@@ -115,7 +115,8 @@ pub struct RingRule;
 
 impl TableRule<u64, View, RingKey> for RingRule {
     ghost use Rattle.vsl_record.specs.Words.{unit_words};
-    ghost use Rattle.log_ring.specs.inside.Rule.{HoldsOneLog, first_view};
+    ghost use Rattle.log_ring.specs.inside.Rule.{HoldsOneLog};
+    ghost use Rattle.log_ring.specs.inside.Writing.{first_view};
 
     ghost holds = { HoldsOneLog unit_words };
 
@@ -140,7 +141,7 @@ pub struct Acquiring<N> {
 
 impl<N: Coming> Play<u64, View> for Acquiring<N> {
     ghost use Rattle.vsl_record.specs.Words.{unit_words};
-    ghost use Rattle.log_ring.specs.inside.Rule.{Acquires};
+    ghost use Rattle.log_ring.specs.inside.Writing.{Acquires};
 
     ghost then = { Acquires unit_words N.unit };
 }
@@ -149,7 +150,7 @@ impl<N: Coming> Play<u64, View> for Acquiring<N> {
 pub struct Announcing;
 
 impl Play<u64, View> for Announcing {
-    ghost use Rattle.log_ring.specs.inside.Rule.{Makes, after_announce};
+    ghost use Rattle.log_ring.specs.inside.Writing.{Makes, after_announce};
 
     ghost then = { Makes after_announce };
 }
@@ -158,7 +159,7 @@ impl Play<u64, View> for Announcing {
 pub struct Starting;
 
 impl Play<u64, View> for Starting {
-    ghost use Rattle.log_ring.specs.inside.Rule.{Makes, after_start};
+    ghost use Rattle.log_ring.specs.inside.Writing.{Makes, after_start};
 
     ghost then = { Makes (λ _. after_start) };
 }
@@ -167,7 +168,7 @@ impl Play<u64, View> for Starting {
 pub struct Wording;
 
 impl Play<u64, View> for Wording {
-    ghost use Rattle.log_ring.specs.inside.Rule.{Makes, after_word};
+    ghost use Rattle.log_ring.specs.inside.Writing.{Makes, after_word};
 
     ghost then = { Makes (λ _. after_word) };
 }
@@ -176,7 +177,7 @@ impl Play<u64, View> for Wording {
 pub struct Marking;
 
 impl Play<u64, View> for Marking {
-    ghost use Rattle.log_ring.specs.inside.Rule.{Makes, after_mark};
+    ghost use Rattle.log_ring.specs.inside.Writing.{Makes, after_mark};
 
     ghost then = { Makes (λ _. after_mark) };
 }
@@ -185,7 +186,7 @@ impl Play<u64, View> for Marking {
 pub struct Publishing;
 
 impl Play<u64, View> for Publishing {
-    ghost use Rattle.log_ring.specs.inside.Rule.{Makes, after_publish};
+    ghost use Rattle.log_ring.specs.inside.Writing.{Makes, after_publish};
 
     ghost then = { Makes (λ _. after_publish) };
 }
@@ -194,7 +195,7 @@ impl Play<u64, View> for Publishing {
 pub struct Releasing;
 
 impl Play<u64, View> for Releasing {
-    ghost use Rattle.log_ring.specs.inside.Rule.{Makes, after_release};
+    ghost use Rattle.log_ring.specs.inside.Writing.{Makes, after_release};
 
     ghost then = { Makes (λ _. after_release) };
 }
@@ -203,7 +204,7 @@ impl Play<u64, View> for Releasing {
 pub struct Leaving;
 
 impl Play<u64, View> for Leaving {
-    ghost use Rattle.log_ring.specs.inside.Rule.{Makes, after_leave};
+    ghost use Rattle.log_ring.specs.inside.Writing.{Makes, after_leave};
 
     ghost then = { Makes (λ _. after_leave) };
 }
@@ -213,7 +214,7 @@ pub struct Settling;
 
 impl Play<u64, View> for Settling {
     ghost use Rattle.vsl_record.specs.Words.{unit_words};
-    ghost use Rattle.log_ring.specs.inside.Rule.{Settles};
+    ghost use Rattle.log_ring.specs.inside.Closing.{Settles};
 
     ghost then = { Settles unit_words };
 }
@@ -222,7 +223,7 @@ impl Play<u64, View> for Settling {
 pub struct OneWriter;
 
 impl Split<View> for OneWriter {
-    ghost use Rattle.log_ring.specs.inside.Rule.{without_writer, one_writer};
+    ghost use Rattle.log_ring.specs.inside.Writing.{without_writer, one_writer};
 
     ghost left = { without_writer };
 
@@ -233,7 +234,7 @@ impl Split<View> for OneWriter {
 pub struct OneReader;
 
 impl Split<View> for OneReader {
-    ghost use Rattle.log_ring.specs.inside.Rule.{without_reader, one_reader};
+    ghost use Rattle.log_ring.specs.inside.Writing.{without_reader, one_reader};
 
     ghost left = { without_reader };
 
@@ -244,7 +245,7 @@ impl Split<View> for OneReader {
 pub struct Together;
 
 impl Join<View> for Together {
-    ghost use Rattle.log_ring.specs.inside.Rule.{both_views, no_view};
+    ghost use Rattle.log_ring.specs.inside.Writing.{both_views, no_view};
 
     ghost both = { both_views };
 

@@ -5,7 +5,7 @@ ghost use Rattle.vsl_record.specs.Words.{IsUnit, unit_words};
 ghost use Rattle.ring_layout.specs.Places.{last_tail};
 ghost use Rattle.ring_layout.specs.Content.{first_word, last_word};
 ghost use Rattle.log_ring.specs.declared.rule.Progress.TheVariants.{Free, Storing, Stored};
-ghost use Rattle.log_ring.specs.inside.Rule.{begun, first_entries, after_acquire, after_publish, after_leave};
+ghost use Rattle.log_ring.specs.inside.Writing.{begun, first_entries, after_acquire, after_publish, after_leave};
 ghost use Rattle.log_ring.specs.inside.Steps.{IsPlaced, with_progress, announced, started, written, marked, first_of, first_writer_of, with_put};
 
 use crate::pause::{Pause, stop};

@@ -24,7 +24,7 @@ pub struct WriterPass {
 impl Model for WriterPass {
     ghost use Rattle.std.specs.Prelude.{◌≡◌, ◌≤◌, length};
     ghost use Rattle.log_ring.specs.Ring.{WriterState, count_wrapped};
-    ghost use Rattle.log_ring.specs.inside.Rule.{first_entries};
+    ghost use Rattle.log_ring.specs.inside.Writing.{first_entries};
     ghost use Rattle.log_ring.specs.inside.Steps.{IsWriterSeat, writer_of};
 
     ghost Value = { WriterState };
@@ -135,7 +135,7 @@ pub struct LeftWriter {
 impl Model for LeftWriter {
     ghost use Rattle.std.specs.Prelude.{◌≡◌};
     ghost use Rattle.log_ring.specs.Ring.{WriterState, count_wrapped};
-    ghost use Rattle.log_ring.specs.inside.Rule.{first_entries};
+    ghost use Rattle.log_ring.specs.inside.Writing.{first_entries};
     ghost use Rattle.log_ring.specs.inside.Steps.{IsLeftSeat, writer_of};
 
     ghost Value = { WriterState };

@@ -12,6 +12,12 @@ last_seen [] = 0
 last_seen (UnitRun r ∷ is) = last_seen is
 last_seen (Overrun a b ∷ is) = b
 
+-- the newest item is a run, into which the next unit goes
+abbrev pub HasRun : {U : Type 0} → List (HistoryItem U) → Type 0
+HasRun [] = ⊥
+HasRun (UnitRun r ∷ is) = Unit {0}
+HasRun (Overrun a b ∷ is) = ⊥
+
 -- the newest run with one unit more
 abbrev pub with_unit : {U : Type 0} → U → List (HistoryItem U) → List (HistoryItem U)
 with_unit u [] = []

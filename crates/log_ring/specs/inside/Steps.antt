@@ -19,7 +19,8 @@ use Rattle.log_ring.specs.declared.rule.Unchecked.TheVariants.{Words}
 use Rattle.log_ring.specs.declared.rule.Observation.TheVariants.{CounterSeen, FinishedSeen, WordSeen}
 use Rattle.log_ring.specs.declared.rule.View.{View}
 use Rattle.log_ring.specs.Ring.{RingSet, WriterState, ReaderState, busy_of, AreWritersOf, AreReadersOf}
-use Rattle.log_ring.specs.inside.Rule.{begun, first_entries, new_writer_views, new_reader_views, reader_of}
+use Rattle.log_ring.specs.inside.Writing.{begun, first_entries, new_writer_views, new_reader_views}
+use Rattle.log_ring.specs.inside.Reading.{reader_of}
 
 -- the ring of a table with a key
 abbrev pub set_of : TableId → RingKey → RingSet

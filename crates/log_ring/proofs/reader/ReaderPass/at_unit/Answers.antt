@@ -3,7 +3,7 @@ use Rattle.vsl_record.specs.Words.{words_in}
 use Rattle.ring_layout.specs.declared.steps.Step.TheVariants.{Took}
 use Rattle.log_ring.specs.Ring.{ReaderState, IsAnswer}
 use Rattle.log_ring.specs.inside.Steps.{HasChecked, reader_seen}
-use Rattle.log_ring.specs.inside.Rule.{reader_of, unchecked_words}
+use Rattle.log_ring.specs.inside.Reading.{reader_of, unchecked_words}
 use Rattle.log_ring.proofs.AnswerLemmas.{front_words, took_answer, unit_checked}
 use Rattle.log_ring.proofs.reader.ReaderPass.at_unit.Goals as goal
 

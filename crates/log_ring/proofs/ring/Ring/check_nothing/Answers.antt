@@ -1,7 +1,7 @@
 use Rattle.std.proofs.Common.{◌≡◌, ◌<◌, ◌≤◌, ◌+◌, ◌-◌, ◌*◌, ◌%◌, ℕ, sym, ap, ◌∙◌, subst, arith}
 use Rattle.vsl_record.specs.Words.{header_mark}
 use Rattle.ring_layout.specs.Places.{wrap_mark}
-use Rattle.log_ring.specs.inside.Rule.{reader_of}
+use Rattle.log_ring.specs.inside.Reading.{reader_of}
 use Rattle.log_ring.proofs.ReadLemmas.{finds_nothing}
 use Rattle.log_ring.proofs.ring.Ring.check_nothing.Goals as goal
 

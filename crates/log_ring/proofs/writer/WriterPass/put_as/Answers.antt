@@ -1,6 +1,6 @@
 use Rattle.std.proofs.Common.{◌-◌, true, false, not, sym, ap, refl, ◌∙◌, arith}
 use Rattle.ring_layout.specs.Places.{stays}
-use Rattle.log_ring.specs.inside.Rule.{first_entries}
+use Rattle.log_ring.specs.inside.Writing.{first_entries}
 use Rattle.log_ring.proofs.WriterLemmas.{wrapped_short, put_seat, count_put, not_false, not_true}
 use Rattle.log_ring.proofs.writer.WriterPass.put_as.Goals as goal
 
