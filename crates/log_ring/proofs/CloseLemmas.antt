@@ -19,10 +19,11 @@ use Rattle.log_ring.specs.declared.rule.Progress.{Progress}
 use Rattle.log_ring.specs.declared.rule.Progress.TheVariants.{Free, Storing, Stored}
 use Rattle.log_ring.specs.declared.rule.ReaderView.{ReaderView}
 use Rattle.log_ring.specs.declared.rule.View.{View}
-use Rattle.log_ring.specs.Ring.{AreObserved}
-use Rattle.log_ring.specs.inside.Rule.{KnowsToken, entries_from, PutAll, IsWithout, AreApart, IsNext, IsOverrunAt, IsReader, IsUnderWay, HoldsOneLog, writers_of, HasNumber, IsSeated}
-use Rattle.log_ring.specs.inside.Closing.{units_of, IsDone, Settles}
+use Rattle.log_ring.specs.Ring.{AreObserved, entries_from}
+use Rattle.log_ring.specs.inside.Rule.{KnowsToken, PutAll, IsWithout, AreApart, IsNext, IsOverrunAt, IsReader, IsUnderWay, HoldsOneLog, writers_of, HasNumber, IsSeated}
+use Rattle.log_ring.specs.inside.Closing.{units_of, entries_in, IsDone, Settles}
 use Rattle.log_model.proofs.SumLemmas.{rest_zero}
+use Rattle.log_ring.proofs.EntryLemmas.{entries_long}
 use Rattle.log_ring.proofs.SeatLemmas.{all_map, some_at}
 use Rattle.log_ring.proofs.WordLemmas.{ent, word}
 use Rattle.log_ring.proofs.RuleLemmas.{M, St, storing_free, stored_free, looks}
@@ -95,21 +96,21 @@ module _ (words : LogUnit → List ℕ) (key : RingKey) where
   put_at seg log owners seat j (y ∷ ys) zero x e h = subst (λ (z : WriterView). z.entries ≡ given_to z.number owners (entries_from words seg 0 log)) (some-injective y x e) h.0.1
   put_at seg log owners seat j (y ∷ ys) (suc i) x e h = put_at seg log owners seat j ys i x e h.1
 
-  -- the log is an interleaving of what all writers put
-  interleaved : (s : St words key) (r : HoldsOneLog words key s) (id : ℕ) (v : View) → get_elem? s.views id ≡ some v → length v.writers ≡ key.writers → IsInterleaving r.shared.log (map units_of v.writers)
-  interleaved s r id v at all =
+  -- a list is an interleaving of what is given to all writers, of whatever each of them has what is given to its number
+  interleaved : {A : Type 0} (given_part : WriterView → List A) (log : List A) (s : St words key) (r : HoldsOneLog words key s) (id : ℕ) (v : View) → get_elem? s.views id ≡ some v → length v.writers ≡ key.writers → length r.shared.owners ≡ length log
+      → ((i : ℕ) (x : WriterView) → get_elem? v.writers i ≡ some x → given_part x ≡ given_to x.number r.shared.owners log) → IsInterleaving log (map given_part v.writers)
+  interleaved given_part log s r id v at all long given =
       let w = r.shared in
       let o = r.seats id v at in
-      let count = length-map v.writers units_of in
+      let count = length-map v.writers given_part in
       let has : AllByRecursion (λ k. HasNumber k v.writers) w.owners = all_map (IsSeated w.seat s.views) (λ k. HasNumber k v.writers) w.owners (λ k q. dite (ℕ_discrete (w.seat k) id)
       (λ e. subst (λ (z : View). HasNumber k z.writers) (some-injective q.view v (sym q.there ∙ (ap (λ (z : ℕ). get_elem? s.views z) e ∙ at))) q.has)
       (λ ne. let c = r.writers in absurd (no_writers q.view.writers k (rest_zero writers_of s.views id (w.seat k) v q.view at q.there ne (omega arith)) q.has))) r.owners in record {
         owners = map (place v.writers) w.owners;
-        one_each = length-map w.owners (place v.writers) ∙ r.one_each;
-        are_lists = λ i l. index_all (place v.writers) (length (map units_of v.writers)) w.owners (all_map (λ k. HasNumber k v.writers) (λ k. place v.writers k < length (map units_of v.writers)) w.owners (λ k h. let b = place_below v.writers k h in omega arith) has) i l;
-        whole = λ i l. let x = some_at v.writers i (omega arith) in
-            get_map units_of v.writers i x.0 x.1 ∙ ap Some (ap (λ (es : List (ℕ × LogUnit)). map (λ (e : ℕ × LogUnit). e.1) es) (put_at key.seg w.log w.owners w.seat id v.writers i x.0 x.1 o.put)
-            ∙ (given_units words key.seg 0 x.0.number w.owners w.log ∙ sym (given_place v.writers i x.0 o.apart x.1 w.owners w.log)));
+        one_each = length-map w.owners (place v.writers) ∙ long;
+        are_lists = λ i l. index_all (place v.writers) (length (map given_part v.writers)) w.owners
+            (all_map (λ k. HasNumber k v.writers) (λ k. place v.writers k < length (map given_part v.writers)) w.owners (λ k h. let b = place_below v.writers k h in omega arith) has) i l;
+        whole = λ i l. let x = some_at v.writers i (omega arith) in get_map given_part v.writers i x.0 x.1 ∙ ap Some (given i x.0 x.1 ∙ sym (given_place v.writers i x.0 o.apart x.1 w.owners log));
       }
 
   -- no put is in progress, so the counter is the tail's segment
@@ -171,7 +172,9 @@ module _ (words : LogUnit → List ℕ) (key : RingKey) where
           w.log,
           refl,
           record {
-            writers = interleaved s r id me.0 at all;
+            writers = interleaved units_of w.log s r id me.0 at all r.one_each (λ i x e. ap (λ (es : List (ℕ × LogUnit)). map (λ (z : ℕ × LogUnit). z.1) es) (put_at key.seg w.log w.owners w.seat id me.0.writers i x e o.put) ∙ given_units words key.seg 0 x.number w.owners w.log);
+            entries = subst (λ (z : ℕ). IsInterleaving (entries_from words z 0 w.log) (map entries_in me.0.writers)) seg_is
+                (interleaved entries_in (entries_from words key.seg 0 w.log) s r id me.0 at all (r.one_each ∙ sym (entries_long words key.seg 0 w.log)) (λ i x e. put_at key.seg w.log w.owners w.seat id me.0.writers i x e o.put));
             readers = subst (λ (z : ℕ). AllByRecursion (IsDone words z w.log) me.0.readers) seg_is (all_map (IsReader words key w.log w.counter w.finished) (IsDone words key.seg w.log) me.0.readers (λ q h. done q w.counter w.finished w.log level h) o.readers);
             found = subst (λ (z : ℕ). me.0.found ≤ tail words z w.log) seg_is o.found;
           },

@@ -17,11 +17,11 @@ use Rattle.log_ring.specs.declared.rule.RingKey.{RingKey}
 use Rattle.log_ring.specs.declared.rule.WriterView.{WriterView}
 use Rattle.log_ring.specs.declared.rule.ReaderView.{ReaderView}
 use Rattle.log_ring.specs.declared.rule.View.{View}
-use Rattle.log_ring.specs.Ring.{RingSet, WriterState, ReaderState, units_put, busy_of, history_taken, AreWritersOf, AreReadersOf, IsDoneWith, HasReached}
+use Rattle.log_ring.specs.Ring.{RingSet, WriterState, ReaderState, units_put, busy_of, history_taken, AreWritersOf, AreReadersOf, IsDoneWith, HasReached, entries_from, entries_of}
 use Rattle.log_ring.specs.inside.Rule.{HoldsOneLog}
 use Rattle.log_ring.specs.inside.Writing.{first_entries, both_views, no_view}
 use Rattle.log_ring.specs.inside.Reading.{reader_of}
-use Rattle.log_ring.specs.inside.Closing.{units_of, history_of, Settles, IsDone}
+use Rattle.log_ring.specs.inside.Closing.{units_of, entries_in, history_of, Settles, IsDone}
 use Rattle.log_ring.specs.inside.Steps.{set_of, first_number, writer_of, IsLeftSeat, writer_in, reader_in, IsJoined, IsJoinedWith, IsReaderSeat}
 use Rattle.log_ring.proofs.SeatingLemmas.{joins}
 use Rattle.log_ring.proofs.CloseLemmas.{settles}
@@ -147,6 +147,17 @@ settled_log ring whole readers table me found new joined told =
     let log_is : told.0 ≡ new.0.log = sym (ap (λ (m : Me ℕ View). m.0.log) told.1) in
     let lists : map units_of me.0.writers ≡ map units_put whole = ap (map units_of) joined.writers ∙ (units_map joined.taken ∙ ap (map units_put) joined.parts) in
     subst (λ (z : Log × List Log). IsInterleaving z.0 z.1) (λ i. (log_is i, lists i)) told.2.writers
+
+entries_map : (ws : List WriterState) → map entries_in (map writer_in ws) ≡ map entries_of ws
+entries_map [] = refl
+entries_map (w ∷ ws) = ap (λ (l : List (List (ℕ × LogUnit))). entries_of w ∷ l) (entries_map ws)
+
+pub settled_entries : (ring : RingSet) (whole : List WriterState) (readers : List ReaderView) (table : TableId) (me : Me ℕ View) (found : ℕ) (new : Me ℕ View) → IsJoined ring whole [] readers table me → Settles unit_words (step 0 0 0 0 none) me found new
+    → IsInterleaving (entries_from unit_words ring.seg 0 new.0.log) (map entries_of whole)
+settled_entries ring whole readers table me found new joined told =
+    let log_is : told.0 ≡ new.0.log = sym (ap (λ (m : Me ℕ View). m.0.log) told.1) in
+    let lists : map entries_in me.0.writers ≡ map entries_of whole = ap (map entries_in) joined.writers ∙ (entries_map joined.taken ∙ ap (map entries_of) joined.parts) in
+    subst (λ (z : (ℕ × Log) × List (List (ℕ × LogUnit))). IsInterleaving (entries_from unit_words z.0.0 0 z.0.1) z.1) (λ i. ((joined.seg i, log_is i), lists i)) told.2.entries
 
 pub settled_busy : (ring : RingSet) (whole : List WriterState) (readers : List ReaderView) (table : TableId) (me : Me ℕ View) (found : ℕ) (new : Me ℕ View) → IsJoined ring whole [] readers table me → Settles unit_words (step 0 0 0 0 none) me found new → new.0.busy ≡ sum_by busy_of whole
 settled_busy ring whole readers table me found new joined told = ap (λ (m : Me ℕ View). m.0.busy) told.1 ∙ (joined.busy ∙ ap (sum_by busy_of) joined.parts)

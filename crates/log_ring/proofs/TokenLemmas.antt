@@ -17,7 +17,8 @@ use Rattle.log_ring.specs.declared.rule.Put.{Put}
 use Rattle.log_ring.specs.declared.rule.Progress.{Progress}
 use Rattle.log_ring.specs.declared.rule.Progress.TheVariants.{Free, Storing, Stored}
 use Rattle.log_ring.specs.declared.rule.View.{View}
-use Rattle.log_ring.specs.inside.Rule.{SharedState, KnowsToken, IsToken, IsUnderWay, AreWords, HoldsOneLog, PutAll, entries_from}
+use Rattle.log_ring.specs.Ring.{entries_from}
+use Rattle.log_ring.specs.inside.Rule.{SharedState, KnowsToken, IsToken, IsUnderWay, AreWords, HoldsOneLog, PutAll}
 use Rattle.log_ring.specs.inside.Writing.{begun, after_acquire, after_release, Makes, Acquires, first_entries}
 use Rattle.log_ring.proofs.SeatLemmas.{inside_at}
 use Rattle.log_ring.proofs.EntryLemmas.{entries_long}

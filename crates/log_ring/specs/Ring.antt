@@ -132,6 +132,15 @@ abbrev pub IsSought : ReaderState → Sought → ReaderState → Type 0
 IsSought old (sought.At s p) new = GoesOn s p old new
 IsSought old (sought.Lost at seen) new = WasOverrun at seen old new × ((p : ℕ) × HasLooked at p seen old new)
 
+-- units that are put from a tail on, each beside the tail at which it is put
+abbrev pub entries_from : (LogUnit → List ℕ) → ℕ → ℕ → Log → List (ℕ × LogUnit)
+entries_from words seg t [] = []
+entries_from words seg t (u ∷ us) = (t, u) ∷ entries_from words seg (end_at seg t (length (words u))) us
+
+-- the units that a writer put, each beside its tail
+abbrev pub entries_of : WriterState → List (ℕ × LogUnit)
+entries_of w = w.entries
+
 -- the units that a writer put
 abbrev pub units_put : WriterState → Log
 units_put w = map (λ (e : ℕ × LogUnit). e.1) w.entries

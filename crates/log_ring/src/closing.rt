@@ -3,7 +3,8 @@
 ghost use Rattle.std.specs.Prelude.{◌≡◌, ◌<◌, [], map, vec_len, sum_by};
 ghost use Rattle.std.specs.List.{AllByRecursion};
 ghost use Rattle.log_model.specs.Interleaving.{IsInterleaving};
-ghost use Rattle.log_ring.specs.Ring.{units_put, busy_of, history_taken, AreWritersOf, AreReadersOf, IsDoneWith, HasReached, AgreesWith};
+ghost use Rattle.vsl_record.specs.Words.{unit_words};
+ghost use Rattle.log_ring.specs.Ring.{entries_from, entries_of, units_put, busy_of, history_taken, AreWritersOf, AreReadersOf, IsDoneWith, HasReached, AgreesWith};
 ghost use Rattle.log_ring.specs.inside.Steps.{IsJoined, IsJoinedWith};
 
 use crate::reader::ReaderPass;
@@ -65,14 +66,15 @@ fn join_readers(ring: &Ring, writers: Vec<LeftWriter>, mut readers: Vec<ReaderPa
     all
 }
 
-/// Closes a ring of which all writers left. The log is an interleaving of what they put, each in its order, and what
-/// each reader took is a history of that log. It reached each tail that a writer found, and what two readers took at
-/// one number is the same unit.
+/// Closes a ring of which all writers left. The log is an interleaving of what they put, each in its order and at its
+/// tail, and what each reader took is a history of that log. It reached each tail that a writer found, and what two
+/// readers took at one number is the same unit.
 pub fn close(ring: Ring, writers: Vec<LeftWriter>, readers: Vec<ReaderPass>) -> ClosedRing
     requires ours { AreWritersOf ring writers.items }
     requires all { vec_len writers ≡ ring.writers }
     requires theirs { AreReadersOf ring readers.items }
     ensures log { IsInterleaving result.log (map units_put writers.items) }
+    ensures entries { IsInterleaving (entries_from unit_words ring.seg 0 result.log) (map entries_of writers.items) }
     ensures busy { result.busy ≡ sum_by busy_of writers.items }
     ensures histories { result.histories ≡ map history_taken readers.items }
     ensures found { AllByRecursion (HasReached ring.seg result.log) writers.items }

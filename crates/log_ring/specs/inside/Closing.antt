@@ -1,5 +1,5 @@
 -- What a seat says that stands for all writers, once it has the log (this project's choice).
-use Rattle.std.specs.Prelude.{◌≡◌, ℕ, ◌-◌, ◌/◌, ◌≤◌, true, List, map, reverse}
+use Rattle.std.specs.Prelude.{◌≡◌, ℕ, ◌/◌, ◌≤◌, true, List, map, reverse}
 use Rattle.std.specs.List.{AllByRecursion}
 use Rattle.atomic_table.specs.Table.{Me, Step}
 use Rattle.log_model.specs.Interleaving.{IsInterleaving}
@@ -10,11 +10,15 @@ use Rattle.ring_layout.specs.History.{IsReadHistory, ReachesTail}
 use Rattle.log_ring.specs.declared.rule.WriterView.{WriterView}
 use Rattle.log_ring.specs.declared.rule.ReaderView.{ReaderView}
 use Rattle.log_ring.specs.declared.rule.View.{View}
-use Rattle.log_ring.specs.Ring.{AreObserved}
+use Rattle.log_ring.specs.Ring.{entries_from, AreObserved}
 
 -- the units that a writer put
 abbrev pub units_of : WriterView → Log
 units_of x = map (λ (e : ℕ × LogUnit). e.1) x.entries
+
+-- the same, each beside its tail
+abbrev pub entries_in : WriterView → List (ℕ × LogUnit)
+entries_in x = x.entries
 
 -- what a reader took, the oldest first
 abbrev pub history_of : ReaderView → List (HistoryItem LogUnit)
@@ -30,6 +34,7 @@ module _ (words : LogUnit → List ℕ) where
   -- what a seat that stands for all writers says of the whole log
   pub record IsWhole (v : View) (log : Log) : Type 0 where
     pub writers : IsInterleaving log (map units_of v.writers)
+    pub entries : IsInterleaving (entries_from words v.ring.seg 0 log) (map entries_in v.writers)
     pub readers : AllByRecursion (IsDone v.ring.seg log) v.readers
     pub found : v.found ≤ tail words v.ring.seg log
 

@@ -23,7 +23,7 @@ use Rattle.log_ring.specs.declared.rule.Unchecked.{Unchecked}
 use Rattle.log_ring.specs.declared.rule.Unchecked.TheVariants.{Nothing, Words, Start}
 use Rattle.log_ring.specs.declared.rule.ReaderView.{ReaderView}
 use Rattle.log_ring.specs.declared.rule.View.{View}
-use Rattle.log_ring.specs.Ring.{most_writers, AreObserved}
+use Rattle.log_ring.specs.Ring.{entries_from, most_writers, AreObserved}
 
 -- what no word of the ring says
 pub record SharedState : Type 0 where
@@ -86,15 +86,10 @@ finished_of v = v.finished
 module _ (words : LogUnit → List ℕ) where
   -- ---- 1. what the writers put is the log: each unit of the log is one writer's, and each writer put its units at the tails of the units before them
 
-  -- units that are put from a tail on, each beside the tail at which it is put
-  abbrev pub entries_from : ℕ → ℕ → Log → List (ℕ × LogUnit)
-  entries_from seg t [] = []
-  entries_from seg t (u ∷ us) = (t, u) ∷ entries_from seg (end_at seg t (length (words u))) us
-
   -- what each of these writers, which are in the seat id, put: its units of the log, each beside its tail
   abbrev pub PutAll : ℕ → Log → List ℕ → (ℕ → ℕ) → ℕ → List WriterView → Type 0
   PutAll seg log owners seat id [] = Unit {0}
-  PutAll seg log owners seat id (x ∷ xs) = ((seat x.number ≡ id) × (x.entries ≡ given_to x.number owners (entries_from seg 0 log))) × PutAll seg log owners seat id xs
+  PutAll seg log owners seat id (x ∷ xs) = ((seat x.number ≡ id) × (x.entries ≡ given_to x.number owners (entries_from words seg 0 log))) × PutAll seg log owners seat id xs
 
   -- ---- 2. the write token is the tail and one more while no writer has it, and 0 while one has it, who knows how far its put has come; no other put is in progress
 

@@ -1,5 +1,5 @@
 use Rattle.std.proofs.Common.{sym, ap, ◌∙◌, arith}
-use Rattle.log_ring.proofs.JoiningLemmas.{settle_allowed, settled_log, settled_busy, settled_found, settled_histories, settled_readers}
+use Rattle.log_ring.proofs.JoiningLemmas.{settle_allowed, settled_log, settled_entries, settled_busy, settled_found, settled_histories, settled_readers}
 use Rattle.log_ring.proofs.AgreeLemmas.{all_agree}
 use Rattle.log_ring.proofs.closing.close.Goals as goal
 
@@ -15,6 +15,9 @@ load-requires c =
 
 pub returns-clause-log : goal.returns-clause-log
 returns-clause-log c = settled_log _ _ _ _ _ 0 _ c.join_readers-seat.ensures.joined c.load.ensures.2
+
+pub returns-clause-entries : goal.returns-clause-entries
+returns-clause-entries c = settled_entries _ _ _ _ _ 0 _ c.join_readers-seat.ensures.joined c.load.ensures.2
 
 pub returns-clause-busy : goal.returns-clause-busy
 returns-clause-busy c = settled_busy _ _ _ _ _ 0 _ c.join_readers-seat.ensures.joined c.load.ensures.2
