@@ -5,7 +5,7 @@ ghost use Rattle.vsl_record.specs.Words.{header_mark, words_in};
 ghost use Rattle.ring_layout.specs.Places.{last_tail};
 ghost use Rattle.log_ring.specs.declared.rule.Unchecked.TheVariants.{Words};
 ghost use Rattle.log_ring.specs.inside.Reading.{reader_of};
-ghost use Rattle.log_ring.specs.inside.Steps.{HasCopied};
+ghost use Rattle.log_ring.specs.inside.Steps.{IsReadingOf, HasCopied};
 
 use crate::pause::{Pause, stop};
 use crate::ring::{Ring, RingSeat};
@@ -23,9 +23,7 @@ impl Ring {
         pause: &mut P,
         step: &mut u64,
     )
-        requires ours { seat.old.table_id ≡ self.now.table }
-        requires one { seat.old.me.0.readers ≡ reader_of seat.old.me.0 ∷ [] }
-        requires reading { (reader_of seat.old.me.0).lost ≡ None }
+        requires reader { IsReadingOf self.now seat.old.table_id seat.old.me }
         requires place { place ≡ (reader_of seat.old.me.0).place }
         requires low { place ≤ last_tail }
         requires copied { (reader_of seat.old.me.0).unchecked ≡ Words (head ∷ []) }

@@ -4,6 +4,7 @@ ghost use Rattle.std.specs.Prelude.{◌≡◌, ◌≢◌, ℕ, ◌+◌, ◌-◌,
 ghost use Rattle.vsl_record.specs.Words.{header_mark, unit_words};
 ghost use Rattle.ring_layout.specs.Places.{seek_distance, end_mark, wrap_mark};
 ghost use Rattle.log_ring.specs.declared.rule.Unchecked.TheVariants.{Words, Start};
+ghost use Rattle.log_ring.specs.inside.Steps.{IsReaderOf, IsReadingOf};
 ghost use Rattle.log_ring.specs.inside.Reading.{reader_of, unchecked_words, unchecked_start, Becomes, LoadsFinished, LoadsHead, LoadsMore, Checks, FindsEnd, FindsLap, FindsUnit, FindsNothing, ChecksAgain, Looks, LoadsStart, Seeks};
 
 use crate::reading_rule::{
@@ -17,8 +18,7 @@ use ring_layout::SEGMENTS;
 impl Ring {
     /// The number of writers that left.
     pub(crate) fn load_finished(&self, seat: &mut RingSeat) -> u64
-        requires ours { seat.old.table_id ≡ self.now.table }
-        requires one { seat.old.me.0.readers ≡ reader_of seat.old.me.0 ∷ [] }
+        requires reader { IsReaderOf self.now seat.old.table_id seat.old.me }
         ensures same { seat.new.table_id ≡ seat.old.table_id }
         ensures loaded { Becomes LoadsFinished seat.old.me result seat.new.me }
     {
@@ -29,9 +29,7 @@ impl Ring {
 
     /// The first word at a cursor's place.
     pub(crate) fn load_head(&self, seat: &mut RingSeat, place: u64) -> u64
-        requires ours { seat.old.table_id ≡ self.now.table }
-        requires one { seat.old.me.0.readers ≡ reader_of seat.old.me.0 ∷ [] }
-        requires reading { (reader_of seat.old.me.0).lost ≡ None }
+        requires reader { IsReadingOf self.now seat.old.table_id seat.old.me }
         requires place { place ≡ (reader_of seat.old.me.0).place }
         ensures same { seat.new.table_id ≡ seat.old.table_id }
         ensures loaded { Becomes LoadsHead seat.old.me result seat.new.me }
@@ -43,9 +41,7 @@ impl Ring {
 
     /// A further word of the unit at a cursor's place.
     pub(crate) fn load_more(&self, seat: &mut RingSeat, place: u64, word: u64) -> u64
-        requires ours { seat.old.table_id ≡ self.now.table }
-        requires one { seat.old.me.0.readers ≡ reader_of seat.old.me.0 ∷ [] }
-        requires reading { (reader_of seat.old.me.0).lost ≡ None }
+        requires reader { IsReadingOf self.now seat.old.table_id seat.old.me }
         requires place { place ≡ (reader_of seat.old.me.0).place }
         requires copied { (reader_of seat.old.me.0).unchecked ≡ Words (unchecked_words (reader_of seat.old.me.0).unchecked) }
         requires word { word ≡ length (unchecked_words (reader_of seat.old.me.0).unchecked) }
@@ -64,9 +60,7 @@ impl Ring {
 
     /// The counter, where the end mark was found.
     pub(crate) fn check_end(&self, seat: &mut RingSeat) -> u64
-        requires ours { seat.old.table_id ≡ self.now.table }
-        requires one { seat.old.me.0.readers ≡ reader_of seat.old.me.0 ∷ [] }
-        requires reading { (reader_of seat.old.me.0).lost ≡ None }
+        requires reader { IsReadingOf self.now seat.old.table_id seat.old.me }
         requires copied { (reader_of seat.old.me.0).unchecked ≡ Words (end_mark ∷ []) }
         ensures same { seat.new.table_id ≡ seat.old.table_id }
         ensures checked { Becomes (Checks FindsEnd) seat.old.me result seat.new.me }
@@ -76,9 +70,7 @@ impl Ring {
 
     /// The counter, where the wrap mark was found.
     pub(crate) fn check_lap(&self, seat: &mut RingSeat) -> u64
-        requires ours { seat.old.table_id ≡ self.now.table }
-        requires one { seat.old.me.0.readers ≡ reader_of seat.old.me.0 ∷ [] }
-        requires reading { (reader_of seat.old.me.0).lost ≡ None }
+        requires reader { IsReadingOf self.now seat.old.table_id seat.old.me }
         requires copied { (reader_of seat.old.me.0).unchecked ≡ Words (wrap_mark ∷ []) }
         ensures same { seat.new.table_id ≡ seat.old.table_id }
         ensures checked { Becomes (Checks FindsLap) seat.old.me result seat.new.me }
@@ -88,9 +80,7 @@ impl Ring {
 
     /// The counter, where a unit was copied.
     pub(crate) fn check_unit(&self, seat: &mut RingSeat) -> u64
-        requires ours { seat.old.table_id ≡ self.now.table }
-        requires one { seat.old.me.0.readers ≡ reader_of seat.old.me.0 ∷ [] }
-        requires reading { (reader_of seat.old.me.0).lost ≡ None }
+        requires reader { IsReadingOf self.now seat.old.table_id seat.old.me }
         requires copied { (reader_of seat.old.me.0).unchecked ≡ Words (unchecked_words (reader_of seat.old.me.0).unchecked) }
         requires unit { slice_index (unchecked_words (reader_of seat.old.me.0).unchecked) 0 ≢ end_mark }
         requires starts { slice_index (unchecked_words (reader_of seat.old.me.0).unchecked) 0 ≢ wrap_mark }
@@ -105,9 +95,7 @@ impl Ring {
 
     /// The counter, where a word was found that is none of a log's.
     pub(crate) fn check_nothing(&self, seat: &mut RingSeat, head: u64) -> u64
-        requires ours { seat.old.table_id ≡ self.now.table }
-        requires one { seat.old.me.0.readers ≡ reader_of seat.old.me.0 ∷ [] }
-        requires reading { (reader_of seat.old.me.0).lost ≡ None }
+        requires reader { IsReadingOf self.now seat.old.table_id seat.old.me }
         requires copied { (reader_of seat.old.me.0).unchecked ≡ Words (head ∷ []) }
         requires no_end { head ≢ end_mark }
         requires no_lap { head ≡ wrap_mark → (reader_of seat.old.me.0).place % (8 * self.now.seg) + self.now.seg < 8 * self.now.seg }
@@ -122,8 +110,7 @@ impl Ring {
 
     /// The counter of a cursor that was overrun.
     pub(crate) fn check_again(&self, seat: &mut RingSeat, at: u64) -> u64
-        requires ours { seat.old.table_id ≡ self.now.table }
-        requires one { seat.old.me.0.readers ≡ reader_of seat.old.me.0 ∷ [] }
+        requires reader { IsReaderOf self.now seat.old.table_id seat.old.me }
         requires lost { (reader_of seat.old.me.0).lost ≡ Some at }
         ensures same { seat.new.table_id ≡ seat.old.table_id }
         ensures checked { Becomes ChecksAgain seat.old.me result seat.new.me }
@@ -135,8 +122,7 @@ impl Ring {
 
     /// The counter, before a cursor seeks.
     pub(crate) fn look(&self, seat: &mut RingSeat) -> u64
-        requires ours { seat.old.table_id ≡ self.now.table }
-        requires one { seat.old.me.0.readers ≡ reader_of seat.old.me.0 ∷ [] }
+        requires reader { IsReaderOf self.now seat.old.table_id seat.old.me }
         ensures same { seat.new.table_id ≡ seat.old.table_id }
         ensures loaded { Becomes Looks seat.old.me result seat.new.me }
     {
@@ -145,8 +131,7 @@ impl Ring {
 
     /// The start of a segment that is sought.
     pub(crate) fn load_start(&self, seat: &mut RingSeat, segment: u64) -> u64
-        requires ours { seat.old.table_id ≡ self.now.table }
-        requires one { seat.old.me.0.readers ≡ reader_of seat.old.me.0 ∷ [] }
+        requires reader { IsReaderOf self.now seat.old.table_id seat.old.me }
         requires segment { segment ≡ (reader_of seat.old.me.0).loaded - seek_distance }
         ensures same { seat.new.table_id ≡ seat.old.table_id }
         ensures loaded { Becomes LoadsStart seat.old.me result seat.new.me }
@@ -159,8 +144,7 @@ impl Ring {
 
     /// The counter of a cursor that seeks.
     pub(crate) fn check_start(&self, seat: &mut RingSeat, at: u64) -> u64
-        requires ours { seat.old.table_id ≡ self.now.table }
-        requires one { seat.old.me.0.readers ≡ reader_of seat.old.me.0 ∷ [] }
+        requires reader { IsReaderOf self.now seat.old.table_id seat.old.me }
         requires lost { (reader_of seat.old.me.0).lost ≡ Some at }
         requires unchecked { (reader_of seat.old.me.0).unchecked ≡ Start ((reader_of seat.old.me.0).loaded - seek_distance) (unchecked_start (reader_of seat.old.me.0).unchecked) }
         ensures same { seat.new.table_id ≡ seat.old.table_id }

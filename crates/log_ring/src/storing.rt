@@ -6,7 +6,7 @@ ghost use Rattle.ring_layout.specs.Places.{last_tail};
 ghost use Rattle.ring_layout.specs.Content.{first_word, last_word};
 ghost use Rattle.log_ring.specs.declared.rule.Progress.TheVariants.{Free, Storing, Stored};
 ghost use Rattle.log_ring.specs.inside.Writing.{begun, first_entries, after_acquire, after_publish, after_leave};
-ghost use Rattle.log_ring.specs.inside.Steps.{IsPlaced, with_progress, announced, started, written, marked, first_of, first_writer_of, with_put};
+ghost use Rattle.log_ring.specs.inside.Steps.{IsPlaced, IsPutAt, with_progress, announced, started, written, marked, first_of, first_writer_of, with_put};
 
 use crate::pause::{Pause, stop};
 use crate::ring::{Ring, RingSeat};
@@ -92,10 +92,8 @@ impl Ring {
         pause: &mut P,
         step: &mut u64,
     )
-        requires ours { seat.old.table_id ≡ self.now.table }
+        requires placed { IsPutAt self.now seat.old.table_id tail unit.now placed }
         requires begun { seat.old.me.0.progress ≡ Storing (begun unit_words self.now.seg tail unit.now) }
-        requires placed { IsPlaced self.now.seg tail (length (unit_words unit.now)) placed }
-        requires fits { length (unit_words unit.now) ≤ self.now.seg }
         ensures same { seat.new.table_id ≡ seat.old.table_id }
         ensures announced { seat.new.me ≡ (with_progress (Storing (announced self.now.seg tail unit.now)) seat.old.me.0, seat.old.me.1) }
     {
@@ -118,10 +116,8 @@ impl Ring {
         pause: &mut P,
         step: &mut u64,
     )
-        requires ours { seat.old.table_id ≡ self.now.table }
+        requires placed { IsPutAt self.now seat.old.table_id tail unit.now placed }
         requires announced { seat.old.me.0.progress ≡ Storing (announced self.now.seg tail unit.now) }
-        requires placed { IsPlaced self.now.seg tail (length (unit_words unit.now)) placed }
-        requires fits { length (unit_words unit.now) ≤ self.now.seg }
         ensures same { seat.new.table_id ≡ seat.old.table_id }
         ensures started { seat.new.me ≡ (with_progress (Storing (started self.now.seg tail unit.now)) seat.old.me.0, seat.old.me.1) }
     {
@@ -149,10 +145,8 @@ impl Ring {
         segment: u64,
         place: u64,
     )
-        requires ours { seat.old.table_id ≡ self.now.table }
+        requires placed { IsPutAt self.now seat.old.table_id tail unit.now placed }
         requires started { seat.old.me.0.progress ≡ Storing (record (announced self.now.seg tail unit.now) { start = segment }) }
-        requires placed { IsPlaced self.now.seg tail (length (unit_words unit.now)) placed }
-        requires fits { length (unit_words unit.now) ≤ self.now.seg }
         requires above { tail / self.now.seg < segment }
         requires upto { segment ≤ placed.tail / self.now.seg }
         requires place { place ≡ first_of segment self.now.seg placed.start placed.tail }
@@ -176,10 +170,8 @@ impl Ring {
         pause: &mut P,
         step: &mut u64,
     )
-        requires ours { seat.old.table_id ≡ self.now.table }
+        requires placed { IsPutAt self.now seat.old.table_id tail unit.now placed }
         requires started { seat.old.me.0.progress ≡ Storing (started self.now.seg tail unit.now) }
-        requires placed { IsPlaced self.now.seg tail (length (unit_words unit.now)) placed }
-        requires fits { length (unit_words unit.now) ≤ self.now.seg }
         ensures same { seat.new.table_id ≡ seat.old.table_id }
         ensures written { seat.new.me ≡ (with_progress (Storing (written self.now.seg tail unit.now)) seat.old.me.0, seat.old.me.1) }
     {
@@ -209,10 +201,8 @@ impl Ring {
         place: usize,
         word: u32,
     )
-        requires ours { seat.old.table_id ≡ self.now.table }
+        requires placed { IsPutAt self.now seat.old.table_id tail unit.now placed }
         requires started { seat.old.me.0.progress ≡ Storing (record (started self.now.seg tail unit.now) { word = place }) }
-        requires placed { IsPlaced self.now.seg tail (length (unit_words unit.now)) placed }
-        requires fits { length (unit_words unit.now) ≤ self.now.seg }
         requires inside { place < length (unit_words unit.now) }
         requires behind { first_word unit_words self.now.seg tail (length (unit_words unit.now)) ≤ place }
         requires word { word ≡ slice_index (unit_words unit.now) place }
@@ -236,10 +226,8 @@ impl Ring {
         pause: &mut P,
         step: &mut u64,
     )
-        requires ours { seat.old.table_id ≡ self.now.table }
+        requires placed { IsPutAt self.now seat.old.table_id tail unit.now placed }
         requires written { seat.old.me.0.progress ≡ Storing (written self.now.seg tail unit.now) }
-        requires placed { IsPlaced self.now.seg tail (length (unit_words unit.now)) placed }
-        requires fits { length (unit_words unit.now) ≤ self.now.seg }
         ensures same { seat.new.table_id ≡ seat.old.table_id }
         ensures marked { seat.new.me ≡ (with_progress (Storing (marked self.now.seg tail unit.now)) seat.old.me.0, seat.old.me.1) }
     {
@@ -259,10 +247,8 @@ impl Ring {
         pause: &mut P,
         step: &mut u64,
     )
-        requires ours { seat.old.table_id ≡ self.now.table }
+        requires placed { IsPutAt self.now seat.old.table_id tail unit.now placed }
         requires marked { seat.old.me.0.progress ≡ Storing (marked self.now.seg tail unit.now) }
-        requires placed { IsPlaced self.now.seg tail (length (unit_words unit.now)) placed }
-        requires fits { length (unit_words unit.now) ≤ self.now.seg }
         requires one { seat.old.me.0.writers ≡ first_writer_of seat.old.me.0 ∷ [] }
         requires stays { seat.old.me.0.finished ≡ 0 }
         ensures same { seat.new.table_id ≡ seat.old.table_id }
@@ -298,9 +284,8 @@ impl Ring {
         pause: &mut P,
         step: &mut u64,
     )
-        requires ours { seat.old.table_id ≡ self.now.table }
+        requires placed { IsPutAt self.now seat.old.table_id tail unit.now placed }
         requires stored { seat.old.me.0.progress ≡ Stored (marked self.now.seg tail unit.now) }
-        requires placed { IsPlaced self.now.seg tail (length (unit_words unit.now)) placed }
         ensures same { seat.new.table_id ≡ seat.old.table_id }
         ensures given { seat.new.me ≡ (with_progress Free seat.old.me.0, seat.old.me.1) }
     {
@@ -320,10 +305,8 @@ impl Ring {
         pause: &mut P,
         step: &mut u64,
     )
-        requires ours { seat.old.table_id ≡ self.now.table }
+        requires placed { IsPutAt self.now seat.old.table_id tail unit.now placed }
         requires begun { seat.old.me.0.progress ≡ Storing (begun unit_words self.now.seg tail unit.now) }
-        requires placed { IsPlaced self.now.seg tail (length (unit_words unit.now)) placed }
-        requires fits { length (unit_words unit.now) ≤ self.now.seg }
         requires one { seat.old.me.0.writers ≡ first_writer_of seat.old.me.0 ∷ [] }
         requires stays { seat.old.me.0.finished ≡ 0 }
         ensures same { seat.new.table_id ≡ seat.old.table_id }

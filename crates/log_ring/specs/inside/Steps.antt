@@ -56,7 +56,11 @@ pub record IsPlaced (seg t w : ℕ) (placed : Placed) : Type 0 where
   pub wraps : placed.wraps ≡ not (stays seg t w)
   pub low : end_at seg t w ≤ last_tail
 
--- a view with another hand
+-- a unit that fits a segment is put here from a tail on, in this ring
+abbrev pub IsPutAt : RingSet → TableId → ℕ → LogUnit → Placed → Type 0
+IsPutAt ring table t u placed = (table ≡ ring.table) × IsPlaced ring.seg t (length (unit_words u)) placed × (length (unit_words u) ≤ ring.seg)
+
+-- a view with another progress
 abbrev pub with_progress : Progress → View → View
 with_progress progress v = record v { progress = progress }
 
@@ -119,6 +123,14 @@ pub record IsReaderSeat (me : Me ℕ View) : Type 0 where
   pub progress : me.0.progress ≡ Free
   pub busy : me.0.busy ≡ 0
   pub one : me.0.readers ≡ reader_of me.0 ∷ []
+
+-- a seat of this ring that stands for one reader
+abbrev pub IsReaderOf : RingSet → TableId → Me ℕ View → Type 0
+IsReaderOf ring table me = (table ≡ ring.table) × (me.0.readers ≡ reader_of me.0 ∷ [])
+
+-- and for one that was not overrun
+abbrev pub IsReadingOf : RingSet → TableId → Me ℕ View → Type 0
+IsReadingOf ring table me = (table ≡ ring.table) × (me.0.readers ≡ reader_of me.0 ∷ []) × ((reader_of me.0).lost ≡ None)
 
 -- what contracts see of the seat of one reader, and of the words that it copied last
 abbrev pub reader_seen : TableId → View → List ℕ → ReaderState

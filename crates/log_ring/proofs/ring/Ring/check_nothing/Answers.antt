@@ -13,4 +13,4 @@ load-requires c =
     let place : ℕ = (reader_of c.args.seat.now.me.0).place in
     let P : ℕ → Type 0 = λ z. (c.args.head ≡ wrap_mark → place % (8 * z) + z < 8 * z) × (header_mark < c.args.head → c.args.head ≤ header_mark + z → place % (8 * z) + (c.args.head - header_mark) < 8 * z → ⊥) in
     let p : P c.self.inside.table.shared.key.seg = subst P seg (c.requires.no_lap, c.requires.no_unit) in
-    (c.requires.ours ∙ sym (ap (λ z. z.table) c.self.view_is), omega arith, finds_nothing _ _ _ _ _ _ c.requires.one (omega arith) c.requires.reading c.requires.copied c.requires.no_end p.0 p.1)
+    (c.requires.reader.0 ∙ sym (ap (λ z. z.table) c.self.view_is), omega arith, finds_nothing _ _ _ _ _ _ c.requires.reader.1 (omega arith) c.requires.reader.2 c.requires.copied c.requires.no_end p.0 p.1)

@@ -6,4 +6,4 @@ pub load-requires : goal.load-requires
 load-requires c =
     let wide = c.self.invariant.0 in
     let least = c.self.invariant.2.0 in
-    (c.requires.ours ∙ sym (ap (λ z. z.table) c.self.view_is), omega arith, finds_unit _ _ _ _ _ _ c.requires.one (omega arith) c.requires.reading c.requires.copied c.requires.unit c.requires.starts c.requires.whole)
+    (c.requires.reader.0 ∙ sym (ap (λ z. z.table) c.self.view_is), omega arith, finds_unit _ _ _ _ _ _ c.requires.reader.1 (omega arith) c.requires.reader.2 c.requires.copied c.requires.unit c.requires.starts c.requires.whole)

@@ -8,7 +8,7 @@ loop-word-init g c =
     let room = c.requires.room in
     let some_word = c.requires.some in
     let long = length-words_in c.args.bytes.now in
-    (search rules, copied_first c.args.head _ _ _ c.requires.one c.requires.copied c.write_word.ensures.words (omega arith), omega arith, omega arith, c.write_word.ensures.size)
+    (search rules, copied_first c.args.head _ _ _ c.requires.reader.1 c.requires.copied c.write_word.ensures.words (omega arith), omega arith, omega arith, c.write_word.ensures.size)
 
 pub loop-word-preserved : goal.loop-word-preserved
 loop-word-preserved g c =

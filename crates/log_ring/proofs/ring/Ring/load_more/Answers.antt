@@ -10,4 +10,4 @@ load-requires c =
     let behind = c.requires.behind in
     let inside = c.requires.inside in
     let at = c.word_of.ensures ∙ (λ i. 11 + (c.requires.place i + c.requires.word i) % (8 * (sym (ap (λ z. z.seg) c.self.view_is)) i)) in
-    (c.requires.ours ∙ sym (ap (λ z. z.table) c.self.view_is), omega arith, loads_more _ _ _ _ _ _ _ c.requires.one (omega arith) c.requires.reading c.requires.copied (omega arith) c.requires.unit c.requires.starts (omega arith) at)
+    (c.requires.reader.0 ∙ sym (ap (λ z. z.table) c.self.view_is), omega arith, loads_more _ _ _ _ _ _ _ c.requires.reader.1 (omega arith) c.requires.reader.2 c.requires.copied (omega arith) c.requires.unit c.requires.starts (omega arith) at)

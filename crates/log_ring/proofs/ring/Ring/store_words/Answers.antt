@@ -6,8 +6,8 @@ use Rattle.log_ring.proofs.ring.Ring.store_words.Goals as goal
 pub unreachable-requires : goal.unreachable-requires
 unreachable-requires g c =
     let more = c.loop-place-test.true in
-    let upto = c.requires.placed.tail in
-    let from = c.requires.placed.start in
+    let upto = c.requires.placed.1.tail in
+    let from = c.requires.placed.1.start in
     some_left (unit_words c.args.unit.now) c.loop-place.place (omega arith) (sym c.loop-place.invariant.4 ∙ c.in_default.ensures.none)
 
 pub store_word-requires-clause-word : goal.store_word-requires-clause-word
@@ -17,7 +17,7 @@ pub loop-place-preserved : goal.loop-place-preserved
 loop-place-preserved g c =
     let before = c.loop-place.invariant in
     let more = c.loop-place-test.true in
-    let upto = c.requires.placed.tail in
-    let from = c.requires.placed.start in
+    let upto = c.requires.placed.1.tail in
+    let from = c.requires.placed.1.start in
     let low = before.2 in
     (search rules, search rules, omega arith, omega arith, (next_is (unit_words c.args.unit.now) _ c.loop-place.place _ (sym before.4 ∙ c.in-Some.ensures.word)).1)
