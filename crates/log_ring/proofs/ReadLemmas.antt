@@ -16,6 +16,7 @@ use Rattle.ring_layout.specs.Content.{HoldsLog}
 use Rattle.ring_layout.specs.Copied.{IsDueAt, AreCopied}
 use Rattle.ring_layout.specs.History.{HasRun, last_seen, first_number, UnitStarts, MayFollow, IsReadBack, with_unit}
 use Rattle.ring_layout.proofs.EntriesLemmas.{at_stay, at_wrap, start_there}
+use Rattle.ring_layout.proofs.LapLemmas.{in_stretch}
 use Rattle.ring_layout.proofs.TakenLemmas.{get_inside}
 use Rattle.ring_layout.proofs.AgreedLemmas.{tail_above}
 use Rattle.ring_layout.proofs.ReadingLemmas.{wrap_word, start_leads}
@@ -54,13 +55,6 @@ first_of_taken (y ∷ ys) (x ∷ xs) l e = ap (λ (z : List ℕ). get_or z 0 0) 
 
 none_some : {x : ℕ} → None ≡ Some x → ⊥
 none_some e = cc e
-
--- a unit lies in one lap
-in_stretch : (seg t w : ℕ) → 0 < seg → w ≤ seg → start_at seg t w % (8 * seg) + w < 8 * seg
-in_stretch seg t w pos fits = dite (dec_lt (t % (8 * seg) + w) (8 * seg))
-    (λ stay. subst (λ (z : ℕ). z % (8 * seg) + w < 8 * seg) (sym (at_stay seg t w stay)) stay)
-    (λ far. let zero_mod : (t / (8 * seg) + 1) * (8 * seg) % (8 * seg) ≡ 0 = ap (λ (z : ℕ). z % (8 * seg)) (omega arith) ∙ mod-mul-add (t / (8 * seg) + 1) (8 * seg) 0 (omega arith) in
-    subst (λ (z : ℕ). z % (8 * seg) + w < 8 * seg) (sym (at_wrap seg t w (omega arith))) (omega arith))
 
 last_seen_more : (items : List (HistoryItem LogUnit)) (u : LogUnit) → last_seen (with_unit u items) ≡ last_seen items
 last_seen_more [] u = refl

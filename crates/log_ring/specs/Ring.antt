@@ -159,10 +159,11 @@ pub record ClosedState : Type 0 where
   pub histories : List (List (HistoryItem LogUnit))
   pub busy : ℕ
 
--- these passes are of the ring
+-- these writers are of the ring
 abbrev pub AreWritersOf : RingSet → List WriterState → Type 0
 AreWritersOf ring ws = AllByRecursion (λ (w : WriterState). w.ring ≡ ring) ws
 
+-- these readers are of the ring
 abbrev pub AreReadersOf : RingSet → List ReaderState → Type 0
 AreReadersOf ring rs = AllByRecursion (λ (r : ReaderState). r.ring ≡ ring) rs
 
@@ -248,10 +249,3 @@ HasFound old (Lost at seen) new = FoundCounter seen old new
 pub record StaysLost (old : ReaderState) (step : Step) (new : ReaderState) : Type 0 where
   pub again : (at : ℕ) → old.reader.lost ≡ Some at → step ≡ Lost at new.reader.loaded
   pub observed : (at : ℕ) → old.reader.lost ≡ Some at → new.reader.observed ≡ CounterSeen new.reader.loaded ∷ old.reader.observed
-
--- a cursor went on at the next lap: a unit at its place could wrap
-pub record HasMoved (old new : ReaderState) : Type 0 where
-  pub reading : new.reader.lost ≡ None
-  pub items : new.reader.items ≡ old.reader.items
-  pub wraps : 8 * old.ring.seg ≤ old.reader.place % (8 * old.ring.seg) + old.ring.seg
-  pub lap : new.reader.place % (8 * old.ring.seg) ≡ 0

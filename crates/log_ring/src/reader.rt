@@ -6,9 +6,9 @@ ghost use Rattle.vsl_record.specs.Views.{Spells};
 ghost use Rattle.vsl_record.specs.Words.{header_mark};
 ghost use Rattle.ring_layout.specs.Places.{end_mark, wrap_mark};
 ghost use Rattle.log_ring.specs.declared.rule.Unchecked.TheVariants.{Words};
-ghost use Rattle.log_ring.specs.Ring.{new_reader, new_pass, IsSought, IsAnswer, HasFound, StaysLost, HasMoved};
+ghost use Rattle.log_ring.specs.Ring.{new_reader, new_pass, IsSought, IsAnswer, HasFound, StaysLost};
 ghost use Rattle.log_ring.specs.inside.Reading.{reader_of};
-ghost use Rattle.log_ring.specs.inside.Steps.{IsReaderSeat, FoundWord, HasChecked, HasTried, set_of};
+ghost use Rattle.log_ring.specs.inside.Steps.{HasMoved, IsReaderSeat, FoundWord, HasChecked, HasTried, set_of};
 
 use crate::pause::{NoPause, Pause, stop};
 use crate::ring::{Ring, RingSeat};

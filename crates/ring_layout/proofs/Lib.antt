@@ -1,6 +1,7 @@
 mod Examples
 pub mod PushLemmas
 pub mod EntriesLemmas
+pub mod LapLemmas
 pub mod TakenLemmas
 pub mod AgreedLemmas
 pub mod StartLemmas

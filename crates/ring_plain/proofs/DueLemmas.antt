@@ -17,7 +17,7 @@ use Rattle.ring_layout.proofs.ItemsLemmas.{next_place}
 use Rattle.ring_layout.proofs.CopiesLemmas.{some_is, around, there, has_word, unit_word}
 use Rattle.ring_plain.specs.Ring.{RingState, IsRingOf}
 use Rattle.ring_plain.specs.inside.Due.{unit_place, IsUnitAt}
-use Rattle.ring_plain.proofs.ListLemmas.{in_lap, in_stretch}
+use Rattle.ring_layout.proofs.LapLemmas.{in_lap, in_stretch}
 
 kth_of : {X : Type 0} (P : X → Type 0) (xs : List X) (k : ℕ) (x : X) → AllByRecursion P xs → slice_get xs k ≡ Some x → P x
 kth_of P [] k x all e = cc e

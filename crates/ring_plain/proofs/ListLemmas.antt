@@ -6,7 +6,8 @@ use mathlib.Core.Logic.{dite}
 use native.Mathlib.Decide.{ℕ_discrete, dec_lt}
 use Rattle.std.specs.Option.{option_or}
 use Rattle.ring_layout.specs.Places.{stays, start_at, end_at, if_some, first_in, end_mark, wrap_mark}
-use Rattle.ring_layout.proofs.EntriesLemmas.{at_stay, at_wrap, two_ahead}
+use Rattle.ring_layout.proofs.EntriesLemmas.{two_ahead}
+use Rattle.ring_layout.proofs.LapLemmas.{in_lap, wrap_first, in_stretch}
 use Rattle.ring_layout.proofs.TakenLemmas.{start_above}
 use Rattle.ring_layout.proofs.AgreedLemmas.{free_place, free_segment, div_up, or_some, if_true, some_same}
 use Rattle.ring_layout.specs.Stretch.{with_words}
@@ -43,21 +44,6 @@ module _ (i x : ℕ) (new words : List ℕ) (room : i + length new < length word
   else_at k ne = dite (dec_lt k i)
       (λ l. search (rules, places, get_or-set_other))
       (λ g. dite (dec_lt (i + length new) k) (λ l. search (rules, places, get_or-set_other)) (λ m. absurd (ne (k - i) (omega arith) (omega arith))))
-
--- ---- where a unit lies in its lap
-
--- places of one lap
-pub in_lap : (n j m : ℕ) → n % m + j < m → (n + j) % m ≡ n % m + j
-in_lap n j m l = let p = div-add-mod' n m in ap (λ (z : ℕ). z % m) (omega arith) ∙ mod-mul-add (n / m) m (n % m + j) l
-
-wrap_first : (seg t w : ℕ) → 0 < seg → 8 * seg ≤ t % (8 * seg) + w → start_at seg t w % (8 * seg) ≡ 0
-wrap_first seg t w pos far = ap (λ (z : ℕ). z % (8 * seg)) (at_wrap seg t w far ∙ omega arith) ∙ mod-mul-add (t / (8 * seg) + 1) (8 * seg) 0 (omega arith)
-
--- a unit and the mark behind it don't go past the lap
-pub in_stretch : (seg t w : ℕ) → 0 < seg → w ≤ seg → start_at seg t w % (8 * seg) + w < 8 * seg
-in_stretch seg t w pos fits = dite (dec_lt (t % (8 * seg) + w) (8 * seg))
-    (λ near. subst (λ (z : ℕ). z % (8 * seg) + w < 8 * seg) (sym (at_stay seg t w near)) near)
-    (λ far. let z = wrap_first seg t w pos (omega arith) in omega arith)
 
 -- ---- the words of a ring
 

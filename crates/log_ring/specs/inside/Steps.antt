@@ -1,5 +1,5 @@
 -- What holds between the steps of a put (this project's choice).
-use Rattle.std.specs.Prelude.{◌≡◌, ◌≢◌, ℕ, ◌+◌, ◌-◌, ◌*◌, ◌/◌, ◌<◌, ◌≤◌, ◌==◌, if◌then◌else◌, not, List, [], ◌∷◌, ◌++◌, length, take, map, sum_by, slice_index, Option, Some, None}
+use Rattle.std.specs.Prelude.{◌≡◌, ◌≢◌, ℕ, ◌+◌, ◌-◌, ◌*◌, ◌/◌, ◌%◌, ◌<◌, ◌≤◌, ◌==◌, if◌then◌else◌, not, List, [], ◌∷◌, ◌++◌, length, take, map, sum_by, slice_index, Option, Some, None}
 use Rattle.std.specs.List.{AllByRecursion}
 use Rattle.atomic_table.specs.Seated.{TableId}
 use Rattle.atomic_table.specs.Table.{Me}
@@ -189,3 +189,10 @@ HasChecked old new = (new.reader.observed ≡ CounterSeen new.reader.loaded ∷ 
 abbrev pub HasTried : Option Step → ReaderState → ReaderState → Type 0
 HasTried step old new =
     (x : ℕ) × (new.reader.observed ≡ CounterSeen new.reader.loaded ∷ WordSeen old.reader.place x ∷ FinishedSeen new.reader.finished_seen ∷ old.reader.observed) × FoundWord old.reader.place x step
+
+-- a cursor went on at the next lap: a unit at its place could wrap
+pub record HasMoved (old new : ReaderState) : Type 0 where
+  pub reading : new.reader.lost ≡ None
+  pub items : new.reader.items ≡ old.reader.items
+  pub wraps : 8 * old.ring.seg ≤ old.reader.place % (8 * old.ring.seg) + old.ring.seg
+  pub lap : new.reader.place % (8 * old.ring.seg) ≡ 0

@@ -1,7 +1,7 @@
 use Rattle.std.proofs.Common.{◌≡◌, ℕ, ◌+◌, ◌*◌, ◌%◌, ◌<◌, ◌≤◌, length, sym, ap, ◌∙◌, subst, arith}
 use Rattle.vsl_record.specs.Words.{unit_words}
 use Rattle.ring_layout.specs.Places.{start_at}
-use Rattle.ring_plain.proofs.ListLemmas.{in_stretch}
+use Rattle.ring_layout.proofs.LapLemmas.{in_stretch}
 use Rattle.ring_plain.proofs.ring.store_words.Goals as goal
 
 -- a unit and the mark behind it lie in the ring's words
