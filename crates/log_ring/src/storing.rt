@@ -31,6 +31,14 @@ pub(crate) const FINISHED_WRITERS: usize = 10;
 /// The first of the ring's words.
 const FIRST: usize = 11;
 
+/// A unit, and where it is put at the tail that was found.
+#[derive(Drop)]
+pub(crate) struct PlacedUnit<'a> {
+    pub(crate) unit: &'a Unit,
+    pub(crate) tail: u64,
+    pub(crate) placed: Placed,
+}
+
 /// Passes over a unit's header, which is its word 0, and answers the number of the next one.
 fn skip_header(words: &mut UnitWords<'_>) -> usize
     requires { 0 < length words.old }
@@ -86,19 +94,17 @@ impl Ring {
     fn announce<P: Pause>(
         &self,
         seat: &mut RingSeat,
-        tail: u64,
-        placed: Placed,
-        unit: &Unit,
+        put: &PlacedUnit<'_>,
         pause: &mut P,
         step: &mut u64,
     )
-        requires placed { IsPutAt self.now seat.old.table_id tail unit.now placed }
-        requires begun { seat.old.me.0.progress ≡ Storing (begun unit_words self.now.seg tail unit.now) }
+        requires placed { IsPutAt self.now seat.old.table_id put.now.tail put.now.unit.now put.now.placed }
+        requires begun { seat.old.me.0.progress ≡ Storing (begun unit_words self.now.seg put.now.tail put.now.unit.now) }
         ensures same { seat.new.table_id ≡ seat.old.table_id }
-        ensures announced { seat.new.me ≡ (with_progress (Storing (announced self.now.seg tail unit.now)) seat.old.me.0, seat.old.me.1) }
+        ensures announced { seat.new.me ≡ (with_progress (Storing (announced self.now.seg put.now.tail put.now.unit.now)) seat.old.me.0, seat.old.me.1) }
     {
-        let counter = segment_of(self.shape, placed.tail);
-        if counter > segment_of(self.shape, tail) {
+        let counter = segment_of(self.shape, put.placed.tail);
+        if counter > segment_of(self.shape, put.tail) {
             stop(pause, step);
             self.table
                 .shared
@@ -110,48 +116,38 @@ impl Ring {
     fn store_starts<P: Pause>(
         &self,
         seat: &mut RingSeat,
-        tail: u64,
-        placed: Placed,
-        unit: &Unit,
+        put: &PlacedUnit<'_>,
         pause: &mut P,
         step: &mut u64,
     )
-        requires placed { IsPutAt self.now seat.old.table_id tail unit.now placed }
-        requires announced { seat.old.me.0.progress ≡ Storing (announced self.now.seg tail unit.now) }
+        requires placed { IsPutAt self.now seat.old.table_id put.now.tail put.now.unit.now put.now.placed }
+        requires announced { seat.old.me.0.progress ≡ Storing (announced self.now.seg put.now.tail put.now.unit.now) }
         ensures same { seat.new.table_id ≡ seat.old.table_id }
-        ensures started { seat.new.me ≡ (with_progress (Storing (started self.now.seg tail unit.now)) seat.old.me.0, seat.old.me.1) }
+        ensures started { seat.new.me ≡ (with_progress (Storing (started self.now.seg put.now.tail put.now.unit.now)) seat.old.me.0, seat.old.me.1) }
     {
-        let from = segment_of(self.shape, tail) + 1;
-        let upto = segment_of(self.shape, placed.tail) + 1;
+        let from = segment_of(self.shape, put.tail) + 1;
+        let upto = segment_of(self.shape, put.placed.tail) + 1;
         for segment in from..upto {
-            let starts_here = segment_of(self.shape, placed.start) == segment;
+            let starts_here = segment_of(self.shape, put.placed.start) == segment;
             let place = if starts_here {
-                placed.start
+                put.placed.start
             } else {
-                placed.tail
+                put.placed.tail
             };
             stop(pause, step);
-            self.store_start(seat, tail, placed, unit, segment, place);
+            self.store_start(seat, put, segment, place);
         }
     }
 
     /// Stores the start of a segment that the unit enters.
-    fn store_start(
-        &self,
-        seat: &mut RingSeat,
-        tail: u64,
-        placed: Placed,
-        unit: &Unit,
-        segment: u64,
-        place: u64,
-    )
-        requires placed { IsPutAt self.now seat.old.table_id tail unit.now placed }
-        requires started { seat.old.me.0.progress ≡ Storing (record (announced self.now.seg tail unit.now) { start = segment }) }
-        requires above { tail / self.now.seg < segment }
-        requires upto { segment ≤ placed.tail / self.now.seg }
-        requires place { place ≡ first_of segment self.now.seg placed.start placed.tail }
+    fn store_start(&self, seat: &mut RingSeat, put: &PlacedUnit<'_>, segment: u64, place: u64)
+        requires placed { IsPutAt self.now seat.old.table_id put.now.tail put.now.unit.now put.now.placed }
+        requires started { seat.old.me.0.progress ≡ Storing (record (announced self.now.seg put.now.tail put.now.unit.now) { start = segment }) }
+        requires above { put.now.tail / self.now.seg < segment }
+        requires upto { segment ≤ put.now.placed.tail / self.now.seg }
+        requires place { place ≡ first_of segment self.now.seg put.now.placed.start put.now.placed.tail }
         ensures same { seat.new.table_id ≡ seat.old.table_id }
-        ensures stored { seat.new.me ≡ (with_progress (Storing (record (announced self.now.seg tail unit.now) { start = segment + 1 })) seat.old.me.0, seat.old.me.1) }
+        ensures stored { seat.new.me ≡ (with_progress (Storing (record (announced self.now.seg put.now.tail put.now.unit.now) { start = segment + 1 })) seat.old.me.0, seat.old.me.1) }
     {
         self.table.shared.store::<Starting>(
             seat,
@@ -164,20 +160,18 @@ impl Ring {
     fn store_words<P: Pause>(
         &self,
         seat: &mut RingSeat,
-        tail: u64,
-        placed: Placed,
-        unit: &Unit,
+        put: &PlacedUnit<'_>,
         pause: &mut P,
         step: &mut u64,
     )
-        requires placed { IsPutAt self.now seat.old.table_id tail unit.now placed }
-        requires started { seat.old.me.0.progress ≡ Storing (started self.now.seg tail unit.now) }
+        requires placed { IsPutAt self.now seat.old.table_id put.now.tail put.now.unit.now put.now.placed }
+        requires started { seat.old.me.0.progress ≡ Storing (started self.now.seg put.now.tail put.now.unit.now) }
         ensures same { seat.new.table_id ≡ seat.old.table_id }
-        ensures written { seat.new.me ≡ (with_progress (Storing (written self.now.seg tail unit.now)) seat.old.me.0, seat.old.me.1) }
+        ensures written { seat.new.me ≡ (with_progress (Storing (written self.now.seg put.now.tail put.now.unit.now)) seat.old.me.0, seat.old.me.1) }
     {
-        let count = (placed.tail - placed.start) as usize;
-        let mut words = unit.each_word();
-        let first = if placed.wraps {
+        let count = (put.placed.tail - put.placed.start) as usize;
+        let mut words = put.unit.each_word();
+        let first = if put.placed.wraps {
             0
         } else {
             skip_header(&mut words)
@@ -187,31 +181,23 @@ impl Ring {
                 unreachable!();
             };
             stop(pause, step);
-            self.store_word(seat, tail, placed, unit, place, word);
+            self.store_word(seat, put, place, word);
         }
     }
 
     /// Stores a word of the unit that isn't the one at the tail.
-    fn store_word(
-        &self,
-        seat: &mut RingSeat,
-        tail: u64,
-        placed: Placed,
-        unit: &Unit,
-        place: usize,
-        word: u32,
-    )
-        requires placed { IsPutAt self.now seat.old.table_id tail unit.now placed }
-        requires started { seat.old.me.0.progress ≡ Storing (record (started self.now.seg tail unit.now) { word = place }) }
-        requires inside { place < length (unit_words unit.now) }
-        requires behind { first_word unit_words self.now.seg tail (length (unit_words unit.now)) ≤ place }
-        requires word { word ≡ slice_index (unit_words unit.now) place }
+    fn store_word(&self, seat: &mut RingSeat, put: &PlacedUnit<'_>, place: usize, word: u32)
+        requires placed { IsPutAt self.now seat.old.table_id put.now.tail put.now.unit.now put.now.placed }
+        requires started { seat.old.me.0.progress ≡ Storing (record (started self.now.seg put.now.tail put.now.unit.now) { word = place }) }
+        requires inside { place < length (unit_words put.now.unit.now) }
+        requires behind { first_word unit_words self.now.seg put.now.tail (length (unit_words put.now.unit.now)) ≤ place }
+        requires word { word ≡ slice_index (unit_words put.now.unit.now) place }
         ensures same { seat.new.table_id ≡ seat.old.table_id }
-        ensures stored { seat.new.me ≡ (with_progress (Storing (record (started self.now.seg tail unit.now) { word = place + 1 })) seat.old.me.0, seat.old.me.1) }
+        ensures stored { seat.new.me ≡ (with_progress (Storing (record (started self.now.seg put.now.tail put.now.unit.now) { word = place + 1 })) seat.old.me.0, seat.old.me.1) }
     {
         self.table.shared.store::<Wording>(
             seat,
-            self.word_of(placed.start + place as u64),
+            self.word_of(put.placed.start + place as u64),
             u64::from(word),
         );
     }
@@ -220,57 +206,53 @@ impl Ring {
     fn store_mark<P: Pause>(
         &self,
         seat: &mut RingSeat,
-        tail: u64,
-        placed: Placed,
-        unit: &Unit,
+        put: &PlacedUnit<'_>,
         pause: &mut P,
         step: &mut u64,
     )
-        requires placed { IsPutAt self.now seat.old.table_id tail unit.now placed }
-        requires written { seat.old.me.0.progress ≡ Storing (written self.now.seg tail unit.now) }
+        requires placed { IsPutAt self.now seat.old.table_id put.now.tail put.now.unit.now put.now.placed }
+        requires written { seat.old.me.0.progress ≡ Storing (written self.now.seg put.now.tail put.now.unit.now) }
         ensures same { seat.new.table_id ≡ seat.old.table_id }
-        ensures marked { seat.new.me ≡ (with_progress (Storing (marked self.now.seg tail unit.now)) seat.old.me.0, seat.old.me.1) }
+        ensures marked { seat.new.me ≡ (with_progress (Storing (marked self.now.seg put.now.tail put.now.unit.now)) seat.old.me.0, seat.old.me.1) }
     {
         stop(pause, step);
         self.table
             .shared
-            .store::<Marking>(seat, self.word_of(placed.tail), u64::from(END_MARK));
+            .store::<Marking>(seat, self.word_of(put.placed.tail), u64::from(END_MARK));
     }
 
     /// Stores the word at the tail: the unit enters the log.
     fn publish<P: Pause>(
         &self,
         seat: &mut RingSeat,
-        tail: u64,
-        placed: Placed,
-        unit: &Unit,
+        put: &PlacedUnit<'_>,
         pause: &mut P,
         step: &mut u64,
     )
-        requires placed { IsPutAt self.now seat.old.table_id tail unit.now placed }
-        requires marked { seat.old.me.0.progress ≡ Storing (marked self.now.seg tail unit.now) }
+        requires placed { IsPutAt self.now seat.old.table_id put.now.tail put.now.unit.now put.now.placed }
+        requires marked { seat.old.me.0.progress ≡ Storing (marked self.now.seg put.now.tail put.now.unit.now) }
         requires one { seat.old.me.0.writers ≡ first_writer_of seat.old.me.0 ∷ [] }
         requires stays { seat.old.me.0.finished ≡ 0 }
         ensures same { seat.new.table_id ≡ seat.old.table_id }
         ensures put { seat.new.me ≡ (after_publish seat.old.me.0, seat.old.me.1) }
     {
-        let word = self.last_word(tail, placed, unit);
-        is_unit(unit);
+        let word = self.last_word(put);
+        is_unit(put.unit);
         stop(pause, step);
         self.table
             .shared
-            .store::<Publishing>(seat, self.word_of(tail), u64::from(word));
+            .store::<Publishing>(seat, self.word_of(put.tail), u64::from(word));
     }
 
     /// The word that is stored last, at the tail.
-    fn last_word(&self, tail: u64, placed: Placed, unit: &Unit) -> u32
-        requires placed { IsPlaced self.now.seg tail (length (unit_words unit.now)) placed }
-        ensures { result ≡ last_word unit_words self.now.seg tail unit.now }
+    fn last_word(&self, put: &PlacedUnit<'_>) -> u32
+        requires placed { IsPlaced self.now.seg put.now.tail (length (unit_words put.now.unit.now)) put.now.placed }
+        ensures { result ≡ last_word unit_words self.now.seg put.now.tail put.now.unit.now }
     {
-        if placed.wraps {
+        if put.placed.wraps {
             WRAP_MARK
         } else {
-            unit.word_at(0)
+            put.unit.word_at(0)
         }
     }
 
@@ -278,46 +260,42 @@ impl Ring {
     fn release<P: Pause>(
         &self,
         seat: &mut RingSeat,
-        tail: u64,
-        placed: Placed,
-        unit: &Unit,
+        put: &PlacedUnit<'_>,
         pause: &mut P,
         step: &mut u64,
     )
-        requires placed { IsPutAt self.now seat.old.table_id tail unit.now placed }
-        requires stored { seat.old.me.0.progress ≡ Stored (marked self.now.seg tail unit.now) }
+        requires placed { IsPutAt self.now seat.old.table_id put.now.tail put.now.unit.now put.now.placed }
+        requires stored { seat.old.me.0.progress ≡ Stored (marked self.now.seg put.now.tail put.now.unit.now) }
         ensures same { seat.new.table_id ≡ seat.old.table_id }
         ensures given { seat.new.me ≡ (with_progress Free seat.old.me.0, seat.old.me.1) }
     {
         stop(pause, step);
         self.table
             .shared
-            .store::<Releasing>(seat, WRITE_TOKEN, placed.tail + 1);
+            .store::<Releasing>(seat, WRITE_TOKEN, put.placed.tail + 1);
     }
 
     /// Stores a unit where it has a place, and gives the write token back.
     pub(crate) fn store<P: Pause>(
         &self,
         seat: &mut RingSeat,
-        tail: u64,
-        placed: Placed,
-        unit: &Unit,
+        put: &PlacedUnit<'_>,
         pause: &mut P,
         step: &mut u64,
     )
-        requires placed { IsPutAt self.now seat.old.table_id tail unit.now placed }
-        requires begun { seat.old.me.0.progress ≡ Storing (begun unit_words self.now.seg tail unit.now) }
+        requires placed { IsPutAt self.now seat.old.table_id put.now.tail put.now.unit.now put.now.placed }
+        requires begun { seat.old.me.0.progress ≡ Storing (begun unit_words self.now.seg put.now.tail put.now.unit.now) }
         requires one { seat.old.me.0.writers ≡ first_writer_of seat.old.me.0 ∷ [] }
         requires stays { seat.old.me.0.finished ≡ 0 }
         ensures same { seat.new.table_id ≡ seat.old.table_id }
-        ensures put { seat.new.me ≡ (with_put tail unit.now seat.old.me.0, seat.old.me.1) }
+        ensures put { seat.new.me ≡ (with_put put.now.tail put.now.unit.now seat.old.me.0, seat.old.me.1) }
     {
-        self.announce(seat, tail, placed, unit, pause, step);
-        self.store_starts(seat, tail, placed, unit, pause, step);
-        self.store_words(seat, tail, placed, unit, pause, step);
-        self.store_mark(seat, tail, placed, unit, pause, step);
-        self.publish(seat, tail, placed, unit, pause, step);
-        self.release(seat, tail, placed, unit, pause, step);
+        self.announce(seat, put, pause, step);
+        self.store_starts(seat, put, pause, step);
+        self.store_words(seat, put, pause, step);
+        self.store_mark(seat, put, pause, step);
+        self.publish(seat, put, pause, step);
+        self.release(seat, put, pause, step);
     }
 
     /// Counts a writer that left.

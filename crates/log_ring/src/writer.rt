@@ -9,6 +9,7 @@ ghost use Rattle.log_ring.specs.inside.Steps.{IsWriterSeat, IsLeftSeat, writer_o
 use crate::pause::{NoPause, Pause};
 use crate::ring::{Ring, RingSeat};
 use crate::rule::Coming;
+use crate::storing::PlacedUnit;
 use ring_layout::{PutFault, place_after};
 use std::marker::{Brand, Model};
 use std::sync::Wait;
@@ -87,7 +88,8 @@ impl WriterPass {
             ring.withdraw(&mut self.seat, tail, unit, pause, &mut step);
             return Err(PutFault::Exhausted { tail });
         };
-        ring.store(&mut self.seat, tail, placed, unit, pause, &mut step);
+        let put = PlacedUnit { unit, tail, placed };
+        ring.store(&mut self.seat, &put, pause, &mut step);
         if placed.wraps {
             self.wraps += 1;
         }

@@ -7,6 +7,6 @@ use Rattle.log_ring.proofs.ring.Ring.store_starts.Given as goal
 abbrev pub invariant-loop-segment : goal.invariant-loop-segment
 invariant-loop-segment g l =
     (l.seat.table_id ≡ l.initial.seat.table_id)
-    × (l.seat.me ≡ (with_progress (Storing (record (announced l.self.seg l.tail l.unit) { start = l.segment })) l.initial.seat.me.0, l.initial.seat.me.1))
-    × (l.tail / l.self.seg < l.segment)
+    × (l.seat.me ≡ (with_progress (Storing (record (announced l.self.seg l.put.tail l.put.unit.now) { start = l.segment })) l.initial.seat.me.0, l.initial.seat.me.1))
+    × (l.put.tail / l.self.seg < l.segment)
     × (l.segment ≤ l.upto)

@@ -8,10 +8,10 @@ unreachable-requires g c =
     let more = c.loop-place-test.true in
     let upto = c.requires.placed.1.tail in
     let from = c.requires.placed.1.start in
-    some_left (unit_words c.args.unit.now) c.loop-place.place (omega arith) (sym c.loop-place.invariant.4 ∙ c.in_default.ensures.none)
+    some_left (unit_words c.args.put.now.unit.now) c.loop-place.place (omega arith) (sym c.loop-place.invariant.4 ∙ c.in_default.ensures.none)
 
 pub store_word-requires-clause-word : goal.store_word-requires-clause-word
-store_word-requires-clause-word g c = (next_is (unit_words c.args.unit.now) _ c.loop-place.place _ (sym c.loop-place.invariant.4 ∙ c.in-Some.ensures.word)).0
+store_word-requires-clause-word g c = (next_is (unit_words c.args.put.now.unit.now) _ c.loop-place.place _ (sym c.loop-place.invariant.4 ∙ c.in-Some.ensures.word)).0
 
 pub loop-place-preserved : goal.loop-place-preserved
 loop-place-preserved g c =
@@ -20,4 +20,4 @@ loop-place-preserved g c =
     let upto = c.requires.placed.1.tail in
     let from = c.requires.placed.1.start in
     let low = before.2 in
-    (search rules, search rules, omega arith, omega arith, (next_is (unit_words c.args.unit.now) _ c.loop-place.place _ (sym before.4 ∙ c.in-Some.ensures.word)).1)
+    (search rules, search rules, omega arith, omega arith, (next_is (unit_words c.args.put.now.unit.now) _ c.loop-place.place _ (sym before.4 ∙ c.in-Some.ensures.word)).1)
