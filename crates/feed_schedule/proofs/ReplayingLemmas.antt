@@ -11,9 +11,10 @@ use Rattle.ring_layout.specs.Places.{AreFit, last_tail}
 use Rattle.ring_plain.specs.Ring.{IsRingOf}
 use Rattle.ring_plain.specs.Cursor.{Stands}
 use Rattle.traffic_feed.specs.Turns.{first_draw}
+use Rattle.ring_layout.specs.History.{HasRun}
 use Rattle.feed_schedule.specs.declared.replay.Advanced.{Advanced}
 use Rattle.feed_schedule.specs.declared.replay.Advanced.TheVariants.{Took, Overrun, Ended}
-use Rattle.feed_schedule.specs.Schedule.{Event, TookUnit, WasOverrun, Reads, Stage, first_stage, count_writers, has_ended, after_turn, after_turns, seed_of, is_drawn, IsScheduled, events_of, met, HasRun}
+use Rattle.feed_schedule.specs.Schedule.{Event, TookUnit, WasOverrun, Reads, Stage, first_stage, count_writers, has_ended, after_turn, after_turns, seed_of, is_drawn, IsScheduled, events_of, met}
 use Rattle.feed_schedule.specs.Replaying.{ReplayState, IsAt, waiting, IsToCome, Represents, Meets, count_feed_words}
 use Rattle.feed_schedule.specs.inside.Turning.{IsSteady, KeepsOrder, Adds}
 use Rattle.feed_schedule.proofs.TurnLemmas.{turns_after_end}
