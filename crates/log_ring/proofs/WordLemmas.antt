@@ -1,7 +1,9 @@
 -- Words of the table that are read alike.
-use Rattle.std.proofs.Common.{◌≡◌, ◌⊎◌, ℕ, ◌+◌, ◌*◌, ◌%◌, ◌<◌, List, length, get_or, set, ◌∙◌, ⊎_elim, arith, mod-lt, get_or-set_same, get_or-set_other}
+use Rattle.std.proofs.Common.{◌≡◌, ◌⊎◌, ℕ, ◌+◌, ◌*◌, ◌%◌, ◌<◌, ◌≤◌, List, length, get_or, set, sym, ◌∙◌, subst, ⊎_elim, arith, mod-lt, get_or-set_same, get_or-set_other}
 use Rattle.vsl_record.specs.Unit.{LogUnit, Log}
 use Rattle.ring_layout.specs.Content.{HoldsLog, HasStored}
+use Rattle.ring_layout.specs.Places.{start_at}
+use Rattle.ring_layout.proofs.LapLemmas.{in_lap, in_stretch}
 use Rattle.ring_layout.proofs.AgreedLemmas.{Set}
 use Rattle.log_ring.specs.declared.rule.Progress.{Progress}
 use Rattle.log_ring.specs.declared.rule.Progress.TheVariants.{Free, Storing, Stored}
@@ -58,3 +60,8 @@ module _ (words : LogUnit → List ℕ) (seg : ℕ) where
   under_way_as log c Free e e' w w' ents same h = h
   under_way_as log c (Storing p) e e' w w' ents same h = (h.0, h.1, h.2, h.3, stored_as log p.unit p.start p.word p.mark e e' w w' ents same h.4)
   under_way_as log c (Stored p) e e' w w' ents same h = h
+
+-- the words of a unit that is put at a tail lie one behind the other
+pub put_index : (seg t w j start : ℕ) → 0 < seg → w ≤ seg → start ≡ start_at seg t w → j < w → (start + j) % (8 * seg) ≡ start % (8 * seg) + j
+put_index seg t w j start pos fits is below =
+    let room : start % (8 * seg) + w < 8 * seg = subst (λ (z : ℕ). z % (8 * seg) + w < 8 * seg) (sym is) (in_stretch seg t w pos fits) in in_lap start j (8 * seg) (omega arith)

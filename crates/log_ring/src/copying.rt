@@ -1,6 +1,6 @@
 //! A unit is copied word by word.
 
-ghost use Rattle.std.specs.Prelude.{◌≡◌, ℕ, ◌+◌, ◌*◌, ◌<◌, ◌≤◌, [], ◌∷◌, length, take, None};
+ghost use Rattle.std.specs.Prelude.{◌≡◌, ℕ, ◌+◌, ◌*◌, ◌%◌, ◌<◌, ◌≤◌, [], ◌∷◌, length, take, None};
 ghost use Rattle.vsl_record.specs.Words.{header_mark, words_in};
 ghost use Rattle.ring_layout.specs.Places.{last_tail};
 ghost use Rattle.log_ring.specs.declared.rule.Unchecked.TheVariants.{Words};
@@ -29,15 +29,17 @@ impl Ring {
         requires copied { (reader_of seat.old.me.0).unchecked ≡ Words (head ∷ []) }
         requires head { head ≡ header_mark + count }
         requires some { 0 < count }
+        requires in_lap { place % (8 * self.now.seg) + count < 8 * self.now.seg }
         requires room { 4 * count ≤ length bytes.old }
         ensures same { seat.new.table_id ≡ seat.old.table_id }
         ensures copied { HasCopied head count (words_in bytes.new) seat.old.me seat.new.me }
         ensures size { length bytes.new ≡ length bytes.old }
     {
+        let at = self.word_of(place);
         write_word(bytes, 0, head);
         for word in 1..count {
             stop(pause, step);
-            let next = self.load_more(seat, place, word);
+            let next = self.load_more(seat, at + word as usize);
             write_word(bytes, word as usize, next as u32);
         }
     }

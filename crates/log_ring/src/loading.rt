@@ -39,23 +39,19 @@ impl Ring {
             .load::<LoadingHead>(seat, self.word_of(place))
     }
 
-    /// A further word of the unit at a cursor's place.
-    pub(crate) fn load_more(&self, seat: &mut RingSeat, place: u64, word: u64) -> u64
+    /// A further word of the unit at a cursor's place, which lies in this word of the table.
+    pub(crate) fn load_more(&self, seat: &mut RingSeat, at: usize) -> u64
         requires reader { IsReadingOf self.now seat.old.table_id seat.old.me }
-        requires place { place ≡ (reader_of seat.old.me.0).place }
         requires copied { (reader_of seat.old.me.0).unchecked ≡ Words (unchecked_words (reader_of seat.old.me.0).unchecked) }
-        requires word { word ≡ length (unchecked_words (reader_of seat.old.me.0).unchecked) }
-        requires behind { 0 < word }
+        requires behind { 0 < length (unchecked_words (reader_of seat.old.me.0).unchecked) }
         requires unit { slice_index (unchecked_words (reader_of seat.old.me.0).unchecked) 0 ≢ end_mark }
         requires starts { slice_index (unchecked_words (reader_of seat.old.me.0).unchecked) 0 ≢ wrap_mark }
-        requires inside { header_mark + word < slice_index (unchecked_words (reader_of seat.old.me.0).unchecked) 0 }
-        requires low { place + word < 2 ^ 64 }
+        requires inside { header_mark + length (unchecked_words (reader_of seat.old.me.0).unchecked) < slice_index (unchecked_words (reader_of seat.old.me.0).unchecked) 0 }
+        requires at { at ≡ 11 + ((reader_of seat.old.me.0).place + length (unchecked_words (reader_of seat.old.me.0).unchecked)) % (8 * self.now.seg) }
         ensures same { seat.new.table_id ≡ seat.old.table_id }
         ensures loaded { Becomes LoadsMore seat.old.me result seat.new.me }
     {
-        self.table
-            .shared
-            .load::<LoadingMore>(seat, self.word_of(place + word))
+        self.table.shared.load::<LoadingMore>(seat, at)
     }
 
     /// The counter, where the end mark was found.

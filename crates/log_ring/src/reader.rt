@@ -227,6 +227,7 @@ impl ReaderPass {
         requires head { head ≡ header_mark + count }
         requires some { 0 < count }
         requires fits { count ≤ self.old.ring.seg }
+        requires in_lap { self.old.reader.place % (8 * self.old.ring.seg) + count < 8 * self.old.ring.seg }
         ensures answer { IsAnswer self.old result self.new }
         ensures word { FoundWord self.old.reader.place head (Some result) }
         ensures checked { HasChecked self.old self.new }
@@ -266,6 +267,7 @@ impl ReaderPass {
     fn unit_size(&self, ring: &Ring, head: u32) -> Option<u64>
         requires ours { self.now.ring ≡ ring.now }
         ensures unit { IfSome result (λ count. (head ≡ header_mark + count) × (0 < count) × (count ≤ self.now.ring.seg)) }
+        ensures in_lap { IfSome result (λ count. self.now.reader.place % (8 * self.now.ring.seg) + count < 8 * self.now.ring.seg) }
         ensures none { IfNone result (header_mark < head → head ≤ header_mark + self.now.ring.seg → self.now.reader.place % (8 * self.now.ring.seg) + (head - header_mark) < 8 * self.now.ring.seg → ⊥) }
     {
         if head <= HEADER_MARK {

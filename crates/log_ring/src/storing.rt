@@ -170,6 +170,7 @@ impl Ring {
         ensures written { seat.new.me ≡ (with_progress (Storing (written self.now.seg put.now.tail put.now.unit.now)) seat.old.me.0, seat.old.me.1) }
     {
         let count = (put.placed.tail - put.placed.start) as usize;
+        let at = self.word_of(put.placed.start);
         let mut words = put.unit.each_word();
         let first = if put.placed.wraps {
             0
@@ -181,25 +182,31 @@ impl Ring {
                 unreachable!();
             };
             stop(pause, step);
-            self.store_word(seat, put, place, word);
+            self.store_word(seat, put, place, at + place, word);
         }
     }
 
-    /// Stores a word of the unit that isn't the one at the tail.
-    fn store_word(&self, seat: &mut RingSeat, put: &PlacedUnit<'_>, place: usize, word: u32)
+    /// Stores a word of the unit that isn't the one at the tail, in this word of the table.
+    fn store_word(
+        &self,
+        seat: &mut RingSeat,
+        put: &PlacedUnit<'_>,
+        place: usize,
+        at: usize,
+        word: u32,
+    )
         requires placed { IsPutAt self.now seat.old.table_id put.now.tail put.now.unit.now put.now.placed }
         requires started { seat.old.me.0.progress ≡ Storing (record (started self.now.seg put.now.tail put.now.unit.now) { word = place }) }
         requires inside { place < length (unit_words put.now.unit.now) }
         requires behind { first_word unit_words self.now.seg put.now.tail (length (unit_words put.now.unit.now)) ≤ place }
+        requires at { at ≡ 11 + (put.now.placed.start + place) % (8 * self.now.seg) }
         requires word { word ≡ slice_index (unit_words put.now.unit.now) place }
         ensures same { seat.new.table_id ≡ seat.old.table_id }
         ensures stored { seat.new.me ≡ (with_progress (Storing (record (started self.now.seg put.now.tail put.now.unit.now) { word = place + 1 })) seat.old.me.0, seat.old.me.1) }
     {
-        self.table.shared.store::<Wording>(
-            seat,
-            self.word_of(put.placed.start + place as u64),
-            u64::from(word),
-        );
+        self.table
+            .shared
+            .store::<Wording>(seat, at, u64::from(word));
     }
 
     /// Stores the end mark.

@@ -1,4 +1,5 @@
-use Rattle.std.proofs.Common.{◌+◌, ◌*◌, ◌%◌, sym, ap, ◌∙◌, arith}
+use Rattle.std.proofs.Common.{◌+◌, ◌*◌, ◌%◌, length, sym, ap, ◌∙◌, arith}
+use Rattle.log_ring.specs.inside.Reading.{reader_of, unchecked_words}
 use Rattle.log_ring.proofs.ReadLemmas.{loads_more}
 use Rattle.log_ring.proofs.ring.Ring.load_more.Goals as goal
 
@@ -6,8 +7,6 @@ pub load-requires : goal.load-requires
 load-requires c =
     let wide = c.self.invariant.0 in
     let least = c.self.invariant.2.0 in
-    let word = c.requires.word in
-    let behind = c.requires.behind in
-    let inside = c.requires.inside in
-    let at = c.word_of.ensures ∙ (λ i. 11 + (c.requires.place i + c.requires.word i) % (8 * (sym (ap (λ z. z.seg) c.self.view_is)) i)) in
-    (c.requires.reader.0 ∙ sym (ap (λ z. z.table) c.self.view_is), omega arith, loads_more _ _ _ _ _ _ _ c.requires.reader.1 (omega arith) c.requires.reader.2 c.requires.copied (omega arith) c.requires.unit c.requires.starts (omega arith) at)
+    let read = reader_of c.args.seat.now.me.0 in
+    let at = c.requires.at ∙ (λ i. 11 + (read.place + length (unchecked_words read.unchecked)) % (8 * (sym (ap (λ z. z.seg) c.self.view_is)) i)) in
+    (c.requires.reader.0 ∙ sym (ap (λ z. z.table) c.self.view_is), omega arith, loads_more _ _ _ _ _ _ _ c.requires.reader.1 (omega arith) c.requires.reader.2 c.requires.copied c.requires.behind c.requires.unit c.requires.starts c.requires.inside at)
