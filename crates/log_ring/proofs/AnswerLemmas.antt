@@ -1,5 +1,5 @@
 -- What a reader answers after a check.
-use Rattle.std.proofs.Common.{◌≡◌, ℕ, ◌+◌, ◌*◌, ◌/◌, ◌%◌, ◌<◌, ◌≤◌, List, [], ◌∷◌, ◌++◌, length, take, drop, sym, refl, ap, ◌∙◌, subst, ⊎_elim, arith, Option, Some, None, le-leb}
+use Rattle.std.proofs.Common.{◌≡◌, ℕ, ◌+◌, ◌*◌, ◌/◌, ◌%◌, ◌<◌, ◌≤◌, List, [], ◌∷◌, ◌++◌, length, take, drop, sym, refl, ap, ◌∙◌, subst, ⊎_elim, inl, inr, arith, Option, Some, None, le-leb}
 use Rattle.std.proofs.lemmas.Nat.{mod-mul-add}
 use Rattle.std.proofs.lemmas.List.{take_at}
 use Rattle.vsl_record.specs.Words.{unit_words, words_in}
@@ -15,7 +15,7 @@ use Rattle.log_ring.specs.declared.rule.RingKey.{RingKey}
 use Rattle.log_ring.specs.declared.rule.ReaderView.{ReaderView}
 use Rattle.log_ring.specs.declared.rule.Observation.{Observation}
 use Rattle.log_ring.specs.declared.rule.Observation.TheVariants.{CounterSeen, FinishedSeen, WordSeen}
-use Rattle.log_ring.specs.Ring.{RingSet, ReaderState, TookNothing, IsAnswer, HasFound, StaysLost}
+use Rattle.log_ring.specs.Ring.{RingSet, ReaderState, TookNothing, IsAnswer, IsReadAt, HasFound, StaysLost}
 use Rattle.log_ring.specs.inside.Steps.{HasMoved, FoundWord, HasChecked, HasTried}
 use Rattle.log_ring.specs.inside.Reading.{unchecked_words, overrun_at, with_end, Checks, FindsEnd, FindsLap, FindsUnit, FindsNothing}
 
@@ -64,15 +64,13 @@ module _ (key : RingKey) (x at : ℕ) (old new : ReaderState) (told : Checks Fin
   not_yet_answer some_left p p_is = let finished_seen : new.reader.finished_seen ≡ old.reader.finished_seen = ap (λ (r : ReaderView). r.finished_seen) end_is in (nothing_taken p p_is, omega arith)
 
 -- the cursor went on at the next lap
-pub lap_moved : (key : RingKey) (x at seg : ℕ) (old new : ReaderState) → Checks FindsLap key x old.reader new.reader → at ≡ old.reader.place / key.seg → x < at + 6 → key.seg ≡ seg → 0 < seg → old.reader.lost ≡ None
-    → (new.reader.lost ≡ None) × (new.reader.items ≡ old.reader.items) × (new.reader.place % (8 * seg) ≡ 0)
-lap_moved key x at seg old new told is near same pos free =
-    let t = near_told FindsLap key x at old new told is near in
-    let zero_mod : (n : ℕ) → 0 < n → (k : ℕ) → k * n % n ≡ 0 = λ n p k. ap (λ (z : ℕ). z % n) (omega arith) ∙ mod-mul-add k n 0 p in
-    let place : new.reader.place ≡ (old.reader.place / (8 * seg) + 1) * (8 * seg) = ap (λ (r : ReaderView). r.place) t.0 ∙ ap (λ (z : ℕ). (old.reader.place / (8 * z) + 1) * (8 * z)) same in (
+pub lap_moved : (key : RingKey) (x at seg : ℕ) (old new : ReaderState) → Checks FindsLap key x old.reader new.reader → at ≡ old.reader.place / key.seg → x < at + 6 → key.seg ≡ seg → old.reader.lost ≡ None
+    → (new.reader.lost ≡ None) × (new.reader.items ≡ old.reader.items) × (new.reader.place ≡ (old.reader.place / (8 * seg) + 1) * (8 * seg))
+lap_moved key x at seg old new told is near same free =
+    let t = near_told FindsLap key x at old new told is near in (
       ap (λ (r : ReaderView). r.lost) t.0 ∙ free,
       ap (λ (r : ReaderView). r.items) t.0,
-      ap (λ (z : ℕ). z % (8 * seg)) place ∙ zero_mod (8 * seg) (omega arith) (old.reader.place / (8 * seg) + 1),
+      ap (λ (r : ReaderView). r.place) t.0 ∙ ap (λ (z : ℕ). (old.reader.place / (8 * z) + 1) * (8 * z)) same,
     )
 
 -- the words of a unit in a buffer
@@ -97,6 +95,14 @@ took_answer key x at mid old new told is near seg items free words_are =
       near = omega arith;
     }
 
+-- the cursor stands behind the unit that it took
+pub took_place : (key : RingKey) (x at p : ℕ) (mid : ReaderView) (old new : ReaderState) → Checks (FindsUnit unit_words) key x mid new.reader → at ≡ mid.place / key.seg → x < at + 6 → mid.place ≡ p → new.words ≡ unchecked_words mid.unchecked
+    → new.reader.place ≡ p + length new.words
+took_place key x at p mid old new told is near place words_are =
+    let t = near_told (FindsUnit unit_words) key x at (record { ring = old.ring; reader = mid; words = old.words }) new told is near in
+    let long : length new.words ≡ length (unit_words t.0) = ap (λ (l : List ℕ). length l) (words_are ∙ t.2) in
+    let end : new.reader.place ≡ mid.place + length (unit_words t.0) = ap (λ (r : ReaderView). r.place) t.4 in omega arith
+
 nothing_as : (old mid new : ReaderState) (p : ℕ) → TookNothing p mid new → mid.reader.items ≡ old.reader.items → mid.ring ≡ old.ring → TookNothing p old new
 nothing_as old mid new p a items ring = record { place_is = a.place_is; items = a.items ∙ items; not_lost = a.not_lost; near = subst (λ (r : RingSet). new.reader.loaded < p / r.seg + 6) ring a.near }
 
@@ -119,7 +125,9 @@ answer_as old mid new (Lost at seen) a items ring = record { far = a.far; loaded
 -- a cursor goes on at the next lap once
 pub one_lap : (old mid new : ReaderState) → mid.ring ≡ old.ring → HasMoved old mid → HasMoved mid new → 0 < old.ring.seg → ⊥
 one_lap old mid new same first second pos =
-    let at : mid.reader.place % (8 * mid.ring.seg) ≡ 0 = ap (λ (r : RingSet). mid.reader.place % (8 * r.seg)) same ∙ first.lap in
+    let zero_mod : (n : ℕ) → 0 < n → (k : ℕ) → k * n % n ≡ 0 = λ n p k. ap (λ (z : ℕ). z % n) (omega arith) ∙ mod-mul-add k n 0 p in
+    let lap : mid.reader.place % (8 * old.ring.seg) ≡ 0 = ap (λ (z : ℕ). z % (8 * old.ring.seg)) first.lap ∙ zero_mod (8 * old.ring.seg) (omega arith) (old.reader.place / (8 * old.ring.seg) + 1) in
+    let at : mid.reader.place % (8 * mid.ring.seg) ≡ 0 = ap (λ (r : RingSet). mid.reader.place % (8 * r.seg)) same ∙ lap in
     let wraps = second.wraps in
     let seg : mid.ring.seg ≡ old.ring.seg = ap (λ (r : RingSet). r.seg) same in omega arith
 
@@ -165,34 +173,42 @@ pub free_stays : (old new : ReaderState) (step : Step) → old.reader.lost ≡ N
 free_stays old new step free = record { again = λ a e. cc (sym free ∙ e); observed = λ a e. cc (sym free ∙ e) }
 
 -- a word that is the end mark is what was found
-pub found_as : (p x : ℕ) (step : Option Step) → x ≡ end_mark → FoundWord p end_mark step → FoundWord p x step
-found_as p x (Some (NotYet q)) is f = (f.0, is)
-found_as p x (Some Ended) is f = is
-found_as p x (Some Took) is f = tt
-found_as p x (Some (Lost at seen)) is f = tt
-found_as p x None is f = tt
+pub found_as : (p x : ℕ) (new : ReaderState) (step : Option Step) → x ≡ end_mark → FoundWord p end_mark new step → FoundWord p x new step
+found_as p x new (Some (NotYet q)) is f = (f.0, is)
+found_as p x new (Some Ended) is f = (f.0, is)
+found_as p x new (Some Took) is f = f
+found_as p x new (Some (Lost at seen)) is f = tt
+found_as p x new None is f = tt
 
 -- a check after a load of the number of writers that left and of the word at the place
-pub tried_as : (old mid new : ReaderState) (n x : ℕ) (step : Option Step) → HasChecked mid new → FoundWord old.reader.place x step → mid.reader.observed ≡ WordSeen old.reader.place x ∷ FinishedSeen n ∷ old.reader.observed → mid.reader.finished_seen ≡ n
+pub tried_as : (old mid new : ReaderState) (n x : ℕ) (step : Option Step) → HasChecked mid new → FoundWord old.reader.place x new step → mid.reader.observed ≡ WordSeen old.reader.place x ∷ FinishedSeen n ∷ old.reader.observed → mid.reader.finished_seen ≡ n
     → HasTried step old new
 tried_as old mid new n x step checked word found finished_seen =
     (x, checked.0 ∙ ap (λ l. CounterSeen new.reader.loaded ∷ l) (found ∙ ap (λ (z : ℕ). WordSeen old.reader.place x ∷ FinishedSeen z ∷ old.reader.observed) (sym finished_seen ∙ sym checked.1)), word)
 
-found_so : (old new : ReaderState) (step : Step) (more : List Observation) (a : ReaderState) (p x : ℕ) → IsAnswer a step new → FoundWord p x (Some step)
+found_so : (old new : ReaderState) (step : Step) (more : List Observation) (a : ReaderState) (p x : ℕ) → IsReadAt old p → IsAnswer a step new → FoundWord p x new (Some step)
     → new.reader.observed ≡ CounterSeen new.reader.loaded ∷ WordSeen p x ∷ FinishedSeen new.reader.finished_seen ∷ (more ++ old.reader.observed) → HasFound old step new
-found_so old new Took more a p x told word is = (p, (x, record { before = more; observed = is }))
-found_so old new (NotYet q) more a p x told word is = record { before = more; observed = is ∙ (λ i. CounterSeen new.reader.loaded ∷ WordSeen (sym word.0 i) (word.1 i) ∷ FinishedSeen new.reader.finished_seen ∷ (more ++ old.reader.observed)) }
-found_so old new Ended more a p x told word is = (p, record { before = more; observed = is ∙ (λ i. CounterSeen new.reader.loaded ∷ WordSeen p (word i) ∷ FinishedSeen new.reader.finished_seen ∷ (more ++ old.reader.observed)) })
-found_so old new (Lost at seen) more a p x told word is = record {
+found_so old new Took more a p x here told word is = (p, (x, record { here = here; before = more; observed = is }, word))
+found_so old new (NotYet q) more a p x here told word is = record {
+  here = subst (IsReadAt old) (sym word.0) here;
+  before = more;
+  observed = is ∙ (λ i. CounterSeen new.reader.loaded ∷ WordSeen (sym word.0 i) (word.1 i) ∷ FinishedSeen new.reader.finished_seen ∷ (more ++ old.reader.observed));
+}
+found_so old new Ended more a p x here told word is = record {
+  here = subst (IsReadAt old) (sym word.0) here;
+  before = more;
+  observed = is ∙ (λ i. CounterSeen new.reader.loaded ∷ WordSeen (sym word.0 i) (word.1 i) ∷ FinishedSeen new.reader.finished_seen ∷ (more ++ old.reader.observed));
+}
+found_so old new (Lost at seen) more a p x here told word is = record {
   before = WordSeen p x ∷ FinishedSeen new.reader.finished_seen ∷ more;
   observed = is ∙ ap (λ (z : ℕ). CounterSeen z ∷ WordSeen p x ∷ FinishedSeen new.reader.finished_seen ∷ (more ++ old.reader.observed)) told.loaded;
 }
 
 -- an answer at the first try, and at the second
 pub found_once : (old new : ReaderState) (step : Step) → IsAnswer old step new → HasTried (Some step) old new → HasFound old step new
-found_once old new step told t = found_so old new step [] old old.reader.place t.0 told t.2 t.1
+found_once old new step told t = found_so old new step [] old old.reader.place t.0 (inl refl) told t.2 t.1
 
-pub found_twice : (old mid new : ReaderState) (step : Step) → IsAnswer mid step new → HasTried None old mid → HasTried (Some step) mid new → HasFound old step new
-found_twice old mid new step told first t =
-    found_so old new step (CounterSeen mid.reader.loaded ∷ WordSeen old.reader.place first.0 ∷ FinishedSeen mid.reader.finished_seen ∷ []) mid mid.reader.place t.0 told t.2
+pub found_twice : (old mid new : ReaderState) (step : Step) → IsAnswer mid step new → HasMoved old mid → HasTried None old mid → HasTried (Some step) mid new → HasFound old step new
+found_twice old mid new step told moved first t =
+    found_so old new step (CounterSeen mid.reader.loaded ∷ WordSeen old.reader.place first.0 ∷ FinishedSeen mid.reader.finished_seen ∷ []) mid mid.reader.place t.0 (inr moved.lap) told t.2
     (t.1 ∙ ap (λ l. CounterSeen new.reader.loaded ∷ WordSeen mid.reader.place t.0 ∷ FinishedSeen new.reader.finished_seen ∷ l) first.1)

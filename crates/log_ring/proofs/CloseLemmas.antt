@@ -19,9 +19,9 @@ use Rattle.log_ring.specs.declared.rule.Progress.{Progress}
 use Rattle.log_ring.specs.declared.rule.Progress.TheVariants.{Free, Storing, Stored}
 use Rattle.log_ring.specs.declared.rule.ReaderView.{ReaderView}
 use Rattle.log_ring.specs.declared.rule.View.{View}
-use Rattle.log_ring.specs.Ring.{AreObserved, entries_from}
+use Rattle.log_ring.specs.Ring.{AreObserved, entries_from, IsDone}
 use Rattle.log_ring.specs.inside.Rule.{KnowsToken, PutAll, IsWithout, AreApart, IsNext, IsOverrunAt, IsReader, IsUnderWay, HoldsOneLog, writers_of, HasNumber, IsSeated}
-use Rattle.log_ring.specs.inside.Closing.{units_of, entries_in, IsDone, Settles}
+use Rattle.log_ring.specs.inside.Closing.{units_of, entries_in, Settles}
 use Rattle.log_model.proofs.SumLemmas.{rest_zero}
 use Rattle.log_ring.proofs.EntryLemmas.{entries_long}
 use Rattle.log_ring.proofs.SeatLemmas.{all_map, some_at}
@@ -152,6 +152,7 @@ module _ (words : LogUnit → List ℕ) (key : RingKey) where
       λ e. let some_one = some_item r c finished log h in let l = ap length e in omega (arith, length-reverse r.items),
       subst (λ (l : List (HistoryItem LogUnit)). IsReadBack words key.seg (tail words key.seg log / key.seg) log l) (sym (reverse-reverse r.items)) (subst (λ (z : ℕ). IsReadBack words key.seg z log r.items) level h.history),
     );
+    stands = λ free. (h.reading free).stands;
     observed = subst (λ (z : ℕ). AreObserved words key.seg log z r.observed) level h.observed;
     ended = λ e. reaches r.items log (h.ended e).1;
   }

@@ -17,11 +17,11 @@ use Rattle.log_ring.specs.declared.rule.RingKey.{RingKey}
 use Rattle.log_ring.specs.declared.rule.WriterView.{WriterView}
 use Rattle.log_ring.specs.declared.rule.ReaderView.{ReaderView}
 use Rattle.log_ring.specs.declared.rule.View.{View}
-use Rattle.log_ring.specs.Ring.{RingSet, WriterState, ReaderState, units_put, busy_of, history_taken, AreWritersOf, AreReadersOf, IsDoneWith, HasReached, entries_from, entries_of}
+use Rattle.log_ring.specs.Ring.{RingSet, WriterState, ReaderState, units_put, busy_of, history_taken, AreWritersOf, AreReadersOf, IsDoneWith, HasReached, entries_from, entries_of, history_of, IsDone}
 use Rattle.log_ring.specs.inside.Rule.{HoldsOneLog}
 use Rattle.log_ring.specs.inside.Writing.{first_entries, both_views, no_view}
 use Rattle.log_ring.specs.inside.Reading.{reader_of}
-use Rattle.log_ring.specs.inside.Closing.{units_of, entries_in, history_of, Settles, IsDone}
+use Rattle.log_ring.specs.inside.Closing.{units_of, entries_in, Settles}
 use Rattle.log_ring.specs.inside.Steps.{set_of, first_number, writer_of, IsLeftSeat, writer_in, reader_in, IsJoined, IsJoinedWith, IsReaderSeat}
 use Rattle.log_ring.proofs.SeatingLemmas.{joins}
 use Rattle.log_ring.proofs.CloseLemmas.{settles}
@@ -164,7 +164,7 @@ settled_busy ring whole readers table me found new joined told = ap (λ (m : Me 
 
 done_with : (seg : ℕ) (log : Log) (rs : List ReaderState) → AllByRecursion (IsDone unit_words seg log) (map reader_in rs) → AllByRecursion (IsDoneWith seg log) rs
 done_with seg log [] all = tt
-done_with seg log (r ∷ rs) all = let d = all.0 in (record { history = d.history; observed = d.observed; ended = d.ended }, done_with seg log rs all.1)
+done_with seg log (r ∷ rs) all = (all.0, done_with seg log rs all.1)
 
 histories_map : (rs : List ReaderState) → map history_of (map reader_in rs) ≡ map history_taken rs
 histories_map [] = refl

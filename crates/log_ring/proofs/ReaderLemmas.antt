@@ -15,8 +15,8 @@ use Rattle.log_ring.specs.declared.rule.Unchecked.{Unchecked}
 use Rattle.log_ring.specs.declared.rule.Unchecked.TheVariants.{Nothing, Words, Start}
 use Rattle.log_ring.specs.declared.rule.Observation.{Observation}
 use Rattle.log_ring.specs.declared.rule.Observation.TheVariants.{CounterSeen, FinishedSeen, WordSeen, StartSeen}
-use Rattle.log_ring.specs.Ring.{AreObserved}
-use Rattle.log_ring.specs.inside.Rule.{IsUnchecked, CursorStands, IsReader}
+use Rattle.log_ring.specs.Ring.{AreObserved, CursorStands}
+use Rattle.log_ring.specs.inside.Rule.{IsUnchecked, IsReader}
 
 module _ (words : LogUnit → List ℕ) (key : RingKey) where
   history_higher : (log : Log) (most more : ℕ) → most ≤ more → (items : List (HistoryItem LogUnit)) → IsReadBack words key.seg most log items → IsReadBack words key.seg more log items

@@ -42,7 +42,7 @@ module _ (words : LogUnit → List ℕ) (key : RingKey) where
   abbrev pub given : SharedState → ℕ → List (ℕ × LogUnit)
   given w k = given_to k w.owners (entries_from words key.seg 0 w.log)
 
-  -- a step of the seat id takes the one world to the other, and leaves what other seats know
+  -- a step of the seat id takes the one state to the other, and leaves what other seats know
   pub record LeavesOthers (w w' : SharedState) (id : ℕ) : Type 0 where
     pub readers : (r : ReaderView) → IsReader words key w.log w.counter w.finished r → IsReader words key w'.log w'.counter w'.finished r
     pub tail : tail words key.seg w.log ≤ tail words key.seg w'.log
@@ -88,7 +88,7 @@ module _ (words : LogUnit → List ℕ) (key : RingKey) where
     finished = let t = sum_set finished_of s.views id v v' at in let all = r.finished in omega arith;
   }
 
-  -- each writer still sits where it sat
+  -- each writer is still in its seat
   pub owners_stay : (s : St) (r : HoldsOneLog words key s) (id : ℕ) (v v' : View) → get_elem? s.views id ≡ some v → ((k : ℕ) → HasNumber k v.writers → HasNumber k v'.writers)
       → AllByRecursion (IsSeated r.shared.seat (set s.views id v')) r.shared.owners
   owners_stay s r id v v' at keep = all_map (IsSeated r.shared.seat s.views) (IsSeated r.shared.seat (set s.views id v')) r.shared.owners

@@ -48,7 +48,7 @@ module _ {X : Type 0} where
   seats_stay K vs id v' mine others j v e = ⊎_elim (λ (t : (j ≡ id) × (v' ≡ v)). subst (λ (x : ℕ × X). K x.0 x.1) (λ i. (sym t.0 i, t.1 i)) mine)
       (λ (t : (j ≢ id) × (get_elem? vs j ≡ some v)). others j v t.0 t.1) (at_set vs id j v' v e)
 
--- a writer still sits where it sat, after a step of a seat that keeps its writers
+-- a writer is still in its seat after a step of a seat that keeps its writers
 pub seated_on : (seat : ℕ → ℕ) (vs : List View) (id k : ℕ) (v v' : View) → get_elem? vs id ≡ some v → (HasNumber k v.writers → HasNumber k v'.writers) → IsSeated seat vs k → IsSeated seat (set vs id v') k
 seated_on seat vs id k v v' at keep q = dite (ℕ_discrete (seat k) id)
     (λ e. let had : v ≡ q.view = some-injective v q.view (sym at ∙ (ap (λ (z : ℕ). get_elem? vs z) (sym e) ∙ q.there)) in record {

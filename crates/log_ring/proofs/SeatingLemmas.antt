@@ -57,7 +57,7 @@ new_long k zero = refl
 new_long k (suc n) = ap suc (new_long (k + 1) n)
 
 module _ (words : LogUnit → List ℕ) where
-  -- writers that are where another world says, and put the same
+  -- writers that are where another state says, and put the same
   put_as : (seg : ℕ) (log : Log) (owners : List ℕ) (seat seat' : ℕ → ℕ) (j j' : ℕ) (xs : List WriterView) → ((k : ℕ) → seat k ≡ j → HasNumber k xs → seat' k ≡ j') → PutAll words seg log owners seat j xs → PutAll words seg log owners seat' j' xs
   put_as seg log owners seat seat' j j' [] there h = tt
   put_as seg log owners seat seat' j j' (x ∷ xs) there h = ((there x.number h.0.0 (inl refl), h.0.1), put_as seg log owners seat seat' j j' xs (λ k e has. there k e (inr has)) h.1)

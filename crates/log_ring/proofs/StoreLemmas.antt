@@ -47,7 +47,7 @@ module _ (words : LogUnit → List ℕ) (key : RingKey) where
         stored = way.4;
       }
 
-  -- a store of the holder that leaves the log, the counter and the number of leavers, and takes the put to p'
+  -- a store of the holder that leaves the log, the counter and the number of finished writers, and takes the put to p'
   stores : (slots id i x : ℕ) (p p' : Put) (f : Put → Put) (me : M words key) → me.0.progress ≡ Storing p → f p ≡ p' → p'.tail ≡ p.tail → p'.unit ≡ p.unit
       → ((w : SharedState) (ws : List ℕ) → IsHolder w id p ws → AreWords words key.seg w ws → AreWords words key.seg (record w { progress = Storing p' }) (set ws i x))
       → Allows (HoldsOneLog words key) slots id me i (λ _. x) (λ _. Makes (λ _ (v : View). record v { progress = going_on f v.progress }) (step slots i x 0 none) me x)

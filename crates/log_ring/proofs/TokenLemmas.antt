@@ -1,9 +1,12 @@
--- A writer takes the write token, and gives it back.
+-- A writer takes the write token, and releases it.
 use Rattle.std.proofs.Common.{◌≡◌, ◌≢◌, ◌⊎◌, ℕ, suc, ◌+◌, ◌-◌, ◌/◌, ◌^◌, ◌<◌, ◌≤◌, Bool, cond, max, List, [], ◌∷◌, length, get_or, set, sym, refl, ap, ◌∙◌, subst, inl, arith, le_refl, eq-eqb, ne_eqb, length-set, get_or-set_same, get_or-set_other}
 use mathlib.Core.Logic.{dite}
-use mathlib.Core.Option.{none}
-use native.Mathlib.Decide.{ℕ_discrete}
-use Rattle.atomic_table.specs.Table.{step, keeps, stepped, Allows}
+use mathlib.Core.Option.{none, some}
+use lib.ListN.{get_elem?}
+use Rattle.atomic_table.proofs.Lists.{set_else}
+use Rattle.log_model.proofs.SumLemmas.{sum_set}
+use native.Mathlib.Decide.{ℕ_discrete, dec_lt}
+use Rattle.atomic_table.specs.Table.{State, step, keeps, stepped, Allows}
 use Rattle.std.specs.List.{AllByRecursion}
 use Rattle.vsl_record.specs.Unit.{LogUnit, Log}
 use Rattle.vsl_record.specs.Words.{IsUnit}
@@ -18,9 +21,9 @@ use Rattle.log_ring.specs.declared.rule.Progress.{Progress}
 use Rattle.log_ring.specs.declared.rule.Progress.TheVariants.{Free, Storing, Stored}
 use Rattle.log_ring.specs.declared.rule.View.{View}
 use Rattle.log_ring.specs.Ring.{entries_from}
-use Rattle.log_ring.specs.inside.Rule.{SharedState, KnowsToken, IsToken, IsUnderWay, AreWords, HoldsOneLog, PutAll}
-use Rattle.log_ring.specs.inside.Writing.{begun, after_acquire, after_release, Makes, Acquires, first_entries}
-use Rattle.log_ring.proofs.SeatLemmas.{inside_at}
+use Rattle.log_ring.specs.inside.Rule.{SharedState, KnowsToken, IsToken, IsUnderWay, AreWords, HoldsOneLog, PutAll, writers_of}
+use Rattle.log_ring.specs.inside.Writing.{begun, after_acquire, after_release, Makes, Acquires, first_entries, no_view}
+use Rattle.log_ring.proofs.SeatLemmas.{inside_at, some_at}
 use Rattle.log_ring.proofs.EntryLemmas.{entries_long}
 use Rattle.log_ring.proofs.WordLemmas.{ent, word, beside, holds_as, under_way_as}
 use Rattle.log_ring.proofs.RuleLemmas.{M, others_stay, changed, owners_stay, looks, acts}
@@ -32,7 +35,7 @@ module _ (words : LogUnit → List ℕ) (key : RingKey) where
   free_progress log (Storing p) x is got = absurd (got is)
   free_progress log (Stored p) x is got = absurd (got is)
 
-  -- the words after a store in a word beside the ring's, where the write token, the counter and the number of leavers are said anew
+  -- the words after a store in a word beside the ring's, where the write token, the counter and the number of finished writers are said anew
   pub are_beside : (w w' : SharedState) (ws : List ℕ) (i x : ℕ) → (i < 2) ⊎ (i ≡ 10) → w'.log ≡ w.log → w'.counter ≡ w.counter → AreWords words key.seg w ws
       → IsToken words key.seg w'.log w'.progress (get_or (set ws i x) 0 0) → get_or (set ws i x) 1 0 ≡ w'.counter → get_or (set ws i x) 10 0 ≡ w'.finished
       → IsUnderWay words key.seg w'.log w'.counter w'.progress (ent ws) (word ws)
@@ -143,6 +146,21 @@ module _ (words : LogUnit → List ℕ) (key : RingKey) where
       let b = entries_long words key.seg 0 log in
       let c = log_short pos 0 log fit in omega arith
 
+  -- where a seat doesn't have the write token and another does, there are two writers
+  more_writers : (s : State ℕ View) (r : HoldsOneLog words key s) (id : ℕ) (v : View) → get_elem? s.views id ≡ some v → v.progress ≡ Free → v.finished < length v.writers → r.shared.progress ≢ Free → 1 < key.writers
+  more_writers s r id v at free stays held =
+      let w = r.shared in
+      let o = r.seats id v at in
+      let mine : w.progress ≢ Free → id ≢ w.holder = subst (KnowsToken w.progress w.holder id) free o.token in
+      let there = some_at s.views w.holder (r.holder held) in
+      let h = r.seats w.holder there.0 there.1 in
+      let busy : there.0.progress ≢ Free = λ e. (subst (KnowsToken w.progress w.holder w.holder) e h.token) held refl in
+      let low = h.finished in
+      let a = sum_set writers_of s.views id v no_view at in
+      let b = sum_set writers_of (set s.views id no_view) w.holder there.0 no_view (set_else s.views id w.holder no_view (λ e. mine held (sym e)) ∙ there.1) in
+      let all = r.writers in
+      dite (dec_lt there.0.finished (length there.0.writers)) (λ l. omega arith) (λ g. absurd (busy (h.idle (omega arith))))
+
   pub acquires_told : (slots id : ℕ) (u : LogUnit) (me : M words key) → me.0.progress ≡ Free → me.0.finished < length me.0.writers
       → Allows (HoldsOneLog words key) slots id me 0 (λ _. 0) (Acquires words u (step slots 0 0 0 none) me)
   acquires_told slots id u me free stays s r homes at small =
@@ -161,5 +179,9 @@ module _ (words : LogUnit → List ℕ) (key : RingKey) where
               let found : get_or s.words 0 0 ≡ tail words key.seg w.log + 1 = subst (λ (z : Progress). IsToken words key.seg w.log z (get_or s.words 0 0)) none_yet a.token in
               let low = a.low in
               let short = entries_short w.log w.owners w.seat id me.0.writers (let l = r.segment.0 in omega arith) a.fit o.put in (omega arith, omega arith),
+          λ taken.
+              let held : w.progress ≢ Free = λ e. let f : get_or s.words 0 0 ≡ tail words key.seg w.log + 1 = subst (λ (z : Progress). IsToken words key.seg w.log z (get_or s.words 0 0)) e a.token in omega arith in
+              let ring = ap (λ (k : RingKey). k.writers) (o.ring (omega arith)) in
+              let more = more_writers s r id me.0 at free stays held in omega arith,
         ),
       )

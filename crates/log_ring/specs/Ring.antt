@@ -18,7 +18,7 @@ use Rattle.log_ring.specs.declared.rule.Unchecked.TheVariants.{Nothing}
 use Rattle.log_ring.specs.declared.rule.Observation.{Observation}
 use Rattle.log_ring.specs.declared.rule.Observation.TheVariants.{CounterSeen, FinishedSeen, WordSeen, StartSeen}
 use Rattle.ring_layout.specs.Places.{overrun_distance, seek_distance, last_tail, end_mark, stays, end_at, tail, segment_start}
-use Rattle.ring_layout.specs.History.{HasRun, with_unit, IsReadHistory, ReachesTail}
+use Rattle.ring_layout.specs.History.{HasRun, with_unit, RunStands, UnitStarts, IsReadHistory, ReachesTail}
 use Rattle.ring_layout.specs.declared.history.HistoryItem.{HistoryItem}
 
 -- which ring it is: the table that has its words, how many words a segment has, and how many writers and readers there are
@@ -60,7 +60,7 @@ pub record HasPut (u : LogUnit) (old new : WriterState) : Type 0 where
 -- why a unit isn't put, and what is left: it has more words than a segment; another writer had the write token; the write token was got, and the unit has no place at the tail found
 abbrev pub IsRefused : LogUnit → WriterState → PutFault → WriterState → Type 0
 IsRefused u old (TooLong n) new = (old.ring.seg < length (unit_words u)) × (n ≡ length (unit_words u)) × (new ≡ old)
-IsRefused u old Busy new = (length (unit_words u) ≤ old.ring.seg) × (new ≡ record old { busy = old.busy + 1 })
+IsRefused u old Busy new = (length (unit_words u) ≤ old.ring.seg) × (new ≡ record old { busy = old.busy + 1 }) × (1 < old.ring.writers)
 IsRefused u old (Exhausted t) new = (length (unit_words u) ≤ old.ring.seg) × (last_tail < end_at old.ring.seg t (length (unit_words u))) × (new ≡ record old { found = max old.found t })
 
 -- the writer, once it found the write token taken so often more
@@ -146,8 +146,12 @@ abbrev pub units_put : WriterState → Log
 units_put w = map (λ (e : ℕ × LogUnit). e.1) w.entries
 
 -- what a reader took, the oldest first
+abbrev pub history_of : ReaderView → List (HistoryItem LogUnit)
+history_of r = reverse r.items
+
+-- what was taken by a pass
 abbrev pub history_taken : ReaderState → List (HistoryItem LogUnit)
-history_taken r = reverse r.reader.items
+history_taken r = history_of r.reader
 
 -- how often a writer found the write token taken
 abbrev pub busy_of : WriterState → ℕ
@@ -168,6 +172,12 @@ abbrev pub AreReadersOf : RingSet → List ReaderState → Type 0
 AreReadersOf ring rs = AllByRecursion (λ (r : ReaderState). r.ring ≡ ring) rs
 
 module _ (words : LogUnit → List ℕ) (seg : ℕ) (log : Log) where
+  -- a cursor stands where its newest run stands, or at the start of the next unit
+  abbrev pub CursorStands : ℕ → List (HistoryItem LogUnit) → Type 0
+  CursorStands p [] = ⊥
+  CursorStands p (UnitRun r ∷ is) = RunStands words seg log r.segment r.first (length r.units) p ⊎ UnitStarts words seg log (r.first + length r.units) p
+  CursorStands p (Overrun a b ∷ is) = ⊥
+
   -- a place was the log's tail once: it is the tail of the log's first units
   abbrev pub WasTail : ℕ → Type 0
   WasTail p = (k : ℕ) × (k ≤ length log) × (p ≡ tail words seg (take k log))
@@ -181,11 +191,16 @@ module _ (words : LogUnit → List ℕ) (seg : ℕ) (log : Log) where
   AreObserved c (WordSeen p x ∷ os) = (x ≡ end_mark → c < p / seg + 8 → WasTail p) × AreObserved c os
   AreObserved c (StartSeen s p ∷ os) = (c < s + 8 → segment_start words seg log s ≡ Some p) × AreObserved c os
 
--- a reader that is done with the whole log: its history and its observations are of the log, and it ended where the log does
-pub record IsDoneWith (seg : ℕ) (log : Log) (r : ReaderState) : Type 0 where
-  pub history : IsReadHistory unit_words seg log (history_taken r)
-  pub observed : AreObserved unit_words seg log (tail unit_words seg log / seg) r.reader.observed
-  pub ended : r.reader.ended ≡ true → ReachesTail log (history_taken r)
+-- a reader over the whole log: what it took and found is of the log, its cursor stands where its history ends, and where it ended, the log does
+pub record IsDone (words : LogUnit → List ℕ) (seg : ℕ) (log : Log) (r : ReaderView) : Type 0 where
+  pub history : IsReadHistory words seg log (history_of r)
+  pub stands : r.lost ≡ None → CursorStands words seg log r.place r.items
+  pub observed : AreObserved words seg log (tail words seg log / seg) r.observed
+  pub ended : r.ended ≡ true → ReachesTail log (history_of r)
+
+-- a pass whose reader is so
+abbrev pub IsDoneWith : ℕ → Log → ReaderState → Type 0
+IsDoneWith seg log r = IsDone unit_words seg log r.reader
 
 -- the log reached the greatest tail that a writer found
 abbrev pub HasReached : ℕ → Log → WriterState → Type 0
@@ -228,8 +243,13 @@ IsAnswer old (NotYet p) new = TookNothing p old new × (new.reader.finished_seen
 IsAnswer old Ended new = TookNothing new.reader.place old new × (old.ring.writers ≤ new.reader.finished_seen) × (new.reader.ended ≡ true)
 IsAnswer old (Lost at seen) new = WasOverrun at seen old new
 
+-- a call looked at this place: that of the cursor, or the next lap's, where it went on
+abbrev pub IsReadAt : ReaderState → ℕ → Type 0
+IsReadAt old p = (p ≡ old.reader.place) ⊎ (p ≡ (old.reader.place / (8 * old.ring.seg) + 1) * (8 * old.ring.seg))
+
 -- a call found the number of writers that left, then this word at this place, and then the counter, and these last
 pub record FoundAt (place word : ℕ) (old new : ReaderState) : Type 0 where
+  pub here : IsReadAt old place
   pub before : List Observation
   pub observed : new.reader.observed ≡ CounterSeen new.reader.loaded ∷ WordSeen place word ∷ FinishedSeen new.reader.finished_seen ∷ (before ++ old.reader.observed)
 
@@ -238,11 +258,12 @@ pub record FoundCounter (seen : ℕ) (old new : ReaderState) : Type 0 where
   pub before : List Observation
   pub observed : new.reader.observed ≡ CounterSeen seen ∷ (before ++ old.reader.observed)
 
--- what a call of `next` found: the end mark at its place where it answers that no unit is due, and the counter that it tells where it was overrun
+-- what a call of `next` found: where it took a unit, a word at the unit's place; the end mark at its place where it answers that no unit is due; and the counter that it tells
+-- where it was overrun
 abbrev pub HasFound : ReaderState → Step → ReaderState → Type 0
-HasFound old Took new = (place : ℕ) × ((word : ℕ) × FoundAt place word old new)
+HasFound old Took new = (place : ℕ) × ((word : ℕ) × FoundAt place word old new × (new.reader.place ≡ place + length new.words))
 HasFound old (NotYet p) new = FoundAt p end_mark old new
-HasFound old Ended new = (place : ℕ) × FoundAt place end_mark old new
+HasFound old Ended new = FoundAt new.reader.place end_mark old new
 HasFound old (Lost at seen) new = FoundCounter seen old new
 
 -- a cursor that was overrun and didn't seek is overrun in the same segment again, by the counter, which is all that the call looks at

@@ -22,8 +22,7 @@ pub struct ClosedRing {
 
 impl Model for ClosedRing {
     ghost use Rattle.std.specs.Prelude.{map};
-    ghost use Rattle.log_ring.specs.Ring.{ClosedState};
-    ghost use Rattle.log_ring.specs.inside.Closing.{history_of};
+    ghost use Rattle.log_ring.specs.Ring.{ClosedState, history_of};
 
     ghost Value = { ClosedState };
 
@@ -67,8 +66,8 @@ fn join_readers(ring: &Ring, writers: Vec<LeftWriter>, mut readers: Vec<ReaderPa
 }
 
 /// Closes a ring of which all writers left. The log is an interleaving of what they put, each in its order and at its
-/// tail, and what each reader took is a history of that log. It reached each tail that a writer found, and what two
-/// readers took at one number is the same unit.
+/// tail, and what each reader took is a history of that log. The log reached each tail that a writer found, and what
+/// two readers took at one number is the same unit.
 pub fn close(ring: Ring, writers: Vec<LeftWriter>, readers: Vec<ReaderPass>) -> ClosedRing
     requires ours { AreWritersOf ring writers.items }
     requires all { vec_len writers ≡ ring.writers }

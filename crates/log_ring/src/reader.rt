@@ -1,6 +1,6 @@
 //! A reader's pass.
 
-ghost use Rattle.std.specs.Prelude.{◌≡◌, ◌≢◌, ℕ, ◌+◌, ◌-◌, ◌*◌, ◌%◌, ◌<◌, ◌≤◌, [], ◌∷◌, length, vec_len, Some, None, IsSome, IfSome, IfNone, is_some, MatchBool};
+ghost use Rattle.std.specs.Prelude.{◌≡◌, ◌≢◌, ℕ, ◌+◌, ◌-◌, ◌*◌, ◌/◌, ◌%◌, ◌<◌, ◌≤◌, [], ◌∷◌, length, vec_len, Some, None, IsSome, IfSome, IfNone, is_some, MatchBool};
 ghost use Rattle.vsl_record.specs.Unit.{LogUnit};
 ghost use Rattle.vsl_record.specs.Views.{Spells};
 ghost use Rattle.vsl_record.specs.Words.{header_mark};
@@ -122,7 +122,6 @@ impl ReaderPass {
         ensures found { HasFound self.old result self.new }
         ensures lost { StaysLost self.old result self.new }
         ensures same { self.new.ring ≡ self.old.ring }
-        ensures words { self.new.words ≡ self.old.words }
     {
         stop(pause, step);
         let seen = ring.check_again(&mut self.seat, at);
@@ -142,10 +141,9 @@ impl ReaderPass {
         requires copied { self.old.reader.unchecked ≡ Words (end_mark ∷ []) }
         requires finished_seen { finished_seen ≡ self.old.reader.finished_seen }
         ensures answer { IsAnswer self.old result self.new }
-        ensures word { FoundWord self.old.reader.place end_mark (Some result) }
+        ensures word { FoundWord self.old.reader.place end_mark self.new (Some result) }
         ensures checked { HasChecked self.old self.new }
         ensures same { self.new.ring ≡ self.old.ring }
-        ensures words { self.new.words ≡ self.old.words }
     {
         let at = segment_of(ring.shape, self.place);
         stop(pause, step);
@@ -166,11 +164,10 @@ impl ReaderPass {
         requires reading { self.old.reader.lost ≡ None }
         requires copied { self.old.reader.unchecked ≡ Words (wrap_mark ∷ []) }
         ensures overrun { IfSome result (λ step. IsAnswer self.old step self.new) }
-        ensures word { FoundWord self.old.reader.place wrap_mark result }
-        ensures moved { IfNone result ((self.new.reader.lost ≡ None) × (self.new.reader.items ≡ self.old.reader.items) × (self.new.reader.place % (8 * self.old.ring.seg) ≡ 0)) }
+        ensures word { FoundWord self.old.reader.place wrap_mark self.new result }
+        ensures moved { IfNone result ((self.new.reader.lost ≡ None) × (self.new.reader.items ≡ self.old.reader.items) × (self.new.reader.place ≡ (self.old.reader.place / (8 * self.old.ring.seg) + 1) * (8 * self.old.ring.seg))) }
         ensures checked { HasChecked self.old self.new }
         ensures same { self.new.ring ≡ self.old.ring }
-        ensures words { self.new.words ≡ self.old.words }
     {
         let at = segment_of(ring.shape, self.place);
         let lap = SEGMENTS as u64 * u64::from(ring.shape.seg());
@@ -200,10 +197,9 @@ impl ReaderPass {
         requires no_lap { head ≡ wrap_mark → self.old.reader.place % (8 * self.old.ring.seg) + self.old.ring.seg < 8 * self.old.ring.seg }
         requires no_unit { header_mark < head → head ≤ header_mark + self.old.ring.seg → self.old.reader.place % (8 * self.old.ring.seg) + (head - header_mark) < 8 * self.old.ring.seg → ⊥ }
         ensures answer { IsAnswer self.old result self.new }
-        ensures word { FoundWord self.old.reader.place head (Some result) }
+        ensures word { FoundWord self.old.reader.place head self.new (Some result) }
         ensures checked { HasChecked self.old self.new }
         ensures same { self.new.ring ≡ self.old.ring }
-        ensures words { self.new.words ≡ self.old.words }
     {
         let at = segment_of(ring.shape, self.place);
         stop(pause, step);
@@ -229,7 +225,7 @@ impl ReaderPass {
         requires fits { count ≤ self.old.ring.seg }
         requires in_lap { self.old.reader.place % (8 * self.old.ring.seg) + count < 8 * self.old.ring.seg }
         ensures answer { IsAnswer self.old result self.new }
-        ensures word { FoundWord self.old.reader.place head (Some result) }
+        ensures word { FoundWord self.old.reader.place head self.new (Some result) }
         ensures checked { HasChecked self.old self.new }
         ensures same { self.new.ring ≡ self.old.ring }
     {
@@ -311,7 +307,7 @@ impl ReaderPass {
         requires finished_seen { finished_seen ≡ self.old.reader.finished_seen }
         ensures answer { IfSome result (λ step. IsAnswer self.old step self.new) }
         ensures moved { IfNone result (HasMoved self.old self.new) }
-        ensures word { FoundWord self.old.reader.place head result }
+        ensures word { FoundWord self.old.reader.place head self.new result }
         ensures checked { HasChecked self.old self.new }
         ensures same { self.new.ring ≡ self.old.ring }
     {

@@ -44,9 +44,9 @@ pub struct Put {
 pub enum Progress {
     /// There is none.
     Free,
-    /// The unit is stored.
+    /// The unit is being stored.
     Storing(Put),
-    /// The unit is in the log, and the write token isn't given back yet.
+    /// The unit is in the log, and the write token isn't released yet.
     Stored(Put),
 }
 
@@ -87,7 +87,7 @@ pub struct ReaderView {
     pub finished_seen: u64,
     /// What its loads found, but for a unit's words behind the first; the newest first.
     pub observed: LinkedList<Observation>,
-    /// Whether it answered that nothing more comes.
+    /// Whether it answered that nothing more comes, and took or met nothing since.
     pub ended: bool,
 }
 

@@ -64,12 +64,13 @@ impl Ring {
         requires stays { seat.old.me.0.finished < length seat.old.me.0.writers }
         ensures same { seat.new.table_id ≡ seat.old.table_id }
         ensures taken { seat.new.me ≡ (after_acquire unit_words N.unit result seat.old.me.0, seat.old.me.1) }
+        ensures busy { result ≡ 0 → 1 < seat.old.me.0.ring.writers }
         ensures found { 0 < result → (length (first_entries seat.old.me.0.writers) < result) × (result ≤ last_tail + 1) }
     {
         self.table.shared.swap::<Acquiring<N>>(seat, WRITE_TOKEN, 0)
     }
 
-    /// Gives the write token back where the unit has no place.
+    /// Releases the write token where the unit has no place.
     pub(crate) fn withdraw<P: Pause>(
         &self,
         seat: &mut RingSeat,
@@ -82,7 +83,7 @@ impl Ring {
         requires begun { seat.old.me.0.progress ≡ Storing (begun unit_words self.now.seg tail unit.now) }
         requires low { tail ≤ last_tail }
         ensures same { seat.new.table_id ≡ seat.old.table_id }
-        ensures given { seat.new.me ≡ (with_progress Free seat.old.me.0, seat.old.me.1) }
+        ensures released { seat.new.me ≡ (with_progress Free seat.old.me.0, seat.old.me.1) }
     {
         stop(pause, step);
         self.table
@@ -263,7 +264,7 @@ impl Ring {
         }
     }
 
-    /// Gives the write token back once the unit is in the log.
+    /// Releases the write token once the unit is in the log.
     fn release<P: Pause>(
         &self,
         seat: &mut RingSeat,
@@ -274,7 +275,7 @@ impl Ring {
         requires placed { IsPutAt self.now seat.old.table_id put.now.tail put.now.unit.now put.now.placed }
         requires stored { seat.old.me.0.progress ≡ Stored (marked self.now.seg put.now.tail put.now.unit.now) }
         ensures same { seat.new.table_id ≡ seat.old.table_id }
-        ensures given { seat.new.me ≡ (with_progress Free seat.old.me.0, seat.old.me.1) }
+        ensures released { seat.new.me ≡ (with_progress Free seat.old.me.0, seat.old.me.1) }
     {
         stop(pause, step);
         self.table
@@ -282,7 +283,7 @@ impl Ring {
             .store::<Releasing>(seat, WRITE_TOKEN, put.placed.tail + 1);
     }
 
-    /// Stores a unit where it has a place, and gives the write token back.
+    /// Stores a unit where it has a place, and releases the write token.
     pub(crate) fn store<P: Pause>(
         &self,
         seat: &mut RingSeat,

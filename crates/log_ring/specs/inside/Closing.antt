@@ -1,5 +1,5 @@
 -- What a seat says that stands for all writers, once it has the log (this project's choice).
-use Rattle.std.specs.Prelude.{◌≡◌, ℕ, ◌/◌, ◌≤◌, true, List, map, reverse}
+use Rattle.std.specs.Prelude.{◌≡◌, ℕ, ◌/◌, ◌≤◌, true, List, map, reverse, None}
 use Rattle.std.specs.List.{AllByRecursion}
 use Rattle.atomic_table.specs.Table.{Me, Step}
 use Rattle.log_model.specs.Interleaving.{IsInterleaving}
@@ -10,7 +10,7 @@ use Rattle.ring_layout.specs.History.{IsReadHistory, ReachesTail}
 use Rattle.log_ring.specs.declared.rule.WriterView.{WriterView}
 use Rattle.log_ring.specs.declared.rule.ReaderView.{ReaderView}
 use Rattle.log_ring.specs.declared.rule.View.{View}
-use Rattle.log_ring.specs.Ring.{entries_from, AreObserved}
+use Rattle.log_ring.specs.Ring.{entries_from, IsDone}
 
 -- the units that a writer put
 abbrev pub units_of : WriterView → Log
@@ -20,22 +20,12 @@ units_of x = map (λ (e : ℕ × LogUnit). e.1) x.entries
 abbrev pub entries_in : WriterView → List (ℕ × LogUnit)
 entries_in x = x.entries
 
--- what a reader took, the oldest first
-abbrev pub history_of : ReaderView → List (HistoryItem LogUnit)
-history_of r = reverse r.items
-
 module _ (words : LogUnit → List ℕ) where
-  -- what a reader took and found, over the whole log
-  pub record IsDone (seg : ℕ) (log : Log) (r : ReaderView) : Type 0 where
-    pub history : IsReadHistory words seg log (history_of r)
-    pub observed : AreObserved words seg log (tail words seg log / seg) r.observed
-    pub ended : r.ended ≡ true → ReachesTail log (history_of r)
-
   -- what a seat that stands for all writers says of the whole log
   pub record IsWhole (v : View) (log : Log) : Type 0 where
     pub writers : IsInterleaving log (map units_of v.writers)
     pub entries : IsInterleaving (entries_from words v.ring.seg 0 log) (map entries_in v.writers)
-    pub readers : AllByRecursion (IsDone v.ring.seg log) v.readers
+    pub readers : AllByRecursion (IsDone words v.ring.seg log) v.readers
     pub found : v.found ≤ tail words v.ring.seg log
 
   -- a load by such a seat: it gets the log

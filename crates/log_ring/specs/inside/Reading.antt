@@ -18,7 +18,7 @@ use Rattle.log_ring.specs.Ring.{new_reader}
 abbrev pub with_finished : ℕ → ReaderView → ReaderView
 with_finished n r = record r { finished_seen = n; observed = FinishedSeen n ∷ r.observed; unchecked = Nothing }
 
--- the words that a note has
+-- the words that were loaded and not checked yet
 abbrev pub unchecked_words : Unchecked → List ℕ
 unchecked_words (Words xs) = xs
 unchecked_words unchecked = []
@@ -117,7 +117,7 @@ Looks key x r after = after ≡ with_loaded x r
 abbrev pub LoadsStart : RingKey → ℕ → ReaderView → ReaderView → Type 0
 LoadsStart key x r after = after ≡ with_start_of x r
 
--- the place that a note has
+-- the start that was loaded and not checked yet
 abbrev pub unchecked_start : Unchecked → ℕ
 unchecked_start (Start s x) = x
 unchecked_start unchecked = 0

@@ -14,7 +14,7 @@ use Rattle.ring_layout.specs.declared.history.HistoryItem.TheVariants.{UnitRun, 
 use Rattle.ring_layout.specs.Places.{IsSegment, seek_distance, last_tail, end_mark, end_at, tail, segment_start, AreFit}
 use Rattle.ring_layout.specs.Content.{HoldsLog, HasStored}
 use Rattle.ring_layout.specs.Copied.{IsDueAt, AreCopied}
-use Rattle.ring_layout.specs.History.{last_seen, RunStands, UnitStarts, IsReadBack}
+use Rattle.ring_layout.specs.History.{last_seen, IsReadBack}
 use Rattle.log_ring.specs.declared.rule.RingKey.{RingKey}
 use Rattle.log_ring.specs.declared.rule.WriterView.{WriterView}
 use Rattle.log_ring.specs.declared.rule.Progress.{Progress}
@@ -23,7 +23,7 @@ use Rattle.log_ring.specs.declared.rule.Unchecked.{Unchecked}
 use Rattle.log_ring.specs.declared.rule.Unchecked.TheVariants.{Nothing, Words, Start}
 use Rattle.log_ring.specs.declared.rule.ReaderView.{ReaderView}
 use Rattle.log_ring.specs.declared.rule.View.{View}
-use Rattle.log_ring.specs.Ring.{entries_from, most_writers, AreObserved}
+use Rattle.log_ring.specs.Ring.{entries_from, most_writers, CursorStands, AreObserved}
 
 -- what no word of the ring says
 pub record SharedState : Type 0 where
@@ -124,16 +124,10 @@ module _ (words : LogUnit → List ℕ) where
 
   -- ---- 8. what a reader took is a history of the log, and its cursor stands where the history ends
 
-  -- the cursor stands where the newest run stands, or at the start of the next unit
-  abbrev pub CursorStands : ℕ → Log → ℕ → List (HistoryItem LogUnit) → Type 0
-  CursorStands seg log p [] = ⊥
-  CursorStands seg log p (UnitRun r ∷ is) = RunStands words seg log r.segment r.first (length r.units) p ⊎ UnitStarts words seg log (r.first + length r.units) p
-  CursorStands seg log p (Overrun a b ∷ is) = ⊥
-
   -- a reader that was not overrun
   pub record IsReading (seg : ℕ) (log : Log) (r : ReaderView) : Type 0 where
     pub next : IsNext r.number r.items
-    pub stands : CursorStands seg log r.place r.items
+    pub stands : CursorStands words seg log r.place r.items
     pub due : IsDueAt words seg log r.number r.place
 
   -- a reader, over the log, the counter c and the number of writers that left. None of it is about the put in progress, so that a step of a writer that leaves these three

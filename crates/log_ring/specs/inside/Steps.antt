@@ -173,13 +173,13 @@ pub record IsJoinedWith (ring : RingSet) (writers : List WriterState) (readers r
   pub joined : IsJoined ring writers [] (map reader_in taken) table me
   pub are_of : AreReadersOf ring rest
 
--- the word that a call found at its place, where it answers that nothing is there: the end mark
-abbrev pub FoundWord : ℕ → ℕ → Option Step → Type 0
-FoundWord p x (Some (NotYet q)) = (q ≡ p) × (x ≡ end_mark)
-FoundWord p x (Some Ended) = x ≡ end_mark
-FoundWord p x (Some Took) = Unit {0}
-FoundWord p x (Some (Lost at seen)) = Unit {0}
-FoundWord p x None = Unit {0}
+-- the word that a call found at its place: the end mark, where it answers that nothing is there, and stands there; or one of a unit, behind which it stands
+abbrev pub FoundWord : ℕ → ℕ → ReaderState → Option Step → Type 0
+FoundWord p x new (Some (NotYet q)) = (q ≡ p) × (x ≡ end_mark)
+FoundWord p x new (Some Ended) = (new.reader.place ≡ p) × (x ≡ end_mark)
+FoundWord p x new (Some Took) = new.reader.place ≡ p + length new.words
+FoundWord p x new (Some (Lost at seen)) = Unit {0}
+FoundWord p x new None = Unit {0}
 
 -- a check: the counter is what was found more
 abbrev pub HasChecked : ReaderState → ReaderState → Type 0
@@ -188,11 +188,11 @@ HasChecked old new = (new.reader.observed ≡ CounterSeen new.reader.loaded ∷ 
 -- a try: the number of writers that left, the word at the place, and then the counter are what was found more
 abbrev pub HasTried : Option Step → ReaderState → ReaderState → Type 0
 HasTried step old new =
-    (x : ℕ) × (new.reader.observed ≡ CounterSeen new.reader.loaded ∷ WordSeen old.reader.place x ∷ FinishedSeen new.reader.finished_seen ∷ old.reader.observed) × FoundWord old.reader.place x step
+    (x : ℕ) × (new.reader.observed ≡ CounterSeen new.reader.loaded ∷ WordSeen old.reader.place x ∷ FinishedSeen new.reader.finished_seen ∷ old.reader.observed) × FoundWord old.reader.place x new step
 
 -- a cursor went on at the next lap: a unit at its place could wrap
 pub record HasMoved (old new : ReaderState) : Type 0 where
   pub reading : new.reader.lost ≡ None
   pub items : new.reader.items ≡ old.reader.items
   pub wraps : 8 * old.ring.seg ≤ old.reader.place % (8 * old.ring.seg) + old.ring.seg
-  pub lap : new.reader.place % (8 * old.ring.seg) ≡ 0
+  pub lap : new.reader.place ≡ (old.reader.place / (8 * old.ring.seg) + 1) * (8 * old.ring.seg)

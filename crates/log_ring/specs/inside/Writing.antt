@@ -43,13 +43,13 @@ new_reader_views (Rattle.std.specs.Prelude.suc n) = new_reader ∷ new_reader_vi
 abbrev pub first_view : RingKey → View
 first_view key = record { ring = key; writers = new_writer_views 0 key.writers; finished = 0; progress = Free; found = 0; busy = 0; readers = new_reader_views key.readers; log = [] }
 
--- the hand with the put gone on
+-- how far a put has come, once it went on
 abbrev pub going_on : (Put → Put) → Progress → Progress
 going_on f Free = Free
 going_on f (Storing p) = Storing (f p)
 going_on f (Stored p) = Stored p
 
--- the hand with the unit in the log
+-- how far a put has come, once its unit is in the log
 abbrev pub with_stored : Progress → Progress
 with_stored Free = Free
 with_stored (Storing p) = Stored p
@@ -80,7 +80,7 @@ after_mark v = record v { progress = going_on (λ p. record p { mark = 1 }) v.pr
 abbrev pub after_publish : View → View
 after_publish v = record v { writers = with_entry v.progress v.writers; progress = with_stored v.progress }
 
--- after it gave the write token back
+-- after it released the write token
 abbrev pub after_release : View → View
 after_release v = record v { progress = Free }
 
@@ -143,6 +143,7 @@ abbrev pub Makes : (ℕ → View → View) → Step ℕ → Me ℕ View → ℕ 
 Makes f st me found after = after ≡ (f found me.0, me.1)
 
 module _ (words : LogUnit → List ℕ) where
-  -- a swap of the write token: where it was free, the tail found is no smaller than the number of units that the writer put, and is at most the last
+  -- a swap of the write token: where it was free, the tail found is no smaller than the number of units that the writer put, and is at most the last; where it was taken,
+  -- there is another writer
   abbrev pub Acquires : LogUnit → Step ℕ → Me ℕ View → ℕ → Me ℕ View → Type 0
-  Acquires u st me found after = (after ≡ (after_acquire words u found me.0, me.1)) × (0 < found → (length (first_entries me.0.writers) < found) × (found ≤ last_tail + 1))
+  Acquires u st me found after = (after ≡ (after_acquire words u found me.0, me.1)) × (0 < found → (length (first_entries me.0.writers) < found) × (found ≤ last_tail + 1)) × (found ≡ 0 → 1 < me.0.ring.writers)

@@ -1,4 +1,4 @@
-use Rattle.std.proofs.Common.{◌≡◌, ◌*◌, ◌/◌, ◌%◌, None, refl, rules, sym, ap, ◌∙◌, subst, arith}
+use Rattle.std.proofs.Common.{◌≡◌, ◌+◌, ◌*◌, ◌/◌, None, refl, rules, sym, ap, ◌∙◌, subst}
 use Rattle.ring_layout.specs.declared.steps.Step.TheVariants.{Lost}
 use Rattle.std.specs.Prelude.{take}
 use Rattle.vsl_record.specs.Words.{words_in}
@@ -29,11 +29,9 @@ returns-clause-moved g c =
     let seg = c.ring.invariant.1 ∙ (ap (λ z. z.seg) c.ring.view_is ∙ (sym (ap (λ z. z.seg) c.requires.ours) ∙ sym (ap (λ z. z.ring.seg) c.self.view_is))) in
     let at : c.segment_of-at.result ≡ (reader_of c.self.inside.seat.me.0).place / c.self.inside.seat.me.0.ring.seg = c.segment_of-at.ensures ∙ (λ i. c.self.invariant.1 i / seg i) in
     let near = c.if-at-seen.false in
-    let shape = c.ring.invariant.1 in
-    let least = c.ring.invariant.2.0 in
     let free = ap (λ z. z.reader.lost) c.self.view_is ∙ c.requires.reading in
-    subst (λ (o : ReaderState). (new.reader.lost ≡ None) × (new.reader.items ≡ o.reader.items) × (new.reader.place % (8 * o.ring.seg) ≡ 0)) c.self.view_is
-    (lap_moved key x c.segment_of-at.result key.seg old new c.check_lap-seen.ensures.checked.1 at near refl (omega arith) free)
+    subst (λ (o : ReaderState). (new.reader.lost ≡ None) × (new.reader.items ≡ o.reader.items) × (new.reader.place ≡ (o.reader.place / (8 * o.ring.seg) + 1) * (8 * o.ring.seg))) c.self.view_is
+    (lap_moved key x c.segment_of-at.result key.seg old new c.check_lap-seen.ensures.checked.1 at near refl free)
 
 pub returns-then-at-seen-clause-checked : goal.returns-then-at-seen-clause-checked
 returns-then-at-seen-clause-checked g c =
