@@ -34,8 +34,8 @@ positive key h = let low = h.0 in omega arith
 module _ (words : LogUnit → List ℕ) (key : RingKey) where
   -- the counter
   pub announces : (slots id x : ℕ) (p : Put) (me : M words key) → me.0.progress ≡ Storing p → x ≡ end_at key.seg p.tail (length (words p.unit)) / key.seg → p.counter ≤ x → length (words p.unit) ≤ key.seg
-      → Allows (HoldsOneLog words key) slots id me 1 (λ _. x) (λ _. Makes after_announce (step slots 1 x 0 none) me x)
-  announces slots id x p me is new up fits = acts words key slots id 1 me (λ _. x) (λ _. after_announce x) (λ s r at small.
+      → Allows (HoldsOneLog words key) slots id me 8 (λ _. x) (λ _. Makes after_announce (step slots 8 x 0 none) me x)
+  announces slots id x p me is new up fits = acts words key slots id 8 me (λ _. x) (λ _. after_announce x) (λ s r at small.
       let o = r.seats id me.0 at in
       let w = r.shared in
       let a = r.are_words in
@@ -45,17 +45,17 @@ module _ (words : LogUnit → List ℕ) (key : RingKey) where
       let w' : SharedState = record w { progress = Storing p'; counter = x } in
       let v' : View = after_announce x me.0 in
       let now : v'.progress ≡ Storing p' = ap (going_on (λ (q : Put). record q { counter = x })) is in
-      let same = beside s.words 1 x (inl (omega arith)) in
+      let same = beside s.words 8 x (inl (omega arith)) in
       let wide = a.wide in
       let higher = reader_higher words key w.log w.counter x w.finished w.finished (omega arith) (le_refl w.finished) in
-      changed words key s r w' (set s.words 1 x) id me.0 v' at
+      changed words key s r w' (set s.words 8 x) id me.0 v' at
       record {
-        wide = length-set s.words 1 x ∙ a.wide;
-        token = get_or-set_other s.words 1 0 x 0 (λ e. omega arith) ∙ h.token;
-        counter = get_or-set_same s.words 1 x 0 (omega arith);
-        finished = get_or-set_other s.words 1 10 x 0 (λ e. omega arith) ∙ a.finished;
-        holds = holds_as words key.seg w.log x (ent s.words) (ent (set s.words 1 x)) (word s.words) (word (set s.words 1 x)) same.ents same.words (announced words key.seg (positive key r.segment) w.log w.counter x (ent s.words) (word s.words) (omega arith) a.holds);
-        under_way = (h.tail, refl, inr (new, let two = two_ahead key.seg p.tail (length (words p.unit)) (positive key r.segment) fits in omega arith), let low = h.start in omega arith, stored_as words key.seg w.log p.unit p.start p.word p.mark (ent s.words) (ent (set s.words 1 x)) (word s.words) (word (set s.words 1 x)) same.ents same.words h.stored);
+        wide = length-set s.words 8 x ∙ a.wide;
+        token = get_or-set_other s.words 8 0 x 0 (λ e. omega arith) ∙ h.token;
+        counter = get_or-set_same s.words 8 x 0 (omega arith);
+        finished = get_or-set_other s.words 8 17 x 0 (λ e. omega arith) ∙ a.finished;
+        holds = holds_as words key.seg w.log x (ent s.words) (ent (set s.words 8 x)) (word s.words) (word (set s.words 8 x)) same.ents same.words (announced words key.seg (positive key r.segment) w.log w.counter x (ent s.words) (word s.words) (omega arith) a.holds);
+        under_way = (h.tail, refl, inr (new, let two = two_ahead key.seg p.tail (length (words p.unit)) (positive key r.segment) fits in omega arith), let low = h.start in omega arith, stored_as words key.seg w.log p.unit p.start p.word p.mark (ent s.words) (ent (set s.words 8 x)) (word s.words) (word (set s.words 8 x)) same.ents same.words h.stored);
         narrow = λ j. subst (λ (y : ℕ). y < 2 ^ 32) (sym (same.words j)) (a.narrow j);
         fit = a.fit;
         units = a.units;
@@ -92,7 +92,7 @@ module _ (words : LogUnit → List ℕ) (key : RingKey) where
   -- the word at the old tail: the unit enters the log
   pub publishes : (slots id i x : ℕ) (p : Put) (y : WriterView) (me : M words key) → 0 < key.seg → IsUnit p.unit → me.0.progress ≡ Storing p → me.0.writers ≡ y ∷ [] → me.0.finished ≡ 0
       → p.counter ≡ end_at key.seg p.tail (length (words p.unit)) / key.seg → p.counter < p.start → p.word ≡ length (words p.unit) → p.mark ≡ 1
-      → 0 < length (words p.unit) → length (words p.unit) ≤ key.seg → end_at key.seg p.tail (length (words p.unit)) ≤ last_tail → i ≡ 11 + p.tail % (8 * key.seg) → x ≡ last_word words key.seg p.tail p.unit → x < 2 ^ 32
+      → 0 < length (words p.unit) → length (words p.unit) ≤ key.seg → end_at key.seg p.tail (length (words p.unit)) ≤ last_tail → i ≡ 24 + p.tail % (8 * key.seg) → x ≡ last_word words key.seg p.tail p.unit → x < 2 ^ 32
       → Allows (HoldsOneLog words key) slots id me i (λ _. x) (λ _. Makes (λ _. after_publish) (step slots i x 0 none) me x)
   publishes slots id i x p y me pos unit is one here new all whole marked some_word fits upto at x_is small = acts words key slots id i me (λ _. x) (λ _. after_publish) (λ s r there tiny.
       let seg : ℕ = key.seg in
@@ -120,7 +120,7 @@ module _ (words : LogUnit → List ℕ) (key : RingKey) where
       let low : q < 8 * seg = mod-lt p.tail (omega arith) in
       let put_in : Set (word ws) (word (set ws i x)) q x = subst (λ (z : ℕ). Set (word ws) (word (set ws z x)) q x) (sym at) (word_set ws q x (omega arith)) in
       let put_in' = subst (λ (z : ℕ × ℕ). Set (word ws) (word (set ws i x)) (z.0 % (8 * seg)) z.1) (λ k. (t_is k, (x_is ∙ ap (λ (z : ℕ). last_word words seg z u) t_is) k)) put_in in
-      let same : (k : ℕ) → k < 8 → ent (set ws i x) k ≡ ent ws k = λ k l. get_or-set_other ws i (2 + k) x 0 (λ e. omega arith) in
+      let same : (k : ℕ) → k < 8 → ent (set ws i x) k ≡ ent ws k = λ k l. get_or-set_other ws i (9 + k) x 0 (λ e. omega arith) in
       let level : w.counter ≡ end_at seg t n / seg = sym c_is ∙ (new ∙ ap (λ (z : ℕ). end_at seg z n / seg) t_is) in
       let g : HasStored words seg w.log u p.start n 1 (ent ws) (word ws) = subst (λ (z : ℕ × ℕ). HasStored words seg w.log u p.start z.0 z.1 (ent ws) (word ws)) (λ k. (whole k, marked k)) h.stored in
       let holds = published words seg pos w.log u w.counter p.start (ent ws) (word ws) (word (set ws i x)) a.fit some_word fits put_in' level (omega arith) a.holds g in
@@ -132,8 +132,8 @@ module _ (words : LogUnit → List ℕ) (key : RingKey) where
       record {
         wide = length-set ws i x ∙ a.wide;
         token = get_or-set_other ws i 0 x 0 (λ e. omega arith) ∙ h.token;
-        counter = get_or-set_other ws i 1 x 0 (λ e. omega arith) ∙ a.counter;
-        finished = get_or-set_other ws i 10 x 0 (λ e. omega arith) ∙ a.finished;
+        counter = get_or-set_other ws i 8 x 0 (λ e. omega arith) ∙ a.counter;
+        finished = get_or-set_other ws i 17 x 0 (λ e. omega arith) ∙ a.finished;
         holds = holds_as words seg log' w.counter (ent ws) (ent (set ws i x)) (word (set ws i x)) (word (set ws i x)) same (λ _. refl) holds;
         under_way = (push ∙ ap (λ (z : ℕ). end_at seg z n) (sym t_is), level ∙ ap (λ (z : ℕ). z / seg) (sym push));
         narrow = subst (λ (z : ℕ). (k : ℕ) → word (set ws z x) k < 2 ^ 32) (sym at) (narrow_set words key ws q x small (omega arith) a.narrow);
@@ -168,13 +168,13 @@ module _ (words : LogUnit → List ℕ) (key : RingKey) where
 
   -- a writer leaves
   pub leaves : (slots id : ℕ) (me : M words key) → me.0.progress ≡ Free → me.0.finished < length me.0.writers
-      → Allows (HoldsOneLog words key) slots id me 10 (λ x. (x + 1) % 2 ^ 64) (Makes (λ _. after_leave) (step slots 10 1 0 none) me)
-  leaves slots id me free stays = acts words key slots id 10 me (λ x. (x + 1) % 2 ^ 64) (λ _. after_leave) (λ s r at small.
+      → Allows (HoldsOneLog words key) slots id me 17 (λ x. (x + 1) % 2 ^ 64) (Makes (λ _. after_leave) (step slots 17 1 0 none) me)
+  leaves slots id me free stays = acts words key slots id 17 me (λ x. (x + 1) % 2 ^ 64) (λ _. after_leave) (λ s r at small.
       let o = r.seats id me.0 at in
       let w = r.shared in
       let a = r.are_words in
       let few = r.few in
-      let x : ℕ = get_or s.words 10 0 in
+      let x : ℕ = get_or s.words 17 0 in
       let x' : ℕ = (x + 1) % 2 ^ 64 in
       let left_is : x ≡ w.finished = a.finished in
       let less = not_all_left s r id me.0 at stays in
@@ -182,9 +182,9 @@ module _ (words : LogUnit → List ℕ) (key : RingKey) where
       let w' : SharedState = record w { finished = w.finished + 1 } in
       let wide = a.wide in
       let higher = reader_higher words key w.log w.counter w.counter w.finished (w.finished + 1) (le_refl w.counter) (omega arith) in
-      changed words key s r w' (set s.words 10 x') id me.0 (after_leave me.0) at
-      (are_beside words key w w' s.words 10 x' (inr refl) refl refl a (subst (λ (z : ℕ). IsToken words key.seg w.log w.progress z) (sym (get_or-set_other s.words 10 0 x' 0 (λ e. omega arith))) a.token)
-      (get_or-set_other s.words 10 1 x' 0 (λ e. omega arith) ∙ a.counter) (get_or-set_same s.words 10 x' 0 (omega arith) ∙ plain) a.under_way)
+      changed words key s r w' (set s.words 17 x') id me.0 (after_leave me.0) at
+      (are_beside words key w w' s.words 17 x' (inr refl) refl refl a (subst (λ (z : ℕ). IsToken words key.seg w.log w.progress z) (sym (get_or-set_other s.words 17 0 x' 0 (λ e. omega arith))) a.token)
+      (get_or-set_other s.words 17 8 x' 0 (λ e. omega arith) ∙ a.counter) (get_or-set_same s.words 17 x' 0 (omega arith) ∙ plain) a.under_way)
       r.one_each
       record { ring = o.ring; put = o.put; apart = o.apart; token = o.token; found = o.found; finished = omega arith; idle = λ _. free; readers = all_map (IsReader words key w.log w.counter w.finished) (IsReader words key w.log w.counter (w.finished + 1)) me.0.readers higher o.readers }
       (λ j u ne q. record { ring = q.ring; put = q.put; apart = q.apart; token = q.token; found = q.found; finished = q.finished; idle = q.idle; readers = all_map (IsReader words key w.log w.counter w.finished) (IsReader words key w.log w.counter (w.finished + 1)) u.readers higher q.readers })

@@ -95,8 +95,8 @@ module _ (key : RingKey) where
       )
 
   -- the number of writers that left
-  pub loads_finished : (slots id : ℕ) (me : M) (r : ReaderView) → me.0.readers ≡ r ∷ [] → Allows (HoldsOneLog words key) slots id me 10 (λ x. x) (Reads LoadsFinished (step slots 10 0 0 none) me)
-  loads_finished slots id me r one = reads LoadsFinished slots id 10 me r one (λ s k h. let x : ℕ = get_or s.words 10 0 in let finished = k.are_words.finished in (
+  pub loads_finished : (slots id : ℕ) (me : M) (r : ReaderView) → me.0.readers ≡ r ∷ [] → Allows (HoldsOneLog words key) slots id me 17 (λ x. x) (Reads LoadsFinished (step slots 17 0 0 none) me)
+  loads_finished slots id me r one = reads LoadsFinished slots id 17 me r one (λ s k h. let x : ℕ = get_or s.words 17 0 in let finished = k.are_words.finished in (
     with_finished x r,
     record { history = h.history; reading = λ e. let g = h.reading e in record { next = g.next; stands = g.stands; due = g.due }; overrun = h.overrun; unchecked = tt; seen = h.seen; loaded = h.loaded; finished_seen = omega arith; observed = h.observed; ended = h.ended },
     refl,
@@ -141,7 +141,7 @@ module _ (key : RingKey) where
       (λ rest. ⊎_elim (λ (t : IsLap w r (x ∷ [])). absurd (let e = head_is t.0 in omega arith)) (λ (t : IsPart w r (x ∷ [])). absurd (let e = part_head w r (x ∷ []) t in omega arith)) rest) copied
 
   -- the first word at the cursor's place
-  pub loads_head : (slots id i : ℕ) (me : M) (r : ReaderView) → me.0.readers ≡ r ∷ [] → 0 < key.seg → r.lost ≡ None → i ≡ 11 + r.place % (8 * key.seg) → Allows (HoldsOneLog words key) slots id me i (λ x. x) (Reads LoadsHead (step slots i 0 0 none) me)
+  pub loads_head : (slots id i : ℕ) (me : M) (r : ReaderView) → me.0.readers ≡ r ∷ [] → 0 < key.seg → r.lost ≡ None → i ≡ 24 + r.place % (8 * key.seg) → Allows (HoldsOneLog words key) slots id me i (λ x. x) (Reads LoadsHead (step slots i 0 0 none) me)
   loads_head slots id i me r one pos free i_is = reads LoadsHead slots id i me r one (λ s k h.
       let x : ℕ = get_or s.words i 0 in
       let w = k.shared in
@@ -170,7 +170,7 @@ module _ (key : RingKey) where
 
   -- a further word of the unit
   pub loads_more : (slots id i : ℕ) (me : M) (r : ReaderView) (xs : List ℕ) → me.0.readers ≡ r ∷ [] → 0 < key.seg → r.lost ≡ None → r.unchecked ≡ Words xs
-      → 0 < length xs → get_or xs 0 0 ≢ end_mark → get_or xs 0 0 ≢ wrap_mark → header_mark + length xs < get_or xs 0 0 → i ≡ 11 + (r.place + length xs) % (8 * key.seg)
+      → 0 < length xs → get_or xs 0 0 ≢ end_mark → get_or xs 0 0 ≢ wrap_mark → header_mark + length xs < get_or xs 0 0 → i ≡ 24 + (r.place + length xs) % (8 * key.seg)
       → Allows (HoldsOneLog words key) slots id me i (λ x. x) (Reads LoadsMore (step slots i 0 0 none) me)
   loads_more slots id i me r xs one pos free unchecked some_word no_end no_wrap more i_is = reads LoadsMore slots id i me r one (λ s k h.
       let x : ℕ = get_or s.words i 0 in
@@ -228,9 +228,9 @@ module _ (key : RingKey) where
   -- a check: the cursor is overrun, or what it copied is the log's
   checks : (T : RingKey → ℕ → ReaderView → ReaderView → Type 0) (slots id : ℕ) (me : M) (r : ReaderView) → me.0.readers ≡ r ∷ [] → r.lost ≡ None
       → ((s : St) (k : HoldsOneLog words key s) → IsIn k.shared r → k.shared.counter < r.place / key.seg + 6 → (r' : ReaderView) × IsIn k.shared r' × T key k.shared.counter r r')
-      → Allows (HoldsOneLog words key) slots id me 1 (λ x. x) (Reads (Checks T) (step slots 1 0 0 none) me)
-  checks T slots id me r one free near = reads (Checks T) slots id 1 me r one (λ s k h.
-      let x : ℕ = get_or s.words 1 0 in
+      → Allows (HoldsOneLog words key) slots id me 8 (λ x. x) (Reads (Checks T) (step slots 8 0 0 none) me)
+  checks T slots id me r one free near = reads (Checks T) slots id 8 me r one (λ s k h.
+      let x : ℕ = get_or s.words 8 0 in
       let w = k.shared in
       let x_is : x ≡ w.counter = k.are_words.counter in
       let at : ℕ = r.place / key.seg in
@@ -289,7 +289,7 @@ module _ (key : RingKey) where
   again_follows log at (Overrun a b ∷ is) o = inl (sym o)
 
   -- the end mark
-  pub finds_end : (slots id : ℕ) (me : M) (r : ReaderView) → me.0.readers ≡ r ∷ [] → r.lost ≡ None → r.unchecked ≡ Words (end_mark ∷ []) → Allows (HoldsOneLog words key) slots id me 1 (λ x. x) (Reads (Checks FindsEnd) (step slots 1 0 0 none) me)
+  pub finds_end : (slots id : ℕ) (me : M) (r : ReaderView) → me.0.readers ≡ r ∷ [] → r.lost ≡ None → r.unchecked ≡ Words (end_mark ∷ []) → Allows (HoldsOneLog words key) slots id me 8 (λ x. x) (Reads (Checks FindsEnd) (step slots 8 0 0 none) me)
   finds_end slots id me r one free unchecked = checks FindsEnd slots id me r one free (λ s k h near.
       let w = k.shared in
       let x : ℕ = w.counter in
@@ -304,7 +304,7 @@ module _ (key : RingKey) where
       ))
 
   -- the wrap mark
-  pub finds_lap : (slots id : ℕ) (me : M) (r : ReaderView) → me.0.readers ≡ r ∷ [] → 0 < key.seg → r.lost ≡ None → r.unchecked ≡ Words (wrap_mark ∷ []) → Allows (HoldsOneLog words key) slots id me 1 (λ x. x) (Reads (Checks FindsLap) (step slots 1 0 0 none) me)
+  pub finds_lap : (slots id : ℕ) (me : M) (r : ReaderView) → me.0.readers ≡ r ∷ [] → 0 < key.seg → r.lost ≡ None → r.unchecked ≡ Words (wrap_mark ∷ []) → Allows (HoldsOneLog words key) slots id me 8 (λ x. x) (Reads (Checks FindsLap) (step slots 8 0 0 none) me)
   finds_lap slots id me r one pos free unchecked = checks FindsLap slots id me r one free (λ s k h near.
       let w = k.shared in
       let x : ℕ = w.counter in
@@ -337,7 +337,7 @@ module _ (key : RingKey) where
 
   -- a whole unit
   pub finds_unit : (slots id : ℕ) (me : M) (r : ReaderView) (xs : List ℕ) → me.0.readers ≡ r ∷ [] → 0 < key.seg → r.lost ≡ None → r.unchecked ≡ Words xs → get_or xs 0 0 ≢ end_mark → get_or xs 0 0 ≢ wrap_mark → get_or xs 0 0 ≡ header_mark + length xs
-      → Allows (HoldsOneLog words key) slots id me 1 (λ x. x) (Reads (Checks (FindsUnit words)) (step slots 1 0 0 none) me)
+      → Allows (HoldsOneLog words key) slots id me 8 (λ x. x) (Reads (Checks (FindsUnit words)) (step slots 8 0 0 none) me)
   finds_unit slots id me r xs one pos free unchecked no_end no_wrap whole = checks (FindsUnit words) slots id me r one free (λ s k h near.
       let w = k.shared in
       let x : ℕ = w.counter in
@@ -381,7 +381,7 @@ module _ (key : RingKey) where
   -- a word that is none of a log's
   pub finds_nothing : (slots id x : ℕ) (me : M) (r : ReaderView) → me.0.readers ≡ r ∷ [] → 0 < key.seg → r.lost ≡ None → r.unchecked ≡ Words (x ∷ []) → x ≢ end_mark → (x ≡ wrap_mark → r.place % (8 * key.seg) + key.seg < 8 * key.seg)
       → (header_mark < x → x ≤ header_mark + key.seg → r.place % (8 * key.seg) + (x - header_mark) < 8 * key.seg → ⊥)
-      → Allows (HoldsOneLog words key) slots id me 1 (λ z. z) (Reads (Checks FindsNothing) (step slots 1 0 0 none) me)
+      → Allows (HoldsOneLog words key) slots id me 8 (λ z. z) (Reads (Checks FindsNothing) (step slots 8 0 0 none) me)
   finds_nothing slots id x me r one pos free unchecked no_end no_wrap no_unit = checks FindsNothing slots id me r one free (λ s k h near.
       let w = k.shared in
       let seg : ℕ = key.seg in
@@ -403,9 +403,9 @@ module _ (key : RingKey) where
       no_unit (omega arith) (omega arith) (subst (λ (z : ℕ). r.place % (8 * seg) + z < 8 * seg) (sym n_is) fits)) rest) c.0))
 
   -- a check of a cursor that was overrun
-  pub checks_again : (slots id at : ℕ) (me : M) (r : ReaderView) → me.0.readers ≡ r ∷ [] → r.lost ≡ Some at → Allows (HoldsOneLog words key) slots id me 1 (λ z. z) (Reads ChecksAgain (step slots 1 0 0 none) me)
-  checks_again slots id at me r one lost = reads ChecksAgain slots id 1 me r one (λ s k h.
-      let x : ℕ = get_or s.words 1 0 in
+  pub checks_again : (slots id at : ℕ) (me : M) (r : ReaderView) → me.0.readers ≡ r ∷ [] → r.lost ≡ Some at → Allows (HoldsOneLog words key) slots id me 8 (λ z. z) (Reads ChecksAgain (step slots 8 0 0 none) me)
+  checks_again slots id at me r one lost = reads ChecksAgain slots id 8 me r one (λ s k h.
+      let x : ℕ = get_or s.words 8 0 in
       let w = k.shared in
       let x_is : x ≡ w.counter = k.are_words.counter in
       let far = again_far w at r.items (h.overrun at lost) h.history in
@@ -417,9 +417,9 @@ module _ (key : RingKey) where
       ))
 
   -- the counter, before a cursor seeks
-  pub looks_first : (slots id : ℕ) (me : M) (r : ReaderView) → me.0.readers ≡ r ∷ [] → Allows (HoldsOneLog words key) slots id me 1 (λ z. z) (Reads Looks (step slots 1 0 0 none) me)
-  looks_first slots id me r one = reads Looks slots id 1 me r one (λ s k h.
-      let x : ℕ = get_or s.words 1 0 in
+  pub looks_first : (slots id : ℕ) (me : M) (r : ReaderView) → me.0.readers ≡ r ∷ [] → Allows (HoldsOneLog words key) slots id me 8 (λ z. z) (Reads Looks (step slots 8 0 0 none) me)
+  looks_first slots id me r one = reads Looks slots id 8 me r one (λ s k h.
+      let x : ℕ = get_or s.words 8 0 in
       let w = k.shared in
       let x_is : x ≡ w.counter = k.are_words.counter in
       let seen = h.seen in
@@ -438,7 +438,7 @@ module _ (key : RingKey) where
   counter_near log c (Stored p) e v h = let level = h.1 in omega arith
 
   -- the start of the segment four behind the counter that was loaded
-  pub loads_start : (slots id i : ℕ) (me : M) (r : ReaderView) → me.0.readers ≡ r ∷ [] → 0 < key.seg → i ≡ 2 + (r.loaded - 4) % 8 → Allows (HoldsOneLog words key) slots id me i (λ z. z) (Reads LoadsStart (step slots i 0 0 none) me)
+  pub loads_start : (slots id i : ℕ) (me : M) (r : ReaderView) → me.0.readers ≡ r ∷ [] → 0 < key.seg → i ≡ 9 + (r.loaded - 4) % 8 → Allows (HoldsOneLog words key) slots id me i (λ z. z) (Reads LoadsStart (step slots i 0 0 none) me)
   loads_start slots id i me r one pos i_is = reads LoadsStart slots id i me r one (λ s k h.
       let x : ℕ = get_or s.words i 0 in
       let w = k.shared in
@@ -485,9 +485,9 @@ module _ (key : RingKey) where
       (λ (t : UnitStarts words key.seg w.log k p). let low = (starts_low w ws k p t pos a).1 in omega arith) due.1
 
   -- the check of a cursor that seeks
-  pub seeks : (slots id at x0 : ℕ) (me : M) (r : ReaderView) → me.0.readers ≡ r ∷ [] → 0 < key.seg → r.lost ≡ Some at → r.unchecked ≡ Start (r.loaded - 4) x0 → Allows (HoldsOneLog words key) slots id me 1 (λ z. z) (Reads Seeks (step slots 1 0 0 none) me)
-  seeks slots id at x0 me r one pos lost unchecked = reads Seeks slots id 1 me r one (λ s k h.
-      let x : ℕ = get_or s.words 1 0 in
+  pub seeks : (slots id at x0 : ℕ) (me : M) (r : ReaderView) → me.0.readers ≡ r ∷ [] → 0 < key.seg → r.lost ≡ Some at → r.unchecked ≡ Start (r.loaded - 4) x0 → Allows (HoldsOneLog words key) slots id me 8 (λ z. z) (Reads Seeks (step slots 8 0 0 none) me)
+  seeks slots id at x0 me r one pos lost unchecked = reads Seeks slots id 8 me r one (λ s k h.
+      let x : ℕ = get_or s.words 8 0 in
       let w = k.shared in
       let a = k.are_words in
       let x_is : x ≡ w.counter = a.counter in

@@ -117,7 +117,7 @@ module _ (words : LogUnit → List ℕ) where
     first_only pos (suc j) v e = absurd (some-ne-none v (sym e))
 
     -- words of zeros, but the write token and the end mark, hold no unit
-    pub opens : (ws : List ℕ) → IsSegment key.seg → key.writers ≤ most_writers → length ws ≡ 11 + 8 * key.seg → get_or ws 0 0 ≡ 1 → get_or ws 11 0 ≡ end_mark → ((i : ℕ) → i ≢ 0 → i ≢ 11 → get_or ws i 0 ≡ 0)
+    pub opens : (ws : List ℕ) → IsSegment key.seg → key.writers ≤ most_writers → length ws ≡ 24 + 8 * key.seg → get_or ws 0 0 ≡ 1 → get_or ws 24 0 ≡ end_mark → ((i : ℕ) → i ≢ 0 → i ≢ 24 → get_or ws i 0 ≡ 0)
         → HoldsOneLog words key (opening ws [] (first_view key))
     opens ws shape few wide token mark zeros =
         let pos : 0 < key.seg = (let l = shape.0 in omega arith) in record {
@@ -127,11 +127,11 @@ module _ (words : LogUnit → List ℕ) where
           are_words = record {
             wide = wide;
             token = token;
-            counter = zeros 1 (λ e. omega arith) (λ e. omega arith);
-            finished = zeros 10 (λ e. omega arith) (λ e. omega arith);
-            holds = empty_holds words key.seg pos (λ i. get_or ws (2 + i) 0) (λ i. get_or ws (11 + i) 0) (zeros 2 (λ e. omega arith) (λ e. omega arith)) mark;
+            counter = zeros 8 (λ e. omega arith) (λ e. omega arith);
+            finished = zeros 17 (λ e. omega arith) (λ e. omega arith);
+            holds = empty_holds words key.seg pos (λ i. get_or ws (9 + i) 0) (λ i. get_or ws (24 + i) 0) (zeros 9 (λ e. omega arith) (λ e. omega arith)) mark;
             under_way = let z = div_zero key.seg pos in sym z;
-            narrow = λ i. dite (ℕ_discrete (11 + i) 11) (λ e. subst (λ (y : ℕ). y < 2 ^ 32) (sym (ap (λ (z : ℕ). get_or ws z 0) e ∙ mark)) (omega arith)) (λ ne. subst (λ (y : ℕ). y < 2 ^ 32) (sym (zeros (11 + i) (λ e. omega arith) ne)) (omega arith));
+            narrow = λ i. dite (ℕ_discrete (24 + i) 24) (λ e. subst (λ (y : ℕ). y < 2 ^ 32) (sym (ap (λ (z : ℕ). get_or ws z 0) e ∙ mark)) (omega arith)) (λ ne. subst (λ (y : ℕ). y < 2 ^ 32) (sym (zeros (24 + i) (λ e. omega arith) ne)) (omega arith));
             fit = tt;
             units = tt;
             low = omega arith;

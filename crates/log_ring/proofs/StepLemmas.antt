@@ -40,14 +40,14 @@ same_segment seg t u placed pos at low =
 
 module _ (key : RingKey) (seg : ℕ) (is : key.seg ≡ seg) (slots id : ℕ) (t : ℕ) (u : LogUnit) (placed : Placed) (me : Me ℕ View) where
   pub announce_allowed : (x : ℕ) → me.0.progress ≡ Storing (begun unit_words seg t u) → IsPlaced seg t (size u) placed → x ≡ placed.tail / seg → t / seg < x → size u ≤ seg
-      → Allows (HoldsOneLog unit_words key) slots id me 1 (λ _. x) (λ _. Makes after_announce (step slots 1 x 0 none) me x)
+      → Allows (HoldsOneLog unit_words key) slots id me 8 (λ _. x) (λ _. Makes after_announce (step slots 8 x 0 none) me x)
   announce_allowed x progress at x_is up fits =
       let P : ℕ → Type 0 = λ z. (me.0.progress ≡ Storing (begun unit_words z t u)) × IsPlaced z t (size u) placed × (x ≡ placed.tail / z) × (t / z < x) × (size u ≤ z) in
       let q : P key.seg = subst P (sym is) (progress, at, x_is, up, fits) in
       let q3 = q.3 in
       announces unit_words key slots id x (begun unit_words key.seg t u) me q.0 (q.2 ∙ ap (λ (z : ℕ). z / key.seg) q.1.tail) (omega arith) q.4
 
-  pub start_allowed : (i s x : ℕ) → 0 < seg → me.0.progress ≡ Storing (record (announced seg t u) { start = s }) → IsPlaced seg t (size u) placed → size u ≤ seg → t / seg < s → s ≤ placed.tail / seg → x ≡ first_of s seg placed.start placed.tail → i ≡ 2 + s % 8
+  pub start_allowed : (i s x : ℕ) → 0 < seg → me.0.progress ≡ Storing (record (announced seg t u) { start = s }) → IsPlaced seg t (size u) placed → size u ≤ seg → t / seg < s → s ≤ placed.tail / seg → x ≡ first_of s seg placed.start placed.tail → i ≡ 9 + s % 8
       → Allows (HoldsOneLog unit_words key) slots id me i (λ _. x) (λ _. Makes (λ _. after_start) (step slots i x 0 none) me x)
   start_allowed i s x pos progress at fits above upto x_is i_is =
       let P : ℕ → Type 0 = λ z. (0 < z) × (me.0.progress ≡ Storing (record (announced z t u) { start = s })) × IsPlaced z t (size u) placed × (size u ≤ z) × (t / z < s) × (s ≤ placed.tail / z) × (x ≡ first_of s z placed.start placed.tail) in
@@ -58,24 +58,24 @@ module _ (key : RingKey) (seg : ℕ) (is : key.seg ≡ seg) (slots id : ℕ) (t 
       starts unit_words key slots id i s x (record (announced key.seg t u) { start = s }) me q.0 q.1 refl (omega arith) refl q.4 q.3 i_is
       (first_is key.seg s (start_at key.seg t (size u)) (end_at key.seg t (size u)) (entered key.seg t (size u) s q.0 q.3 q.4 (omega arith)) ∙ ap Some (sym s_is ∙ sym q.6))
 
-  pub word_allowed : (i j x : ℕ) → 0 < seg → me.0.progress ≡ Storing (record (started seg t u) { word = j }) → IsPlaced seg t (size u) placed → size u ≤ seg → j < size u → first_word unit_words seg t (size u) ≤ j → i ≡ 11 + (placed.start + j) % (8 * seg) → x ≡ get_or (unit_words u) j 0 → x < 2 ^ 32
+  pub word_allowed : (i j x : ℕ) → 0 < seg → me.0.progress ≡ Storing (record (started seg t u) { word = j }) → IsPlaced seg t (size u) placed → size u ≤ seg → j < size u → first_word unit_words seg t (size u) ≤ j → i ≡ 24 + (placed.start + j) % (8 * seg) → x ≡ get_or (unit_words u) j 0 → x < 2 ^ 32
       → Allows (HoldsOneLog unit_words key) slots id me i (λ _. x) (λ _. Makes (λ _. after_word) (step slots i x 0 none) me x)
   word_allowed i j x pos progress at fits inside behind i_is x_is small =
-      let P : ℕ → Type 0 = λ z. (0 < z) × (me.0.progress ≡ Storing (record (started z t u) { word = j })) × IsPlaced z t (size u) placed × (size u ≤ z) × (first_word unit_words z t (size u) ≤ j) × (i ≡ 11 + (placed.start + j) % (8 * z)) in
+      let P : ℕ → Type 0 = λ z. (0 < z) × (me.0.progress ≡ Storing (record (started z t u) { word = j })) × IsPlaced z t (size u) placed × (size u ≤ z) × (first_word unit_words z t (size u) ≤ j) × (i ≡ 24 + (placed.start + j) % (8 * z)) in
       let q : P key.seg = subst P (sym is) (pos, progress, at, fits, behind, i_is) in
-      writes unit_words key slots id i j x (record (started key.seg t u) { word = j }) me q.0 q.1 refl refl refl inside q.3 q.4 (q.5 ∙ ap (λ (z : ℕ). 11 + (z + j) % (8 * key.seg)) q.2.start) x_is small
+      writes unit_words key slots id i j x (record (started key.seg t u) { word = j }) me q.0 q.1 refl refl refl inside q.3 q.4 (q.5 ∙ ap (λ (z : ℕ). 24 + (z + j) % (8 * key.seg)) q.2.start) x_is small
 
-  pub mark_allowed : (i x : ℕ) → 0 < seg → me.0.progress ≡ Storing (written seg t u) → IsPlaced seg t (size u) placed → 0 < size u → size u ≤ seg → i ≡ 11 + placed.tail % (8 * seg) → x ≡ end_mark
+  pub mark_allowed : (i x : ℕ) → 0 < seg → me.0.progress ≡ Storing (written seg t u) → IsPlaced seg t (size u) placed → 0 < size u → size u ≤ seg → i ≡ 24 + placed.tail % (8 * seg) → x ≡ end_mark
       → Allows (HoldsOneLog unit_words key) slots id me i (λ _. x) (λ _. Makes (λ _. after_mark) (step slots i x 0 none) me x)
   mark_allowed i x pos progress at some_word fits i_is x_is =
-      let P : ℕ → Type 0 = λ z. (0 < z) × (me.0.progress ≡ Storing (written z t u)) × IsPlaced z t (size u) placed × (size u ≤ z) × (i ≡ 11 + placed.tail % (8 * z)) in
+      let P : ℕ → Type 0 = λ z. (0 < z) × (me.0.progress ≡ Storing (written z t u)) × IsPlaced z t (size u) placed × (size u ≤ z) × (i ≡ 24 + placed.tail % (8 * z)) in
       let q : P key.seg = subst P (sym is) (pos, progress, at, fits, i_is) in
-      ends unit_words key slots id i x (written key.seg t u) me q.0 q.1 refl (omega arith) some_word q.3 (q.4 ∙ ap (λ (z : ℕ). 11 + z % (8 * key.seg)) q.2.tail) x_is
+      ends unit_words key slots id i x (written key.seg t u) me q.0 q.1 refl (omega arith) some_word q.3 (q.4 ∙ ap (λ (z : ℕ). 24 + z % (8 * key.seg)) q.2.tail) x_is
 
-  pub publish_allowed : (i x : ℕ) (y : WriterView) → 0 < seg → IsUnit u → me.0.progress ≡ Storing (marked seg t u) → IsPlaced seg t (size u) placed → 0 < size u → size u ≤ seg → me.0.writers ≡ y ∷ [] → me.0.finished ≡ 0 → i ≡ 11 + t % (8 * seg) → x ≡ last_word unit_words seg t u → x < 2 ^ 32
+  pub publish_allowed : (i x : ℕ) (y : WriterView) → 0 < seg → IsUnit u → me.0.progress ≡ Storing (marked seg t u) → IsPlaced seg t (size u) placed → 0 < size u → size u ≤ seg → me.0.writers ≡ y ∷ [] → me.0.finished ≡ 0 → i ≡ 24 + t % (8 * seg) → x ≡ last_word unit_words seg t u → x < 2 ^ 32
       → Allows (HoldsOneLog unit_words key) slots id me i (λ _. x) (λ _. Makes (λ _. after_publish) (step slots i x 0 none) me x)
   publish_allowed i x y pos unit progress at some_word fits one here i_is x_is small =
-      let P : ℕ → Type 0 = λ z. (0 < z) × (me.0.progress ≡ Storing (marked z t u)) × IsPlaced z t (size u) placed × (size u ≤ z) × (i ≡ 11 + t % (8 * z)) × (x ≡ last_word unit_words z t u) in
+      let P : ℕ → Type 0 = λ z. (0 < z) × (me.0.progress ≡ Storing (marked z t u)) × IsPlaced z t (size u) placed × (size u ≤ z) × (i ≡ 24 + t % (8 * z)) × (x ≡ last_word unit_words z t u) in
       let q : P key.seg = subst P (sym is) (pos, progress, at, fits, i_is, x_is) in
       publishes unit_words key slots id i x (marked key.seg t u) y me q.0 unit q.1 one here refl (omega arith) refl refl some_word q.3 q.2.low q.4 q.5 small
 

@@ -75,14 +75,14 @@ module _ (words : LogUnit → List ℕ) (key : RingKey) where
       refl refl)
 
   -- the words of the table where a start or a ring's word is stored
-  stored_words : (w : SharedState) (id i x : ℕ) (p p' : Put) (ws : List ℕ) → 2 ≤ i → i ≢ 10 → IsHolder w id p ws → AreWords words key.seg w ws
+  stored_words : (w : SharedState) (id i x : ℕ) (p p' : Put) (ws : List ℕ) → 9 ≤ i → i ≢ 17 → IsHolder w id p ws → AreWords words key.seg w ws
       → HoldsLog words key.seg w.log w.counter (ent (set ws i x)) (word (set ws i x)) → IsUnderWay words key.seg w.log w.counter (Storing p') (ent (set ws i x)) (word (set ws i x)) → ((j : ℕ) → word (set ws i x) j < 2 ^ 32)
       → AreWords words key.seg (record w { progress = Storing p' }) (set ws i x)
   stored_words w id i x p p' ws above other h a holds way narrow = record {
     wide = length-set ws i x ∙ a.wide;
     token = get_or-set_other ws i 0 x 0 (λ e. omega arith) ∙ h.token;
-    counter = get_or-set_other ws i 1 x 0 (λ e. omega arith) ∙ a.counter;
-    finished = get_or-set_other ws i 10 x 0 (λ e. other (sym e)) ∙ a.finished;
+    counter = get_or-set_other ws i 8 x 0 (λ e. omega arith) ∙ a.counter;
+    finished = get_or-set_other ws i 17 x 0 (λ e. other (sym e)) ∙ a.finished;
     holds = holds;
     under_way = way;
     narrow = narrow;
@@ -93,7 +93,7 @@ module _ (words : LogUnit → List ℕ) (key : RingKey) where
 
   -- the start of a segment
   pub starts : (slots id i s x : ℕ) (p : Put) (me : M words key) → 0 < key.seg → me.0.progress ≡ Storing p → s ≡ p.start → s ≤ p.counter → p.counter ≡ end_at key.seg p.tail (length (words p.unit)) / key.seg → p.tail / key.seg < s
-      → length (words p.unit) ≤ key.seg → i ≡ 2 + s % 8 → first_in key.seg s (start_at key.seg p.tail (length (words p.unit)) ∷ end_at key.seg p.tail (length (words p.unit)) ∷ []) ≡ Some x
+      → length (words p.unit) ≤ key.seg → i ≡ 9 + s % 8 → first_in key.seg s (start_at key.seg p.tail (length (words p.unit)) ∷ end_at key.seg p.tail (length (words p.unit)) ∷ []) ≡ Some x
       → Allows (HoldsOneLog words key) slots id me i (λ _. x) (λ _. Makes (λ _. after_start) (step slots i x 0 none) me x)
   starts slots id i s x p me pos is next upto new above fits at first = stores slots id i x p (record p { start = p.start + 1 }) (λ q. record q { start = q.start + 1 }) me is refl refl refl (λ w ws h a.
       let seg : ℕ = key.seg in
@@ -103,7 +103,7 @@ module _ (words : LogUnit → List ℕ) (key : RingKey) where
       let c_is = h.counter in
       let two = two_ahead seg p.tail (length (words p.unit)) pos fits in
       let put_in : Set (ent ws) (ent (set ws i x)) (s % 8) x = subst (λ (z : ℕ). Set (ent ws) (ent (set ws z x)) (s % 8) x) (sym at) (start_set ws (s % 8) x low (omega arith)) in
-      let same : (j : ℕ) → word (set ws i x) j ≡ word ws j = λ j. get_or-set_other ws i (11 + j) x 0 (λ e. omega arith) in
+      let same : (j : ℕ) → word (set ws i x) j ≡ word ws j = λ j. get_or-set_other ws i (24 + j) x 0 (λ e. omega arith) in
       let there = start_entered words seg pos w.log p.unit s x (subst (λ (z : ℕ). z / seg < s) t_is above) (subst (λ (z : ℕ). first_in seg s (start_at seg z (length (words p.unit)) ∷ end_at seg z (length (words p.unit)) ∷ []) ≡ Some x) t_is first) in
       let above' : tail words seg w.log / seg < s = subst (λ (z : ℕ). z / seg < s) t_is above in
       let two' : w.counter < tail words seg w.log / seg + 9 = (let q : p.tail / seg ≡ tail words seg w.log / seg = ap (λ (z : ℕ). z / seg) t_is in omega arith) in
@@ -114,14 +114,14 @@ module _ (words : LogUnit → List ℕ) (key : RingKey) where
       (λ j. subst (λ (y : ℕ). y < 2 ^ 32) (sym (same j)) (a.narrow j)))
 
   -- ring words below 2^32 stay so
-  pub narrow_set : (ws : List ℕ) (i x : ℕ) → x < 2 ^ 32 → 11 + i < length ws → ((j : ℕ) → word ws j < 2 ^ 32) → (j : ℕ) → word (set ws (11 + i) x) j < 2 ^ 32
+  pub narrow_set : (ws : List ℕ) (i x : ℕ) → x < 2 ^ 32 → 24 + i < length ws → ((j : ℕ) → word ws j < 2 ^ 32) → (j : ℕ) → word (set ws (24 + i) x) j < 2 ^ 32
   narrow_set ws i x small inside all j = dite (ℕ_discrete j i)
-      (λ e. subst (λ (z : ℕ). word (set ws (11 + i) x) z < 2 ^ 32) (sym e) (subst (λ (y : ℕ). y < 2 ^ 32) (sym (get_or-set_same ws (11 + i) x 0 inside)) small))
-      (λ ne. subst (λ (y : ℕ). y < 2 ^ 32) (sym (get_or-set_other ws (11 + i) (11 + j) x 0 (λ e. ne (omega arith)))) (all j))
+      (λ e. subst (λ (z : ℕ). word (set ws (24 + i) x) z < 2 ^ 32) (sym e) (subst (λ (y : ℕ). y < 2 ^ 32) (sym (get_or-set_same ws (24 + i) x 0 inside)) small))
+      (λ ne. subst (λ (y : ℕ). y < 2 ^ 32) (sym (get_or-set_other ws (24 + i) (24 + j) x 0 (λ e. ne (omega arith)))) (all j))
 
   -- another word of the unit
   pub writes : (slots id i j x : ℕ) (p : Put) (me : M words key) → 0 < key.seg → me.0.progress ≡ Storing p → p.counter ≡ end_at key.seg p.tail (length (words p.unit)) / key.seg → j ≡ p.word → p.mark ≡ 0
-      → j < length (words p.unit) → length (words p.unit) ≤ key.seg → first_word words key.seg p.tail (length (words p.unit)) ≤ j → i ≡ 11 + (start_at key.seg p.tail (length (words p.unit)) + j) % (8 * key.seg) → x ≡ get_or (words p.unit) j 0 → x < 2 ^ 32
+      → j < length (words p.unit) → length (words p.unit) ≤ key.seg → first_word words key.seg p.tail (length (words p.unit)) ≤ j → i ≡ 24 + (start_at key.seg p.tail (length (words p.unit)) + j) % (8 * key.seg) → x ≡ get_or (words p.unit) j 0 → x < 2 ^ 32
       → Allows (HoldsOneLog words key) slots id me i (λ _. x) (λ _. Makes (λ _. after_word) (step slots i x 0 none) me x)
   writes slots id i j x p me pos is new next unmarked inside fits from at x_is small = stores slots id i x p (record p { word = p.word + 1 }) (λ q. record q { word = q.word + 1 }) me is refl refl refl (λ w ws h a.
       let seg : ℕ = key.seg in
@@ -132,7 +132,7 @@ module _ (words : LogUnit → List ℕ) (key : RingKey) where
       let low : q < 8 * seg = mod-lt (start_at seg p.tail (length (words p.unit)) + j) (omega arith) in
       let put_in : Set (word ws) (word (set ws i x)) q x = subst (λ (z : ℕ). Set (word ws) (word (set ws z x)) q x) (sym at) (word_set ws q x (omega arith)) in
       let put_in' = subst (λ (z : ℕ × ℕ). Set (word ws) (word (set ws i x)) ((start_at seg z.0 (length (words p.unit)) + j) % (8 * seg)) z.1) (λ k. (t_is k, x_is k)) put_in in
-      let same : (k : ℕ) → k < 8 → ent (set ws i x) k ≡ ent ws k = λ k l. get_or-set_other ws i (2 + k) x 0 (λ e. omega arith) in
+      let same : (k : ℕ) → k < 8 → ent (set ws i x) k ≡ ent ws k = λ k l. get_or-set_other ws i (9 + k) x 0 (λ e. omega arith) in
       let high : end_at seg (tail words seg w.log) (length (words p.unit)) / seg ≤ w.counter = subst (λ (z : ℕ). end_at seg z (length (words p.unit)) / seg ≤ w.counter) t_is (omega arith) in
       let g : HasStored words seg w.log p.unit p.start j 0 (ent ws) (word ws) = subst (λ (z : ℕ × ℕ). HasStored words seg w.log p.unit p.start z.0 z.1 (ent ws) (word ws)) (λ k. (sym next k, unmarked k)) h.stored in
       let both = written words seg pos w.log p.unit w.counter p.start j 0 (ent ws) (word ws) (word (set ws i x)) inside fits (subst (λ (z : ℕ). first_word words seg z (length (words p.unit)) ≤ j) t_is from) put_in' high a.holds g in
@@ -149,7 +149,7 @@ module _ (words : LogUnit → List ℕ) (key : RingKey) where
 
   -- the end mark
   pub ends : (slots id i x : ℕ) (p : Put) (me : M words key) → 0 < key.seg → me.0.progress ≡ Storing p → p.counter ≡ end_at key.seg p.tail (length (words p.unit)) / key.seg → p.word ≤ length (words p.unit)
-      → 0 < length (words p.unit) → length (words p.unit) ≤ key.seg → i ≡ 11 + end_at key.seg p.tail (length (words p.unit)) % (8 * key.seg) → x ≡ end_mark
+      → 0 < length (words p.unit) → length (words p.unit) ≤ key.seg → i ≡ 24 + end_at key.seg p.tail (length (words p.unit)) % (8 * key.seg) → x ≡ end_mark
       → Allows (HoldsOneLog words key) slots id me i (λ _. x) (λ _. Makes (λ _. after_mark) (step slots i x 0 none) me x)
   ends slots id i x p me pos is new within some_word fits at x_is = stores slots id i x p (record p { mark = 1 }) (λ q. record q { mark = 1 }) me is refl refl refl (λ w ws h a.
       let seg : ℕ = key.seg in
@@ -160,7 +160,7 @@ module _ (words : LogUnit → List ℕ) (key : RingKey) where
       let low : q < 8 * seg = mod-lt (end_at seg p.tail (length (words p.unit))) (omega arith) in
       let put_in : Set (word ws) (word (set ws i x)) q x = subst (λ (z : ℕ). Set (word ws) (word (set ws z x)) q x) (sym at) (word_set ws q x (omega arith)) in
       let put_in' = subst (λ (z : ℕ × ℕ). Set (word ws) (word (set ws i x)) (end_at seg z.0 (length (words p.unit)) % (8 * seg)) z.1) (λ k. (t_is k, x_is k)) put_in in
-      let same : (k : ℕ) → k < 8 → ent (set ws i x) k ≡ ent ws k = λ k l. get_or-set_other ws i (2 + k) x 0 (λ e. omega arith) in
+      let same : (k : ℕ) → k < 8 → ent (set ws i x) k ≡ ent ws k = λ k l. get_or-set_other ws i (9 + k) x 0 (λ e. omega arith) in
       let high : end_at seg (tail words seg w.log) (length (words p.unit)) / seg ≤ w.counter = subst (λ (z : ℕ). end_at seg z (length (words p.unit)) / seg ≤ w.counter) t_is (omega arith) in
       let both = marks words seg pos w.log p.unit w.counter p.start p.word p.mark (ent ws) (word ws) (word (set ws i x)) some_word fits within put_in' high a.holds h.stored in
       stored_words w id i x p (record p { mark = 1 }) ws (omega arith) (λ e. omega arith) h a

@@ -36,8 +36,8 @@ module _ (words : LogUnit → List ℕ) (key : RingKey) where
   free_progress log (Stored p) x is got = absurd (got is)
 
   -- the words after a store in a word beside the ring's, where the write token, the counter and the number of finished writers are said anew
-  pub are_beside : (w w' : SharedState) (ws : List ℕ) (i x : ℕ) → (i < 2) ⊎ (i ≡ 10) → w'.log ≡ w.log → w'.counter ≡ w.counter → AreWords words key.seg w ws
-      → IsToken words key.seg w'.log w'.progress (get_or (set ws i x) 0 0) → get_or (set ws i x) 1 0 ≡ w'.counter → get_or (set ws i x) 10 0 ≡ w'.finished
+  pub are_beside : (w w' : SharedState) (ws : List ℕ) (i x : ℕ) → (i < 9) ⊎ (i ≡ 17) → w'.log ≡ w.log → w'.counter ≡ w.counter → AreWords words key.seg w ws
+      → IsToken words key.seg w'.log w'.progress (get_or (set ws i x) 0 0) → get_or (set ws i x) 8 0 ≡ w'.counter → get_or (set ws i x) 17 0 ≡ w'.finished
       → IsUnderWay words key.seg w'.log w'.counter w'.progress (ent ws) (word ws)
       → AreWords words key.seg w' (set ws i x)
   are_beside w w' ws i x there logs counters a token counter finished way = let same = beside ws i x there in record {
@@ -82,7 +82,7 @@ module _ (words : LogUnit → List ℕ) (key : RingKey) where
       let wide = a.wide in
       let top = o.found in
       changed words key s r w' (set s.words 0 0) id me.0 took at
-      (are_beside w w' s.words 0 0 (inl (omega arith)) refl refl a (get_or-set_same s.words 0 0 0 (omega arith)) (get_or-set_other s.words 0 1 0 0 (λ e. omega arith) ∙ a.counter) (get_or-set_other s.words 0 10 0 0 (λ e. omega arith) ∙ a.finished)
+      (are_beside w w' s.words 0 0 (inl (omega arith)) refl refl a (get_or-set_same s.words 0 0 0 (omega arith)) (get_or-set_other s.words 0 8 0 0 (λ e. omega arith) ∙ a.counter) (get_or-set_other s.words 0 17 0 0 (λ e. omega arith) ∙ a.finished)
       (subst (λ (z : Progress). IsUnderWay words key.seg w.log w.counter z (ent s.words) (word s.words)) (sym h_is) (nothing_stored w.log w.counter u s.words level)))
       r.one_each
       record { ring = o.ring; put = o.put; apart = o.apart; token = (refl, refl); found = omega arith; finished = o.finished; idle = λ e. absurd (omega arith); readers = o.readers }
@@ -102,7 +102,7 @@ module _ (words : LogUnit → List ℕ) (key : RingKey) where
       let w' : SharedState = record w { progress = Free } in
       let wide = a.wide in
       changed words key s r w' (set s.words 0 x) id me.0 (after_release me.0) at
-      (are_beside w w' s.words 0 x (inl (omega arith)) refl refl a (get_or-set_same s.words 0 x 0 (omega arith) ∙ mine.1) (get_or-set_other s.words 0 1 x 0 (λ e. omega arith) ∙ a.counter) (get_or-set_other s.words 0 10 x 0 (λ e. omega arith) ∙ a.finished) mine.2)
+      (are_beside w w' s.words 0 x (inl (omega arith)) refl refl a (get_or-set_same s.words 0 x 0 (omega arith) ∙ mine.1) (get_or-set_other s.words 0 8 x 0 (λ e. omega arith) ∙ a.counter) (get_or-set_other s.words 0 17 x 0 (λ e. omega arith) ∙ a.finished) mine.2)
       r.one_each
       record { ring = o.ring; put = o.put; apart = o.apart; token = λ p e. p refl; found = o.found; finished = o.finished; idle = λ _. refl; readers = o.readers }
       (others_stay words key w w' id refl record { readers = λ _ q. q; tail = le_refl (tail words key.seg w.log); given = λ k _. refl; before = λ _. mine.0; after = λ p. absurd (p refl) })

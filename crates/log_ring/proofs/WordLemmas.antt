@@ -11,10 +11,10 @@ use Rattle.log_ring.specs.inside.Rule.{IsUnderWay}
 
 -- the starts of segments and the ring's words that a table has
 abbrev pub ent : List ℕ → ℕ → ℕ
-ent ws i = get_or ws (2 + i) 0
+ent ws i = get_or ws (9 + i) 0
 
 abbrev pub word : List ℕ → ℕ → ℕ
-word ws i = get_or ws (11 + i) 0
+word ws i = get_or ws (24 + i) 0
 
 -- the starts of segments and the ring's words are the same
 pub record SameRing (ws ws' : List ℕ) : Type 0 where
@@ -22,24 +22,24 @@ pub record SameRing (ws ws' : List ℕ) : Type 0 where
   pub words : (i : ℕ) → word ws' i ≡ word ws i
 
 -- a store in one of the other words
-pub beside : (ws : List ℕ) (i x : ℕ) → (i < 2) ⊎ (i ≡ 10) → SameRing ws (set ws i x)
+pub beside : (ws : List ℕ) (i x : ℕ) → (i < 9) ⊎ (i ≡ 17) → SameRing ws (set ws i x)
 beside ws i x there = record {
-  ents = λ j l. get_or-set_other ws i (2 + j) x 0 (λ e. ⊎_elim (λ (a : i < 2). omega arith) (λ (b : i ≡ 10). omega arith) there);
-  words = λ j. get_or-set_other ws i (11 + j) x 0 (λ e. ⊎_elim (λ (a : i < 2). omega arith) (λ (b : i ≡ 10). omega arith) there);
+  ents = λ j l. get_or-set_other ws i (9 + j) x 0 (λ e. ⊎_elim (λ (a : i < 9). omega arith) (λ (b : i ≡ 17). omega arith) there);
+  words = λ j. get_or-set_other ws i (24 + j) x 0 (λ e. ⊎_elim (λ (a : i < 9). omega arith) (λ (b : i ≡ 17). omega arith) there);
 }
 
 -- the start of a segment is stored
-pub start_set : (ws : List ℕ) (s x : ℕ) → s < 8 → 2 + s < length ws → Set (ent ws) (ent (set ws (2 + s) x)) s x
+pub start_set : (ws : List ℕ) (s x : ℕ) → s < 8 → 9 + s < length ws → Set (ent ws) (ent (set ws (9 + s) x)) s x
 start_set ws s x low inside = record {
-  here = get_or-set_same ws (2 + s) x 0 inside;
-  else = λ j ne. get_or-set_other ws (2 + s) (2 + j) x 0 (λ e. ne (omega arith));
+  here = get_or-set_same ws (9 + s) x 0 inside;
+  else = λ j ne. get_or-set_other ws (9 + s) (9 + j) x 0 (λ e. ne (omega arith));
 }
 
 -- a word of the ring is stored
-pub word_set : (ws : List ℕ) (i x : ℕ) → 11 + i < length ws → Set (word ws) (word (set ws (11 + i) x)) i x
+pub word_set : (ws : List ℕ) (i x : ℕ) → 24 + i < length ws → Set (word ws) (word (set ws (24 + i) x)) i x
 word_set ws i x inside = record {
-  here = get_or-set_same ws (11 + i) x 0 inside;
-  else = λ j ne. get_or-set_other ws (11 + i) (11 + j) x 0 (λ e. ne (omega arith));
+  here = get_or-set_same ws (24 + i) x 0 inside;
+  else = λ j ne. get_or-set_other ws (24 + i) (24 + j) x 0 (λ e. ne (omega arith));
 }
 
 module _ (words : LogUnit → List ℕ) (seg : ℕ) where

@@ -4,6 +4,7 @@ ghost use Rattle.std.specs.Prelude.{◌≡◌, ◌≢◌, ℕ, ◌+◌, ◌-◌,
 ghost use Rattle.vsl_record.specs.Words.{header_mark, unit_words};
 ghost use Rattle.ring_layout.specs.Places.{seek_distance, end_mark, wrap_mark};
 ghost use Rattle.log_ring.specs.declared.rule.Unchecked.TheVariants.{Words, Start};
+ghost use Rattle.log_ring.specs.inside.Rule.{first_ring_word};
 ghost use Rattle.log_ring.specs.inside.Steps.{IsReaderOf, IsReadingOf};
 ghost use Rattle.log_ring.specs.inside.Reading.{reader_of, unchecked_words, unchecked_start, Becomes, LoadsFinished, LoadsHead, LoadsMore, Checks, FindsEnd, FindsLap, FindsUnit, FindsNothing, ChecksAgain, Looks, LoadsStart, Seeks};
 
@@ -47,7 +48,7 @@ impl Ring {
         requires unit { slice_index (unchecked_words (reader_of seat.old.me.0).unchecked) 0 ≢ end_mark }
         requires starts { slice_index (unchecked_words (reader_of seat.old.me.0).unchecked) 0 ≢ wrap_mark }
         requires inside { header_mark + length (unchecked_words (reader_of seat.old.me.0).unchecked) < slice_index (unchecked_words (reader_of seat.old.me.0).unchecked) 0 }
-        requires at { at ≡ 11 + ((reader_of seat.old.me.0).place + length (unchecked_words (reader_of seat.old.me.0).unchecked)) % (8 * self.now.seg) }
+        requires at { at ≡ first_ring_word + ((reader_of seat.old.me.0).place + length (unchecked_words (reader_of seat.old.me.0).unchecked)) % (8 * self.now.seg) }
         ensures same { seat.new.table_id ≡ seat.old.table_id }
         ensures loaded { Becomes LoadsMore seat.old.me result seat.new.me }
     {

@@ -11,6 +11,7 @@ ghost use Rattle.log_ring.specs.inside.Steps.{AreFirstWords, IsFirstSeat, IsRead
 use crate::reader::ReaderPass;
 use crate::ring::{Ring, RingSeat};
 use crate::rule::{OneReader, OneWriter, RingKey};
+use crate::storing::{FIRST, WRITE_TOKEN};
 use crate::writer::WriterPass;
 use atomic_table::Table;
 use log_model::NoMemory;
@@ -29,9 +30,9 @@ pub struct Opened {
 fn first_words(alloc: Global, shape: Shape) -> Result<Vec<u64>, AllocError>
     ensures { IfOk result (λ words. AreFirstWords shape words.items) }
 {
-    let mut words = vec![in alloc; 0; 11 + SEGMENTS * shape.seg() as usize]?;
-    words[0] = 1;
-    words[11] = u64::from(END_MARK);
+    let mut words = vec![in alloc; 0; FIRST + SEGMENTS * shape.seg() as usize]?;
+    words[WRITE_TOKEN] = 1;
+    words[FIRST] = u64::from(END_MARK);
     Ok(words)
 }
 

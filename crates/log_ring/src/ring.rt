@@ -22,11 +22,12 @@ impl Model for Ring {
     ghost use Rattle.std.specs.Prelude.{◌≡◌, ◌+◌, ◌*◌, ◌<◌};
     ghost use Rattle.ring_layout.specs.Places.{IsSegment};
     ghost use Rattle.log_ring.specs.Ring.{RingSet};
+    ghost use Rattle.log_ring.specs.inside.Rule.{first_ring_word};
     ghost use Rattle.log_ring.specs.inside.Steps.{set_of};
 
     ghost Value = { RingSet };
 
     ghost view = { λ r. set_of r.table.shared.table_id r.table.shared.key };
 
-    ghost invariant = { λ r. (r.table.shared.table_id.words ≡ 11 + 8 * r.table.shared.key.seg) × (r.shape ≡ r.table.shared.key.seg) × IsSegment r.table.shared.key.seg × (0 < r.table.shared.key.writers) };
+    ghost invariant = { λ r. (r.table.shared.table_id.words ≡ first_ring_word + 8 * r.table.shared.key.seg) × (r.shape ≡ r.table.shared.key.seg) × IsSegment r.table.shared.key.seg × (0 < r.table.shared.key.writers) };
 }

@@ -5,6 +5,7 @@ ghost use Rattle.vsl_record.specs.Words.{IsUnit, unit_words};
 ghost use Rattle.ring_layout.specs.Places.{last_tail};
 ghost use Rattle.ring_layout.specs.Content.{first_word, last_word};
 ghost use Rattle.log_ring.specs.declared.rule.Progress.TheVariants.{Free, Storing, Stored};
+ghost use Rattle.log_ring.specs.inside.Rule.{first_ring_word};
 ghost use Rattle.log_ring.specs.inside.Writing.{begun, first_entries, after_acquire, after_publish, after_leave};
 ghost use Rattle.log_ring.specs.inside.Steps.{IsPlaced, IsPutAt, with_progress, announced, started, written, marked, first_of, first_writer_of, with_put};
 
@@ -16,20 +17,20 @@ use crate::rule::{
 use ring_layout::{END_MARK, Placed, SEGMENTS, WRAP_MARK, segment_of};
 use vsl_record::{Unit, UnitWords, is_unit};
 
-/// The word of the write token.
-const WRITE_TOKEN: usize = 0;
+/// The word of the write token. Readers load none of the seven behind it, so that writers have a cache line alone.
+pub(crate) const WRITE_TOKEN: usize = 0;
 
 /// The word of the counter.
-pub(crate) const SEGMENT_COUNTER: usize = 1;
+pub(crate) const SEGMENT_COUNTER: usize = 8;
 
 /// The first of the words that keep the starts of segments.
-pub(crate) const SEGMENT_STARTS: usize = 2;
+pub(crate) const SEGMENT_STARTS: usize = 9;
 
 /// The word that counts the writers that left.
-pub(crate) const FINISHED_WRITERS: usize = 10;
+pub(crate) const FINISHED_WRITERS: usize = 17;
 
 /// The first of the ring's words.
-const FIRST: usize = 11;
+pub(crate) const FIRST: usize = 24;
 
 /// A unit, and where it is put at the tail that was found.
 #[derive(Drop)]
@@ -52,7 +53,7 @@ fn skip_header(words: &mut UnitWords<'_>) -> usize
 impl Ring {
     /// The word in which a place lies.
     pub(crate) fn word_of(&self, place: u64) -> usize
-        ensures { result ≡ 11 + place % (8 * self.now.seg) }
+        ensures { result ≡ first_ring_word + place % (8 * self.now.seg) }
     {
         FIRST + (place % (SEGMENTS as u64 * u64::from(self.shape.seg()))) as usize
     }
@@ -200,7 +201,7 @@ impl Ring {
         requires started { seat.old.me.0.progress ≡ Storing (record (started self.now.seg put.now.tail put.now.unit.now) { word = place }) }
         requires inside { place < length (unit_words put.now.unit.now) }
         requires behind { first_word unit_words self.now.seg put.now.tail (length (unit_words put.now.unit.now)) ≤ place }
-        requires at { at ≡ 11 + (put.now.placed.start + place) % (8 * self.now.seg) }
+        requires at { at ≡ first_ring_word + (put.now.placed.start + place) % (8 * self.now.seg) }
         requires word { word ≡ slice_index (unit_words put.now.unit.now) place }
         ensures same { seat.new.table_id ≡ seat.old.table_id }
         ensures stored { seat.new.me ≡ (with_progress (Storing (record (started self.now.seg put.now.tail put.now.unit.now) { word = place + 1 })) seat.old.me.0, seat.old.me.1) }

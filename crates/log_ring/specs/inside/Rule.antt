@@ -1,6 +1,4 @@
--- The rule of the shared words (this project's choice): what holds between any two steps, whoever steps and in whatever order. Word 0 is the write token: the tail and
--- one more, or 0 while a writer puts a unit. Word 1 is the counter: the segment up to which a writer may be writing. Words 2 to 9 keep the starts of segments, word 10
--- counts the writers that left, and the ring's words begin with word 11.
+-- The rule of the shared words (this project's choice): what holds between any two steps, whoever steps and in whatever order.
 use Rattle.std.specs.Prelude.{◌≡◌, ◌≢◌, ◌⊎◌, ℕ, ◌+◌, ◌-◌, ◌*◌, ◌/◌, ◌^◌, ◌<◌, ◌≤◌, true, List, [], ◌∷◌, length, slice_index, sum_by, Some, None}
 use Rattle.std.specs.List.{AllByRecursion}
 use mathlib.Core.Option.{some}
@@ -24,6 +22,26 @@ use Rattle.log_ring.specs.declared.rule.Unchecked.TheVariants.{Nothing, Words, S
 use Rattle.log_ring.specs.declared.rule.ReaderView.{ReaderView}
 use Rattle.log_ring.specs.declared.rule.View.{View}
 use Rattle.log_ring.specs.Ring.{entries_from, most_writers, CursorStands, AreObserved}
+
+-- the word of the write token: the tail and one more, or 0 while a writer puts a unit. Readers load none of the seven behind it, so that writers have a cache line alone
+abbrev pub token_word : ℕ
+token_word = 0
+
+-- the word of the counter: the segment up to which a writer may be writing
+abbrev pub counter_word : ℕ
+counter_word = 8
+
+-- the first of the eight words that keep the starts of segments
+abbrev pub first_start : ℕ
+first_start = 9
+
+-- the word that counts the writers that left
+abbrev pub finished_word : ℕ
+finished_word = 17
+
+-- the first of the ring's words
+abbrev pub first_ring_word : ℕ
+first_ring_word = 24
 
 -- what no word of the ring says
 pub record SharedState : Type 0 where
@@ -147,13 +165,13 @@ module _ (words : LogUnit → List ℕ) where
 
   -- what the words of the table are
   pub record AreWords (seg : ℕ) (w : SharedState) (ws : List ℕ) : Type 0 where
-    pub wide : length ws ≡ 11 + 8 * seg
-    pub token : IsToken seg w.log w.progress (slice_index ws 0)  -- 2
-    pub counter : slice_index ws 1 ≡ w.counter  -- 3
-    pub finished : slice_index ws 10 ≡ w.finished  -- 6
-    pub holds : HoldsLog words seg w.log w.counter (λ i. slice_index ws (2 + i)) (λ i. slice_index ws (11 + i))  -- 4, 5
-    pub under_way : IsUnderWay seg w.log w.counter w.progress (λ i. slice_index ws (2 + i)) (λ i. slice_index ws (11 + i))  -- 3 to 5
-    pub narrow : (i : ℕ) → slice_index ws (11 + i) < 2 ^ 32
+    pub wide : length ws ≡ first_ring_word + 8 * seg
+    pub token : IsToken seg w.log w.progress (slice_index ws token_word)  -- 2
+    pub counter : slice_index ws counter_word ≡ w.counter  -- 3
+    pub finished : slice_index ws finished_word ≡ w.finished  -- 6
+    pub holds : HoldsLog words seg w.log w.counter (λ i. slice_index ws (first_start + i)) (λ i. slice_index ws (first_ring_word + i))  -- 4, 5
+    pub under_way : IsUnderWay seg w.log w.counter w.progress (λ i. slice_index ws (first_start + i)) (λ i. slice_index ws (first_ring_word + i))  -- 3 to 5
+    pub narrow : (i : ℕ) → slice_index ws (first_ring_word + i) < 2 ^ 32
     pub fit : AreFit words seg w.log
     pub units : AllByRecursion IsUnit w.log
     pub low : tail words seg w.log ≤ last_tail

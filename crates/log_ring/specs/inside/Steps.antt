@@ -19,6 +19,7 @@ use Rattle.log_ring.specs.declared.rule.Unchecked.TheVariants.{Words}
 use Rattle.log_ring.specs.declared.rule.Observation.TheVariants.{CounterSeen, FinishedSeen, WordSeen}
 use Rattle.log_ring.specs.declared.rule.View.{View}
 use Rattle.log_ring.specs.Ring.{RingSet, WriterState, ReaderState, busy_of, AreWritersOf, AreReadersOf}
+use Rattle.log_ring.specs.inside.Rule.{token_word, first_ring_word}
 use Rattle.log_ring.specs.inside.Writing.{begun, first_entries, new_writer_views, new_reader_views}
 use Rattle.log_ring.specs.inside.Reading.{reader_of}
 
@@ -98,10 +99,10 @@ writer_of table v = record { ring = set_of table v.ring; number = first_number v
 
 -- the words of a table whose ring has no unit: zeros, but for the write token and the end mark
 pub record AreFirstWords (seg : ℕ) (words : List ℕ) : Type 0 where
-  pub wide : length words ≡ 11 + 8 * seg
-  pub token : slice_index words 0 ≡ 1
-  pub mark : slice_index words 11 ≡ end_mark
-  pub zeros : (i : ℕ) → i ≢ 0 → i ≢ 11 → slice_index words i ≡ 0
+  pub wide : length words ≡ first_ring_word + 8 * seg
+  pub token : slice_index words token_word ≡ 1
+  pub mark : slice_index words first_ring_word ≡ end_mark
+  pub zeros : (i : ℕ) → i ≢ token_word → i ≢ first_ring_word → slice_index words i ≡ 0
 
 -- the first seat of a ring, while it stands for the last k writers and for m readers
 pub record IsFirstSeat (ring : RingSet) (k m : ℕ) (table : TableId) (me : Me ℕ View) : Type 0 where
