@@ -1,0 +1,177 @@
+//! Calls that are stopped between two of their steps.
+
+ghost use Rattle.std.specs.Prelude.{◌≡◌, IfOk};
+ghost use Rattle.log_ring.specs.Ring.{AreWritersOf, AreReadersOf};
+
+use crate::support::{one_reader, one_writer, open, unit_of};
+use log_ring::{Opened, Pause, ReaderPass, Ring, WriterPass};
+use ring_layout::{PutFault, Sought, Step};
+use std::alloc::Global;
+use std::process::Abort;
+use std::test::Fail;
+use vsl_record::Unit;
+
+/// Puts a unit so many times before one step.
+#[derive(Drop)]
+struct PutsAt<'a> {
+    ring: &'a Ring,
+    writer: WriterPass,
+    unit: &'a Unit,
+    when: u64,
+    times: u64,
+    calls: u64,
+    puts: u64,
+    ghost ours: { writer.ring ≡ ring.now },
+}
+
+impl Pause for PutsAt<'_> {
+    fn at(&mut self, step: u64) {
+        self.calls = self.calls.wrapping_add(1);
+        if step == self.when {
+            for _ in 0..self.times {
+                if self.writer.try_put(self.ring, self.unit).is_ok() {
+                    self.puts = self.puts.wrapping_add(1);
+                }
+            }
+        }
+    }
+}
+
+/// The passes of a ring with one writer and one reader.
+fn one_each(mut opened: Opened) -> Result<(Ring, WriterPass, ReaderPass), Fail>
+    requires writers { AreWritersOf opened.ring opened.writers.items }
+    requires readers { AreReadersOf opened.ring opened.readers.items }
+    ensures writer { IfOk result (λ made. made.1.ring ≡ made.0) }
+    ensures reader { IfOk result (λ made. made.2.ring ≡ made.0) }
+    ensures ring { IfOk result (λ made. made.0 ≡ opened.ring) }
+{
+    let writer = one_writer(&mut opened)?;
+    let reader = one_reader(&mut opened)?;
+    Ok((opened.ring, writer, reader))
+}
+
+/// What a cursor at the first of the ring's units answers, where so many more are put before one step.
+fn stopped_at(rt: &impl Abort, alloc: Global, when: u64, times: u64) -> Result<Step, Fail> {
+    let unit = unit_of(alloc, 1, 64)?;
+    let (ring, mut writer, mut reader) = one_each(open(alloc, 1, 1)?)?;
+    assert_eq!(rt; writer.try_put(&ring, &unit), Ok(()));
+    let mut pause = PutsAt {
+        ring: &ring,
+        writer,
+        unit: &unit,
+        when,
+        times,
+        calls: 0,
+        puts: 0,
+    };
+    let answer = reader.next_with(&ring, &mut pause);
+    assert_eq!(rt; pause.puts, times);
+    Ok(answer)
+}
+
+/// How many units are put at once, and what the cursor answers.
+const PUT_AT_ONCE: [(u64, Step); 3] = [
+    (4, Step::Took),
+    (5, Step::Lost { at: 0, seen: 6 }),
+    (8, Step::Lost { at: 0, seen: 10 }),
+];
+
+#[test]
+fn a_cursor_answers_alike_wherever_it_is_stopped(rt: HostRuntime) -> Result<(), Fail> {
+    for (times, answer) in PUT_AT_ONCE {
+        for when in 0..66 {
+            let met = stopped_at(&rt, rt.alloc(), when, times)?;
+            assert_eq!(&rt; met, answer, "{times} units at step {when}");
+        }
+    }
+    Ok(())
+}
+
+/// Tries to put a unit, and reads, before each step.
+#[derive(Drop)]
+struct TriesAt<'a> {
+    ring: &'a Ring,
+    writer: WriterPass,
+    reader: ReaderPass,
+    unit: &'a Unit,
+    calls: u64,
+    busy: u64,
+    waits: u64,
+    takes: u64,
+    took_at: u64,
+    ghost ours: { writer.ring ≡ ring.now },
+    ghost theirs: { reader.ring ≡ ring.now },
+}
+
+impl Pause for TriesAt<'_> {
+    fn at(&mut self, step: u64) {
+        self.calls = self.calls.wrapping_add(1);
+        if self.writer.try_put(self.ring, self.unit) == Err(PutFault::Busy) {
+            self.busy = self.busy.wrapping_add(1);
+        }
+        match self.reader.next(self.ring) {
+            Step::NotYet { place: 0 } => self.waits = self.waits.wrapping_add(1),
+            Step::Took => {
+                self.takes = self.takes.wrapping_add(1);
+                self.took_at = step;
+            }
+            _ => {}
+        }
+    }
+}
+
+#[test]
+fn a_unit_is_seen_once_its_last_word_is_stored(rt: HostRuntime) -> Result<(), Fail> {
+    for words in 3u8..64 {
+        let unit = unit_of(rt.alloc(), 1, words)?;
+        let mut opened = open(rt.alloc(), 2, 1)?;
+        let second = one_writer(&mut opened)?;
+        let (ring, mut first, reader) = one_each(opened)?;
+        let mut pause = TriesAt {
+            ring: &ring,
+            writer: second,
+            reader,
+            unit: &unit,
+            calls: 0,
+            busy: 0,
+            waits: 0,
+            takes: 0,
+            took_at: 0,
+        };
+        assert_eq!(&rt; first.try_put_with(&ring, &unit, &mut pause), Ok(()));
+        let size = u64::from(words);
+        assert_eq!(&rt; pause.calls, size + 2);
+        assert_eq!(&rt; pause.busy, size + 2);
+        assert_eq!(&rt; pause.waits, size + 1);
+        assert_eq!(&rt; pause.takes, 1);
+        assert_eq!(&rt; pause.took_at, size + 1);
+    }
+    Ok(())
+}
+
+#[test]
+fn a_cursor_that_seeks_is_overrun_again(rt: HostRuntime) -> Result<(), Fail> {
+    let unit = unit_of(rt.alloc(), 1, 64)?;
+    let (ring, mut writer, mut reader) = one_each(open(rt.alloc(), 1, 1)?)?;
+    for _ in 0..9 {
+        assert_eq!(&rt; writer.try_put(&ring, &unit), Ok(()));
+    }
+    assert_eq!(&rt; reader.next(&ring), Step::Lost { at: 0, seen: 10 });
+    assert_eq!(&rt; reader.is_lost(), true);
+    let mut pause = PutsAt {
+        ring: &ring,
+        writer,
+        unit: &unit,
+        when: 2,
+        times: 7,
+        calls: 0,
+        puts: 0,
+    };
+    assert_eq!(&rt;
+        reader.seek_with(&ring, &mut pause),
+        Sought::Lost { at: 6, seen: 18 }
+    );
+    assert_eq!(&rt; pause.calls, 3);
+    assert_eq!(&rt; pause.puts, 7);
+    Ok(())
+}
