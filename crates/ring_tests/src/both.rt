@@ -3,7 +3,7 @@
 ghost use Rattle.std.specs.Prelude.{◌≡◌, Some};
 ghost use Rattle.log_ring.specs.Ring.{WriterState};
 
-use crate::support::{least_shape, one_reader, one_writer, open};
+use crate::support::{least_shape, open_pair};
 use log_ring::{ReaderPass, Ring, WriterPass};
 use ring_layout::{PutFault, Sought, Step};
 use ring_plain::{PlainCursor, PlainRing};
@@ -114,11 +114,9 @@ pub struct Shared {
 
 impl AnyRing for Shared {
     fn new(alloc: Global) -> Result<Self, Fail> {
-        let mut opened = open(alloc, 1, 1)?;
-        let writer = one_writer(&mut opened)?;
-        let reader = one_reader(&mut opened)?;
+        let (ring, writer, reader) = open_pair(alloc)?;
         Ok(Shared {
-            ring: opened.ring,
+            ring,
             writer: Some(writer),
             reader,
         })

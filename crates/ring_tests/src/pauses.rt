@@ -1,10 +1,9 @@
 //! Calls that are stopped between two of their steps.
 
-ghost use Rattle.std.specs.Prelude.{◌≡◌, IfOk};
-ghost use Rattle.log_ring.specs.Ring.{AreWritersOf, AreReadersOf};
+ghost use Rattle.std.specs.Prelude.{◌≡◌};
 
-use crate::support::{one_reader, one_writer, open, unit_of};
-use log_ring::{Opened, Pause, ReaderPass, Ring, WriterPass};
+use crate::support::{one_reader, one_writer, open, open_pair, unit_of};
+use log_ring::{Pause, ReaderPass, Ring, WriterPass};
 use ring_layout::{PutFault, Sought, Step};
 use std::alloc::Global;
 use std::process::Abort;
@@ -19,14 +18,12 @@ struct PutsAt<'a> {
     unit: &'a Unit,
     when: u64,
     times: u64,
-    calls: u64,
     puts: u64,
     ghost ours: { writer.ring ≡ ring.now },
 }
 
 impl Pause for PutsAt<'_> {
     fn at(&mut self, step: u64) {
-        self.calls = self.calls.wrapping_add(1);
         if step == self.when {
             for _ in 0..self.times {
                 if self.writer.try_put(self.ring, self.unit).is_ok() {
@@ -37,23 +34,10 @@ impl Pause for PutsAt<'_> {
     }
 }
 
-/// The passes of a ring with one writer and one reader.
-fn one_each(mut opened: Opened) -> Result<(Ring, WriterPass, ReaderPass), Fail>
-    requires writers { AreWritersOf opened.ring opened.writers.items }
-    requires readers { AreReadersOf opened.ring opened.readers.items }
-    ensures writer { IfOk result (λ made. made.1.ring ≡ made.0) }
-    ensures reader { IfOk result (λ made. made.2.ring ≡ made.0) }
-    ensures ring { IfOk result (λ made. made.0 ≡ opened.ring) }
-{
-    let writer = one_writer(&mut opened)?;
-    let reader = one_reader(&mut opened)?;
-    Ok((opened.ring, writer, reader))
-}
-
 /// What a cursor at the first of the ring's units answers, where so many more are put before one step.
 fn stopped_at(rt: &impl Abort, alloc: Global, when: u64, times: u64) -> Result<Step, Fail> {
     let unit = unit_of(alloc, 1, 64)?;
-    let (ring, mut writer, mut reader) = one_each(open(alloc, 1, 1)?)?;
+    let (ring, mut writer, mut reader) = open_pair(alloc)?;
     assert_eq!(rt; writer.try_put(&ring, &unit), Ok(()));
     let mut pause = PutsAt {
         ring: &ring,
@@ -61,7 +45,6 @@ fn stopped_at(rt: &impl Abort, alloc: Global, when: u64, times: u64) -> Result<S
         unit: &unit,
         when,
         times,
-        calls: 0,
         puts: 0,
     };
     let answer = reader.next_with(&ring, &mut pause);
@@ -97,7 +80,6 @@ struct TriesAt<'a> {
     calls: u64,
     busy: u64,
     waits: u64,
-    takes: u64,
     took_at: u64,
     ghost ours: { writer.ring ≡ ring.now },
     ghost theirs: { reader.ring ≡ ring.now },
@@ -111,10 +93,7 @@ impl Pause for TriesAt<'_> {
         }
         match self.reader.next(self.ring) {
             Step::NotYet { place: 0 } => self.waits = self.waits.wrapping_add(1),
-            Step::Took => {
-                self.takes = self.takes.wrapping_add(1);
-                self.took_at = step;
-            }
+            Step::Took => self.took_at = step,
             _ => {}
         }
     }
@@ -126,7 +105,9 @@ fn a_unit_is_seen_once_its_last_word_is_stored(rt: HostRuntime) -> Result<(), Fa
         let unit = unit_of(rt.alloc(), 1, words)?;
         let mut opened = open(rt.alloc(), 2, 1)?;
         let second = one_writer(&mut opened)?;
-        let (ring, mut first, reader) = one_each(opened)?;
+        let mut first = one_writer(&mut opened)?;
+        let reader = one_reader(&mut opened)?;
+        let ring = opened.ring;
         let mut pause = TriesAt {
             ring: &ring,
             writer: second,
@@ -135,7 +116,6 @@ fn a_unit_is_seen_once_its_last_word_is_stored(rt: HostRuntime) -> Result<(), Fa
             calls: 0,
             busy: 0,
             waits: 0,
-            takes: 0,
             took_at: 0,
         };
         assert_eq!(&rt; first.try_put_with(&ring, &unit, &mut pause), Ok(()));
@@ -143,7 +123,6 @@ fn a_unit_is_seen_once_its_last_word_is_stored(rt: HostRuntime) -> Result<(), Fa
         assert_eq!(&rt; pause.calls, size + 2);
         assert_eq!(&rt; pause.busy, size + 2);
         assert_eq!(&rt; pause.waits, size + 1);
-        assert_eq!(&rt; pause.takes, 1);
         assert_eq!(&rt; pause.took_at, size + 1);
     }
     Ok(())
@@ -152,7 +131,7 @@ fn a_unit_is_seen_once_its_last_word_is_stored(rt: HostRuntime) -> Result<(), Fa
 #[test]
 fn a_cursor_that_seeks_is_overrun_again(rt: HostRuntime) -> Result<(), Fail> {
     let unit = unit_of(rt.alloc(), 1, 64)?;
-    let (ring, mut writer, mut reader) = one_each(open(rt.alloc(), 1, 1)?)?;
+    let (ring, mut writer, mut reader) = open_pair(rt.alloc())?;
     for _ in 0..9 {
         assert_eq!(&rt; writer.try_put(&ring, &unit), Ok(()));
     }
@@ -164,14 +143,12 @@ fn a_cursor_that_seeks_is_overrun_again(rt: HostRuntime) -> Result<(), Fail> {
         unit: &unit,
         when: 2,
         times: 7,
-        calls: 0,
         puts: 0,
     };
     assert_eq!(&rt;
         reader.seek_with(&ring, &mut pause),
         Sought::Lost { at: 6, seen: 18 }
     );
-    assert_eq!(&rt; pause.calls, 3);
     assert_eq!(&rt; pause.puts, 7);
     Ok(())
 }

@@ -7,21 +7,23 @@ use std::alloc::Global;
 use std::process::Abort;
 use std::test::Fail;
 
-/// Calls, and what they answer.
+/// Calls, and what they answer. Units have numbers from 1.
 #[derive(Clone, Copy)]
 enum Row {
-    /// Units of 64 words are put: the first, and so on up to this one.
-    Fills(u8),
+    /// Units of 64 words are put: those of these numbers, the last too.
+    Fills(u8, u8),
     /// The same, and the cursor takes each at once.
-    Follows(u8),
-    /// The unit of this number is put, which has so many words.
+    Follows(u8, u8),
+    /// A unit is put: its number, and how many words it has.
     Puts(u8, u8),
+    /// The same, and the cursor takes it at once.
+    Passes(u8, u8),
     /// A unit of so many words is longer than a segment.
     Refuses(u8),
     /// The writer leaves.
     Leaves,
-    /// The cursor takes the unit of this number.
-    Takes(u8),
+    /// The cursor takes the units of these numbers, the last too.
+    Takes(u8, u8),
     /// No unit is at the cursor's place.
     Waits(u64),
     /// No unit comes any more.
@@ -32,7 +34,7 @@ enum Row {
     Seeks(u64, u64),
 }
 
-use Row::{Ended, Fills, Follows, Leaves, Overrun, Puts, Refuses, Seeks, Takes, Waits};
+use Row::{Ended, Fills, Follows, Leaves, Overrun, Passes, Puts, Refuses, Seeks, Takes, Waits};
 
 /// The unit of this number is put, which has so many words.
 fn put<T: AnyRing>(
@@ -62,18 +64,22 @@ fn meet<T: AnyRing>(rt: &impl Abort, ring: &mut T, step: Step, is_lost: bool) {
 /// One row.
 fn run_row<T: AnyRing>(rt: &impl Abort, alloc: Global, ring: &mut T, row: Row) -> Result<(), Fail> {
     match row {
-        Fills(last) => {
-            for number in 1..=last {
+        Fills(first, last) => {
+            for number in first..=last {
                 put(rt, alloc, ring, number, 64)?;
             }
         }
-        Follows(last) => {
-            for number in 1..=last {
+        Follows(first, last) => {
+            for number in first..=last {
                 put(rt, alloc, ring, number, 64)?;
                 take(rt, ring, number);
             }
         }
         Puts(number, words) => put(rt, alloc, ring, number, words)?,
+        Passes(number, words) => {
+            put(rt, alloc, ring, number, words)?;
+            take(rt, ring, number);
+        }
         Refuses(words) => {
             let unit = unit_of(alloc, 99, words)?;
             let fault = PutFault::TooLong {
@@ -82,7 +88,11 @@ fn run_row<T: AnyRing>(rt: &impl Abort, alloc: Global, ring: &mut T, row: Row) -
             assert_eq!(rt; ring.put(&unit), Err(fault));
         }
         Leaves => ring.leave(),
-        Takes(number) => take(rt, ring, number),
+        Takes(first, last) => {
+            for number in first..=last {
+                take(rt, ring, number);
+            }
+        }
         Waits(place) => meet(rt, ring, Step::NotYet { place }, false),
         Ended => meet(rt, ring, Step::Ended, false),
         Overrun(at, seen) => meet(rt, ring, Step::Lost { at, seen }, true),
@@ -111,155 +121,83 @@ fn run_both(rt: &impl Abort, alloc: Global, rows: &[Row]) -> Result<(), Fail> {
 
 #[test]
 fn a_new_cursor_waits_at_the_first_place(rt: HostRuntime) -> Result<(), Fail> {
-    run_both(
-        &rt,
-        rt.alloc(),
-        &[Waits(0), Waits(0), Puts(1, 3), Takes(1), Waits(3)],
-    )
+    run_both(&rt, rt.alloc(), &[Waits(0), Passes(1, 3), Waits(3)])
 }
 
 #[test]
 fn a_unit_longer_than_a_segment_is_refused(rt: HostRuntime) -> Result<(), Fail> {
-    run_both(
-        &rt,
-        rt.alloc(),
-        &[
-            Refuses(65),
-            Waits(0),
-            Fills(1),
-            Refuses(65),
-            Takes(1),
-            Waits(64),
-        ],
-    )
+    let rows = [Refuses(65), Waits(0), Passes(1, 64), Waits(64)];
+    run_both(&rt, rt.alloc(), &rows)
 }
 
 #[test]
 fn a_cursor_five_segments_behind_takes_its_unit(rt: HostRuntime) -> Result<(), Fail> {
-    run_both(
-        &rt,
-        rt.alloc(),
-        &[
-            Follows(2),
-            Puts(3, 64),
-            Puts(4, 64),
-            Puts(5, 64),
-            Puts(6, 64),
-            Puts(7, 64),
-            Puts(8, 12),
-            Takes(3),
-        ],
-    )
+    let rows = [Follows(1, 2), Fills(3, 7), Puts(8, 12), Takes(3, 8)];
+    run_both(&rt, rt.alloc(), &rows)
 }
 
 #[test]
 fn a_cursor_six_segments_behind_is_overrun(rt: HostRuntime) -> Result<(), Fail> {
-    run_both(
-        &rt,
-        rt.alloc(),
-        &[
-            Follows(2),
-            Puts(3, 64),
-            Puts(4, 64),
-            Puts(5, 64),
-            Puts(6, 64),
-            Puts(7, 64),
-            Puts(8, 12),
-            Puts(9, 60),
-            Overrun(2, 8),
-            Overrun(2, 8),
-            Seeks(4, 256),
-            Takes(5),
-            Takes(6),
-            Takes(7),
-            Takes(8),
-            Takes(9),
-            Waits(572),
-        ],
-    )
+    let rows = [
+        Follows(1, 2),
+        Fills(3, 7),
+        Puts(8, 12),
+        Puts(9, 60),
+        Overrun(2, 8),
+        Overrun(2, 8),
+        Seeks(4, 256),
+        Takes(5, 9),
+        Waits(572),
+    ];
+    run_both(&rt, rt.alloc(), &rows)
 }
 
 #[test]
 fn a_unit_stays_where_its_lap_has_a_word_more(rt: HostRuntime) -> Result<(), Fail> {
-    let alloc = rt.alloc();
-    run_both(
-        &rt,
-        alloc,
-        &[
-            Follows(6),
-            Puts(7, 63),
-            Takes(7),
-            Puts(8, 63),
-            Takes(8),
-            Waits(510),
-        ],
-    )?;
-    run_both(
-        &rt,
-        alloc,
-        &[
-            Follows(6),
-            Puts(7, 63),
-            Takes(7),
-            Puts(8, 64),
-            Takes(8),
-            Waits(511),
-            Puts(9, 3),
-            Takes(9),
-            Waits(515),
-        ],
-    )?;
-    run_both(&rt, alloc, &[Follows(7), Puts(8, 64), Takes(8), Waits(576)])
+    let before = [Follows(1, 6), Passes(7, 63), Passes(8, 63), Waits(510)];
+    let at = [Follows(1, 6), Passes(7, 63), Passes(8, 64), Waits(511)];
+    let past = [Follows(1, 7), Passes(8, 64), Waits(576)];
+    run_both(&rt, rt.alloc(), &before)?;
+    run_both(&rt, rt.alloc(), &at)?;
+    run_both(&rt, rt.alloc(), &past)
 }
 
 #[test]
 fn a_seek_finds_each_segment_that_a_unit_entered(rt: HostRuntime) -> Result<(), Fail> {
-    let alloc = rt.alloc();
-    run_both(
-        &rt,
-        alloc,
-        &[
-            Puts(1, 60),
-            Puts(2, 64),
-            Puts(3, 64),
-            Puts(4, 64),
-            Puts(5, 64),
-            Puts(6, 64),
-            Puts(7, 64),
-            Overrun(0, 6),
-            Seeks(2, 188),
-            Takes(4),
-        ],
-    )?;
-    run_both(
-        &rt,
-        alloc,
-        &[Fills(11), Overrun(0, 12), Seeks(8, 512), Takes(8)],
-    )?;
-    run_both(
-        &rt,
-        alloc,
-        &[Fills(12), Overrun(0, 13), Seeks(9, 576), Takes(9)],
-    )
+    let by_its_tail = [
+        Puts(1, 60),
+        Fills(2, 7),
+        Overrun(0, 6),
+        Seeks(2, 188),
+        Takes(4, 7),
+    ];
+    let by_a_wrap = [
+        Fills(1, 7),
+        Puts(8, 12),
+        Puts(9, 60),
+        Fills(10, 13),
+        Overrun(0, 12),
+        Seeks(8, 512),
+        Takes(9, 13),
+    ];
+    let first_of_two = [Fills(1, 11), Overrun(0, 12), Seeks(8, 512), Takes(8, 11)];
+    let last_of_two = [Fills(1, 12), Overrun(0, 13), Seeks(9, 576), Takes(9, 12)];
+    run_both(&rt, rt.alloc(), &by_its_tail)?;
+    run_both(&rt, rt.alloc(), &by_a_wrap)?;
+    run_both(&rt, rt.alloc(), &first_of_two)?;
+    run_both(&rt, rt.alloc(), &last_of_two)
 }
 
 #[test]
 fn a_cursor_ends_behind_the_last_unit(rt: HostRuntime) -> Result<(), Fail> {
-    let alloc = rt.alloc();
-    run_both(&rt, alloc, &[Leaves, Ended, Ended])?;
-    run_both(
-        &rt,
-        alloc,
-        &[
-            Fills(6),
-            Leaves,
-            Overrun(0, 6),
-            Seeks(2, 128),
-            Takes(3),
-            Takes(4),
-            Takes(5),
-            Takes(6),
-            Ended,
-        ],
-    )
+    let rows = [
+        Fills(1, 6),
+        Leaves,
+        Overrun(0, 6),
+        Seeks(2, 128),
+        Takes(3, 6),
+        Ended,
+    ];
+    run_both(&rt, rt.alloc(), &[Leaves, Ended, Ended])?;
+    run_both(&rt, rt.alloc(), &rows)
 }

@@ -58,11 +58,27 @@ pub fn open(alloc: Global, writers: u32, readers: u32) -> Result<Opened, Fail>
     Ok(Ring::new(alloc, least_shape()?, writers, readers)?)
 }
 
+/// A ring with one writer and one reader.
+pub fn open_pair(alloc: Global) -> Result<(Ring, WriterPass, ReaderPass), Fail>
+    ensures writer { IfOk result (λ made. made.1.ring ≡ made.0) }
+    ensures reader { IfOk result (λ made. made.2.ring ≡ made.0) }
+{
+    let mut opened = open(alloc, 1, 1)?;
+    let writer = one_writer(&mut opened)?;
+    let reader = one_reader(&mut opened)?;
+    Ok((opened.ring, writer, reader))
+}
+
+/// What the payload of a unit with this VXID is filled with.
+pub fn filling(vxid: u32) -> u8 {
+    (vxid % 251) as u8
+}
+
 /// A unit of one record, which has so many words: 3 for the heads of the unit and the record, and the payload's.
 pub fn unit_of(alloc: Global, vxid: u32, words: u8) -> Result<Unit, Fail>
     requires { vxid < vxid_end }
 {
-    let payload = vec![in alloc; 0x61; 4 * words.saturating_sub(3) as usize]?;
+    let payload = vec![in alloc; filling(vxid); 4 * words.saturating_sub(3) as usize]?;
     let tag = Tag::from_number(VCL_LOG).ok_or("24 is a tag")?;
     let one = Record::new(alloc, tag, Mark::Client, payload.as_slice())?;
     Ok(Unit::new(vxid, Mark::Client, Vec::from_array(alloc, [one])?)?)

@@ -1,26 +1,36 @@
 //! Two writers and a reader on threads of their own.
 
 ghost use Rattle.std.specs.Prelude.{◌≡◌, ◌<◌};
+ghost use Rattle.vsl_record.specs.Unit.{LogUnit};
+ghost use Rattle.vsl_record.specs.Views.{Spells};
 
-use crate::support::{one_reader, one_writer, open, unit_of};
+use crate::support::{filling, one_reader, one_writer, open, unit_of};
 use log_ring::{LeftWriter, ReaderPass, Ring, WriterPass, close};
 use ring_layout::Step;
 use std::alloc::Global;
 use std::sync::Wait;
 use std::test::Fail;
 use std::thread::{Threads, join};
-use vsl_record::Unit;
+use vsl_record::{Unit, UnitView};
 
-/// How many units each writer puts.
+/// How many units each writer puts. Together they have 33,268 words.
 const UNITS: u32 = 500;
 
-/// Units whose numbers grow by two, from this one on.
+/// A lap is left with 448 to 511 words of units, so that 65 to 74 of them wrap.
+const WRAPS: (u64, u64) = (65, 74);
+
+/// How many words the unit of this number has.
+fn words_of(number: u32) -> u8 {
+    3 + (number % 62) as u8
+}
+
+/// Units whose VXIDs are twice their numbers, and this more.
 fn units_from(alloc: Global, first: u32) -> Result<Vec<Unit>, Fail>
     requires { first < 2 }
 {
     let mut units = Vec::new(alloc);
-    for k in 0..UNITS {
-        units.push(unit_of(alloc, first + 2 * k, 3 + (k % 62) as u8)?)?;
+    for number in 0..UNITS {
+        units.push(unit_of(alloc, 2 * number + first, words_of(number))?)?;
     }
     Ok(units)
 }
@@ -60,14 +70,40 @@ fn put_both<R: Threads + Wait + Sync>(
 }
 
 /// What a reader saw.
-#[derive(Clone, Copy, Debug, PartialEq, Eq)]
+#[derive(Clone, Copy)]
 struct Seen {
-    taken: u64,
-    overruns: u64,
+    taken: u32,
+    overruns: u32,
     /// The next number that may come of each writer.
     next: [u32; 2],
-    /// Whether each writer's numbers grew, and each unit had its size.
-    in_order: bool,
+    /// Whether each writer's numbers grew, and each unit had its payload.
+    as_put: bool,
+}
+
+/// Whether the unit has the payload that was put with its VXID.
+fn is_as_put(unit: UnitView<'_>) -> bool
+    requires { (u : LogUnit) × Spells unit u }
+{
+    if unit.len() != 1 {
+        return false;
+    }
+    let vxid = unit.vxid();
+    let payload = unit.item(0).payload;
+    let byte = filling(vxid);
+    payload.len() + 12 == 4 * words_of(vxid / 2) as usize && payload.iter().all(|b| *b == byte)
+}
+
+impl Seen {
+    /// One unit more.
+    fn add(&mut self, unit: UnitView<'_>)
+        requires { (u : LogUnit) × Spells unit u }
+    {
+        let vxid = unit.vxid();
+        let (number, writer) = (vxid / 2, (vxid % 2) as usize);
+        self.as_put &= is_as_put(unit) && number >= self.next[writer];
+        self.next[writer] = number + 1;
+        self.taken = self.taken.wrapping_add(1);
+    }
 }
 
 /// Reads to the end.
@@ -79,31 +115,20 @@ fn read_all<R: Wait>(rt: &R, ring: &Ring, mut reader: ReaderPass) -> (Seen, Read
         taken: 0,
         overruns: 0,
         next: [0, 0],
-        in_order: true,
+        as_put: true,
     };
     for _ in rt.forever() {
         match reader.next(ring) {
-            Step::Took => {
-                let vxid = reader.unit().vxid();
-                let writer = (vxid % 2) as usize;
-                if vxid / 2 < seen.next[writer] {
-                    seen.in_order = false;
-                }
-                if reader.unit().len() != 1 {
-                    seen.in_order = false;
-                }
-                seen.next[writer] = vxid / 2 + 1;
-                seen.taken = seen.taken.wrapping_add(1);
-            }
+            Step::Took => seen.add(reader.unit()),
             Step::NotYet { .. } => {}
             Step::Ended => return (seen, reader),
             Step::Lost { .. } => {
                 seen.overruns = seen.overruns.wrapping_add(1);
-                let _ = reader.seek(ring);
+                reader.seek(ring);
             }
         }
     }
-    (seen, reader)
+    unreachable!()
 }
 
 #[test]
@@ -123,10 +148,12 @@ fn a_reader_takes_units_of_two_writers_in_their_orders(rt: HostRuntime) -> Resul
         { put_both(&rt, &ring, one, two, even.as_slice(), odd.as_slice()) },
         || read_all(&rt, &ring, reader),
     );
-    assert_eq!(&rt; seen.in_order, true);
+    assert_eq!(&rt; seen.as_put, true);
+    // The last unit of the log is one writer's last, and no cursor ends before it.
     assert_eq!(&rt; seen.next[0].max(seen.next[1]), UNITS);
-    assert_eq!(&rt; lefts.0.wraps() > 0, true);
-    assert_eq!(&rt; lefts.1.wraps() > 0, true);
+    assert_eq!(&rt; seen.overruns > 0 || seen.taken == 2 * UNITS, true);
+    let wraps = lefts.0.wraps().saturating_add(lefts.1.wraps());
+    assert_eq!(&rt; WRAPS.0 <= wraps && wraps <= WRAPS.1, true);
     let _closed = close(
         ring,
         Vec::from_array(alloc, [lefts.0, lefts.1])?,
