@@ -1,5 +1,5 @@
 -- The passes of a ring that was opened.
-use Rattle.std.proofs.Common.{◌≡◌, ℕ, zero, suc, ◌+◌, List, [], ◌∷◌, ◌++◌, map, sym, refl, ap, ◌∙◌, subst}
+use Rattle.std.proofs.Common.{◌≡◌, ℕ, List, [], ◌∷◌, ◌++◌, map, sym, refl, subst}
 use Rattle.std.specs.List.{AllByRecursion}
 use Rattle.log_ring.specs.Ring.{RingSet, WriterState, ReaderState, new_writer, new_writers, new_pass, new_passes, AreWritersOf, AreReadersOf}
 

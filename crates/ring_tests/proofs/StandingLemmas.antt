@@ -1,9 +1,8 @@
 -- Each call leaves the cursor in the ring's log.
-use Rattle.std.proofs.Common.{◌≡◌, ℕ, zero, suc, ◌+◌, ◌-◌, ◌<◌, List, [], ◌∷◌, ◌++◌, sym, refl, ap, ◌∙◌, subst, arith, Option, Some, None, rules}
+use Rattle.std.proofs.Common.{◌≡◌, ℕ, ◌+◌, ◌<◌, [], ◌∷◌, ◌++◌, sym, refl, ◌∙◌, subst, arith, Option, Some, None}
 use Rattle.std.proofs.lemmas.Option.{none-some}
 use Rattle.vsl_record.specs.Unit.{LogUnit, Log}
 use Rattle.vsl_record.specs.Words.{unit_words}
-use Rattle.vsl_record.specs.Views.{Spells}
 use Rattle.ring_layout.specs.declared.steps.Step.{Step}
 use Rattle.ring_layout.specs.declared.steps.Step.TheVariants.{Took, NotYet, Ended, Lost}
 use Rattle.ring_layout.specs.History.{first_number}
