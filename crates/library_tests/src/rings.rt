@@ -1,23 +1,12 @@
-//! Rings: where units lie in them, what is refused, and what a cursor takes; and what a listing has.
+//! Where units lie in a ring, and what a listing has.
 
-ghost use Rattle.std.specs.Prelude.{◌≡◌, ◌<◌, IfOk};
-ghost use Rattle.vsl_record.specs.Unit.{vxid_end};
+ghost use Rattle.std.specs.Prelude.{◌≡◌, IfOk};
 
-use crate::support::record_of;
-use ring_layout::{Placed, PutFault, Shape, place_after, segment_of};
-use ring_plain::PlainRing;
-use std::alloc::Global;
+use ring_layout::{Placed, Shape, place_after, segment_of};
 use std::process::Abort;
 use std::test::Fail;
 use traffic_feed::{ListFault, read_listing};
-use vsl_record::{Mark, Unit};
-use vsl_tags::Tag;
-
-/// The number of the tag VCL_Log.
-const VCL_LOG: u8 = 24;
-
-/// A header and a record's head take three words, so that a unit of this payload takes 65.
-const BYTES: [u8; 248] = [0x61; 248];
+use vsl_record::Unit;
 
 /// The last tail that a ring has, less ten: 2^62 - 10.
 const LATE_TAIL: u64 = 4_611_686_018_427_387_894;
@@ -33,15 +22,6 @@ fn least_shape() -> Result<Shape, Fail>
     ensures { IfOk result (λ shape. shape ≡ 64) }
 {
     Ok(Shape::new(64).ok_or("64 words are a segment")?)
-}
-
-/// A client's unit of one record.
-fn unit_of(alloc: Global, vxid: u32, payload: &[u8]) -> Result<Unit, Fail>
-    requires { vxid < vxid_end }
-{
-    let tag = Tag::from_number(VCL_LOG).ok_or("24 is a tag")?;
-    let one = record_of(alloc, tag, payload)?;
-    Ok(Unit::new(vxid, Mark::Client, Vec::from_array(alloc, [one])?)?)
 }
 
 /// The unit has this VXID, and is of one record with this payload.
@@ -83,15 +63,6 @@ fn no_unit_lies_behind_the_last_tail(rt: HostRuntime) -> Result<(), Fail> {
     };
     assert_eq!(rt; place_after(shape, LATE_TAIL, 64), None);
     assert_eq!(rt; place_after(shape, LATE_TAIL, 3), Some(last));
-    Ok(())
-}
-
-#[test]
-fn a_unit_longer_than_a_segment_is_refused(rt: HostRuntime) -> Result<(), Fail> {
-    let mut ring = PlainRing::new(rt.alloc(), least_shape()?)?;
-    let unit = unit_of(rt.alloc(), 1, &BYTES)?;
-    assert_eq!(rt; unit.words(), 65);
-    assert_eq!(rt; ring.put(&unit), Err(PutFault::TooLong { words: 65 }));
     Ok(())
 }
 
