@@ -1,0 +1,48 @@
+#!/usr/bin/env python3
+"""Proves and builds the program that `bench/ring` and `bench/ring_sweep` run, in a copy of the crates.
+
+Its source stands beside this script as text, since the repository lists only the crates of its own.
+Usage: bench/ring_program/build.py FOLDER. FOLDER is emptied; the program is then FOLDER/crates/ring_bench/out/ring_bench.
+"""
+
+import pathlib
+import shutil
+import subprocess
+import sys
+
+HERE = pathlib.Path(__file__).resolve().parent
+TOP = HERE.parent.parent
+NAME = "ring_bench"
+USES = "log_model vsl_tags vsl_record ring_layout log_ring atomic_table crossbeam_queue anyhow"
+
+
+def copy_crates(folder):
+    """Copies the crates, without what `rt` made of them, and adds the program as one more."""
+    shutil.rmtree(folder, ignore_errors=True)
+    shutil.copytree(TOP / "crates", folder / "crates", ignore=shutil.ignore_patterns("out"))
+    shutil.copy(TOP / "HANDLES", folder / "HANDLES")
+    listed = (TOP / "crates.txt").read_text()
+    (folder / "crates.txt").write_text(f"{listed}{NAME}: {USES}\n")
+    for text in HERE.rglob("*.txt"):
+        file = folder / "crates" / NAME / text.relative_to(HERE).with_suffix("")
+        file.parent.mkdir(parents=True, exist_ok=True)
+        shutil.copy(text, file)
+
+
+def build(folder):
+    """Proves and builds the program, and answers where it is."""
+    folder = pathlib.Path(folder).resolve()
+    copy_crates(folder)
+    crate = folder / "crates" / NAME
+    # a first run of a few units, since only a run links the program
+    done = subprocess.run(
+        ["rt", "run", "--", *"check 1 1 64 9 9".split()], cwd=crate, stdout=subprocess.PIPE, stderr=subprocess.STDOUT, text=True
+    )
+    program = crate / "out" / NAME
+    if done.returncode != 0 or not program.exists():
+        sys.exit(f"{done.stdout}rt run: status {done.returncode}")
+    return str(program)
+
+
+if __name__ == "__main__":
+    print(build(sys.argv[1]))
