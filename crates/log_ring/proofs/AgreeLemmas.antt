@@ -11,7 +11,8 @@ use Rattle.ring_layout.specs.declared.history.HistoryItem.TheVariants.{UnitRun, 
 use Rattle.ring_layout.specs.Places.{tail}
 use Rattle.ring_layout.specs.History.{IsReadBack}
 use Rattle.ring_layout.proofs.CopiesLemmas.{some_is}
-use Rattle.log_ring.specs.Ring.{ReaderState, IsDoneWith, HasTaken, AgreesWith}
+use Rattle.log_ring.specs.Readers.{ReaderState}
+use Rattle.log_ring.specs.Closed.{IsDoneWith, HasTaken, AgreesWith}
 
 run_has : (log : Log) (r : Run LogUnit) (i : ℕ) (u : LogUnit) → r.units ≡ take (length r.units) (drop r.first log) → r.first + length r.units ≤ length log → slice_get r.units i ≡ Some u → slice_get log (r.first + i) ≡ Some u
 run_has log r i u is inside got =

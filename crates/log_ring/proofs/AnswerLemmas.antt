@@ -15,7 +15,8 @@ use Rattle.log_ring.specs.declared.rule.RingKey.{RingKey}
 use Rattle.log_ring.specs.declared.rule.ReaderView.{ReaderView}
 use Rattle.log_ring.specs.declared.rule.Observation.{Observation}
 use Rattle.log_ring.specs.declared.rule.Observation.TheVariants.{CounterSeen, FinishedSeen, WordSeen}
-use Rattle.log_ring.specs.Ring.{RingSet, ReaderState, TookNothing, IsAnswer, IsReadAt, HasFound, StaysLost}
+use Rattle.log_ring.specs.Ring.{RingSet}
+use Rattle.log_ring.specs.Readers.{ReaderState, TookNothing, IsAnswer, IsReadAt, HasFound, StaysLost}
 use Rattle.log_ring.specs.inside.Steps.{HasMoved, FoundWord, HasChecked, HasTried}
 use Rattle.log_ring.specs.inside.Reading.{unchecked_words, overrun_at, with_end, Checks, FindsEnd, FindsLap, FindsUnit, FindsNothing}
 

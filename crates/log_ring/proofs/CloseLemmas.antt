@@ -19,7 +19,7 @@ use Rattle.log_ring.specs.declared.rule.Progress.{Progress}
 use Rattle.log_ring.specs.declared.rule.Progress.TheVariants.{Free, Storing, Stored}
 use Rattle.log_ring.specs.declared.rule.ReaderView.{ReaderView}
 use Rattle.log_ring.specs.declared.rule.View.{View}
-use Rattle.log_ring.specs.Ring.{AreObserved, entries_from, IsDone}
+use Rattle.log_ring.specs.Closed.{AreObserved, entries_from, IsDone}
 use Rattle.log_ring.specs.inside.Rule.{KnowsToken, PutAll, IsWithout, AreApart, IsNext, IsOverrunAt, IsReader, IsUnderWay, HoldsOneLog, writers_of, HasNumber, IsSeated}
 use Rattle.log_ring.specs.inside.Closing.{units_of, entries_in, Settles}
 use Rattle.log_model.proofs.SumLemmas.{rest_zero}

@@ -6,7 +6,7 @@ use native.Mathlib.Decide.{ℕ_discrete}
 use Rattle.log_model.specs.Interleaving.{given_to}
 use Rattle.vsl_record.specs.Unit.{LogUnit, Log}
 use Rattle.ring_layout.specs.Places.{end_at, tail_from, tail}
-use Rattle.log_ring.specs.Ring.{entries_from}
+use Rattle.log_ring.specs.Closed.{entries_from}
 
 module _ {A : Type 0} where
   given_push : (k : ℕ) (owners : List ℕ) (xs : List A) (owner : ℕ) (x : A) → length owners ≡ length xs

@@ -17,7 +17,10 @@ use Rattle.log_ring.specs.declared.rule.RingKey.{RingKey}
 use Rattle.log_ring.specs.declared.rule.WriterView.{WriterView}
 use Rattle.log_ring.specs.declared.rule.ReaderView.{ReaderView}
 use Rattle.log_ring.specs.declared.rule.View.{View}
-use Rattle.log_ring.specs.Ring.{RingSet, WriterState, ReaderState, units_put, busy_of, history_taken, AreWritersOf, AreReadersOf, IsDoneWith, HasReached, entries_from, entries_of, history_of, IsDone}
+use Rattle.log_ring.specs.Ring.{RingSet}
+use Rattle.log_ring.specs.Writers.{WriterState, units_put, busy_of, AreWritersOf, entries_of}
+use Rattle.log_ring.specs.Readers.{ReaderState, history_taken, AreReadersOf, history_of}
+use Rattle.log_ring.specs.Closed.{IsDoneWith, HasReached, entries_from, IsDone}
 use Rattle.log_ring.specs.inside.Rule.{HoldsOneLog}
 use Rattle.log_ring.specs.inside.Writing.{first_entries, both_views, no_view}
 use Rattle.log_ring.specs.inside.Reading.{reader_of}

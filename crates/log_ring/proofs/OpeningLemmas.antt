@@ -9,7 +9,9 @@ use Rattle.std.specs.Prelude.{slice_index_or}
 use Rattle.log_ring.specs.declared.rule.ReaderView.{ReaderView}
 use Rattle.log_ring.specs.declared.rule.View.{View}
 use Rattle.std.proofs.lemmas.List.FromFn.{map-range_with_len_more}
-use Rattle.log_ring.specs.Ring.{RingSet, WriterState, ReaderState, new_writer, new_writers, most_writers, new_reader, new_pass, new_passes}
+use Rattle.log_ring.specs.Ring.{RingSet, most_writers}
+use Rattle.log_ring.specs.Writers.{WriterState, new_writer, new_writers}
+use Rattle.log_ring.specs.Readers.{ReaderState, new_reader, new_pass, new_passes}
 use Rattle.log_ring.specs.inside.Rule.{HoldsOneLog}
 use Rattle.log_ring.specs.inside.Writing.{first_view, new_writer_views, later_writers, without_writer, one_writer, first_entries, new_reader_views, later_readers, first_reader, without_reader, one_reader}
 use Rattle.log_ring.specs.inside.Reading.{reader_of}

@@ -28,7 +28,8 @@ use Rattle.log_ring.specs.declared.rule.Progress.TheVariants.{Free, Storing, Sto
 use Rattle.log_ring.specs.declared.rule.Unchecked.TheVariants.{Words, Start}
 use Rattle.log_ring.specs.declared.rule.ReaderView.{ReaderView}
 use Rattle.log_ring.specs.declared.rule.View.{View}
-use Rattle.log_ring.specs.Ring.{new_reader, WasTail, AreObserved, CursorStands}
+use Rattle.log_ring.specs.Readers.{new_reader}
+use Rattle.log_ring.specs.Closed.{WasTail, AreObserved, CursorStands}
 use Rattle.log_ring.specs.inside.Rule.{SharedState, IsUnderWay, IsNext, IsOverrunAt, AreWords, IsUnchecked, IsReader, HoldsOneLog}
 use Rattle.log_ring.specs.inside.Reading.{with_finished, unchecked_words, with_head, with_copy, overrun_at, with_end, with_lap, with_taken, with_loaded, with_start_of, with_run, reader_of, Reads, LoadsFinished, LoadsHead, LoadsMore, Checks, FindsEnd, FindsLap, FindsUnit, FindsNothing, ChecksAgain, Looks, LoadsStart, unchecked_start, Seeks}
 use Rattle.log_ring.proofs.WordLemmas.{ent, word}

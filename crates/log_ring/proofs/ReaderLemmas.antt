@@ -15,7 +15,7 @@ use Rattle.log_ring.specs.declared.rule.Unchecked.{Unchecked}
 use Rattle.log_ring.specs.declared.rule.Unchecked.TheVariants.{Nothing, Words, Start}
 use Rattle.log_ring.specs.declared.rule.Observation.{Observation}
 use Rattle.log_ring.specs.declared.rule.Observation.TheVariants.{CounterSeen, FinishedSeen, WordSeen, StartSeen}
-use Rattle.log_ring.specs.Ring.{AreObserved, CursorStands}
+use Rattle.log_ring.specs.Closed.{AreObserved, CursorStands}
 use Rattle.log_ring.specs.inside.Rule.{IsUnchecked, IsReader}
 
 module _ (words : LogUnit → List ℕ) (key : RingKey) where

@@ -15,7 +15,7 @@ use Rattle.log_ring.specs.declared.rule.Progress.{Progress}
 use Rattle.log_ring.specs.declared.rule.Progress.TheVariants.{Free, Storing, Stored}
 use Rattle.log_ring.specs.declared.rule.ReaderView.{ReaderView}
 use Rattle.log_ring.specs.declared.rule.View.{View}
-use Rattle.log_ring.specs.Ring.{entries_from}
+use Rattle.log_ring.specs.Closed.{entries_from}
 use Rattle.log_ring.specs.inside.Rule.{SharedState, writers_of, finished_of, HasNumber, IsSeated, KnowsToken, PutAll, AreWords, IsReader, IsSeat, HoldsOneLog}
 use Rattle.log_model.proofs.SumLemmas.{sum_set}
 use Rattle.log_ring.proofs.SeatLemmas.{all_map, seats_stay, seated_on}

@@ -17,7 +17,8 @@ use Rattle.log_ring.specs.declared.rule.WriterView.{WriterView}
 use Rattle.log_ring.specs.declared.rule.Progress.TheVariants.{Free}
 use Rattle.log_ring.specs.declared.rule.ReaderView.{ReaderView}
 use Rattle.log_ring.specs.declared.rule.View.{View}
-use Rattle.log_ring.specs.Ring.{most_writers, new_reader}
+use Rattle.log_ring.specs.Ring.{most_writers}
+use Rattle.log_ring.specs.Readers.{new_reader}
 use Rattle.log_ring.specs.inside.Rule.{SharedState, KnowsToken, PutAll, IsWithout, AreApart, AreWords, IsReader, IsSeat, HoldsOneLog, finished_of, writers_of, HasNumber, IsSeated}
 use Rattle.log_ring.specs.inside.Writing.{new_writer_views, new_reader_views, first_view, later_writers, first_writer, without_writer, one_writer, later_readers, first_reader, without_reader, one_reader, both_views, no_view}
 use Rattle.log_model.proofs.SumLemmas.{sum_set}

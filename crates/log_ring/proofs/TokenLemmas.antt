@@ -20,7 +20,7 @@ use Rattle.log_ring.specs.declared.rule.Put.{Put}
 use Rattle.log_ring.specs.declared.rule.Progress.{Progress}
 use Rattle.log_ring.specs.declared.rule.Progress.TheVariants.{Free, Storing, Stored}
 use Rattle.log_ring.specs.declared.rule.View.{View}
-use Rattle.log_ring.specs.Ring.{entries_from}
+use Rattle.log_ring.specs.Closed.{entries_from}
 use Rattle.log_ring.specs.inside.Rule.{SharedState, KnowsToken, IsToken, IsUnderWay, AreWords, HoldsOneLog, PutAll, writers_of}
 use Rattle.log_ring.specs.inside.Writing.{begun, after_acquire, after_release, Makes, Acquires, first_entries, no_view}
 use Rattle.log_ring.proofs.SeatLemmas.{inside_at, some_at}

@@ -6,7 +6,7 @@ use Rattle.vsl_record.specs.Words.{unit_words}
 use Rattle.ring_layout.specs.Places.{stays}
 use Rattle.log_ring.specs.declared.rule.Progress.TheVariants.{Storing}
 use Rattle.log_ring.specs.declared.rule.View.{View}
-use Rattle.log_ring.specs.Ring.{count_wrapped}
+use Rattle.log_ring.specs.Writers.{count_wrapped}
 use Rattle.log_ring.specs.inside.Writing.{begun, first_entries, after_acquire}
 use Rattle.log_ring.specs.inside.Steps.{IsWriterSeat, first_number, with_put}
 

@@ -1,2 +1,5 @@
 pub mod Ring
+pub mod Writers
+pub mod Readers
+pub mod Closed
 pub mod inside

@@ -4,7 +4,9 @@ ghost use Rattle.std.specs.Prelude.{◌≡◌, ◌<◌, [], map, vec_len, sum_by
 ghost use Rattle.std.specs.List.{AllByRecursion};
 ghost use Rattle.log_model.specs.Interleaving.{IsInterleaving};
 ghost use Rattle.vsl_record.specs.Words.{unit_words};
-ghost use Rattle.log_ring.specs.Ring.{entries_from, entries_of, units_put, busy_of, history_taken, AreWritersOf, AreReadersOf, IsDoneWith, HasReached, AgreesWith};
+ghost use Rattle.log_ring.specs.Writers.{entries_of, units_put, busy_of, AreWritersOf};
+ghost use Rattle.log_ring.specs.Readers.{history_taken, AreReadersOf};
+ghost use Rattle.log_ring.specs.Closed.{entries_from, IsDoneWith, HasReached, AgreesWith};
 ghost use Rattle.log_ring.specs.inside.Steps.{IsJoined, IsJoinedWith};
 
 use crate::reader::ReaderPass;
@@ -22,7 +24,8 @@ pub struct ClosedRing {
 
 impl Model for ClosedRing {
     ghost use Rattle.std.specs.Prelude.{map};
-    ghost use Rattle.log_ring.specs.Ring.{ClosedState, history_of};
+    ghost use Rattle.log_ring.specs.Readers.{history_of};
+    ghost use Rattle.log_ring.specs.Closed.{ClosedState};
 
     ghost Value = { ClosedState };
 

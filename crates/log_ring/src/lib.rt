@@ -5,7 +5,7 @@
 //! call but `Ring::new` takes memory, and `put` alone waits. `close` takes all passes back: contracts say that the log,
 //! which no program holds, is an interleaving of what the writers put, and what each reader took of it.
 //!
-//! Start with `README.md`, then `specs/Ring.antt`. All of it is this project's choice.
+//! Start with `README.md`, then `specs/Writers.antt`, `Readers.antt` and `Closed.antt`. All of it is this project's choice.
 #![tactic(auto)]
 
 mod closing;

@@ -3,7 +3,9 @@
 ghost use Rattle.std.specs.Prelude.{◌≡◌, ℕ, ◌+◌, ◌-◌, ◌*◌, ◌<◌, ◌≤◌, [], length, vec_len, IfOk};
 ghost use Rattle.std.specs.List.{range_with_len};
 ghost use Rattle.ring_layout.specs.Places.{end_mark};
-ghost use Rattle.log_ring.specs.Ring.{RingSet, most_writers, most_readers, new_writer, new_writers, new_reader, new_passes};
+ghost use Rattle.log_ring.specs.Ring.{RingSet, most_writers, most_readers};
+ghost use Rattle.log_ring.specs.Writers.{new_writer, new_writers};
+ghost use Rattle.log_ring.specs.Readers.{new_reader, new_passes};
 ghost use Rattle.log_ring.specs.inside.Writing.{new_writer_views, first_view};
 ghost use Rattle.log_ring.specs.inside.Reading.{reader_of};
 ghost use Rattle.log_ring.specs.inside.Steps.{AreFirstWords, IsFirstSeat, IsReaderSeat, set_of};

@@ -6,7 +6,7 @@ ghost use Rattle.vsl_record.specs.Views.{Spells};
 ghost use Rattle.vsl_record.specs.Words.{header_mark};
 ghost use Rattle.ring_layout.specs.Places.{end_mark, wrap_mark};
 ghost use Rattle.log_ring.specs.declared.rule.Unchecked.TheVariants.{Words};
-ghost use Rattle.log_ring.specs.Ring.{new_reader, new_pass, IsSought, IsAnswer, HasFound, StaysLost};
+ghost use Rattle.log_ring.specs.Readers.{new_reader, new_pass, IsSought, IsAnswer, HasFound, StaysLost};
 ghost use Rattle.log_ring.specs.inside.Reading.{reader_of};
 ghost use Rattle.log_ring.specs.inside.Steps.{HasMoved, IsReaderSeat, FoundWord, HasChecked, HasTried, set_of};
 
@@ -38,7 +38,7 @@ impl Model for ReaderPass {
     ghost use Rattle.std.specs.Prelude.{◌≡◌, ◌*◌, ◌≤◌, length, take};
     ghost use Rattle.vsl_record.specs.Words.{words_in};
     ghost use Rattle.ring_layout.specs.Places.{last_tail};
-    ghost use Rattle.log_ring.specs.Ring.{ReaderState};
+    ghost use Rattle.log_ring.specs.Readers.{ReaderState};
     ghost use Rattle.log_ring.specs.inside.Reading.{reader_of};
     ghost use Rattle.log_ring.specs.inside.Steps.{IsReaderSeat, reader_seen};
 

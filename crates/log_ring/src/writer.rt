@@ -3,7 +3,7 @@
 ghost use Rattle.std.specs.Prelude.{◌≡◌, ℕ, ◌+◌, ◌-◌, ◌^◌, ◌<◌, ◌≤◌, max, min, [], ◌∷◌, ◌++◌, length, MatchResult};
 ghost use Rattle.vsl_record.specs.Words.{unit_words};
 ghost use Rattle.ring_layout.specs.Places.{last_tail, end_at};
-ghost use Rattle.log_ring.specs.Ring.{HasPut, IsRefused, HasWaited, IsRefusedAtLast, count_wrapped};
+ghost use Rattle.log_ring.specs.Writers.{HasPut, IsRefused, HasWaited, IsRefusedAtLast, count_wrapped};
 ghost use Rattle.log_ring.specs.inside.Steps.{IsWriterSeat, IsLeftSeat, writer_of};
 
 use crate::pause::{NoPause, Pause};
@@ -24,7 +24,7 @@ pub struct WriterPass {
 
 impl Model for WriterPass {
     ghost use Rattle.std.specs.Prelude.{◌≡◌, ◌≤◌, length};
-    ghost use Rattle.log_ring.specs.Ring.{WriterState, count_wrapped};
+    ghost use Rattle.log_ring.specs.Writers.{WriterState, count_wrapped};
     ghost use Rattle.log_ring.specs.inside.Writing.{first_entries};
     ghost use Rattle.log_ring.specs.inside.Steps.{IsWriterSeat, writer_of};
 
@@ -136,7 +136,7 @@ pub struct LeftWriter {
 
 impl Model for LeftWriter {
     ghost use Rattle.std.specs.Prelude.{◌≡◌};
-    ghost use Rattle.log_ring.specs.Ring.{WriterState, count_wrapped};
+    ghost use Rattle.log_ring.specs.Writers.{WriterState, count_wrapped};
     ghost use Rattle.log_ring.specs.inside.Writing.{first_entries};
     ghost use Rattle.log_ring.specs.inside.Steps.{IsLeftSeat, writer_of};
 

@@ -1,7 +1,9 @@
 -- The passes of a ring that was opened.
 use Rattle.std.proofs.Common.{◌≡◌, ℕ, List, [], ◌∷◌, ◌++◌, map, sym, refl, subst}
 use Rattle.std.specs.List.{AllByRecursion}
-use Rattle.log_ring.specs.Ring.{RingSet, WriterState, ReaderState, new_writer, new_writers, new_pass, new_passes, AreWritersOf, AreReadersOf}
+use Rattle.log_ring.specs.Ring.{RingSet}
+use Rattle.log_ring.specs.Writers.{WriterState, new_writer, new_writers, AreWritersOf}
+use Rattle.log_ring.specs.Readers.{ReaderState, new_pass, new_passes, AreReadersOf}
 
 all_map : {X : Type 0} (P : X → Type 0) (f : ℕ → X) (xs : List ℕ) → ((k : ℕ) → P (f k)) → AllByRecursion P (map f xs)
 all_map P f [] h = tt

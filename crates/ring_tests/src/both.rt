@@ -1,7 +1,7 @@
 //! A ring with one writer and one cursor: on one thread, or one that threads share.
 
 ghost use Rattle.std.specs.Prelude.{◌≡◌, Some};
-ghost use Rattle.log_ring.specs.Ring.{WriterState};
+ghost use Rattle.log_ring.specs.Writers.{WriterState};
 
 use crate::support::{least_shape, open_pair};
 use log_ring::{ReaderPass, Ring, WriterPass};

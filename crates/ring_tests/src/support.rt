@@ -2,7 +2,8 @@
 
 ghost use Rattle.std.specs.Prelude.{◌≡◌, ◌<◌, ◌≤◌, ◌*◌, IfOk};
 ghost use Rattle.vsl_record.specs.Unit.{vxid_end};
-ghost use Rattle.log_ring.specs.Ring.{AreWritersOf, AreReadersOf};
+ghost use Rattle.log_ring.specs.Writers.{AreWritersOf};
+ghost use Rattle.log_ring.specs.Readers.{AreReadersOf};
 
 use log_ring::{Opened, ReaderPass, Ring, WriterPass};
 use ring_layout::Shape;

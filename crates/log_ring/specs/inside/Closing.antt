@@ -10,7 +10,7 @@ use Rattle.ring_layout.specs.History.{IsReadHistory, ReachesTail}
 use Rattle.log_ring.specs.declared.rule.WriterView.{WriterView}
 use Rattle.log_ring.specs.declared.rule.ReaderView.{ReaderView}
 use Rattle.log_ring.specs.declared.rule.View.{View}
-use Rattle.log_ring.specs.Ring.{entries_from, IsDone}
+use Rattle.log_ring.specs.Closed.{entries_from, IsDone}
 
 -- the units that a writer put
 abbrev pub units_of : WriterView → Log

@@ -12,7 +12,7 @@ use Rattle.log_ring.specs.declared.rule.Unchecked.TheVariants.{Nothing, Words, S
 use Rattle.log_ring.specs.declared.rule.Observation.TheVariants.{CounterSeen, FinishedSeen, WordSeen, StartSeen}
 use Rattle.log_ring.specs.declared.rule.ReaderView.{ReaderView}
 use Rattle.log_ring.specs.declared.rule.View.{View}
-use Rattle.log_ring.specs.Ring.{new_reader}
+use Rattle.log_ring.specs.Readers.{new_reader}
 
 -- a reader that loaded the number of writers that left
 abbrev pub with_finished : ℕ → ReaderView → ReaderView

@@ -21,7 +21,8 @@ use Rattle.log_ring.specs.declared.rule.Unchecked.{Unchecked}
 use Rattle.log_ring.specs.declared.rule.Unchecked.TheVariants.{Nothing, Words, Start}
 use Rattle.log_ring.specs.declared.rule.ReaderView.{ReaderView}
 use Rattle.log_ring.specs.declared.rule.View.{View}
-use Rattle.log_ring.specs.Ring.{entries_from, most_writers, CursorStands, AreObserved}
+use Rattle.log_ring.specs.Ring.{most_writers}
+use Rattle.log_ring.specs.Closed.{entries_from, CursorStands, AreObserved}
 
 -- the word of the write token: the tail and one more, or 0 while a writer puts a unit. Readers load none of the seven behind it, so that writers have a cache line alone
 abbrev pub token_word : ℕ

@@ -18,7 +18,9 @@ use Rattle.log_ring.specs.declared.rule.ReaderView.{ReaderView}
 use Rattle.log_ring.specs.declared.rule.Unchecked.TheVariants.{Words}
 use Rattle.log_ring.specs.declared.rule.Observation.TheVariants.{CounterSeen, FinishedSeen, WordSeen}
 use Rattle.log_ring.specs.declared.rule.View.{View}
-use Rattle.log_ring.specs.Ring.{RingSet, WriterState, ReaderState, busy_of, AreWritersOf, AreReadersOf}
+use Rattle.log_ring.specs.Ring.{RingSet}
+use Rattle.log_ring.specs.Writers.{WriterState, busy_of, AreWritersOf}
+use Rattle.log_ring.specs.Readers.{ReaderState, AreReadersOf}
 use Rattle.log_ring.specs.inside.Rule.{token_word, first_ring_word}
 use Rattle.log_ring.specs.inside.Writing.{begun, first_entries, new_writer_views, new_reader_views}
 use Rattle.log_ring.specs.inside.Reading.{reader_of}

@@ -11,7 +11,7 @@ use Rattle.log_ring.specs.declared.rule.Progress.{Progress}
 use Rattle.log_ring.specs.declared.rule.Progress.TheVariants.{Free, Storing, Stored}
 use Rattle.log_ring.specs.declared.rule.ReaderView.{ReaderView}
 use Rattle.log_ring.specs.declared.rule.View.{View}
-use Rattle.log_ring.specs.Ring.{new_reader}
+use Rattle.log_ring.specs.Readers.{new_reader}
 
 -- the units that the first of these writers put, each beside its tail
 abbrev pub first_entries : List WriterView → List (ℕ × LogUnit)

@@ -2,7 +2,7 @@ use Rattle.std.proofs.Common.{◌≡◌, ◌/◌, refl, rules, sym, ap, ◌∙�
 use Rattle.ring_layout.specs.declared.steps.Step.TheVariants.{NotYet, Ended, Lost}
 use Rattle.std.specs.Prelude.{take}
 use Rattle.vsl_record.specs.Words.{words_in}
-use Rattle.log_ring.specs.Ring.{ReaderState, IsAnswer}
+use Rattle.log_ring.specs.Readers.{ReaderState, IsAnswer}
 use Rattle.log_ring.specs.inside.Steps.{HasChecked, reader_seen}
 use Rattle.log_ring.specs.inside.Reading.{reader_of, FindsEnd}
 use Rattle.log_ring.proofs.AnswerLemmas.{far_answer, ended_answer, not_yet_answer, end_checked}

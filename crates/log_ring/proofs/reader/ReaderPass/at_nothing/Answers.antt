@@ -2,7 +2,7 @@ use Rattle.std.proofs.Common.{◌≡◌, ◌/◌, sym, ap, ◌∙◌, subst}
 use Rattle.ring_layout.specs.declared.steps.Step.TheVariants.{Lost}
 use Rattle.std.specs.Prelude.{take}
 use Rattle.vsl_record.specs.Words.{words_in}
-use Rattle.log_ring.specs.Ring.{ReaderState, IsAnswer}
+use Rattle.log_ring.specs.Readers.{ReaderState, IsAnswer}
 use Rattle.log_ring.specs.inside.Steps.{HasChecked, reader_seen}
 use Rattle.log_ring.specs.inside.Reading.{reader_of}
 use Rattle.log_ring.proofs.AnswerLemmas.{nothing_answer, nothing_checked}

@@ -1,7 +1,7 @@
 use Rattle.std.proofs.Common.{rules, ◌≡◌, ◌*◌, ◌/◌, ◌++◌, ℕ, List, length, take, drop, sym, ap, ◌∙◌, subst}
 use Rattle.vsl_record.specs.Words.{words_in}
 use Rattle.ring_layout.specs.declared.steps.Step.TheVariants.{Took}
-use Rattle.log_ring.specs.Ring.{ReaderState, IsAnswer}
+use Rattle.log_ring.specs.Readers.{ReaderState, IsAnswer}
 use Rattle.log_ring.specs.inside.Steps.{HasChecked, reader_seen}
 use Rattle.log_ring.specs.inside.Reading.{reader_of, unchecked_words}
 use Rattle.log_ring.proofs.AnswerLemmas.{front_words, took_answer, took_place, unit_checked}

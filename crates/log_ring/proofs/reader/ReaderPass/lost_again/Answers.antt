@@ -2,7 +2,7 @@ use Rattle.std.proofs.Common.{ap, ◌∙◌, subst}
 use Rattle.ring_layout.specs.declared.steps.Step.TheVariants.{Lost}
 use Rattle.std.specs.Prelude.{take}
 use Rattle.vsl_record.specs.Words.{words_in}
-use Rattle.log_ring.specs.Ring.{ReaderState, IsAnswer, HasFound, StaysLost}
+use Rattle.log_ring.specs.Readers.{ReaderState, IsAnswer, HasFound, StaysLost}
 use Rattle.log_ring.specs.inside.Steps.{reader_seen}
 use Rattle.log_ring.proofs.AnswerLemmas.{lost_answer, lost_observed, lost_stays}
 use Rattle.log_ring.proofs.reader.ReaderPass.lost_again.Goals as goal

@@ -1,5 +1,5 @@
 use Rattle.std.proofs.Common.{rules, ◌≡◌, ◌+◌, ◌-◌, ℕ, ap, ◌∙◌, subst, arith}
-use Rattle.log_ring.specs.Ring.{new_writer, new_writers}
+use Rattle.log_ring.specs.Writers.{new_writer, new_writers}
 use Rattle.log_ring.specs.inside.Steps.{IsFirstSeat}
 use Rattle.log_ring.proofs.OpeningLemmas.{writers_more, last_writer}
 use Rattle.log_ring.proofs.ring.Ring.new.Goals as goal

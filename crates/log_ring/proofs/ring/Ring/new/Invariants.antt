@@ -1,5 +1,5 @@
 use Rattle.std.proofs.Common.{◌≡◌, ◌+◌, ◌-◌, ◌≤◌, vec_len, vec_capacity}
-use Rattle.log_ring.specs.Ring.{new_writers}
+use Rattle.log_ring.specs.Writers.{new_writers}
 use Rattle.log_ring.specs.inside.Steps.{IsFirstSeat}
 use Rattle.log_ring.proofs.ring.Ring.new.Given as goal
 

@@ -1,5 +1,5 @@
 use Rattle.std.proofs.Common.{rules, ◌≡◌, ◌+◌, ◌-◌, ℕ, ap, ◌∙◌, subst, arith}
-use Rattle.log_ring.specs.Ring.{new_pass}
+use Rattle.log_ring.specs.Readers.{new_pass}
 use Rattle.log_ring.specs.inside.Steps.{IsFirstSeat}
 use Rattle.log_ring.proofs.OpeningLemmas.{passes_more}
 use Rattle.log_ring.proofs.ring.Ring.split_readers.Goals as goal

@@ -1,5 +1,5 @@
 use Rattle.std.proofs.Common.{◌≡◌, ◌-◌, ◌≤◌, vec_len, vec_capacity}
-use Rattle.log_ring.specs.Ring.{new_passes}
+use Rattle.log_ring.specs.Readers.{new_passes}
 use Rattle.log_ring.specs.inside.Steps.{IsFirstSeat}
 use Rattle.log_ring.proofs.ring.Ring.split_readers.Given as goal
 

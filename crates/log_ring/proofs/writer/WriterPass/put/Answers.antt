@@ -1,6 +1,6 @@
 use Rattle.std.proofs.Common.{◌≡◌, ℕ, ◌+◌, ap, ◌∙◌, subst, arith}
 use Rattle.ring_layout.specs.declared.steps.PutFault.TheVariants.{Busy}
-use Rattle.log_ring.specs.Ring.{WriterState, IsRefused}
+use Rattle.log_ring.specs.Writers.{WriterState, IsRefused}
 use Rattle.log_ring.proofs.writer.WriterPass.put.Goals as goal
 
 pub loop-preserved : goal.loop-preserved

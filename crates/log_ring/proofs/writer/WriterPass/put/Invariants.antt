@@ -1,5 +1,5 @@
 use Rattle.std.proofs.Common.{◌≡◌, ◌-◌, ◌^◌, ℕ, min}
-use Rattle.log_ring.specs.Ring.{with_busy}
+use Rattle.log_ring.specs.Writers.{with_busy}
 use Rattle.log_ring.proofs.writer.WriterPass.put.Given as goal
 
 -- the write token was found taken so often
