@@ -26,12 +26,13 @@ use Rattle.log_ring.specs.declared.rule.RingKey.{RingKey}
 use Rattle.log_ring.specs.declared.rule.Progress.{Progress}
 use Rattle.log_ring.specs.declared.rule.Progress.TheVariants.{Free, Storing, Stored}
 use Rattle.log_ring.specs.declared.rule.Unchecked.TheVariants.{Words, Start}
+use Rattle.log_ring.specs.declared.rule.Observation.TheVariants.{CounterSeen, FinishedSeen, WordSeen, StartSeen}
 use Rattle.log_ring.specs.declared.rule.ReaderView.{ReaderView}
 use Rattle.log_ring.specs.declared.rule.View.{View}
 use Rattle.log_ring.specs.Readers.{new_reader}
 use Rattle.log_ring.specs.Closed.{WasTail, AreObserved, CursorStands}
 use Rattle.log_ring.specs.inside.Rule.{SharedState, IsUnderWay, IsNext, IsOverrunAt, AreWords, IsUnchecked, IsReader, HoldsOneLog}
-use Rattle.log_ring.specs.inside.Reading.{with_finished, unchecked_words, with_head, with_copy, overrun_at, with_end, with_lap, with_taken, with_loaded, with_start_of, with_run, reader_of, Reads, LoadsFinished, LoadsHead, LoadsMore, Checks, FindsEnd, FindsLap, FindsUnit, FindsNothing, ChecksAgain, Looks, LoadsStart, unchecked_start, Seeks}
+use Rattle.log_ring.specs.inside.Reading.{with_finished, unchecked_words, with_head, with_copy, overrun_at, with_end, with_lap, with_taken, with_loaded, with_start_of, with_run, reader_of, Reads, LoadsFinished, LoadsHead, LoadsMore, Checks, FindsEnd, FindsLap, FindsUnit, FindsNothing, ChecksAgain, Looks, LoadsStart, unchecked_start, Seeks, Observes}
 use Rattle.log_ring.proofs.WordLemmas.{ent, word}
 use Rattle.log_ring.proofs.RuleLemmas.{looks}
 
@@ -78,7 +79,7 @@ module _ (key : RingKey) where
 
   -- a load by a seat that stands for one reader
   reads : (T : RingKey → ℕ → ReaderView → ReaderView → Type 0) (slots id i : ℕ) (me : M) (r : ReaderView) → me.0.readers ≡ r ∷ []
-      → ((s : St) (k : HoldsOneLog words key s) → IsIn k.shared r → (r' : ReaderView) × IsIn k.shared r' × T key (get_or s.words i 0) r r')
+      → ((s : St) (k : HoldsOneLog words key s) → IsIn k.shared r → (r' : ReaderView) × IsIn k.shared r' × T key (get_or s.words i 0) r r' × Observes key.seg i (get_or s.words i 0) r r')
       → Allows (HoldsOneLog words key) slots id me i (λ x. x) (Reads T (step slots i 0 0 none) me)
   reads T slots id i me r one next s k _ at small =
       let o = k.seats id me.0 at in
@@ -92,7 +93,10 @@ module _ (key : RingKey) where
         keeps,
         tt,
         looks words key s k i id me.1 me.0 v' at record { ring = λ _. ring; put = o.put; apart = o.apart; token = o.token; found = o.found; finished = o.finished; idle = o.idle; readers = (n.1, tt) } refl refl,
-        (refl, subst (λ (z : RingKey). T z (get_or s.words i 0) (reader_of me.0) n.0) (sym ring) (subst (λ (l : List ReaderView). T key (get_or s.words i 0) (slice_index_or l 0 new_reader) n.0) (sym one) n.2)),
+        (
+          (refl, subst (λ (z : RingKey). T z (get_or s.words i 0) (reader_of me.0) n.0) (sym ring) (subst (λ (l : List ReaderView). T key (get_or s.words i 0) (slice_index_or l 0 new_reader) n.0) (sym one) n.2)),
+          subst (λ (z : RingKey). Observes z.seg i (get_or s.words i 0) (reader_of me.0) n.0) (sym ring) (subst (λ (l : List ReaderView). Observes key.seg i (get_or s.words i 0) (slice_index_or l 0 new_reader) n.0) (sym one) n.3),
+        ),
       )
 
   -- the number of writers that left
@@ -101,6 +105,7 @@ module _ (key : RingKey) where
     with_finished x r,
     record { history = h.history; reading = λ e. let g = h.reading e in record { next = g.next; stands = g.stands; due = g.due }; overrun = h.overrun; unchecked = tt; seen = h.seen; loaded = h.loaded; finished_seen = omega arith; observed = h.observed; ended = h.ended },
     refl,
+    inr (FinishedSeen x, (refl, refl), refl),
   ))
 
   -- the first word of a unit counts its words, and is no mark
@@ -167,6 +172,7 @@ module _ (key : RingKey) where
           ended = h.ended;
         },
         (refl, subst (λ (z : ℕ). z < 2 ^ 32) (sym x_is) (a.narrow (r.place % (8 * key.seg)))),
+        inr (WordSeen r.place x, (i_is, refl), refl),
       ))
 
   -- a further word of the unit
@@ -204,6 +210,7 @@ module _ (key : RingKey) where
           ended = h.ended;
         },
         (refl, subst (λ (z : ℕ). z < 2 ^ 32) (sym x_is) (a.narrow ((r.place + length xs) % (8 * seg)))),
+        inl refl,
       ))
 
   -- an overrun may follow where the cursor stands
@@ -228,7 +235,7 @@ module _ (key : RingKey) where
 
   -- a check: the cursor is overrun, or what it copied is the log's
   checks : (T : RingKey → ℕ → ReaderView → ReaderView → Type 0) (slots id : ℕ) (me : M) (r : ReaderView) → me.0.readers ≡ r ∷ [] → r.lost ≡ None
-      → ((s : St) (k : HoldsOneLog words key s) → IsIn k.shared r → k.shared.counter < r.place / key.seg + 6 → (r' : ReaderView) × IsIn k.shared r' × T key k.shared.counter r r')
+      → ((s : St) (k : HoldsOneLog words key s) → IsIn k.shared r → k.shared.counter < r.place / key.seg + 6 → (r' : ReaderView) × IsIn k.shared r' × T key k.shared.counter r r' × (r'.observed ≡ CounterSeen k.shared.counter ∷ r.observed))
       → Allows (HoldsOneLog words key) slots id me 8 (λ x. x) (Reads (Checks T) (step slots 8 0 0 none) me)
   checks T slots id me r one free near = reads (Checks T) slots id 8 me r one (λ s k h.
       let x : ℕ = get_or s.words 8 0 in
@@ -236,8 +243,8 @@ module _ (key : RingKey) where
       let x_is : x ≡ w.counter = k.are_words.counter in
       let at : ℕ = r.place / key.seg in
       dite (dec_le (at + 6) x)
-      (λ far. (overrun_at at x r, overrun_in w at x r h far x_is (may_follow w.log r.place r.items (h.reading free).stands), inl (far, refl)))
-      (λ not. let n = near s k h (omega arith) in (n.0, n.1, inr (omega arith, subst (λ (z : ℕ). T key z r n.0) (sym x_is) n.2))))
+      (λ far. (overrun_at at x r, overrun_in w at x r h far x_is (may_follow w.log r.place r.items (h.reading free).stands), inl (far, refl), inr (CounterSeen x, (refl, refl), refl)))
+      (λ not. let n = near s k h (omega arith) in (n.0, n.1, inr (omega arith, subst (λ (z : ℕ). T key z r n.0) (sym x_is) n.2), inr (CounterSeen w.counter, (refl, sym x_is), n.3))))
 
   -- what was copied, where the counter hasn't passed
   copied_in : (w : SharedState) (r : ReaderView) (xs : List ℕ) → IsIn w r → r.unchecked ≡ Words xs → w.counter < r.place / key.seg + 6
@@ -302,6 +309,7 @@ module _ (key : RingKey) where
         r',
         record { history = h.history; reading = λ e. record { next = g.next; stands = g.stands; due = g.due }; overrun = h.overrun; unchecked = tt; seen = omega arith; loaded = le_refl x; observed = (le_refl x, h.observed); finished_seen = h.finished_seen; ended = λ e. let all = leb-true key.writers r.finished_seen e in (le_trans all h.finished_seen, subst (λ (z : ℕ). IsNext z r.items) (c.1 all refl) g.next) },
         refl,
+        refl,
       ))
 
   -- the wrap mark
@@ -334,6 +342,7 @@ module _ (key : RingKey) where
           ended = h.ended;
         },
         (refl, omega arith),
+        refl,
       ))
 
   -- a whole unit
@@ -377,6 +386,7 @@ module _ (key : RingKey) where
           ended = λ e. cc e;
         },
         (u, kth_of IsUnit w.log r.number u k.are_words.units kth, copied ∙ xs_is, next_has_run r.number r.items g.next, refl, low.1),
+        refl,
       ))
 
   -- a word that is none of a log's
@@ -415,6 +425,7 @@ module _ (key : RingKey) where
         overrun_at at x r,
         overrun_in w at x r h (omega arith) x_is (again_follows w.log at r.items (h.overrun at lost)),
         λ a e. let same : at ≡ a = some_is (sym lost ∙ e) in (omega arith, ap (λ (z : ℕ). overrun_at z x r) same),
+        inr (CounterSeen x, (refl, refl), refl),
       ))
 
   -- the counter, before a cursor seeks
@@ -428,6 +439,7 @@ module _ (key : RingKey) where
         with_loaded x r,
         record { history = h.history; reading = λ e. let g = h.reading e in record { next = g.next; stands = g.stands; due = g.due }; overrun = h.overrun; unchecked = tt; seen = omega arith; loaded = omega arith; observed = (omega arith, subst (λ (z : ℕ). AreObserved words key.seg w.log z r.observed) (sym x_is) h.observed); finished_seen = h.finished_seen; ended = h.ended },
         refl,
+        inr (CounterSeen x, (refl, refl), refl),
       ))
 
   -- a put announces at most two segments ahead
@@ -464,6 +476,7 @@ module _ (key : RingKey) where
           ended = h.ended;
         },
         refl,
+        inr (StartSeen n x, (i_is, refl), refl),
       ))
 
   -- an overrun in the segment that is sought may follow the one before
@@ -500,7 +513,7 @@ module _ (key : RingKey) where
       let near : last_seen r.items ≤ n + 4 = omega arith in
       let o = h.overrun at lost in
       dite (dec_le (n + 6) x)
-      (λ far. (overrun_at n x r, overrun_in w n x r h far x_is (sought_follows w.log at n r.items o near), inl (far, refl)))
+      (λ far. (overrun_at n x r, overrun_in w n x r h far x_is (sought_follows w.log at n r.items o near), inl (far, refl), inr (CounterSeen x, (refl, refl), refl)))
       (λ not.
       let there = holds.1 (omega arith) in
       let number : ℕ = first_number words key.seg w.log n in
@@ -521,4 +534,5 @@ module _ (key : RingKey) where
           ended = λ e. cc e;
         },
         inr (omega arith, (number, refl), subst (λ (p : ℕ). p ≤ last_tail) (sym place_is) low),
+        inr (CounterSeen x, (refl, refl), refl),
       )))

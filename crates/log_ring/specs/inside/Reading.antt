@@ -1,5 +1,5 @@
 -- What a reader says after each of its loads (this project's choice).
-use Rattle.std.specs.Prelude.{◌≡◌, ◌⊎◌, ℕ, ◌+◌, ◌-◌, ◌*◌, ◌/◌, ◌^◌, ◌<◌, ◌≤◌, nat_le, false, List, [], ◌∷◌, ◌++◌, length, slice_index_or, Some, None}
+use Rattle.std.specs.Prelude.{◌≡◌, ◌⊎◌, ℕ, ◌+◌, ◌-◌, ◌*◌, ◌/◌, ◌%◌, ◌^◌, ◌<◌, ◌≤◌, nat_le, false, List, [], ◌∷◌, ◌++◌, length, slice_index_or, Some, None}
 use Rattle.atomic_table.specs.Table.{Me, Step}
 use Rattle.vsl_record.specs.Unit.{LogUnit}
 use Rattle.vsl_record.specs.Words.{IsUnit}
@@ -9,10 +9,12 @@ use Rattle.ring_layout.specs.History.{HasRun, with_unit}
 use Rattle.log_ring.specs.declared.rule.RingKey.{RingKey}
 use Rattle.log_ring.specs.declared.rule.Unchecked.{Unchecked}
 use Rattle.log_ring.specs.declared.rule.Unchecked.TheVariants.{Nothing, Words, Start}
+use Rattle.log_ring.specs.declared.rule.Observation.{Observation}
 use Rattle.log_ring.specs.declared.rule.Observation.TheVariants.{CounterSeen, FinishedSeen, WordSeen, StartSeen}
 use Rattle.log_ring.specs.declared.rule.ReaderView.{ReaderView}
 use Rattle.log_ring.specs.declared.rule.View.{View}
 use Rattle.log_ring.specs.Readers.{new_reader}
+use Rattle.log_ring.specs.inside.Rule.{counter_word, first_start, finished_word, first_ring_word}
 
 -- a reader that loaded the number of writers that left
 abbrev pub with_finished : ℕ → ReaderView → ReaderView
@@ -67,9 +69,20 @@ reader_of v = slice_index_or v.readers 0 new_reader
 abbrev pub Becomes : (RingKey → ℕ → ReaderView → ReaderView → Type 0) → Me ℕ View → ℕ → Me ℕ View → Type 0
 Becomes T me x after = (after ≡ (record me.0 { readers = reader_of after.0 ∷ [] }, me.1)) × T me.0.ring x (reader_of me.0) (reader_of after.0)
 
--- a load of a seat that stands for one reader
+-- what was found is of this load: of this word of the table, and this number was found there
+abbrev pub IsOfLoad : ℕ → ℕ → ℕ → Observation → Type 0
+IsOfLoad seg i x (CounterSeen c) = (i ≡ counter_word) × (c ≡ x)
+IsOfLoad seg i x (FinishedSeen n) = (i ≡ finished_word) × (n ≡ x)
+IsOfLoad seg i x (WordSeen p y) = (i ≡ first_ring_word + p % (8 * seg)) × (y ≡ x)
+IsOfLoad seg i x (StartSeen s p) = (i ≡ first_start + s % 8) × (p ≡ x)
+
+-- a reader found this load more, or nothing that it keeps
+abbrev pub Observes : ℕ → ℕ → ℕ → ReaderView → ReaderView → Type 0
+Observes seg i x r after = (after.observed ≡ r.observed) ⊎ ((o : Observation) × IsOfLoad seg i x o × (after.observed ≡ o ∷ r.observed))
+
+-- a load of a seat that stands for one reader; what it says more of its loads is this one
 abbrev pub Reads : (RingKey → ℕ → ReaderView → ReaderView → Type 0) → Step ℕ → Me ℕ View → ℕ → Me ℕ View → Type 0
-Reads T st me found after = Becomes T me found after
+Reads T st me found after = Becomes T me found after × Observes me.0.ring.seg st.word found (reader_of me.0) (reader_of after.0)
 
 -- a load of the number of writers that left
 abbrev pub LoadsFinished : RingKey → ℕ → ReaderView → ReaderView → Type 0
