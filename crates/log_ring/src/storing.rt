@@ -15,7 +15,12 @@ use crate::rule::{
     Acquiring, Announcing, Coming, Leaving, Marking, Publishing, Releasing, Starting, Wording,
 };
 use ring_layout::{END_MARK, Placed, SEGMENTS, WRAP_MARK, segment_of};
+use std::sync::Wait;
+use std::thread;
 use vsl_record::{Unit, UnitWords, is_unit};
+
+/// How often a writer that waits looks at the write token before it lets other threads run.
+const PEEKS: u32 = 64;
 
 /// The word of the write token. Readers load none of the seven behind it, so that writers have a cache line alone.
 pub(crate) const WRITE_TOKEN: usize = 0;
@@ -69,6 +74,19 @@ impl Ring {
         ensures found { 0 < result → (length (first_entries seat.old.me.0.writers) < result) × (result ≤ last_tail + 1) }
     {
         self.table.shared.swap::<Acquiring<N>>(seat, WRITE_TOKEN, 0)
+    }
+
+    /// Waits until the write token was seen released. It only loads, so that the writer that has the token keeps its cache
+    /// line, and lets other threads run.
+    pub(crate) fn await_token<R: Wait>(&self, rt: &R) {
+        for _ in rt.forever() {
+            for _ in 0..PEEKS {
+                if self.table.shared.peek(WRITE_TOKEN) != 0 {
+                    return;
+                }
+            }
+            thread::yield_now();
+        }
     }
 
     /// Releases the write token where the unit has no place.

@@ -106,7 +106,10 @@ impl WriterPass {
         for _ in rt.forever() {
             match self.try_put(ring, unit) {
                 Ok(()) => return Ok(busy),
-                Err(PutFault::Busy) => busy = busy.saturating_add(1),
+                Err(PutFault::Busy) => {
+                    busy = busy.saturating_add(1);
+                    ring.await_token(rt);
+                }
                 Err(fault) => return Err(fault),
             }
         }
