@@ -1,8 +1,9 @@
 #!/usr/bin/env python3
 """Proves and builds the program that `bench/ring` and `bench/ring_sweep` run, in a copy of the crates.
 
-Its source stands beside this script as text, since the repository lists only the crates of its own.
-Usage: bench/ring_program/build.py FOLDER. FOLDER is emptied; the program is then FOLDER/crates/ring_bench/out/ring_bench.
+Its source stands beside this script as text, since it is no crate of the repository.
+Usage: bench/ring_program/build.py FOLDER. The folder is empty or made, and the program is then
+FOLDER/crates/ring_bench/out/ring_bench.
 """
 
 import pathlib
@@ -18,7 +19,6 @@ USES = "log_model vsl_tags vsl_record ring_layout log_ring atomic_table crossbea
 
 def copy_crates(folder):
     """Copies the crates, without what `rt` made of them, and adds the program as one more."""
-    shutil.rmtree(folder, ignore_errors=True)
     shutil.copytree(TOP / "crates", folder / "crates", ignore=shutil.ignore_patterns("out"))
     shutil.copy(TOP / "HANDLES", folder / "HANDLES")
     listed = (TOP / "crates.txt").read_text()
