@@ -26,12 +26,9 @@ use Rattle.log_ring.specs.inside.Writing.{first_entries, both_views, no_view}
 use Rattle.log_ring.specs.inside.Reading.{reader_of}
 use Rattle.log_ring.specs.inside.Closing.{units_of, entries_in, Settles}
 use Rattle.log_ring.specs.inside.Steps.{set_of, first_number, writer_of, IsLeftSeat, writer_in, reader_in, IsJoined, IsJoinedWith, IsReaderSeat}
+use Rattle.log_ring.proofs.PassLemmas.{all_before}
 use Rattle.log_ring.proofs.SeatingLemmas.{joins}
 use Rattle.log_ring.proofs.CloseLemmas.{settles}
-
-all_before : {X : Type 0} (P : X → Type 0) (xs : List X) (x : X) → AllByRecursion P (xs ++ x ∷ []) → AllByRecursion P xs × P x
-all_before P [] x all = (tt, all.0)
-all_before P (y ∷ ys) x all = let rest = all_before P ys x all.1 in ((all.0, rest.0), rest.1)
 
 found_upto : (n m : ℕ) (ws : List WriterState) → n ≤ m → AllByRecursion (λ (w : WriterState). w.found ≤ n) ws → AllByRecursion (λ (w : WriterState). w.found ≤ m) ws
 found_upto n m [] up all = tt

@@ -17,3 +17,4 @@ pub mod AnswerLemmas
 mod CopyLemmas
 mod WalkLemmas
 mod AgreeLemmas
+pub mod PassLemmas

@@ -16,7 +16,7 @@ use vsl_tags::Tag;
 const VCL_LOG: u8 = 24;
 
 /// A writer of a ring, from the end.
-#[tactic(auto, using(crate::proofs::PassLemmas::last_writer))]
+#[tactic(auto, using(log_ring::proofs::PassLemmas::last_writer))]
 pub fn one_writer(opened: &mut Opened) -> Result<WriterPass, Fail>
     requires { AreWritersOf opened.old.ring opened.old.writers.items }
     ensures writer { IfOk result (λ w. w.ring ≡ opened.new.ring) }
@@ -29,7 +29,7 @@ pub fn one_writer(opened: &mut Opened) -> Result<WriterPass, Fail>
 }
 
 /// A reader of a ring, from the end.
-#[tactic(auto, using(crate::proofs::PassLemmas::last_reader))]
+#[tactic(auto, using(log_ring::proofs::PassLemmas::last_reader))]
 pub fn one_reader(opened: &mut Opened) -> Result<ReaderPass, Fail>
     requires { AreReadersOf opened.old.ring opened.old.readers.items }
     ensures reader { IfOk result (λ r. r.ring ≡ opened.new.ring) }
@@ -47,7 +47,7 @@ pub fn least_shape() -> Result<Shape, Fail>
 }
 
 /// A ring of such segments, and its passes.
-#[tactic(auto, using(crate::proofs::PassLemmas::are_writers, crate::proofs::PassLemmas::are_readers))]
+#[tactic(auto, using(log_ring::proofs::PassLemmas::are_writers, log_ring::proofs::PassLemmas::are_readers))]
 pub fn open(alloc: Global, writers: u32, readers: u32) -> Result<Opened, Fail>
     requires some { 0 < writers }
     requires few { writers ≤ 17 }

@@ -1,5 +1,5 @@
--- The passes of a ring that was opened.
-use Rattle.std.proofs.Common.{◌≡◌, ℕ, zero, suc, ◌+◌, List, [], ◌∷◌, ◌++◌, map, sym, refl, ap, ◌∙◌, subst}
+-- The passes of a ring that was opened, as callers hold them.
+use Rattle.std.proofs.Common.{◌≡◌, ℕ, List, [], ◌∷◌, ◌++◌, map, sym, refl, subst}
 use Rattle.std.specs.List.{AllByRecursion}
 use Rattle.log_ring.specs.Ring.{RingSet}
 use Rattle.log_ring.specs.Writers.{WriterState, new_writer, new_writers, AreWritersOf}
@@ -15,7 +15,8 @@ are_writers ring ws n is = subst (AreWritersOf ring) (sym is) (all_map (λ (w : 
 pub are_readers : (ring : RingSet) (rs : List ReaderState) (n : ℕ) → rs ≡ new_passes ring n → AreReadersOf ring rs
 are_readers ring rs n is = subst (AreReadersOf ring) (sym is) (all_map (λ (r : ReaderState). r.ring ≡ ring) (λ (k : ℕ). new_pass ring) _ (λ k. refl))
 
-all_before : {X : Type 0} (P : X → Type 0) (xs : List X) (x : X) → AllByRecursion P (xs ++ x ∷ []) → AllByRecursion P xs × P x
+-- what is so of all is so of those before the last, and of the last
+pub all_before : {X : Type 0} (P : X → Type 0) (xs : List X) (x : X) → AllByRecursion P (xs ++ x ∷ []) → AllByRecursion P xs × P x
 all_before P [] x all = (tt, all.0)
 all_before P (y ∷ ys) x all = let rest = all_before P ys x all.1 in ((all.0, rest.0), rest.1)
 
