@@ -1,5 +1,5 @@
 -- A walk over a list, one element after the other.
-use Rattle.std.proofs.Common.{◌≡◌, ℕ, zero, suc, ◌+◌, ◌<◌, List, [], ◌∷◌, length, drop, get_or, sym, refl, ap, ◌∙◌, arith, add-one}
+use Rattle.std.proofs.Common.{◌≡◌, ℕ, zero, suc, ◌+◌, ◌<◌, List, [], ◌∷◌, length, drop, get_or, sym, ap, ◌∙◌, arith}
 
 -- what is left begins with the next one
 pub next_is : (xs ys : List ℕ) (n x : ℕ) → drop n xs ≡ x ∷ ys → (x ≡ get_or xs n 0) × (ys ≡ drop (n + 1) xs)

@@ -1,5 +1,5 @@
 -- Which ring it is that threads share (this project's choice).
-use Rattle.std.specs.Prelude.{ℕ, ◌-◌}
+use Rattle.std.specs.Prelude.{ℕ}
 use Rattle.atomic_table.specs.Seated.{TableId}
 
 -- which ring it is: the table that has its words, how many words a segment has, and how many writers and readers there are

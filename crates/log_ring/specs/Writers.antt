@@ -6,7 +6,7 @@ use Rattle.vsl_record.specs.Unit.{LogUnit, Log}
 use Rattle.vsl_record.specs.Words.{unit_words}
 use Rattle.ring_layout.specs.declared.steps.PutFault.{PutFault}
 use Rattle.ring_layout.specs.declared.steps.PutFault.TheVariants.{TooLong, Busy, Exhausted}
-use Rattle.ring_layout.specs.Places.{last_tail, stays, end_at, tail}
+use Rattle.ring_layout.specs.Places.{last_tail, stays, end_at}
 use Rattle.log_ring.specs.Ring.{RingSet}
 
 -- what contracts see of a writer: of which ring it is, its number, the units that it put, each beside the tail at which it was put, the greatest tail that it found, and

@@ -1,14 +1,11 @@
 -- What a seat says that stands for all writers, once it has the log (this project's choice).
-use Rattle.std.specs.Prelude.{◌≡◌, ℕ, ◌/◌, ◌≤◌, true, List, map, reverse, None}
+use Rattle.std.specs.Prelude.{◌≡◌, ℕ, ◌≤◌, List, map}
 use Rattle.std.specs.List.{AllByRecursion}
 use Rattle.atomic_table.specs.Table.{Me, Step}
 use Rattle.log_model.specs.Interleaving.{IsInterleaving}
 use Rattle.vsl_record.specs.Unit.{LogUnit, Log}
-use Rattle.ring_layout.specs.declared.history.HistoryItem.{HistoryItem}
 use Rattle.ring_layout.specs.Places.{tail}
-use Rattle.ring_layout.specs.History.{IsReadHistory, ReachesTail}
 use Rattle.log_ring.specs.declared.rule.WriterView.{WriterView}
-use Rattle.log_ring.specs.declared.rule.ReaderView.{ReaderView}
 use Rattle.log_ring.specs.declared.rule.View.{View}
 use Rattle.log_ring.specs.Closed.{entries_from, IsDone}
 

@@ -2,7 +2,7 @@
 use Rattle.std.specs.Prelude.{◌≡◌, ℕ, ◌+◌, ◌-◌, ◌/◌, ◌<◌, ◌≤◌, ◌==◌, max, if◌then◌else◌, List, [], ◌∷◌, ◌++◌, length}
 use Rattle.atomic_table.specs.Table.{Me, Step}
 use Rattle.vsl_record.specs.Unit.{LogUnit}
-use Rattle.ring_layout.specs.Places.{last_tail, tail}
+use Rattle.ring_layout.specs.Places.{last_tail}
 use Rattle.ring_layout.specs.Content.{first_word}
 use Rattle.log_ring.specs.declared.rule.RingKey.{RingKey}
 use Rattle.log_ring.specs.declared.rule.WriterView.{WriterView}

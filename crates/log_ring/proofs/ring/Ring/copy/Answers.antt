@@ -1,4 +1,4 @@
-use Rattle.std.proofs.Common.{rules, ◌+◌, ◌*◌, ◌%◌, ℕ, length, sym, ap, ◌≡◌, ◌∙◌, arith}
+use Rattle.std.proofs.Common.{rules, ◌+◌, ◌*◌, ◌%◌, length, sym, ap, ◌≡◌, ◌∙◌, arith}
 use Rattle.std.proofs.lemmas.List.{length-take-le}
 use Rattle.vsl_record.specs.Words.{words_in}
 use Rattle.vsl_record.proofs.WordLemmas.{length-words_in}

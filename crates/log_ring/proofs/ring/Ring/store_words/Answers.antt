@@ -1,4 +1,4 @@
-use Rattle.std.proofs.Common.{rules, length, sym, ap, ◌∙◌, arith}
+use Rattle.std.proofs.Common.{rules, length, sym, ◌∙◌, arith}
 use Rattle.vsl_record.specs.Words.{unit_words}
 use Rattle.log_ring.proofs.WalkLemmas.{next_is, some_left}
 use Rattle.log_ring.proofs.WordLemmas.{put_index}
