@@ -1,5 +1,5 @@
 -- Each step of a seat keeps the rule of the shared words.
-use Rattle.std.proofs.Common.{◌≡◌, ◌≢◌, ℕ, zero, suc, ◌+◌, ◌-◌, ◌*◌, ◌%◌, ◌^◌, ◌<◌, ◌≤◌, List, [], ◌∷◌, ◌++◌, length, get_or, set, replicate, sym, refl, ap, ◌∙◌, subst, ⊎_elim, arith, mod-eq_of_lt, get_or-set_same, get_or-set_other, length-set}
+use Rattle.std.proofs.Common.{◌≡◌, ◌≢◌, ℕ, zero, suc, ◌+◌, ◌*◌, ◌%◌, ◌^◌, ◌<◌, ◌≤◌, List, [], ◌∷◌, length, get_or, set, replicate, sym, refl, ap, ◌∙◌, subst, ⊎_elim, arith, mod-eq_of_lt, get_or-set_same, get_or-set_other, length-set}
 use Rattle.std.specs.Prelude.{sum_by}
 use Rattle.std.proofs.lemmas.List.Sums.{sum_by-cons, sum_by_push}
 use mathlib.Core.Logic.{dite}
@@ -11,7 +11,7 @@ use Rattle.atomic_table.specs.Table.{State, Me, step, keeps, stepped, Allows, Sp
 use Rattle.atomic_table.proofs.Lists.{at_set, at_snoc, set_else, set_again}
 use Rattle.counter_segments.specs.declared.rule.View.{View}
 use Rattle.counter_segments.specs.Sums.{counter_count, most_passes, ceiling}
-use Rattle.counter_segments.specs.inside.Rule.{passes_of, sum_of, IsShare, IsSummed, first_view, with_more, without_one, one_of, plus, both_views, no_view, Adds, Looks}
+use Rattle.counter_segments.specs.inside.Rule.{passes_of, sum_of, IsShare, IsSummed, first_view, with_more, without_one, one_of, both_views, no_view, Adds, Looks}
 use Rattle.log_model.proofs.SumLemmas.{sum_set, part_le_sum}
 use Rattle.counter_segments.proofs.SumLemmas.{plus_at, zeros_at}
 

@@ -1,4 +1,4 @@
--- Each segment that a put enters has an segment_start of its own.
+-- Each segment that a put enters has a start of its own.
 use Rattle.std.proofs.Common.{◌≡◌, ◌⊎◌, ℕ, ◌+◌, ◌-◌, ◌*◌, ◌/◌, ◌%◌, ◌<◌, ◌≤◌, Bool, List, [], ◌∷◌, length, sym, refl, ap, ◌∙◌, subst, ⊎_elim, inl, inr, arith, Some, eq-eqb, ne_eqb, lt-ltb, le-ltb, div-add-mod', mod-lt}
 use Rattle.std.proofs.lemmas.Nat.{div-mul-add, div_below}
 use mathlib.Core.Logic.{dite}

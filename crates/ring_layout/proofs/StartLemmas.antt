@@ -1,11 +1,10 @@
 -- The start of a segment that is not entered.
-use Rattle.std.proofs.Common.{◌≡◌, ◌⊎◌, inl, inr, refl, ℕ, ◌+◌, ◌*◌, ◌/◌, ◌%◌, ◌<◌, ◌≤◌, eqb, List, [], ◌∷◌, ◌++◌, length, sym, ◌∙◌, ap, ⊎_elim, arith, Option, Some, None, eqb-true, eq-eqb}
+use Rattle.std.proofs.Common.{◌≡◌, ◌⊎◌, inl, inr, refl, ℕ, ◌+◌, ◌*◌, ◌/◌, ◌%◌, ◌<◌, ◌≤◌, eqb, List, [], ◌∷◌, ◌++◌, length, ◌∙◌, ap, ⊎_elim, arith, Option, Some, None, eqb-true, eq-eqb}
 use Rattle.std.proofs.lemmas.Nat.{div_below, mod-mul-add}
 use Rattle.std.specs.Option.{option_or}
 use Rattle.ring_layout.specs.Places.{start_at, end_at, if_some, first_in, tail_from, ends_from, tail, segment_start, end_mark}
 use Rattle.ring_layout.specs.Content.{HoldsLog}
 use Rattle.ring_layout.proofs.PushLemmas.{start_push}
-use Rattle.ring_layout.proofs.TakenLemmas.{start_above}
 use Rattle.ring_layout.proofs.AgreedLemmas.{div_up, or_some, if_true, tail_above}
 
 none_or : (x : Option ℕ) → (x ≡ None) ⊎ ((y : ℕ) × (x ≡ Some y))

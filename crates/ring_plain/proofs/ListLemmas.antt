@@ -1,7 +1,6 @@
 -- The words and the starts of a ring where a unit was put, one by one.
-use Rattle.std.proofs.Common.{rules, ◌≡◌, ◌≢◌, ℕ, ◌+◌, ◌-◌, ◌*◌, ◌/◌, ◌%◌, ◌<◌, ◌≤◌, Bool, true, false, cond, not, eqb, ltb, List, [], ◌∷◌, length, get_or, set, refl, sym, ap, ◌∙◌, subst, ⊎_elim, arith, Some, eq-eqb, ne_eqb, lt-ltb, ltb-true, ltb-false, eqb-true, div-add-mod', mod-lt, le_refl, length-set, get_or-set_same, get_or-set_other}
+use Rattle.std.proofs.Common.{rules, ◌≡◌, ◌≢◌, ℕ, ◌+◌, ◌-◌, ◌*◌, ◌/◌, ◌%◌, ◌<◌, ◌≤◌, Bool, true, false, cond, not, eqb, ltb, List, [], ◌∷◌, length, get_or, set, refl, sym, ap, ◌∙◌, ⊎_elim, arith, Some, eq-eqb, ne_eqb, lt-ltb, ltb-true, ltb-false, eqb-true, mod-lt, le_refl, length-set, get_or-set_same, get_or-set_other}
 use Rattle.std.proofs.lemmas.List.{places}
-use Rattle.std.proofs.lemmas.Nat.{mod-mul-add}
 use mathlib.Core.Logic.{dite}
 use native.Mathlib.Decide.{ℕ_discrete, dec_lt}
 use Rattle.std.specs.Option.{option_or}

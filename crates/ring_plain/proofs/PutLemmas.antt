@@ -4,13 +4,13 @@ use Rattle.std.proofs.Common.{◌≡◌, ℕ, ◌+◌, ◌-◌, ◌*◌, ◌/◌
 use mathlib.Core.Logic.{dite}
 use native.Mathlib.Decide.{dec_le}
 use Rattle.std.specs.Option.{option_or}
-use Rattle.ring_layout.specs.Places.{stays, start_at, end_at, if_some, first_in, tail_from, placed_word, words_from, ends_from, tail, segment_start, AreFit, end_mark, wrap_mark}
+use Rattle.ring_layout.specs.Places.{stays, start_at, end_at, if_some, first_in, placed_word, words_from, tail, segment_start, AreFit, end_mark, wrap_mark}
 use Rattle.ring_layout.specs.Content.{HoldsLog}
 use Rattle.ring_layout.proofs.PushLemmas.{tail_push, words_push, start_push}
 use Rattle.ring_layout.proofs.EntriesLemmas.{start_there}
 use Rattle.ring_layout.proofs.TakenLemmas.{start_above}
 use Rattle.ring_layout.proofs.StartLemmas.{start_below}
-use Rattle.ring_layout.proofs.AgreedLemmas.{div_up, or_some, if_true, placed_is, tail_above, body_below}
+use Rattle.ring_layout.proofs.AgreedLemmas.{div_up, or_some, if_true, placed_is, body_below}
 
 module _ {U : Type 0} (words : U → List ℕ) (seg : ℕ) where
   -- a unit was put at the tail t: what is new, and what stays

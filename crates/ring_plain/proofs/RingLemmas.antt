@@ -1,14 +1,13 @@
 -- A ring stands for its log, when it is new and after a put.
-use Rattle.std.proofs.Common.{ltb, true, false, not, if◌then◌else◌, Bool, ◌≡◌, ℕ, ◌+◌, ◌*◌, ◌/◌, ◌%◌, ◌<◌, ◌≤◌, eqb, List, [], ◌∷◌, ◌++◌, length, get_or, sym, refl, ap, ◌∙◌, subst, ⊎_elim, arith, Some, eqb-true}
-use Rattle.std.proofs.lemmas.Nat.{div_below, mod-mul-add}
+use Rattle.std.proofs.Common.{ltb, true, false, not, if◌then◌else◌, Bool, ◌≡◌, ℕ, ◌+◌, ◌*◌, ◌/◌, ◌<◌, ◌≤◌, List, [], ◌∷◌, ◌++◌, length, get_or, sym, refl, ap, ◌∙◌, subst, arith}
+use Rattle.std.proofs.lemmas.Nat.{div_below}
 use Rattle.vsl_record.specs.Unit.{LogUnit, Log}
 use Rattle.vsl_record.specs.Words.{IsUnit, unit_words}
 use Rattle.vsl_record.proofs.Steps.{all_append}
-use Rattle.ring_layout.specs.Places.{IsSegment, last_tail, stays, start_at, end_at, tail_from, if_some, first_in, tail, AreFit, end_mark}
+use Rattle.ring_layout.specs.Places.{IsSegment, last_tail, stays, start_at, end_at, tail_from, tail, AreFit, end_mark}
 use Rattle.ring_layout.specs.Content.{HoldsLog}
 use Rattle.ring_layout.proofs.PushLemmas.{tail_push}
 use Rattle.ring_layout.proofs.StartLemmas.{empty_holds}
-use Rattle.ring_layout.proofs.AgreedLemmas.{or_some, if_true}
 use Rattle.ring_plain.specs.Ring.{RingState, IsRingOf, wraps_from, count_wraps}
 use Rattle.ring_plain.specs.inside.Stores.{with_start, words_with, ring_with}
 use Rattle.ring_plain.proofs.PutLemmas.{put_holds}

@@ -1,4 +1,4 @@
-use Rattle.std.proofs.Common.{◌≡◌, ◌<◌, sym, ap, ◌∙◌, arith}
+use Rattle.std.proofs.Common.{sym, ap, ◌∙◌, arith}
 use Rattle.counter_segments.proofs.RuleLemmas.{joins}
 use Rattle.counter_segments.proofs.PassLemmas.{joined_first, joined_more, last_of}
 use Rattle.counter_segments.proofs.counters.join_all.Goals as goal

@@ -1,4 +1,4 @@
-use Rattle.std.proofs.Common.{◌≡◌, vec_len}
+use Rattle.std.proofs.Common.{vec_len}
 use Rattle.counter_segments.specs.inside.Steps.{IsJoined}
 use Rattle.counter_segments.proofs.counters.join_all.Given as goal
 

@@ -1,4 +1,4 @@
-use Rattle.std.proofs.Common.{◌≡◌, ◌<◌, sym, ap, ◌∙◌, arith}
+use Rattle.std.proofs.Common.{sym, ap, ◌∙◌, arith}
 use Rattle.counter_segments.proofs.RuleLemmas.{looks}
 use Rattle.counter_segments.proofs.counters.load.Goals as goal
 

@@ -1,4 +1,4 @@
-use Rattle.std.proofs.Common.{◌≡◌, ◌<◌, sym, ap, ◌∙◌, arith}
+use Rattle.std.proofs.Common.{sym, ap, ◌∙◌, arith}
 use Rattle.counter_segments.proofs.RuleLemmas.{splits}
 use Rattle.counter_segments.proofs.counters.Counters.split.Goals as goal
 
