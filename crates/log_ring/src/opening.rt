@@ -110,7 +110,8 @@ impl Ring {
         Ok(passes)
     }
 
-    /// A ring with no unit, and a pass for each of 1 to 17 writers and of 0 to 16 readers.
+    /// A ring of eight segments with no unit, and a pass for each of 1 to 17 writers and of 0 to 16 readers. All memory is
+    /// taken here: 8 bytes for each word of the ring, 4 for each word of a segment in each reader, and the lists of passes.
     pub fn new(alloc: Global, shape: Shape, writers: u32, readers: u32) -> Result<Opened, NoMemory>
         requires some { 0 < writers }
         requires few { writers ≤ most_writers }

@@ -75,7 +75,9 @@ impl ReaderPass {
         self.lost.is_some()
     }
 
-    /// Goes on four segments behind the counter, or at the first segment.
+    /// Goes on at the start of the segment four behind the counter, or of the first segment: `At` says which segment
+    /// that is, and its place in words. `Lost` where the counter came six segments ahead of it meanwhile. The cursor was
+    /// overrun before. It takes no memory and never waits.
     pub fn seek(&mut self, ring: &Ring) -> Sought
         requires ours { self.old.ring ≡ ring.now }
         requires lost { IsSome self.old.reader.lost }
@@ -250,7 +252,7 @@ impl ReaderPass {
         Step::Took
     }
 
-    /// The unit that was taken last.
+    /// The unit that was taken last, in the pass's own bytes, where one was.
     pub fn unit(&self) -> UnitView<'_>
         requires { (u : LogUnit) × Spells self.now.words u }
         ensures { result ≡ self.now.words }
@@ -343,7 +345,10 @@ impl ReaderPass {
         self.found(ring, finished_seen, head, pause, step)
     }
 
-    /// Takes the next unit. A cursor that was overrun takes nothing until it seeks.
+    /// Takes the next unit: `Took`, and `unit` lends it. `NotYet` where none is there and not all writers have left, with
+    /// the place in words; `Ended` where none is there and all have; `Lost` where the counter came six segments ahead of
+    /// the cursor, with both segments. A cursor that was overrun takes nothing until it seeks. It takes no memory and
+    /// never waits.
     pub fn next(&mut self, ring: &Ring) -> Step
         requires ours { self.old.ring ≡ ring.now }
         ensures answer { IsAnswer self.old result self.new }
@@ -367,6 +372,7 @@ impl ReaderPass {
         if let Some(at) = self.lost {
             return self.lost_again(ring, at, pause, &mut step);
         }
+        // a read for the proof alone: it tells what holds of each ring, before and behind the next call
         let _shape = ring.shape;
         if let Some(answer) = self.take(ring, pause, &mut step) {
             return answer;

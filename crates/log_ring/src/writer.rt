@@ -36,8 +36,9 @@ impl Model for WriterPass {
 }
 
 impl WriterPass {
-    /// Puts a unit, where no other writer is putting one. It takes no memory and never waits. After a refusal the log
-    /// has nothing of this call.
+    /// Puts a unit, where no other writer is putting one. `TooLong` where it has more words than a segment, `Busy` where
+    /// another writer is putting one, and `Exhausted` where no place is left, with the tail in words. It takes no memory
+    /// and never waits. After a refusal the log has nothing of this call.
     pub fn try_put(&mut self, ring: &Ring, unit: &Unit) -> Result<(), PutFault>
         requires ours { self.old.ring ≡ ring.now }
         ensures { MatchResult result (λ _. HasPut unit.now self.old self.new) (λ fault. IsRefused unit.now self.old fault self.new) }
@@ -116,7 +117,7 @@ impl WriterPass {
         unreachable!()
     }
 
-    /// Says that this writer puts no unit any more.
+    /// Says that this writer puts no unit any more. Once all have left, readers come to the end of the log.
     pub fn leave(self, ring: &Ring) -> LeftWriter
         requires ours { self.ring ≡ ring.now }
         ensures { result ≡ self }
