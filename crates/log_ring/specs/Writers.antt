@@ -1,5 +1,5 @@
 -- What contracts see of a writer, and what a put leaves (this project's choice).
-use Rattle.std.specs.Prelude.{◌≡◌, ◌≢◌, ℕ, ◌+◌, ◌-◌, ◌^◌, ◌≤◌, ◌<◌, max, min, if◌then◌else◌, List, [], ◌∷◌, ◌++◌, length, map}
+use Rattle.std.specs.Prelude.{◌≡◌, ◌≢◌, ◌⊎◌, ℕ, ◌+◌, ◌-◌, ◌^◌, ◌≤◌, ◌<◌, max, min, if◌then◌else◌, List, [], ◌∷◌, ◌++◌, length, map}
 use Rattle.std.specs.List.{AllByRecursion}
 use Rattle.std.specs.List.{range_with_len}
 use Rattle.vsl_record.specs.Unit.{LogUnit, Log}
@@ -47,15 +47,17 @@ IsRefused u old (Exhausted t) new = (length (unit_words u) ≤ old.ring.seg) × 
 abbrev pub with_busy : ℕ → WriterState → WriterState
 with_busy times w = record w { busy = w.busy + times }
 
--- the writer found the write token taken so often, as far as 64 bits go, and then put the unit
+-- the writer found the write token taken so often, as far as 64 bits go, and then put the unit; alone it finds it taken never
 pub record HasWaited (u : LogUnit) (old : WriterState) (busy : ℕ) (new : WriterState) : Type 0 where
   pub times : ℕ
   pub busy_is : busy ≡ min times (2 ^ 64 - 1)
+  pub alone : (times ≡ 0) ⊎ (1 < old.ring.writers)
   pub put : HasPut u (with_busy times old) new
 
--- the writer found the write token taken some times, and then the unit was refused for another reason
+-- the writer found the write token taken some times, alone never, and then the unit was refused for another reason
 pub record IsRefusedAtLast (u : LogUnit) (old : WriterState) (fault : PutFault) (new : WriterState) : Type 0 where
   pub times : ℕ
+  pub alone : (times ≡ 0) ⊎ (1 < old.ring.writers)
   pub not_busy : fault ≢ Busy
   pub refused : IsRefused u (with_busy times old) fault new
 

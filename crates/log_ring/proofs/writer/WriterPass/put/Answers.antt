@@ -1,4 +1,4 @@
-use Rattle.std.proofs.Common.{◌≡◌, ℕ, ◌+◌, ap, ◌∙◌, subst, arith}
+use Rattle.std.proofs.Common.{◌≡◌, ℕ, ◌+◌, ◌<◌, ap, ◌∙◌, subst, arith, inr}
 use Rattle.ring_layout.specs.declared.steps.PutFault.TheVariants.{Busy}
 use Rattle.log_ring.specs.Writers.{WriterState, IsRefused}
 use Rattle.log_ring.proofs.writer.WriterPass.put.Goals as goal
@@ -13,5 +13,5 @@ loop-preserved g c =
     let sum : old.busy + before.0 + 1 ≡ old.busy + (before.0 + 1) = omega arith in (
       tt,
       tt,
-      (before.0 + 1, omega arith, refused.1 ∙ (ap (λ (w : WriterState). record w { busy = w.busy + 1 }) before.2 ∙ ap (λ (n : ℕ). record old { busy = n }) sum)),
+      (before.0 + 1, omega arith, refused.1 ∙ (ap (λ (w : WriterState). record w { busy = w.busy + 1 }) before.2 ∙ ap (λ (n : ℕ). record old { busy = n }) sum), inr (subst (λ (w : WriterState). 1 < w.ring.writers) before.2 refused.2)),
     )
