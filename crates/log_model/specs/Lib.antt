@@ -1,3 +1,4 @@
 pub mod Faults
+pub mod Halts
 pub mod Interleaving
 pub mod Prefix

@@ -7,4 +7,4 @@
 
 mod fault;
 
-pub use fault::NoMemory;
+pub use fault::{Halt, NoMemory};
