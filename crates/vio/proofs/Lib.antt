@@ -3,3 +3,7 @@ mod FileLemmas
 mod MemoryLemmas
 pub mod TouchLemmas
 pub mod NamedLemmas
+pub mod ReadLemmas
+pub mod CallLemmas
+pub mod CallLaws
+pub mod StepLemmas

@@ -6,4 +6,6 @@ pub mod Sources
 pub mod Plan
 pub mod Memory
 pub mod Streams
+pub mod Calls
+pub mod Steps
 pub mod inside

@@ -1,33 +1,26 @@
 -- A file that is found by its name and read whole (this project's choice).
-use Rattle.std.specs.Prelude.{◌≡◌, ℕ, ◌<◌, ◌≤◌, true, false, List, length, Some}
-use Rattle.log_model.specs.Faults.{HasNewFault}
+use Rattle.std.specs.Prelude.{◌≡◌, ℕ, ◌<◌, ◌≤◌, ◌⊎◌, true, false, List, [], ◌∷◌, length}
 use Rattle.vio.specs.declared.fault.NamedFault.{NamedFault}
-use Rattle.vio.specs.declared.fault.NamedFault.TheVariants.{NoOpen, Failed, TooLarge, NoMemory}
-use Rattle.vio.specs.World.{Seen, Opening, Reading}
+use Rattle.vio.specs.declared.fault.NamedFault.TheVariants.{NoOpen, Failed, TooLarge}
+use Rattle.vio.specs.World.{Seen, Opening}
 use Rattle.vio.specs.Touches.{IsOneOf}
-
--- a file of this name was opened: a new handle reads it
-abbrev pub IsOpened : List ℕ → Seen → Seen → Type 0
-IsOpened name before now = (handle : ℕ) × (before.given handle ≡ false) × (now.given handle ≡ true) × (now.names Reading handle name ≡ true)
-
--- files were read at most: each holds what it held, and nothing was written
-pub record OnlyReads (before now : Seen) : Type 0 where
-  pub held : (name : List ℕ) → now.held name ≡ before.held name
-  pub written : (h : ℕ) → now.written h ≡ before.written h
+use Rattle.vio.specs.Calls.{Went, MetEnd, Call, Take, Open, Refuse, Lack}
+use Rattle.vio.specs.Calls as calling
 
 -- at most so many handles are new
 abbrev pub GivesAtMost : ℕ → Seen → Seen → Type 0
 GivesAtMost most before now = (new : List ℕ) × (length new ≤ most) × ((h : ℕ) → before.given h ≡ false → now.given h ≡ true → IsOneOf h new)
 
--- a file of this name was opened, and these are its bytes, where the world tells what it holds; they are within the limit
-pub record ReadNamed (limit : ℕ) (name bytes : List ℕ) (before now : Seen) : Type 0 where
-  pub opened : IsOpened name before now
-  pub within : length bytes ≤ limit
-  pub told : (held : List ℕ) → before.held name ≡ Some held → bytes ≡ held
+-- the file of this name was opened and read to its end, and these are its bytes, which are within the limit
+abbrev pub IsReadBy : ℕ → List ℕ → List ℕ → List Call → Type 0
+IsReadBy limit name bytes calls = (h : ℕ) × (calls ≡ Open name h ∷ Take h bytes MetEnd ∷ []) × (length bytes ≤ limit)
 
--- the cause of each fault: a call on this name failed and was counted, or the file of this name holds more bytes than the limit, where told
-abbrev pub IsNamedFault : ℕ → List ℕ → NamedFault → Seen → Seen → Type 0
-IsNamedFault limit name NoOpen before now = HasNewFault (before.faults Opening name) (now.faults Opening name)
-IsNamedFault limit name Failed before now = IsOpened name before now × HasNewFault (before.faults Reading name) (now.faults Reading name)
-IsNamedFault limit name TooLarge before now = IsOpened name before now × ((held : List ℕ) → before.held name ≡ Some held → limit < length held)
-IsNamedFault limit name NoMemory before now = Unit {0}
+-- the file of this name wasn't read: it couldn't be opened, a read failed, or it has more bytes than the limit
+abbrev pub IsRefusedBy : ℕ → List ℕ → NamedFault → List Call → Type 0
+IsRefusedBy limit name NoOpen calls = calls ≡ Refuse Opening name ∷ []
+IsRefusedBy limit name Failed calls = (h : ℕ) × (bytes : List ℕ) × (calls ≡ Open name h ∷ Take h bytes (calling.Failed name) ∷ [])
+IsRefusedBy limit name TooLarge calls = (h : ℕ) × (bytes : List ℕ) × (calls ≡ Open name h ∷ Take h bytes Went ∷ []) × (limit < length bytes)
+
+-- there was no memory to open the file of this name, or to read it
+abbrev pub IsLackedBy : List ℕ → List Call → Type 0
+IsLackedBy name calls = (calls ≡ Lack ∷ []) ⊎ ((h : ℕ) × (bytes : List ℕ) × (calls ≡ Open name h ∷ Take h bytes Went ∷ []))

@@ -50,9 +50,6 @@ pub enum NamedFault {
     /// The file has more bytes than the limit.
     #[error("more bytes than the limit")]
     TooLarge,
-    /// There was no memory for the call or the bytes.
-    #[error("out of memory")]
-    NoMemory,
 }
 
 impl From<AllocError> for WorldFault {

@@ -17,7 +17,7 @@ mod whole;
 mod world;
 
 pub use fault::{Failed, NamedFault, WholeFault, WorldFault};
-pub use log_model::NoMemory;
+pub use log_model::{Halt, NoMemory};
 pub use memory::MemWorld;
 pub use named::read_named;
 pub use whole::{read_whole, write_all};

@@ -1,0 +1,183 @@
+-- The calls that were made of a world, in order: what each did, and what they come to (this project's choice). What several calls did is said of their list, so two parts, one
+-- after the other, are `xs ++ ys`.
+use Rattle.std.specs.Prelude.{◌≡◌, ℕ, ◌≤◌, ◌==◌, ◌&&◌, ◌||◌, not, if◌then◌else◌, Bool, true, false, List, [], ◌∷◌, ◌++◌, ◌+◌, length}
+use Rattle.log_model.specs.Faults.{HasNewFault}
+use Rattle.vio.specs.World.{Seen, CallKind, Reading, Writing, Opened, FileCreated, Read, Wrote, OnlyCounts, IsAtEnd, FaultsRose}
+use Rattle.vio.specs.Touches.{IsOneOf}
+
+-- how a read or a write went
+pub data Mark : Type 0 where
+  Went : Mark
+  -- a read met the end
+  MetEnd : Mark
+  -- it failed, and was counted under this name
+  Failed : List ℕ → Mark
+  -- it failed, and was counted under each name of the handle
+  FailedEach : Mark
+
+-- a call of a world, or several of a kind, one after the other
+pub data Call : Type 0 where
+  -- these bytes were read from a handle
+  Take : ℕ → List ℕ → Mark → Call
+  -- these bytes were written to a handle
+  Write : ℕ → List ℕ → Mark → Call
+  -- a file of this name was opened, and the handle is new
+  Open : List ℕ → ℕ → Call
+  -- a file was created, which keeps its bytes or not; its name, the handle, which is new, and whether the file has no bytes
+  Create : Bool → List ℕ → ℕ → Bool → Call
+  -- a call of a kind failed, and was counted under this name
+  Refuse : CallKind → List ℕ → Call
+  -- the world had no memory for a call
+  Lack : Call
+
+-- what a mark says
+abbrev pub Marks : CallKind → ℕ → Mark → Seen → Seen → Type 0
+Marks kind h Went before now = Unit {0}
+Marks kind h MetEnd before now = IsAtEnd h now
+Marks kind h (Failed name) before now = HasNewFault (before.faults kind name) (now.faults kind name)
+Marks kind h FailedEach before now = FaultsRose kind h before now
+
+-- a call was made
+abbrev pub Does : Call → Seen → Seen → Type 0
+Does (Take h bytes mark) before now = Read h bytes before now × Marks Reading h mark before now
+Does (Write h bytes mark) before now = Wrote h bytes before now × Marks Writing h mark before now
+Does (Open name h) before now = Opened name h before now
+Does (Create append name h empty) before now = FileCreated append name h empty before now
+Does (Refuse kind name) before now = OnlyCounts before now × HasNewFault (before.faults kind name) (now.faults kind name)
+Does Lack before now = OnlyCounts before now
+
+-- calls were made, one after the other, and no others
+abbrev pub Did : List Call → Seen → Seen → Type 0
+Did [] before now = now ≡ before
+Did (call ∷ calls) before now = (next : Seen) × Does call before next × Did calls next now
+
+-- calls were made that are so
+pub record Called (IsSo : List Call → Type 0) (before now : Seen) : Type 0 where
+  pub calls : List Call
+  pub did : Did calls before now
+  pub is : IsSo calls
+
+-- ---- what was written and taken
+
+-- the bytes of a call of one handle, where it is that
+abbrev pub of_handle : Bool → List ℕ → List ℕ
+of_handle b bytes = if b then bytes else []
+
+-- what was written to a handle
+abbrev pub written_by : ℕ → List Call → List ℕ
+written_by h [] = []
+written_by h (Write k bytes mark ∷ calls) = of_handle (k == h) bytes ++ written_by h calls
+written_by h (Take k bytes mark ∷ calls) = written_by h calls
+written_by h (Open name k ∷ calls) = written_by h calls
+written_by h (Create append name k empty ∷ calls) = written_by h calls
+written_by h (Refuse kind name ∷ calls) = written_by h calls
+written_by h (Lack ∷ calls) = written_by h calls
+
+-- what was taken from a handle
+abbrev pub taken_by : ℕ → List Call → List ℕ
+taken_by h [] = []
+taken_by h (Take k bytes mark ∷ calls) = of_handle (k == h) bytes ++ taken_by h calls
+taken_by h (Write k bytes mark ∷ calls) = taken_by h calls
+taken_by h (Open name k ∷ calls) = taken_by h calls
+taken_by h (Create append name k empty ∷ calls) = taken_by h calls
+taken_by h (Refuse kind name ∷ calls) = taken_by h calls
+taken_by h (Lack ∷ calls) = taken_by h calls
+
+-- whether a mark is that of a read that met the end
+abbrev pub is_end : Mark → Bool
+is_end Went = false
+is_end MetEnd = true
+is_end (Failed name) = false
+is_end FailedEach = false
+
+-- whether a mark is that of a call that failed
+abbrev pub is_failed : Mark → Bool
+is_failed Went = false
+is_failed MetEnd = false
+is_failed (Failed name) = true
+is_failed FailedEach = true
+
+-- whether a read of a handle is marked so
+abbrev pub has_read : (Mark → Bool) → ℕ → List Call → Bool
+has_read is_so h [] = false
+has_read is_so h (Take k bytes mark ∷ calls) = ((k == h) && is_so mark) || has_read is_so h calls
+has_read is_so h (Write k bytes mark ∷ calls) = has_read is_so h calls
+has_read is_so h (Open name k ∷ calls) = has_read is_so h calls
+has_read is_so h (Create append name k empty ∷ calls) = has_read is_so h calls
+has_read is_so h (Refuse kind name ∷ calls) = has_read is_so h calls
+has_read is_so h (Lack ∷ calls) = has_read is_so h calls
+
+-- ---- what failed
+
+-- whether a call failed
+abbrev pub has_failed : Call → Bool
+has_failed (Take h bytes mark) = is_failed mark
+has_failed (Write h bytes mark) = is_failed mark
+has_failed (Open name h) = false
+has_failed (Create append name h empty) = false
+has_failed (Refuse kind name) = true
+has_failed Lack = false
+
+-- whether none of the calls failed
+abbrev pub none_failed : List Call → Bool
+none_failed [] = true
+none_failed (call ∷ calls) = not (has_failed call) && none_failed calls
+
+-- whether none of the calls failed but perhaps the last
+abbrev pub last_failed : List Call → Bool
+last_failed [] = true
+last_failed (call ∷ []) = true
+last_failed (call ∷ next ∷ calls) = not (has_failed call) && last_failed (next ∷ calls)
+
+-- where calls go on none failed, and else none but perhaps the last
+abbrev pub fails : Bool → List Call → Bool
+fails go calls = if go then none_failed calls else last_failed calls
+
+-- a call failed that was counted for this kind and name
+abbrev pub IsFailed : CallKind → List ℕ → Call → Type 0
+IsFailed kind name (Take h bytes mark) = (kind ≡ Reading) × (mark ≡ Failed name)
+IsFailed kind name (Write h bytes mark) = (kind ≡ Writing) × (mark ≡ Failed name)
+IsFailed kind name (Open file h) = ⊥
+IsFailed kind name (Create append file h empty) = ⊥
+IsFailed kind name (Refuse why file) = (kind ≡ why) × (name ≡ file)
+IsFailed kind name Lack = ⊥
+
+-- ---- what was touched
+
+-- a call reads one of the first handles or writes one of the second
+abbrev pub IsOn : List ℕ → List ℕ → Call → Type 0
+IsOn reads writes (Take h bytes mark) = IsOneOf h reads
+IsOn reads writes (Write h bytes mark) = IsOneOf h writes
+IsOn reads writes (Open name h) = ⊥
+IsOn reads writes (Create append name h empty) = ⊥
+IsOn reads writes (Refuse kind name) = ⊥
+IsOn reads writes Lack = ⊥
+
+-- each call is so
+abbrev pub AreOn : List ℕ → List ℕ → List Call → Type 0
+AreOn reads writes [] = Unit {0}
+AreOn reads writes (call ∷ calls) = IsOn reads writes call × AreOn reads writes calls
+
+-- calls read these handles or ones that they opened, write these or ones that they created, and open and create files under these names
+abbrev pub AreWithin : List ℕ → List ℕ → List (List ℕ) → List (List ℕ) → List Call → Type 0
+AreWithin reads writes opened created [] = Unit {0}
+AreWithin reads writes opened created (Take h bytes mark ∷ calls) = IsOneOf h reads × AreWithin reads writes opened created calls
+AreWithin reads writes opened created (Write h bytes mark ∷ calls) = IsOneOf h writes × AreWithin reads writes opened created calls
+AreWithin reads writes opened created (Open name h ∷ calls) = IsOneOf name opened × AreWithin (h ∷ reads) writes opened created calls
+AreWithin reads writes opened created (Create append name h empty ∷ calls) = IsOneOf name created × AreWithin reads (h ∷ writes) opened created calls
+AreWithin reads writes opened created (Refuse kind name ∷ calls) = AreWithin reads writes opened created calls
+AreWithin reads writes opened created (Lack ∷ calls) = AreWithin reads writes opened created calls
+
+-- how many handles calls give
+abbrev pub count_given : List Call → ℕ
+count_given [] = 0
+count_given (Take h bytes mark ∷ calls) = count_given calls
+count_given (Write h bytes mark ∷ calls) = count_given calls
+count_given (Open name h ∷ calls) = 1 + count_given calls
+count_given (Create append name h empty ∷ calls) = 1 + count_given calls
+count_given (Refuse kind name ∷ calls) = count_given calls
+count_given (Lack ∷ calls) = count_given calls
+
+-- calls open files of these names, no more than these are, and read them; they write and create nothing
+abbrev pub OnlyOpen : List (List ℕ) → List Call → Type 0
+OnlyOpen names calls = AreWithin [] [] names [] calls × (count_given calls ≤ length names)
