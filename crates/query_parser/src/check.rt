@@ -12,9 +12,10 @@ use crate::fault::QueryFault;
 use crate::literal::Literal;
 use crate::operator::Operator;
 use crate::test::Check;
+use log_model::Halt;
 use std::alloc::Global;
 use vsl_decimal::read_decimal;
-use vsl_pattern::{Pattern, PatternFault};
+use vsl_pattern::{NoGoodPattern, Pattern};
 
 /// Reads what an operator and an operand, which begins at this byte, ask.
 pub(crate) fn read_check(
@@ -48,8 +49,8 @@ pub(crate) fn read_check(
         }),
         Operator::Pattern(matches) => match Pattern::new(alloc, text.as_slice(), caseless) {
             Ok(pattern) => Ok(Check::Pattern { matches, pattern }),
-            Err(PatternFault::NoGoodPattern) => Err(QueryFault::Pattern { at: at as u64 }),
-            Err(PatternFault::NoMemory) => Err(QueryFault::NoMemory),
+            Err(Halt::Fault(NoGoodPattern)) => Err(QueryFault::Pattern { at: at as u64 }),
+            Err(Halt::NoMemory) => Err(QueryFault::NoMemory),
         },
     }
 }

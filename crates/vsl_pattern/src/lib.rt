@@ -8,4 +8,4 @@
 
 mod pattern;
 
-pub use pattern::{Matching, Pattern, PatternFault};
+pub use pattern::{Matching, NoGoodPattern, Pattern};

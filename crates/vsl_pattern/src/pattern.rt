@@ -1,25 +1,21 @@
 //! Patterns.
 
-ghost use Rattle.std.specs.Prelude.{◌≡◌, true, false, IfOk, OnOk, IsErrOf};
+ghost use Rattle.std.specs.Prelude.{◌≡◌, true, false, IfOk, OnOk};
+ghost use Rattle.log_model.specs.Halts.{IfFault};
 ghost use Rattle.regex.specs.Bytes.{regex_pattern, matcher_pattern};
 ghost use Rattle.vsl_pattern.specs.inside.Options.{IsReadUnder};
 
+use log_model::Halt;
 use regex::bytes::{Matcher, Regex};
 use regex::{Error, RegexBuilder};
 use std::alloc::{AllocError, Global};
 use std::str;
 use thiserror::Error;
 
-/// Why a text becomes no pattern.
+/// The text is no good pattern.
 #[derive(Clone, Copy, Debug, PartialEq, Eq, Error)]
-pub enum PatternFault {
-    /// The text is no good pattern.
-    #[error("no good pattern")]
-    NoGoodPattern,
-    /// There was no memory for the pattern, or its tables would be too large.
-    #[error("out of memory")]
-    NoMemory,
-}
+#[error("no good pattern")]
+pub struct NoGoodPattern;
 
 /// A pattern, as it was read.
 #[derive(Debug, Drop)]
@@ -34,21 +30,23 @@ impl Pattern {
 
     /// Reads a pattern, as `^/item/[0-9]+`. With `caseless` the case of letters doesn't count.
     ///
+    /// Want of memory is answered also where its tables would be too large.
+    ///
     /// Source: varnishlog(1), "-C" and "-I"; that a text nested deeper than 250 is refused is the crate `regex`'s limit.
-    pub fn new(alloc: Global, text: &[u8], caseless: bool) -> Result<Pattern, PatternFault>
+    pub fn new(alloc: Global, text: &[u8], caseless: bool) -> Result<Pattern, Halt<NoGoodPattern>>
         ensures text { IfOk result (λ p. pattern_text p ≡ text.now) }
         ensures caseless { IfOk result (λ p. pattern_caseless p ≡ caseless) }
         ensures good { OnOk result (is_good_pattern caseless text.now ≡ true) }
-        ensures refused { IsErrOf result PatternFault.NoGoodPattern → is_good_pattern caseless text.now ≡ false }
+        ensures refused { IfFault result (λ _. is_good_pattern caseless text.now ≡ false) }
     {
         let Ok(text) = str::from_utf8(text) else {
-            return Err(PatternFault::NoGoodPattern);
+            return Err(Halt::Fault(NoGoodPattern));
         };
         let builder = RegexBuilder::new(text).case_insensitive(caseless);
         match builder.build_bytes(alloc) {
             Ok(regex) => Ok(Pattern { regex, caseless }),
-            Err(Error::Syntax(_)) => Err(PatternFault::NoGoodPattern),
-            Err(_) => Err(PatternFault::NoMemory),
+            Err(Error::Syntax(_)) => Err(Halt::Fault(NoGoodPattern)),
+            Err(_) => Err(Halt::NoMemory),
         }
     }
 

@@ -7,9 +7,9 @@ ghost use Rattle.vsl_select.specs.Shown.{is_list_byte, is_matched, names_tag, pa
 ghost use Rattle.vsl_select.specs.inside.Reading.{AreTagsOf, IsPatternOf, IsRead};
 
 use crate::rule_text::{RuleText, SelectFault};
-use log_model::NoMemory;
+use log_model::{Halt, NoMemory};
 use std::alloc::Global;
-use vsl_pattern::{Pattern, PatternFault};
+use vsl_pattern::{NoGoodPattern, Pattern};
 use vsl_record::Record;
 use vsl_tags::{Tag, TagSet};
 
@@ -96,8 +96,8 @@ fn read_pattern(
     };
     match Pattern::new(alloc, text.as_bytes(), caseless) {
         Ok(pattern) => Ok(Some(pattern)),
-        Err(PatternFault::NoGoodPattern) => Err(SelectFault::BadPattern { word }),
-        Err(PatternFault::NoMemory) => Err(SelectFault::NoMemory),
+        Err(Halt::Fault(NoGoodPattern)) => Err(SelectFault::BadPattern { word }),
+        Err(Halt::NoMemory) => Err(SelectFault::NoMemory),
     }
 }
 

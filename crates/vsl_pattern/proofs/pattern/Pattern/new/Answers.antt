@@ -2,7 +2,7 @@ use Rattle.vsl_pattern.proofs.PatternLemmas.{good_of_read, not_good_of_refused, 
 use Rattle.vsl_pattern.proofs.pattern.Pattern.new.Goals as goal
 
 pub returns-in_default-clause-refused : goal.returns-in_default-clause-refused
-returns-in_default-clause-refused c = λ _. not_good_of_bytes _ _ c.in_default.ensures.cases.0
+returns-in_default-clause-refused c = not_good_of_bytes _ _ c.in_default.ensures.cases.0
 
 pub returns-in-Ok-build_bytes-clause-good : goal.returns-in-Ok-build_bytes-clause-good
 returns-in-Ok-build_bytes-clause-good c =
@@ -12,7 +12,7 @@ returns-in-Ok-build_bytes-clause-good c =
     (record { options = rw (c.case_insensitive-builder.ensures, c.new.ensures.config) at made.config; read = made.read })
 
 pub returns-in-Err-Syntax-clause-refused : goal.returns-in-Err-Syntax-clause-refused
-returns-in-Err-Syntax-clause-refused c = λ _.
+returns-in-Err-Syntax-clause-refused c =
     let kind = rw c.in-Err-Syntax.field-0-is at c.in-Err-Syntax.ensures.kind in
     let refused = c.in-Err-Syntax.ensures.refused _ c.in-Err-Syntax.field-0-is in
     not_good_of_refused _ _ _ kind
