@@ -8,11 +8,13 @@
 #![tactic(auto)]
 
 mod history;
+mod item;
 mod shape;
 mod steps;
 mod words;
 
 pub use history::{HistoryItem, Run};
+pub use item::Item;
 pub use shape::{Placed, Shape, place_after, segment_of};
 pub use steps::{PutFault, Sought, Step};
 pub use words::{WORD, copy_words, read_word, write_unit, write_word};

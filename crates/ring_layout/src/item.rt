@@ -1,0 +1,17 @@
+//! What a reader of a log meets, one thing after the other.
+
+use vsl_record::Unit;
+
+/// What a reader meets of a log.
+#[derive(Debug, Drop)]
+pub enum Item {
+    /// A unit, which it took.
+    Unit(Unit),
+    /// The writers came too near, and it missed units.
+    Overrun {
+        /// The segment where the reader stood.
+        at: u64,
+        /// The segment to which the writers had come.
+        seen: u64,
+    },
+}
