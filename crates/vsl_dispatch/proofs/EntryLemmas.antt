@@ -3,8 +3,8 @@ use Rattle.std.proofs.Common.{◌≡◌, ◌+◌, cond, List, ◌∷◌, refl, s
 use Rattle.std.specs.List.{count_by}
 use Rattle.std.proofs.lemmas.List.Recursion.{is_count_by}
 use Rattle.vsl_dispatch.specs.Entries.{count_live, is_live}
-use Rattle.vsl_dispatch.specs.declared.dispatcher.Entry.{Entry}
-use Rattle.vsl_dispatch.specs.declared.dispatcher.Entry.TheVariants.{Live, Gone}
+use Rattle.vsl_dispatch.specs.declared.entry.Entry.{Entry}
+use Rattle.vsl_dispatch.specs.declared.entry.Entry.TheVariants.{Live, Gone}
 
 live_more : {C : Type 0} → (entry : Entry C) (entries : List (Entry C)) → count_live (entry ∷ entries) ≡ cond (is_live entry) (1 + count_live entries) (count_live entries)
 live_more (Live c) entries = omega arith

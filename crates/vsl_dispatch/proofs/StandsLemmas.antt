@@ -4,9 +4,9 @@ use Rattle.std.proofs.lemmas.List.{append-nil}
 use Rattle.vsl_record.specs.Unit.{LogUnit}
 use Rattle.txn_rows.specs.declared.group.Group.{Group}
 use Rattle.vsl_dispatch.specs.Groups.{raw_groups, kept, is_filled}
-use Rattle.vsl_dispatch.specs.Entries.{Handed, Finished, TextTaken, Offered, Stands, HasEnded}
-use Rattle.vsl_dispatch.specs.declared.dispatcher.Entry.{Entry}
-use Rattle.vsl_dispatch.specs.declared.dispatcher.Entry.TheVariants.{Live, Gone}
+use Rattle.vsl_dispatch.specs.Entries.{Handed, Finished, TextTaken, OfferedTo, Stands, HasEnded}
+use Rattle.vsl_dispatch.specs.declared.entry.Entry.{Entry}
+use Rattle.vsl_dispatch.specs.declared.entry.Entry.TheVariants.{Live, Gone}
 use Rattle.vsl_dispatch.proofs.GroupLemmas.{kept_filled, kept_open, filled_more, filled_last, open_more}
 
 module _ {C : Type 0} (keep : C → Option ℕ) (output : C → List Group → Bool → List ℕ) (represents : C → List Group → Bool → List ℕ → Type 0) where
@@ -26,13 +26,15 @@ module _ {C : Type 0} (keep : C → Option ℕ) (output : C → List Group → B
   stands_handed most writes group false (Gone bytes) new groups taken handed old = rw handed old
 
   -- after the records of a unit were offered, which a consumer takes only if it keeps all
-  pub stands_offered : (most : Option ℕ) (writes : List Group → Bool → List ℕ) (u : LogUnit) (took : Bool) (c d : C) (groups : List Group) (taken : List ℕ)
-      → Offered keep output represents u took c d → Stands keep output represents most writes (Live c) groups taken
-      → Stands keep output represents most writes (Live d) (if took then groups ++ raw_groups u else groups) taken
-  stands_offered most writes u true c d groups taken offered old =
+  pub stands_offered : (most : Option ℕ) (writes : List Group → Bool → List ℕ) (u : LogUnit) (took : Bool) (old new : Entry C) (groups : List Group) (taken : List ℕ)
+      → OfferedTo keep output represents u took old new → Stands keep output represents most writes old groups taken
+      → Stands keep output represents most writes new (if took then groups ++ raw_groups u else groups) taken
+  stands_offered most writes u true (Live c) (Live d) groups taken offered old =
       let all : most ≡ None = sym old.0 ∙ offered.all refl in
       (offered.same.keeps ∙ old.0, offered.same.writes ∙ old.1, rw all refl, offered.takes groups taken old.3)
-  stands_offered most writes u false c d groups taken offered old = (offered.same.keeps ∙ old.0, offered.same.writes ∙ old.1, old.2, offered.takes groups taken old.3)
+  stands_offered most writes u false (Live c) (Live d) groups taken offered old = (offered.same.keeps ∙ old.0, offered.same.writes ∙ old.1, old.2, offered.takes groups taken old.3)
+  stands_offered most writes u took (Live c) (Gone bytes) groups taken offered old = elim offered [ ]
+  stands_offered most writes u took (Gone bytes) new groups taken offered old = rw (offered.0, offered.1) old
 
   -- after a text was taken, what was taken is what is written of the groups that were received
   pub stands_text : (most : Option ℕ) (writes : List Group → Bool → List ℕ) (text : List ℕ) (old new : Entry C) (groups : List Group) (taken : List ℕ)

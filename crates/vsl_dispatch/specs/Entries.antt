@@ -4,8 +4,8 @@ use Rattle.vsl_record.specs.Unit.{LogUnit}
 use Rattle.txn_rows.specs.declared.group.Group.{Group}
 use Rattle.vsl_dispatch.specs.Groups.{raw_groups, kept, is_filled}
 use Rattle.vsl_dispatch.specs.declared.dispatcher.Dispatcher.{Dispatcher}
-use Rattle.vsl_dispatch.specs.declared.dispatcher.Entry.{Entry}
-use Rattle.vsl_dispatch.specs.declared.dispatcher.Entry.TheVariants.{Live, Gone}
+use Rattle.vsl_dispatch.specs.declared.entry.Entry.{Entry}
+use Rattle.vsl_dispatch.specs.declared.entry.Entry.TheVariants.{Live, Gone}
 
 -- the entries of a dispatcher, in order
 abbrev pub entries_of : {C : Type 0} → Dispatcher C → List (Entry C)
@@ -80,6 +80,12 @@ module _ {C : Type 0} (keep : C → Option ℕ) (output : C → List Group → B
     pub same : IsSame c d
     pub takes : (groups : List Group) (taken : List ℕ) → represents c groups false taken → represents d (if took then groups ++ raw_groups u else groups) false taken
     pub all : took ≡ true → keep c ≡ None
+
+  -- they were offered to an entry: a consumer that is gone takes none
+  abbrev pub OfferedTo : LogUnit → Bool → Entry C → Entry C → Type 0
+  OfferedTo u took (Live c) (Live d) = Offered u took c d
+  OfferedTo u took (Live c) (Gone bytes) = ⊥
+  OfferedTo u took (Gone bytes) new = (took ≡ false) × (new ≡ Gone bytes)
 
   -- of the groups that were for it, a consumer that keeps so many and writes this of groups received the first, at most as many as it keeps, and of its text
   -- these bytes were taken; it received fewer than it keeps where it is live, and else left the rest of its text

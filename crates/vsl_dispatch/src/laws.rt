@@ -4,9 +4,8 @@ ghost use Rattle.std.specs.Prelude.{◌≡◌, ℕ, Bool, true, false, List, [],
 ghost use Rattle.txn_rows.specs.declared.group.Group.{Group};
 ghost use Rattle.vsl_record.specs.Unit.{LogUnit};
 ghost use Rattle.vsl_dispatch.specs.Groups.{raw_groups, kept, is_filled};
-ghost use Rattle.vsl_dispatch.specs.Entries.{Handed, Finished, TextTaken, Offered, Stands, HasEnded};
-ghost use Rattle.vsl_dispatch.specs.declared.dispatcher.Entry.{Entry};
-ghost use Rattle.vsl_dispatch.specs.declared.dispatcher.Entry.TheVariants.{Live};
+ghost use Rattle.vsl_dispatch.specs.Entries.{Handed, Finished, TextTaken, OfferedTo, Stands, HasEnded};
+ghost use Rattle.vsl_dispatch.specs.declared.entry.Entry.{Entry};
 
 use crate::consumer::Consumer;
 
@@ -16,9 +15,9 @@ pub fn each_receives_its_groups<C: Consumer>()
     ensures given { (most : Option ℕ) (writes : List Group → Bool → List ℕ) (group : Group) (holds : Bool) (old new : Entry C) (groups : List Group) (taken : List ℕ) →
         Handed C.keep C.output C.represents group holds old new → Stands C.keep C.output C.represents most writes old groups taken →
         Stands C.keep C.output C.represents most writes new (if holds then groups ++ group ∷ [] else groups) taken }
-    ensures offered { (most : Option ℕ) (writes : List Group → Bool → List ℕ) (u : LogUnit) (took : Bool) (c d : C) (groups : List Group) (taken : List ℕ) →
-        Offered C.keep C.output C.represents u took c d → Stands C.keep C.output C.represents most writes (Live c) groups taken →
-        Stands C.keep C.output C.represents most writes (Live d) (if took then groups ++ raw_groups u else groups) taken }
+    ensures offered { (most : Option ℕ) (writes : List Group → Bool → List ℕ) (u : LogUnit) (took : Bool) (old new : Entry C) (groups : List Group) (taken : List ℕ) →
+        OfferedTo C.keep C.output C.represents u took old new → Stands C.keep C.output C.represents most writes old groups taken →
+        Stands C.keep C.output C.represents most writes new (if took then groups ++ raw_groups u else groups) taken }
     ensures taken { (most : Option ℕ) (writes : List Group → Bool → List ℕ) (text : List ℕ) (old new : Entry C) (groups : List Group) (taken : List ℕ) →
         TextTaken C.keep C.output C.represents text old new → Stands C.keep C.output C.represents most writes old groups taken →
         Stands C.keep C.output C.represents most writes new groups (taken ++ text) × (taken ++ text ≡ writes (kept most groups) (is_filled most groups)) }

@@ -9,10 +9,12 @@
 
 mod consumer;
 mod dispatcher;
+mod entry;
 mod laws;
 mod received;
 
 pub use consumer::{Consumer, Go};
-pub use dispatcher::{Dispatch, Dispatcher, Entry};
+pub use dispatcher::{Dispatch, Dispatcher};
+pub use entry::Entry;
 pub use laws::each_receives_its_groups;
 pub use received::Received;

@@ -1,6 +1,6 @@
 -- Entries of which those below a place were gone through.
 use Rattle.std.specs.Prelude.{◌≡◌, ◌<◌, ◌≤◌, ℕ, Bool, List, length, slice_get, Some}
-use Rattle.vsl_dispatch.specs.declared.dispatcher.Entry.{Entry}
+use Rattle.vsl_dispatch.specs.declared.entry.Entry.{Entry}
 
 -- the entries below a place were changed so, each with what stands at its place in a list, and the others are as they were
 pub record IsHandedBelow {C : Type 0} (R : Bool → Entry C → Entry C → Type 0) (place : ℕ) (holds : List Bool) (before now : List (Entry C)) : Type 0 where

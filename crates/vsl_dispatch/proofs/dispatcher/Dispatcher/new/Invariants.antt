@@ -1,5 +1,5 @@
 use Rattle.std.proofs.Common.{◌≡◌, map}
-use Rattle.vsl_dispatch.specs.declared.dispatcher.Entry.TheVariants.{Live}
+use Rattle.vsl_dispatch.specs.declared.entry.Entry.TheVariants.{Live}
 use Rattle.vsl_dispatch.proofs.dispatcher.Dispatcher.new.Given as goal
 
 abbrev pub invariant-loop-consumer : goal.invariant-loop-consumer
