@@ -1,0 +1,159 @@
+-- What a log file gave, read by read.
+use Rattle.std.proofs.Common.{◌≡◌, ℕ, ◌+◌, ◌<◌, Bool, true, false, Err, List, [], ◌∷◌, ◌++◌, length, length-append, refl, sym, ap, subst, ◌∙◌, append_assoc, arith, inl}
+use Rattle.std.proofs.lemmas.List.{map-append}
+use Rattle.vio.specs.World.{Seen, Reading, Read}
+use Rattle.vio.specs.Calls.{Mark, Went, MetEnd, FailedEach, Call, Take, AreOn, Marks, taken_by, is_end, fails}
+use Rattle.vio.proofs.TouchLemmas.{one_of_left, one_of_right}
+use Rattle.vio.proofs.CallLemmas.{did_take, taken_append, taken_here, read_last}
+use Rattle.vsl_record.specs.Unit.{LogUnit, Log}
+use Rattle.ring_layout.specs.declared.item.Item.{Item}
+use Rattle.ring_layout.specs.declared.item.Item.TheVariants as items
+use Rattle.vsl_file.specs.File.{FileEnding, NotALog, Damaged, TooLarge, Whole, IsFile, HoldsWhole, file_header, log_bytes}
+use Rattle.vsl_file.specs.ReaderState.{ReaderState, Represents, GaveUnit, GaveEnd, EndsSo, Refused, used}
+use Rattle.vsl_file.specs.declared.fault.FileFault.{FileFault}
+use Rattle.vsl_file.specs.declared.fault.FileFault.TheVariants as file_faults
+use Rattle.one_run.specs.Run.{Made, CameTo}
+use Rattle.run_sources.specs.declared.file_items.FileItems.{FileItems}
+use Rattle.run_sources.specs.declared.file_items.FileStop.{FileStop}
+use Rattle.run_sources.specs.declared.file_items.FileStop.TheVariants as stops
+use Rattle.run_sources.specs.Sources.{FileGave, FileCame, BeginsLog, FileBegins, FileEnds, FileStopped, file_halt}
+use Rattle.run_sources.specs.Laws.{taken_stays, whole_stays}
+
+-- ---- of the bytes alone
+
+begins_so : (r : ReaderState) (taken : List ℕ) (units : Log) → Represents r taken units → BeginsLog taken units
+begins_so r taken units p =
+    record { begun = r.begun; rest = r.rest; are_units = p.are_units; fresh = p.fresh; parts = p.parts; most = omega (arith, p.most, ap length p.parts, length-append (used r.begun units) r.rest) }
+
+-- more bytes begin with the same
+begins_on : (taken more : List ℕ) (units : Log) → BeginsLog taken units → BeginsLog (taken ++ more) units
+begins_on taken more units p = record {
+  begun = p.begun;
+  rest = p.rest ++ more;
+  are_units = p.are_units;
+  fresh = p.fresh;
+  parts = ap (λ (x : List ℕ). x ++ more) p.parts ∙ append_assoc (used p.begun units) p.rest more;
+  most = p.most;
+}
+
+few_by : (begun : Bool) (taken rest : List ℕ) (units : Log) → taken ≡ used begun units ++ rest → length rest < 65536 → length taken < length (file_header ++ log_bytes units) + 65536
+few_by false taken rest units parts short = omega (arith, ap length parts, length-append [] rest, short)
+few_by true taken rest units parts short = omega (arith, ap length parts, length-append (file_header ++ log_bytes units) rest, short)
+
+-- what a reader gave, of the bytes alone
+pub file_came : (start now : FileItems) (calls : List Call) (met : List Item) (all : Bool) → FileGave start now calls met all → FileCame start.reader.handle calls met all
+file_came start now calls met all p = let taken = taken_by start.reader.handle calls in record {
+  units = p.units;
+  are = p.are;
+  begins = begins_so now.reader taken p.units p.represents;
+  few = few_by now.reader.begun taken now.reader.rest p.units p.represents.parts p.represents.short;
+  whole = p.whole;
+}
+
+pub came_begins : (h : ℕ) (calls : List Call) (met : List Item) (all : Bool) → FileCame h calls met all → FileBegins h calls met
+came_begins h calls met all p = record { units = p.units; are = p.are; begins = p.begins }
+
+-- ---- what is written behind it takes nothing
+
+module _ (h : ℕ) (calls more : List Call) (met : List Item) (writes : List ℕ) (on : AreOn [] writes more) where
+  came_on : (IsSo : List ℕ → Type 0) → IsSo (taken_by h calls) → IsSo (taken_by h (calls ++ more))
+  came_on IsSo p = subst IsSo (taken_stays h calls more writes on) p
+
+  pub came_stays : (all : Bool) → FileCame h calls met all → FileCame h (calls ++ more) met all
+  came_stays all p = record {
+    units = p.units;
+    are = p.are;
+    begins = came_on (λ taken. BeginsLog taken p.units) p.begins;
+    few = came_on (λ taken. length taken < length (file_header ++ log_bytes p.units) + 65536) p.few;
+    whole = λ e. whole_stays h calls more p.units writes on (p.whole e);
+  }
+
+  pub begins_stays : FileBegins h calls met → FileBegins h (calls ++ more) met
+  begins_stays p = record { units = p.units; are = p.are; begins = came_on (λ taken. BeginsLog taken p.units) p.begins }
+
+  ends_stays : (ending : FileEnding) (s t : Seen) → t.left h ≡ s.left h → FileEnds h calls met s ending → FileEnds h (calls ++ more) met t ending
+  ends_stays ending s t same p =
+      record { units = p.units; are = p.are; ends = λ rest left. came_on (λ taken. IsFile (taken ++ rest) p.units ending) (p.ends rest (sym same ∙ left)) }
+
+  pub stopped_stays : (stop : FileStop) (s t : Seen) → t.left h ≡ s.left h → FileStopped h stop calls met s → FileStopped h stop (calls ++ more) met t
+  stopped_stays (stops.NotALog at) s t same p = ends_stays (NotALog at) s t same p
+  stopped_stays (stops.Damaged at) s t same p = ends_stays (Damaged at) s t same p
+  stopped_stays stops.TooLarge s t same p = ends_stays TooLarge s t same p
+  stopped_stays stops.ReadFault s t same p = record {
+    units = p.units;
+    are = p.are;
+    begins = came_on (λ taken. BeginsLog taken p.units) p.begins;
+    holds = came_on (λ taken. HoldsWhole taken p.units) p.holds;
+    failed = (p.failed.0, one_of_left (Take h p.failed.0 FailedEach) calls more p.failed.1);
+  }
+
+-- ---- one read more
+
+taken_more : (h : ℕ) (calls : List Call) (added : List ℕ) (mark : Mark) → taken_by h calls ++ added ≡ taken_by h (calls ++ Take h added mark ∷ [])
+taken_more h calls added mark = sym (taken_append h calls (Take h added mark ∷ []) ∙ ap (λ (x : List ℕ). taken_by h calls ++ x) (taken_here h added mark))
+
+module _ (start now : FileItems) (calls : List Call) (met : List Item) (s t : Seen) (p : FileGave start now calls met false) where
+  one_read : (go : Bool) {IsSo : List Call → Type 0} (added : List ℕ) (mark : Mark) → fails go (Take start.reader.handle added mark ∷ []) ≡ true → Read now.reader.handle added s t → Marks Reading now.reader.handle mark s t
+      → IsSo (Take start.reader.handle added mark ∷ []) → Made go (start.reader.handle ∷ []) [] IsSo s t
+  one_read go added mark fail read marks so =
+      let h = start.reader.handle in record {
+        calls = Take h added mark ∷ [];
+        did = did_take h added mark s t (subst (λ (i : ℕ). Read i added s t) p.handle read) (subst (λ (i : ℕ). Marks Reading i mark s t) p.handle marks);
+        on = (inl refl, tt);
+        fail = fail;
+        is = so;
+      }
+
+  pub file_unit : (next : FileItems) (u : LogUnit) → next.reader.handle ≡ now.reader.handle → GaveUnit u now.reader next.reader (taken_by start.reader.handle calls) p.units s t
+      → Made true (start.reader.handle ∷ []) [] (λ more. FileGave start next (calls ++ more) (met ++ items.Unit u ∷ []) false) s t
+  file_unit next u same gave = one_read true gave.added Went refl gave.read tt (record {
+    handle = same ∙ p.handle;
+    units = p.units ++ u ∷ [];
+    are = ap (λ (xs : List Item). xs ++ items.Unit u ∷ []) p.are ∙ sym (map-append items.Unit p.units (u ∷ []));
+    represents = subst (λ (taken : List ℕ). Represents next.reader taken (p.units ++ u ∷ [])) (taken_more start.reader.handle calls gave.added Went) gave.represents;
+    whole = λ e. absurd cc;
+  })
+
+  pub file_end : (next : FileItems) → next.reader.handle ≡ now.reader.handle → GaveEnd now.reader next.reader (taken_by start.reader.handle calls) p.units s t
+      → Made true (start.reader.handle ∷ []) [] (λ more. FileGave start next (calls ++ more) met true) s t
+  file_end next same end =
+      let h = start.reader.handle in
+      let more = taken_more h calls end.added MetEnd in
+      one_read true end.added MetEnd refl end.read end.at_end (record {
+        handle = same ∙ p.handle;
+        units = p.units;
+        are = p.are;
+        represents = subst (λ (taken : List ℕ). Represents next.reader taken p.units) more end.represents;
+        whole = λ e. (subst (λ (taken : List ℕ). IsFile taken p.units Whole) more end.whole, read_last is_end h calls end.added MetEnd refl);
+      })
+
+  file_ends : (ending : FileEnding) → EndsSo now.reader (taken_by start.reader.handle calls) p.units ending s t
+      → Made false (start.reader.handle ∷ []) [] (λ more. FileEnds start.reader.handle (calls ++ more) met t ending) s t
+  file_ends ending ends =
+      let h = start.reader.handle in
+      one_read false ends.added Went refl ends.read tt (record {
+        units = p.units;
+        are = p.are;
+        ends = λ more left. subst (λ (bytes : List ℕ). IsFile bytes p.units ending) (ap (λ (x : List ℕ). x ++ more) (taken_more h calls ends.added Went)) (ends.ends more (ap (λ (k : ℕ). t.left k) p.handle ∙ left));
+      })
+
+  begins_read : (added : List ℕ) (mark : Mark) → BeginsLog (taken_by start.reader.handle (calls ++ Take start.reader.handle added mark ∷ [])) p.units
+  begins_read added mark =
+      let h = start.reader.handle in subst (λ (taken : List ℕ). BeginsLog taken p.units) (taken_more h calls added mark) (begins_on (taken_by h calls) added p.units (begins_so now.reader (taken_by h calls) p.units p.represents))
+
+  pub file_stopped : (next : FileItems) (fault : FileFault) → Refused fault now.reader (taken_by start.reader.handle calls) p.units s t
+      → Made false (start.reader.handle ∷ []) [] (λ more. CameTo (λ list all. FileGave start next (calls ++ more) list all) (λ stop list. FileStopped start.reader.handle stop (calls ++ more) list t) (λ list. FileBegins start.reader.handle (calls ++ more) list) (Err (file_halt fault)) met) s t
+  file_stopped next (file_faults.NotALog at) r = file_ends (NotALog at) r
+  file_stopped next (file_faults.Damaged at) r = file_ends (Damaged at) r
+  file_stopped next file_faults.TooLarge r = file_ends TooLarge r
+  file_stopped next file_faults.ReadFault r =
+      let h = start.reader.handle in
+      one_read false r.added FailedEach refl r.read r.rose (record {
+        units = p.units;
+        are = p.are;
+        begins = begins_read r.added FailedEach;
+        holds = subst (λ (taken : List ℕ). HoldsWhole taken p.units) (taken_more h calls r.added FailedEach) r.holds;
+        failed = (r.added, one_of_right (Take h r.added FailedEach) calls (Take h r.added FailedEach ∷ []) (inl refl));
+      })
+  file_stopped next file_faults.NoMemory r = one_read false r.bytes Went refl r.read tt (record { units = p.units; are = p.are; begins = begins_read r.bytes Went })
+  file_stopped next file_faults.FailedBefore r = absurd r

@@ -1,0 +1,116 @@
+-- Of what the items of a source came: the bytes of a log file, the turns of feeds over a ring, or units that are at hand (this project's choice).
+use Rattle.std.specs.Prelude.{◌≡◌, ℕ, ◌+◌, ◌<◌, ◌≤◌, Bool, true, false, List, [], ◌++◌, length, map, Some}
+use Rattle.std.specs.List.{AllByRecursion}
+use Rattle.log_model.specs.declared.fault.Halt.{Halt}
+use Rattle.log_model.specs.declared.fault.Halt.TheVariants as halts
+use Rattle.vio.specs.World.{Seen}
+use Rattle.vio.specs.Touches.{IsOneOf}
+use Rattle.vio.specs.Calls.{Call, taken_by, has_read, is_end, Take, FailedEach}
+use Rattle.vsl_record.specs.Unit.{Log}
+use Rattle.vsl_record.specs.Words.{IsUnit}
+use Rattle.ring_layout.specs.declared.item.Item.{Item}
+use Rattle.ring_layout.specs.declared.item.Item.TheVariants as items
+use Rattle.vsl_file.specs.File.{FileEnding, NotALog, Damaged, TooLarge, Whole, IsFile, HoldsWhole, file_header, log_bytes, most_bytes}
+use Rattle.vsl_file.specs.ReaderState.{Represents, used}
+use Rattle.vsl_file.specs.declared.fault.FileFault.{FileFault}
+use Rattle.vsl_file.specs.declared.fault.FileFault.TheVariants as file_faults
+use Rattle.feed_schedule.specs.Schedule.{Event, TookUnit, WasOverrun}
+use Rattle.feed_schedule.specs.Replaying.{ReplayState}
+use Rattle.feed_schedule.specs.Replaying as replaying
+use Rattle.run_sources.specs.declared.file_items.FileItems.{FileItems}
+use Rattle.run_sources.specs.declared.file_items.FileStop.{FileStop}
+use Rattle.run_sources.specs.declared.file_items.FileStop.TheVariants as stops
+
+-- the items of units
+abbrev pub unit_items : Log → List Item
+unit_items units = map items.Unit units
+
+-- ---- a log file
+
+-- why a run has no more items, where the file stops so
+abbrev pub file_halt : FileFault → Halt FileStop
+file_halt (file_faults.NotALog at) = halts.Fault (stops.NotALog at)
+file_halt (file_faults.Damaged at) = halts.Fault (stops.Damaged at)
+file_halt file_faults.TooLarge = halts.Fault stops.TooLarge
+file_halt file_faults.ReadFault = halts.Fault stops.ReadFault
+file_halt file_faults.NoMemory = halts.NoMemory
+file_halt file_faults.FailedBefore = halts.NoMemory
+
+-- the bytes that were taken are the file of these units, whole, and a read met its end
+abbrev pub IsReadWhole : ℕ → List Call → Log → Type 0
+IsReadWhole h calls units = IsFile (taken_by h calls) units Whole × (has_read is_end h calls ≡ true)
+
+-- these items are the units that the reader gave of the bytes that were taken; all of them where the file ended and is whole
+pub record FileGave (start now : FileItems) (calls : List Call) (met : List Item) (all : Bool) : Type 0 where
+  pub handle : now.reader.handle ≡ start.reader.handle
+  pub units : Log
+  pub are : met ≡ unit_items units
+  pub represents : Represents now.reader (taken_by start.reader.handle calls) units
+  pub whole : all ≡ true → IsReadWhole start.reader.handle calls units
+
+-- the bytes begin with a log of these units, or are fewer than its header has
+pub record BeginsLog (taken : List ℕ) (units : Log) : Type 0 where
+  pub begun : Bool
+  pub rest : List ℕ
+  pub are_units : AllByRecursion IsUnit units
+  pub fresh : begun ≡ false → units ≡ []
+  pub parts : taken ≡ used begun units ++ rest
+  pub most : length (used begun units) ≤ most_bytes
+
+-- of the bytes alone: the items lie at their beginning, with fewer than 65,536 bytes past the last of them, or past the header; all of them where the file
+-- ended and is whole
+pub record FileCame (h : ℕ) (calls : List Call) (met : List Item) (all : Bool) : Type 0 where
+  pub units : Log
+  pub are : met ≡ unit_items units
+  pub begins : BeginsLog (taken_by h calls) units
+  pub few : length (taken_by h calls) < length (file_header ++ log_bytes units) + 65536
+  pub whole : all ≡ true → IsReadWhole h calls units
+
+-- the items lie at the beginning of the bytes that were taken
+pub record FileBegins (h : ℕ) (calls : List Call) (met : List Item) : Type 0 where
+  pub units : Log
+  pub are : met ≡ unit_items units
+  pub begins : BeginsLog (taken_by h calls) units
+
+-- the items are those of a file that ends so, with whatever the handle has left
+pub record FileEnds (h : ℕ) (calls : List Call) (met : List Item) (now : Seen) (ending : FileEnding) : Type 0 where
+  pub units : Log
+  pub are : met ≡ unit_items units
+  pub ends : (more : List ℕ) → now.left h ≡ Some more → IsFile (taken_by h calls ++ more) units ending
+
+-- a read failed: the items are all that lie whole in the bytes that were taken
+pub record FileUnread (h : ℕ) (calls : List Call) (met : List Item) : Type 0 where
+  pub units : Log
+  pub are : met ≡ unit_items units
+  pub begins : BeginsLog (taken_by h calls) units
+  pub holds : HoldsWhole (taken_by h calls) units
+  pub failed : (part : List ℕ) × IsOneOf (Take h part FailedEach) calls
+
+-- where and why the items of a file end
+abbrev pub FileStopped : ℕ → FileStop → List Call → List Item → Seen → Type 0
+FileStopped h (stops.NotALog at) calls met now = FileEnds h calls met now (NotALog at)
+FileStopped h (stops.Damaged at) calls met now = FileEnds h calls met now (Damaged at)
+FileStopped h stops.TooLarge calls met now = FileEnds h calls met now TooLarge
+FileStopped h stops.ReadFault calls met now = FileUnread h calls met
+
+-- ---- feeds
+
+-- an item, as the schedule of feeds has it
+abbrev pub event_of : Item → Event
+event_of (items.Unit u) = TookUnit u
+event_of (items.Overrun at seen) = WasOverrun at seen
+
+-- of whatever was to come these items came first; all of them or not, and what is left is still to come
+pub record FeedsGave (start now : ReplayState) (met : List Item) (all : Bool) : Type 0 where
+  pub came : (every : List Event) → replaying.Represents start every → (rest : List Event) × (every ≡ map event_of met ++ rest) × replaying.Represents now rest × (all ≡ true → rest ≡ [])
+
+-- of whatever was to come these items came first
+abbrev pub FeedsBegan : ReplayState → List Item → Type 0
+FeedsBegan start met = (every : List Event) → replaying.Represents start every → (rest : List Event) × (every ≡ map event_of met ++ rest)
+
+-- ---- units at hand
+
+-- these items are the first of the units, and the others are left; or they are all
+pub record UnitsGave (start now : Log) (met : List Item) (all : Bool) : Type 0 where
+  pub came : unit_items start ≡ met ++ unit_items now
+  pub whole : all ≡ true → met ≡ unit_items start
