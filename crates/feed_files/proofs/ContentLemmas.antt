@@ -1,15 +1,22 @@
 -- The contents of feeds are listings, or one has the first fault.
-use Rattle.std.proofs.Common.{◌≡◌, ◌⊎◌, ℕ, ◌+◌, ◌≤◌, List, [], ◌∷◌, ◌++◌, length, Some, refl, sym, ap, subst, inl, inr, arith}
+use Rattle.std.proofs.Common.{◌≡◌, ◌⊎◌, ℕ, ◌+◌, ◌≤◌, List, [], ◌∷◌, ◌++◌, length, length-append, Some, refl, sym, ap, subst, ◌∙◌, append_assoc, inl, inr, arith}
+use Rattle.std.proofs.lemmas.List.{append-nil}
+use Rattle.std.proofs.lemmas.Slice.Zip.{all_zipped_more}
 use mathlib.Core.Logic.{dite}
 use native.Mathlib.Decide.{dec_le}
 use Rattle.vio.specs.World.{Seen}
+use Rattle.vio.specs.Calls.{Call, Did}
+use Rattle.vio.specs.Steps.{Passed}
+use Rattle.vio.proofs.CallLemmas.{did_apart}
+use Rattle.vio.proofs.CallLaws.{did_keep}
+use Rattle.vio.proofs.ReadLemmas.{read_opens, told_large, told_read, unopened_counts, unread_counts}
 use Rattle.vsl_record.specs.Unit.{Log}
 use Rattle.traffic_feed.specs.declared.listing.Listing.{Listing}
 use Rattle.traffic_feed.specs.Lines.{IsFirstBad}
 use Rattle.traffic_feed.specs.Listing.{IsListing}
 use Rattle.feed_files.specs.declared.fault.FeedFault.{FeedFault}
-use Rattle.feed_files.specs.declared.fault.FeedFault.TheVariants.{NoOpen, ReadFault, TooLarge, BadListing, NoMemory}
-use Rattle.feed_files.specs.Feeds.{IsFeed, AreListings, FeedsHold, HasBytesFault, HasContentFault, CallFailed, IsFeedRead, AreFeedsRead, IsFeedFault, StoppedByFeed, most_feed_bytes}
+use Rattle.feed_files.specs.declared.fault.FeedFault.TheVariants.{NoOpen, ReadFault, TooLarge, BadListing}
+use Rattle.feed_files.specs.Feeds.{Feed, IsFeed, AreListings, FeedsHold, HasBytesFault, HasContentFault, CallFailed, FeedPasses, FeedStops, AreFeedsRead, StoppedByFeed, feeds_from, most_feed_bytes}
 
 -- the laws of listings
 abbrev pub EveryListing : Type 0
@@ -44,7 +51,6 @@ feed_no_fault none reclen seg n name bytes listing (NoOpen called) p q = absurd 
 feed_no_fault none reclen seg n name bytes listing (ReadFault called) p q = absurd q
 feed_no_fault none reclen seg n name bytes listing (TooLarge called limit) p q = let within = p.within in let more = q.2 in omega (arith, within, more)
 feed_no_fault none reclen seg n name bytes listing (BadListing feed line) p q = none bytes reclen seg listing.units listing.cuts line p.is q.2
-feed_no_fault none reclen seg n name bytes listing NoMemory p q = absurd q
 
 -- several feeds
 
@@ -69,170 +75,132 @@ pub listings_no_fault : NoneBad → (reclen seg : ℕ) (names contents : List (L
 listings_no_fault none reclen seg names contents listings fault p q =
     none_faulty none reclen seg (length q.earlier) q.name q.earlier q.bytes q.later listings fault (subst (λ (xs : List (List ℕ)). AreListings reclen seg xs listings) q.contents_are p) q.stops
 
--- of the contents of feeds, of which the first is the n-th, one has this fault, and those before it are listings
-record FaultFrom (reclen seg n : ℕ) (names contents : List (List ℕ)) (fault : FeedFault) : Type 0 where
-  earlier_names : List (List ℕ)
-  name : List ℕ
-  later_names : List (List ℕ)
-  names_are : names ≡ earlier_names ++ name ∷ later_names
+-- of the contents of feeds the first n are listings; behind them come the rest
+record ListedUntil (reclen seg n : ℕ) (names contents rest_names rest : List (List ℕ)) : Type 0 where
+  before : List (List ℕ)
+  names_are : names ≡ before ++ rest_names
+  names_long : length before ≡ n
   earlier : List (List ℕ)
-  bytes : List ℕ
-  later : List (List ℕ)
-  contents_are : contents ≡ earlier ++ bytes ∷ later
-  place : length earlier ≡ length earlier_names
+  contents_are : contents ≡ earlier ++ rest
+  long : length earlier ≡ n
   listings : List Listing
-  are_listings : AreListings reclen seg earlier listings
-  stops : HasBytesFault (n + length earlier) name bytes fault
+  are : AreListings reclen seg earlier listings
 
-fault_first : (reclen seg n : ℕ) (name : List ℕ) (names : List (List ℕ)) (bytes : List ℕ) (contents : List (List ℕ)) (fault : FeedFault) → HasBytesFault n name bytes fault → FaultFrom reclen seg n (name ∷ names) (bytes ∷ contents) fault
-fault_first reclen seg n name names bytes contents fault p = record {
-  earlier_names = [];
+listed_none : (reclen seg : ℕ) (names contents : List (List ℕ)) → ListedUntil reclen seg 0 names contents names contents
+listed_none reclen seg names contents = record { before = []; names_are = refl; names_long = refl; earlier = []; contents_are = refl; long = refl; listings = []; are = tt }
+
+listed_more : (reclen seg n : ℕ) (names contents : List (List ℕ)) (name : List ℕ) (rest_names : List (List ℕ)) (bytes : List ℕ) (rest : List (List ℕ)) (listing : Listing) → ListedUntil reclen seg n names contents (name ∷ rest_names) (bytes ∷ rest)
+    → IsFeed reclen seg bytes listing → ListedUntil reclen seg (n + 1) names contents rest_names rest
+listed_more reclen seg n names contents name rest_names bytes rest listing p is = record {
+  before = p.before ++ name ∷ [];
+  names_are = p.names_are ∙ sym (append_assoc p.before (name ∷ []) rest_names);
+  names_long = omega (arith, p.names_long, length-append p.before (name ∷ []));
+  earlier = p.earlier ++ bytes ∷ [];
+  contents_are = p.contents_are ∙ sym (append_assoc p.earlier (bytes ∷ []) rest);
+  long = omega (arith, p.long, length-append p.earlier (bytes ∷ []));
+  listings = p.listings ++ listing ∷ [];
+  are = all_zipped_more (IsFeed reclen seg) p.earlier p.listings bytes listing p.are is;
+}
+
+listed_fault : (reclen seg n : ℕ) (names contents : List (List ℕ)) (name : List ℕ) (rest_names : List (List ℕ)) (bytes : List ℕ) (rest : List (List ℕ)) (fault : FeedFault) → ListedUntil reclen seg n names contents (name ∷ rest_names) (bytes ∷ rest)
+    → HasBytesFault n name bytes fault → HasContentFault reclen seg names contents fault
+listed_fault reclen seg n names contents name rest_names bytes rest fault p has = record {
+  earlier_names = p.before;
   name = name;
-  later_names = names;
-  names_are = refl;
-  earlier = [];
+  later_names = rest_names;
+  names_are = p.names_are;
+  earlier = p.earlier;
   bytes = bytes;
-  later = contents;
-  contents_are = refl;
-  place = refl;
-  listings = [];
-  are_listings = tt;
-  stops = subst (λ (k : ℕ). HasBytesFault k name bytes fault) (omega arith) p;
+  later = rest;
+  contents_are = p.contents_are;
+  place = p.long ∙ sym p.names_long;
+  listings = p.listings;
+  are_listings = p.are;
+  stops = subst (λ (k : ℕ). HasBytesFault k name bytes fault) (sym p.long) has;
 }
-
-fault_later : (reclen seg n : ℕ) (name : List ℕ) (names : List (List ℕ)) (bytes : List ℕ) (contents : List (List ℕ)) (listing : Listing) (fault : FeedFault) → IsFeed reclen seg bytes listing → FaultFrom reclen seg (n + 1) names contents fault
-    → FaultFrom reclen seg n (name ∷ names) (bytes ∷ contents) fault
-fault_later reclen seg n name names bytes contents listing fault is p = record {
-  earlier_names = name ∷ p.earlier_names;
-  name = p.name;
-  later_names = p.later_names;
-  names_are = ap (λ (xs : List (List ℕ)). name ∷ xs) p.names_are;
-  earlier = bytes ∷ p.earlier;
-  bytes = p.bytes;
-  later = p.later;
-  contents_are = ap (λ (xs : List (List ℕ)). bytes ∷ xs) p.contents_are;
-  place = omega (arith, p.place);
-  listings = listing ∷ p.listings;
-  are_listings = (is, p.are_listings);
-  stops = subst (λ (k : ℕ). HasBytesFault k p.name p.bytes fault) (omega arith) p.stops;
-}
-
-abbrev ListingsOrFault : ℕ → ℕ → ℕ → List (List ℕ) → List (List ℕ) → Type 0
-ListingsOrFault reclen seg n names contents = ((listings : List Listing) × AreListings reclen seg contents listings) ⊎ ((fault : FeedFault) × FaultFrom reclen seg n names contents fault)
-
-listings_more : (reclen seg n : ℕ) (name : List ℕ) (names : List (List ℕ)) (bytes : List ℕ) (contents : List (List ℕ)) → ((listing : Listing) × IsFeed reclen seg bytes listing) ⊎ ((fault : FeedFault) × HasBytesFault n name bytes fault)
-    → ListingsOrFault reclen seg (n + 1) names contents → ListingsOrFault reclen seg n (name ∷ names) (bytes ∷ contents)
-listings_more reclen seg n name names bytes contents (inl is) (inl are) = inl (is.0 ∷ are.0, (is.1, are.1))
-listings_more reclen seg n name names bytes contents (inl is) (inr p) = inr (p.0, fault_later reclen seg n name names bytes contents is.0 p.0 is.1 p.1)
-listings_more reclen seg n name names bytes contents (inr p) rest = inr (p.0, fault_first reclen seg n name names bytes contents p.0 p.1)
-
-listings_or_from : EveryListing → (reclen seg n : ℕ) (names contents : List (List ℕ)) → length contents ≡ length names → ListingsOrFault reclen seg n names contents
-listings_or_from every reclen seg n [] [] e = inl ([], tt)
-listings_or_from every reclen seg n [] (bytes ∷ contents) e = let no : ⊥ = omega (arith, e) in absurd no
-listings_or_from every reclen seg n (name ∷ names) [] e = let no : ⊥ = omega (arith, e) in absurd no
-listings_or_from every reclen seg n (name ∷ names) (bytes ∷ contents) e =
-    listings_more reclen seg n name names bytes contents (feed_or_fault every reclen seg n name bytes) (listings_or_from every reclen seg (n + 1) names contents (omega (arith, e)))
-
-at_first : (reclen seg : ℕ) (names contents : List (List ℕ)) → ListingsOrFault reclen seg 0 names contents → ((listings : List Listing) × AreListings reclen seg contents listings) ⊎ ((fault : FeedFault) × HasContentFault reclen seg names contents fault)
-at_first reclen seg names contents (inl are) = inl are
-at_first reclen seg names contents (inr p) =
-    let q = p.1 in inr (
-      p.0,
-      record {
-        earlier_names = q.earlier_names;
-        name = q.name;
-        later_names = q.later_names;
-        names_are = q.names_are;
-        earlier = q.earlier;
-        bytes = q.bytes;
-        later = q.later;
-        contents_are = q.contents_are;
-        place = q.place;
-        listings = q.listings;
-        are_listings = q.are_listings;
-        stops = subst (λ (k : ℕ). HasBytesFault k q.name q.bytes p.0) (omega arith) q.stops;
-      },
-    )
 
 -- contents are listings, or one has the first fault
+listed_or_fault : EveryListing → (reclen seg n : ℕ) (names contents rest_names rest : List (List ℕ)) → length rest ≡ length rest_names → ListedUntil reclen seg n names contents rest_names rest
+    → ((listings : List Listing) × AreListings reclen seg contents listings) ⊎ ((fault : FeedFault) × HasContentFault reclen seg names contents fault)
+listed_or_fault every reclen seg n names contents [] [] e p = inl (p.listings, subst (λ (xs : List (List ℕ)). AreListings reclen seg xs p.listings) (sym (append-nil p.earlier) ∙ sym p.contents_are) p.are)
+listed_or_fault every reclen seg n names contents [] (bytes ∷ rest) e p = let no : ⊥ = omega (arith, e) in absurd no
+listed_or_fault every reclen seg n names contents (name ∷ rest_names) [] e p = let no : ⊥ = omega (arith, e) in absurd no
+listed_or_fault every reclen seg n names contents (name ∷ rest_names) (bytes ∷ rest) e p = elim (feed_or_fault every reclen seg n name bytes) [
+  | inl is ↦ listed_or_fault every reclen seg (n + 1) names contents rest_names rest (omega (arith, e)) (listed_more reclen seg n names contents name rest_names bytes rest is.0 p is.1)
+  | inr has ↦ inr (has.0, listed_fault reclen seg n names contents name rest_names bytes rest has.0 p has.1)
+]
+
 pub listings_or_fault : EveryListing → (reclen seg : ℕ) (names contents : List (List ℕ)) → length contents ≡ length names
     → ((listings : List Listing) × AreListings reclen seg contents listings) ⊎ ((fault : FeedFault) × HasContentFault reclen seg names contents fault)
-listings_or_fault every reclen seg names contents e = at_first reclen seg names contents (listings_or_from every reclen seg 0 names contents e)
+listings_or_fault every reclen seg names contents e = listed_or_fault every reclen seg 0 names contents names contents e (listed_none reclen seg names contents)
 
--- what the world tells
+-- ---- what the world tells
 
--- a feed that was read is a listing where the world tells what its file holds
-told_feed : (reclen seg : ℕ) (name bytes : List ℕ) (listing : Listing) (s t : Seen) → s.held name ≡ Some bytes → IsFeedRead reclen seg name listing s t → IsFeed reclen seg bytes listing
-told_feed reclen seg name bytes listing s t told p =
-    let same = p.read.told bytes told in
-    subst (λ (xs : List ℕ). IsFeed reclen seg xs listing) same (record { within = p.read.within; is = p.is })
+-- what was told of files before calls is told behind them
+abbrev Keeps : Seen → Seen → Type 0
+Keeps s t = (name bytes : List ℕ) → s.held name ≡ Some bytes → t.held name ≡ Some bytes
 
-pub told_listings : (reclen seg : ℕ) (names contents : List (List ℕ)) (listings : List Listing) (s t : Seen) → FeedsHold s names contents → AreFeedsRead reclen seg names listings s t → AreListings reclen seg contents listings
-told_listings reclen seg [] [] [] s t told p = tt
-told_listings reclen seg [] [] (l ∷ listings) s t told p = absurd p
-told_listings reclen seg [] (bytes ∷ contents) listings s t told p = absurd told
-told_listings reclen seg (name ∷ names) [] listings s t told p = absurd told
-told_listings reclen seg (name ∷ names) (bytes ∷ contents) [] s t told p = absurd p
-told_listings reclen seg (name ∷ names) (bytes ∷ contents) (l ∷ listings) s t told p = (told_feed reclen seg name bytes l s t told.0 p.0, told_listings reclen seg names contents listings s t told.1 p.1)
+-- a feed that was read is a listing, where it was told what its file holds
+told_feed : (reclen seg : ℕ) (feed : Feed) (bytes : List ℕ) (listing : Listing) (calls : List Call) (s t : Seen) → s.held feed.name ≡ Some bytes → Did calls s t → FeedPasses reclen seg feed listing calls → IsFeed reclen seg bytes listing
+told_feed reclen seg feed bytes listing calls s t told did p =
+    subst (λ (xs : List ℕ). IsFeed reclen seg xs listing) (told_read most_feed_bytes feed.name p.bytes bytes calls s t p.read did told) (record { within = p.read.2; is = p.is })
 
--- the contents of earlier feeds, of a feed, and of those behind it
-record Split (s : Seen) (earlier : List (List ℕ)) (name : List ℕ) (later contents : List (List ℕ)) : Type 0 where
-  first_contents : List (List ℕ)
-  bytes : List ℕ
-  rest : List (List ℕ)
-  parts : contents ≡ first_contents ++ bytes ∷ rest
-  hold_first : FeedsHold s earlier first_contents
-  holds : s.held name ≡ Some bytes
+keeps_more : (reclen seg : ℕ) (feed : Feed) (listing : Listing) (calls : List Call) (r s t : Seen) → Keeps r s → Did calls s t → FeedPasses reclen seg feed listing calls → Keeps r t
+keeps_more reclen seg feed listing calls r s t keeps did p = λ name bytes told. did_keep (feed.name ∷ []) calls s t name bytes (read_opens most_feed_bytes feed.name p.bytes calls p.read) did (keeps name bytes told)
 
-split : (s : Seen) (earlier : List (List ℕ)) (name : List ℕ) (later contents : List (List ℕ)) → FeedsHold s (earlier ++ name ∷ later) contents → Split s earlier name later contents
-split s [] name later [] told = absurd told
-split s [] name later (bytes ∷ contents) told = record { first_contents = []; bytes = bytes; rest = contents; parts = refl; hold_first = tt; holds = told.0 }
-split s (first ∷ earlier) name later [] told = absurd told
-split s (first ∷ earlier) name later (bytes ∷ contents) told =
-    let p = split s earlier name later contents told.1 in record {
-      first_contents = bytes ∷ p.first_contents;
-      bytes = p.bytes;
-      rest = p.rest;
-      parts = ap (λ (xs : List (List ℕ)). bytes ∷ xs) p.parts;
-      hold_first = (told.0, p.hold_first);
-      holds = p.holds;
-    }
+-- feeds that were read are listings
+told_from : (reclen seg n : ℕ) (names contents : List (List ℕ)) (listings : List Listing) (calls : List Call) (r s t : Seen) → FeedsHold r names contents → Keeps r s → Did calls s t → Passed (FeedPasses reclen seg) FeedStops (feeds_from n names) listings calls
+    → AreListings reclen seg contents listings
+told_from reclen seg n [] [] [] calls r s t told keeps did p = tt
+told_from reclen seg n [] [] (l ∷ listings) calls r s t told keeps did p = absurd p
+told_from reclen seg n [] (bytes ∷ contents) listings calls r s t told keeps did p = absurd told
+told_from reclen seg n (name ∷ names) [] listings calls r s t told keeps did p = absurd told
+told_from reclen seg n (name ∷ names) (bytes ∷ contents) [] calls r s t told keeps did p = absurd p
+told_from reclen seg n (name ∷ names) (bytes ∷ contents) (l ∷ listings) calls r s t told keeps did p =
+    let feed : Feed = record { number = n; name = name } in let parts = did_apart p.0 p.1 s t (subst (λ (c : List Call). Did c s t) p.2 did) in (
+      told_feed reclen seg feed bytes l p.0 s parts.0 (keeps name bytes told.0) parts.1 p.3,
+      told_from reclen seg (n + 1) names contents listings p.1 r parts.0 t told.1 (keeps_more reclen seg feed l p.0 r s parts.0 keeps parts.1 p.3) parts.2 p.4,
+    )
 
-same_length : (s : Seen) (names contents : List (List ℕ)) → FeedsHold s names contents → length contents ≡ length names
-same_length s [] [] told = refl
-same_length s [] (bytes ∷ contents) told = absurd told
-same_length s (name ∷ names) [] told = absurd told
-same_length s (name ∷ names) (bytes ∷ contents) told = omega (arith, same_length s names contents told.1)
+pub told_listings : (reclen seg : ℕ) (names contents : List (List ℕ)) (listings : List Listing) (calls : List Call) (s t : Seen) → FeedsHold s names contents → Did calls s t → AreFeedsRead reclen seg names listings calls → AreListings reclen seg contents listings
+told_listings reclen seg names contents listings calls s t told did p = told_from reclen seg 0 names contents listings calls s s t told (λ name bytes held. held) did p
 
--- the fault of a feed is a call that failed, or the fault of its bytes
-told_fault : (n : ℕ) (name bytes : List ℕ) (fault : FeedFault) (s t : Seen) → s.held name ≡ Some bytes → IsFeedFault n name fault s t → CallFailed fault s t ⊎ HasBytesFault n name bytes fault
-told_fault n name bytes (NoOpen called) s t told p = inl (subst (λ (x : List ℕ). CallFailed (NoOpen x) s t) (sym p.0) p.1)
-told_fault n name bytes (ReadFault called) s t told p = inl (subst (λ (x : List ℕ). CallFailed (ReadFault x) s t) (sym p.0) p.1.1)
-told_fault n name bytes (TooLarge called limit) s t told p = inr (p.0, p.1, p.2.1 bytes told)
-told_fault n name bytes (BadListing feed line) s t told p =
-    let read = p.2 in let same = read.told bytes told in inr (p.0, subst (λ (xs : List ℕ). length xs ≤ most_feed_bytes) same read.within, subst (λ (xs : List ℕ). IsFirstBad xs line) same p.3)
-told_fault n name bytes NoMemory s t told p = absurd p
+-- where a feed that stopped the reading has a fault of its bytes, it is the first fault
+fault_from : (reclen seg n : ℕ) (names contents rest_names rest : List (List ℕ)) (earlier : List Feed) (step : Feed) (later : List Feed) (listings : List Listing) (first last : List Call) (fault : FeedFault) (r s t : Seen)
+    → feeds_from n rest_names ≡ earlier ++ step ∷ later → ((feed : Feed) (bytes : List ℕ) (s : Seen) → s.held feed.name ≡ Some bytes → Did last s t → FeedStops feed fault last → HasBytesFault feed.number feed.name bytes fault)
+    → ListedUntil reclen seg n names contents rest_names rest → FeedsHold r rest_names rest → Keeps r s → Did (first ++ last) s t → Passed (FeedPasses reclen seg) FeedStops earlier listings first → FeedStops step fault last
+    → HasContentFault reclen seg names contents fault
+fault_from reclen seg n names contents [] rest [] step later listings first last fault r s t are has listed told keeps did p stops = absurd cc
+fault_from reclen seg n names contents [] rest (x ∷ earlier) step later listings first last fault r s t are has listed told keeps did p stops = absurd cc
+fault_from reclen seg n names contents (name ∷ names') [] earlier step later listings first last fault r s t are has listed told keeps did p stops = absurd told
+fault_from reclen seg n names contents (name ∷ names') (bytes ∷ rest) [] step later (l ∷ listings) first last fault r s t are has listed told keeps did p stops = absurd p
+fault_from reclen seg n names contents (name ∷ names') (bytes ∷ rest) (x ∷ earlier) step later [] first last fault r s t are has listed told keeps did p stops = absurd p
+fault_from reclen seg n names contents (name ∷ names') (bytes ∷ rest) [] step later [] first last fault r s t are has listed told keeps did p stops =
+    let feed : Feed = record { number = n; name = name } in let same : step ≡ feed = cc in
+    listed_fault reclen seg n names contents name names' bytes rest fault listed
+    (has feed bytes s (keeps name bytes told.0) (subst (λ (c : List Call). Did (c ++ last) s t) p did) (subst (λ (f : Feed). FeedStops f fault last) same stops))
+fault_from reclen seg n names contents (name ∷ names') (bytes ∷ rest) (x ∷ earlier) step later (l ∷ listings) first last fault r s t are has listed told keeps did p stops =
+    let feed : Feed = record { number = n; name = name } in let same : x ≡ feed = cc in let more : feeds_from (n + 1) names' ≡ earlier ++ step ∷ later = cc in
+    let passes = subst (λ (f : Feed). FeedPasses reclen seg f l p.0) same p.3 in
+    let parts = did_apart p.0 (p.1 ++ last) s t (subst (λ (c : List Call). Did c s t) (ap (λ (c : List Call). c ++ last) p.2 ∙ append_assoc p.0 p.1 last) did) in
+    fault_from reclen seg (n + 1) names contents names' rest earlier step later listings p.1 last fault r parts.0 t more has
+    (listed_more reclen seg n names contents name names' bytes rest l listed (told_feed reclen seg feed bytes l p.0 s parts.0 (keeps name bytes told.0) parts.1 passes)) told.1
+    (keeps_more reclen seg feed l p.0 r s parts.0 keeps parts.1 passes) parts.2 p.4 stops
 
-told_stop : (reclen seg : ℕ) (names contents : List (List ℕ)) (fault : FeedFault) (s t : Seen) (p : StoppedByFeed reclen seg names fault s t) (q : Split s p.earlier p.name p.later contents)
-    → CallFailed fault s t ⊎ HasBytesFault (length p.earlier) p.name q.bytes fault → CallFailed fault s t ⊎ HasContentFault reclen seg names contents fault
-told_stop reclen seg names contents fault s t p q (inl failed) = inl failed
-told_stop reclen seg names contents fault s t p q (inr has) = inr (record {
-  earlier_names = p.earlier;
-  name = p.name;
-  later_names = p.later;
-  names_are = p.parts;
-  earlier = q.first_contents;
-  bytes = q.bytes;
-  later = q.rest;
-  contents_are = q.parts;
-  place = same_length s p.earlier q.first_contents q.hold_first;
-  listings = p.listings;
-  are_listings = told_listings reclen seg p.earlier q.first_contents p.listings s t q.hold_first p.read;
-  stops = subst (λ (k : ℕ). HasBytesFault k p.name q.bytes fault) (sym (same_length s p.earlier q.first_contents q.hold_first)) has;
-})
+first_fault : (reclen seg : ℕ) (names contents : List (List ℕ)) (fault : FeedFault) (calls : List Call) (s t : Seen) → FeedsHold s names contents → Did calls s t → (p : StoppedByFeed reclen seg names fault calls)
+    → ((feed : Feed) (bytes : List ℕ) (s : Seen) → s.held feed.name ≡ Some bytes → Did p.last s t → FeedStops feed fault p.last → HasBytesFault feed.number feed.name bytes fault) → HasContentFault reclen seg names contents fault
+first_fault reclen seg names contents fault calls s t told did p has = fault_from reclen seg 0 names contents names contents p.earlier p.step p.later p.found p.first p.last fault s s t p.parts has (listed_none reclen seg names contents) told
+    (λ name bytes held. held) (subst (λ (c : List Call). Did c s t) p.are did) p.passed p.stops
 
-pub told_stopped : (reclen seg : ℕ) (names contents : List (List ℕ)) (fault : FeedFault) (s t : Seen) → FeedsHold s names contents → StoppedByFeed reclen seg names fault s t
+-- the fault of a feed that stopped the reading is a call that failed, or the first fault of the contents
+pub told_stopped : (reclen seg : ℕ) (names contents : List (List ℕ)) (fault : FeedFault) (calls : List Call) (s t : Seen) → FeedsHold s names contents → Did calls s t → StoppedByFeed reclen seg names fault calls
     → CallFailed fault s t ⊎ HasContentFault reclen seg names contents fault
-told_stopped reclen seg names contents fault s t told p =
-    let q = split s p.earlier p.name p.later contents (subst (λ (xs : List (List ℕ)). FeedsHold s xs contents) p.parts told) in
-    told_stop reclen seg names contents fault s t p q (told_fault (length p.earlier) p.name q.bytes fault s t q.holds p.stops)
+told_stopped reclen seg names contents (NoOpen name) calls s t told did p =
+    inl (subst (λ (n : List ℕ). CallFailed (NoOpen n) s t) (sym p.stops.0) (unopened_counts most_feed_bytes p.step.name p.first p.last s t p.stops.1 (subst (λ (c : List Call). Did c s t) p.are did)))
+told_stopped reclen seg names contents (ReadFault name) calls s t told did p =
+    inl (subst (λ (n : List ℕ). CallFailed (ReadFault n) s t) (sym p.stops.0) (unread_counts most_feed_bytes p.step.name p.first p.last s t p.stops.1 (subst (λ (c : List Call). Did c s t) p.are did)))
+told_stopped reclen seg names contents (TooLarge name limit) calls s t told did p =
+    inr (first_fault reclen seg names contents (TooLarge name limit) calls s t told did p (λ feed bytes r held done stops. (stops.0, stops.1, told_large most_feed_bytes feed.name bytes p.last r t stops.2 done held)))
+told_stopped reclen seg names contents (BadListing number line) calls s t told did p = inr (first_fault reclen seg names contents (BadListing number line) calls s t told did p (λ feed bytes r held done stops.
+    let same = told_read most_feed_bytes feed.name stops.1 bytes p.last r t stops.2 done held in
+    (stops.0, subst (λ (xs : List ℕ). length xs ≤ most_feed_bytes) same stops.2.2, subst (λ (xs : List ℕ). IsFirstBad xs line) same stops.3)))

@@ -1,3 +1,2 @@
-mod ReadNamedLemmas
-mod ContentLemmas
 pub mod FeedLemmas
+pub mod ContentLemmas

@@ -1,19 +1,20 @@
--- Feeds: listings in files. They are read in the order of their names, each whole before the next is opened, and the first that has a fault ends the
--- reading (the bound, the order and the faults are this project's choice). `seg` is the number of words of a ring's segment, and of a payload at most
--- `reclen` bytes are kept.
+-- Feeds: listings in files. Each is a step: it is opened and read whole before the next is opened, and the first that has a fault stops the steps (the
+-- bound, the order and the faults are this project's choice). `seg` is the number of words of a ring's segment, and of a payload at most `reclen` bytes
+-- are kept.
 use Rattle.std.specs.Prelude.{◌≡◌, ℕ, ◌+◌, ◌/◌, ◌<◌, ◌≤◌, List, [], ◌∷◌, ◌++◌, length, Some}
 use Rattle.std.specs.List.{All, AllZip}
 use Rattle.log_model.specs.Faults.{HasNewFault}
 use Rattle.vio.specs.declared.fault.NamedFault.TheVariants as named
 use Rattle.vio.specs.World.{Seen, Opening, Reading}
-use Rattle.vio.specs.Touches.{Touches}
-use Rattle.vio.specs.Named.{GivesAtMost, IsNamedFault, ReadNamed}
+use Rattle.vio.specs.Calls.{Call}
+use Rattle.vio.specs.Steps.{Passed, Stopped}
+use Rattle.vio.specs.Named.{IsReadBy, IsRefusedBy}
 use Rattle.traffic_feed.specs.declared.listing.Listing.{Listing}
 use Rattle.traffic_feed.specs.Lines.{IsFirstBad}
 use Rattle.traffic_feed.specs.Batches.{IsWithin}
 use Rattle.traffic_feed.specs.Listing.{IsListing, record_count, word_count}
 use Rattle.feed_files.specs.declared.fault.FeedFault.{FeedFault}
-use Rattle.feed_files.specs.declared.fault.FeedFault.TheVariants.{NoOpen, ReadFault, TooLarge, BadListing, NoMemory}
+use Rattle.feed_files.specs.declared.fault.FeedFault.TheVariants.{NoOpen, ReadFault, TooLarge, BadListing}
 
 -- ---- contents
 
@@ -63,6 +64,16 @@ FeedsHold before names contents = AllZip (λ name bytes. before.held name ≡ So
 
 -- ---- reading
 
+-- a feed: which it is, in the order of their names from 0, and the name of its file
+pub record Feed : Type 0 where
+  pub number : ℕ
+  pub name : List ℕ
+
+-- feeds of these names, of which the first is the n-th
+abbrev pub feeds_from : ℕ → List (List ℕ) → List Feed
+feeds_from n [] = []
+feeds_from n (name ∷ names) = record { number = n; name = name } ∷ feeds_from (n + 1) names
+
 -- a listing of so many bytes fits in a ring: each unit fits in a segment, and units, records and cuts are few
 pub record IsWithinRing (seg size : ℕ) (listing : Listing) : Type 0 where
   pub units : All (IsWithin seg) listing.units
@@ -70,33 +81,24 @@ pub record IsWithinRing (seg size : ℕ) (listing : Listing) : Type 0 where
   pub few_records : record_count listing.units ≤ (size + 1) / 8
   pub few_cuts : listing.cuts ≤ record_count listing.units
 
--- a feed was read: the file of this name was opened and read whole, its bytes are this listing, and it fits in a ring
-pub record IsFeedRead (reclen seg : ℕ) (name : List ℕ) (listing : Listing) (before now : Seen) : Type 0 where
+-- a feed was read by these calls: its file was opened and read whole, its bytes are this listing, and it fits in a ring
+pub record FeedPasses (reclen seg : ℕ) (feed : Feed) (listing : Listing) (calls : List Call) : Type 0 where
   pub bytes : List ℕ
-  pub read : ReadNamed most_feed_bytes name bytes before now
+  pub read : IsReadBy most_feed_bytes feed.name bytes calls
   pub is : IsListing bytes reclen seg listing.units listing.cuts
   pub fits : IsWithinRing seg (length bytes) listing
 
--- feeds were read, and these are their listings
-abbrev pub AreFeedsRead : ℕ → ℕ → List (List ℕ) → List Listing → Seen → Seen → Type 0
-AreFeedsRead reclen seg names listings before now = AllZip (λ name listing. IsFeedRead reclen seg name listing before now) names listings
+-- a feed has this fault, by these calls: its file can't be opened or read, is too large, or was read and has a first bad line
+abbrev pub FeedStops : Feed → FeedFault → List Call → Type 0
+FeedStops feed (NoOpen name) calls = (name ≡ feed.name) × IsRefusedBy most_feed_bytes feed.name named.NoOpen calls
+FeedStops feed (ReadFault name) calls = (name ≡ feed.name) × IsRefusedBy most_feed_bytes feed.name named.Failed calls
+FeedStops feed (TooLarge name limit) calls = (name ≡ feed.name) × (limit ≡ most_feed_bytes) × IsRefusedBy most_feed_bytes feed.name named.TooLarge calls
+FeedStops feed (BadListing number line) calls = (number ≡ feed.number) × (bytes : List ℕ) × IsReadBy most_feed_bytes feed.name bytes calls × IsFirstBad bytes line
 
--- a feed, the n-th from 0, has this fault: its file can't be opened or read, is too large, or was read and has a first bad line
-abbrev pub IsFeedFault : ℕ → List ℕ → FeedFault → Seen → Seen → Type 0
-IsFeedFault n name (NoOpen called) before now = (called ≡ name) × IsNamedFault most_feed_bytes name named.NoOpen before now
-IsFeedFault n name (ReadFault called) before now = (called ≡ name) × IsNamedFault most_feed_bytes name named.Failed before now
-IsFeedFault n name (TooLarge called limit) before now = (called ≡ name) × (limit ≡ most_feed_bytes) × IsNamedFault most_feed_bytes name named.TooLarge before now
-IsFeedFault n name (BadListing feed line) before now = (feed ≡ n) × (bytes : List ℕ) × ReadNamed most_feed_bytes name bytes before now × IsFirstBad bytes line
-IsFeedFault n name NoMemory before now = ⊥
+-- feeds of these names were read by these calls, and these are their listings
+abbrev pub AreFeedsRead : ℕ → ℕ → List (List ℕ) → List Listing → List Call → Type 0
+AreFeedsRead reclen seg names listings calls = Passed (FeedPasses reclen seg) FeedStops (feeds_from 0 names) listings calls
 
--- a feed has this fault, and those before it were read; no file was opened under another name than theirs and its own, nor more than these are
-pub record StoppedByFeed (reclen seg : ℕ) (names : List (List ℕ)) (fault : FeedFault) (before now : Seen) : Type 0 where
-  pub earlier : List (List ℕ)
-  pub name : List ℕ
-  pub later : List (List ℕ)
-  pub parts : names ≡ earlier ++ name ∷ later
-  pub listings : List Listing
-  pub read : AreFeedsRead reclen seg earlier listings before now
-  pub stops : IsFeedFault (length earlier) name fault before now
-  pub touches : Touches [] [] (earlier ++ name ∷ []) [] before now
-  pub handles : GivesAtMost (length (earlier ++ name ∷ [])) before now
+-- one of the feeds of these names stopped the reading with this fault, those before it were read, and no call was made behind it
+abbrev pub StoppedByFeed : ℕ → ℕ → List (List ℕ) → FeedFault → List Call → Type 0
+StoppedByFeed reclen seg names fault calls = Stopped (FeedPasses reclen seg) FeedStops (feeds_from 0 names) fault calls

@@ -1,9 +1,5 @@
 //! Why feeds aren't read.
 
-ghost use Rattle.std.specs.Prelude.{◌≡◌};
-ghost use Rattle.feed_files.specs.declared.fault.FeedFault.TheVariants as feed_faults;
-
-use std::alloc::{AllocError, AllocFailed};
 use thiserror::Error;
 use vsl_select::Text;
 
@@ -38,23 +34,4 @@ pub enum FeedFault {
         /// The first line that is bad, from 1.
         line: u64,
     },
-    /// There was no memory for the feeds.
-    #[error("out of memory")]
-    NoMemory,
-}
-
-impl From<AllocError> for FeedFault {
-    ghost from_gives = { λ _ fault. fault ≡ feed_faults.NoMemory };
-
-    fn from(_e: AllocError) -> FeedFault {
-        FeedFault::NoMemory
-    }
-}
-
-impl<T: Drop> From<AllocFailed<T>> for FeedFault {
-    ghost from_gives = { λ _ fault. fault ≡ feed_faults.NoMemory };
-
-    fn from(_e: AllocFailed<T>) -> FeedFault {
-        FeedFault::NoMemory
-    }
 }

@@ -2,6 +2,7 @@
 
 ghost use Rattle.std.specs.Prelude.{◌≡◌, ◌⊎◌, ℕ, List, length};
 ghost use Rattle.vio.specs.World.{Seen};
+ghost use Rattle.vio.specs.Calls.{Call, Did};
 ghost use Rattle.traffic_feed.specs.declared.listing.Listing.{Listing};
 ghost use Rattle.feed_files.specs.declared.fault.FeedFault.{FeedFault};
 ghost use Rattle.feed_files.specs.Feeds.{AreFeedsRead, AreListings, CallFailed, FeedsHold, HasContentFault, StoppedByFeed};
@@ -24,9 +25,9 @@ pub fn feeds_are_listings_or_have_a_fault()
 /// Where the world tells what the files of feeds hold, what was read are their listings, and what stopped the reading is a
 /// call that failed or the first fault of their contents.
 pub fn told_feeds_are_read()
-    ensures read { (reclen seg : ℕ) (names contents : List (List ℕ)) (listings : List Listing) (before now : Seen) →
-        FeedsHold before names contents → AreFeedsRead reclen seg names listings before now → AreListings reclen seg contents listings }
-    ensures stopped { (reclen seg : ℕ) (names contents : List (List ℕ)) (fault : FeedFault) (before now : Seen) →
-        FeedsHold before names contents → StoppedByFeed reclen seg names fault before now →
+    ensures read { (reclen seg : ℕ) (names contents : List (List ℕ)) (listings : List Listing) (calls : List Call) (before now : Seen) →
+        FeedsHold before names contents → Did calls before now → AreFeedsRead reclen seg names listings calls → AreListings reclen seg contents listings }
+    ensures stopped { (reclen seg : ℕ) (names contents : List (List ℕ)) (fault : FeedFault) (calls : List Call) (before now : Seen) →
+        FeedsHold before names contents → Did calls before now → StoppedByFeed reclen seg names fault calls →
         CallFailed fault before now ⊎ HasContentFault reclen seg names contents fault }
 {}

@@ -1,52 +1,15 @@
--- One feed more was read, or not.
+-- A feed stops those behind it, or there is no memory for its listing.
 use Rattle.std.proofs.lemmas.Result.{err_from_is_err_and}
-use Rattle.feed_files.proofs.FeedLemmas.{opens_until, opens_next, until_more, stopped_until}
+use Rattle.feed_files.proofs.FeedLemmas.{until_more, until_halted, until_lacked}
 use Rattle.feed_files.proofs.feeds.read_feeds.Goals as goal
 
--- the place has no number
+pub returns-in_err-listing : goal.returns-in_err-listing
+returns-in_err-listing g c =
+    let took = rw c.as_str.ensures at c.in_err-listing.ensures.took in let halt = err_from_is_err_and c.from_residual.result c.from_residual.ensures.1 in
+    record { took = rw (halt.1, halt.2) (until_halted c.args.reclen c.args.shape c.loop-index.index c.args.names.now c.loop-index.listings.items c.index-names-index.result _ _ _ _ c.loop-index-test.true c.index-names-index.is c.loop-index.invariant took) }
 
-pub returns-in_default-clause-touches : goal.returns-in_default-clause-touches
-returns-in_default-clause-touches g c = (opens_until c.args.reclen c.args.shape c.args.names.now c.loop-index.index c.loop-index.listings.items _ _ c.loop-index.invariant).touches
-
--- a feed stops those behind it
-
-pub returns-in_err-listing-clause-touches : goal.returns-in_err-listing-clause-touches
-returns-in_err-listing-clause-touches g c =
-    let touches = rw c.as_str.ensures at c.read_feed.ensures.touches in
-    (opens_next c.args.reclen c.args.shape c.args.names.now c.loop-index.index c.loop-index.listings.items c.index-names-index.result _ _ _ c.loop-index-test.true c.index-names-index.is c.loop-index.invariant touches c.read_feed.ensures.handles).touches
-
-pub returns-in_err-listing-clause-handles : goal.returns-in_err-listing-clause-handles
-returns-in_err-listing-clause-handles g c =
-    let touches = rw c.as_str.ensures at c.read_feed.ensures.touches in
-    (opens_next c.args.reclen c.args.shape c.args.names.now c.loop-index.index c.loop-index.listings.items c.index-names-index.result _ _ _ c.loop-index-test.true c.index-names-index.is c.loop-index.invariant touches c.read_feed.ensures.handles).handles
-
-pub returns-in_err-listing-clause-refused : goal.returns-in_err-listing-clause-refused
-returns-in_err-listing-clause-refused g c =
-    let touches = rw c.as_str.ensures at c.read_feed.ensures.touches in
-    let stops = rw (c.as_str.ensures, c.in-Ok.ensures.1) at c.in_err-listing.ensures.refused in
-    let p = err_from_is_err_and c.from_residual.result c.from_residual.ensures.1 in
-    rw (p.1, p.2) (λ other.
-    stopped_until c.args.reclen c.args.shape c.args.names.now c.loop-index.index c.loop-index.listings.items c.index-names-index.result _ _ _ _ c.loop-index-test.true c.index-names-index.is c.loop-index.invariant touches
-    c.read_feed.ensures.handles (stops other))
-
--- no memory
-
-pub returns-in_err-push-clause-touches : goal.returns-in_err-push-clause-touches
-returns-in_err-push-clause-touches g c =
-    let touches = rw c.as_str.ensures at c.read_feed.ensures.touches in
-    (opens_next c.args.reclen c.args.shape c.args.names.now c.loop-index.index c.loop-index.listings.items c.index-names-index.result _ _ _ c.loop-index-test.true c.index-names-index.is c.loop-index.invariant touches c.read_feed.ensures.handles).touches
-
-pub returns-in_err-push-clause-handles : goal.returns-in_err-push-clause-handles
-returns-in_err-push-clause-handles g c =
-    let touches = rw c.as_str.ensures at c.read_feed.ensures.touches in
-    (opens_next c.args.reclen c.args.shape c.args.names.now c.loop-index.index c.loop-index.listings.items c.index-names-index.result _ _ _ c.loop-index-test.true c.index-names-index.is c.loop-index.invariant touches c.read_feed.ensures.handles).handles
-
--- one feed more
-
-pub loop-index-preserved : goal.loop-index-preserved
-loop-index-preserved g c =
-    let touches = rw c.as_str.ensures at c.read_feed.ensures.touches in
-    let read = rw c.as_str.ensures at c.in_ok-listing.ensures.read in
-    rw c.in_ok-push.ensures.items
-    (until_more c.args.reclen c.args.shape c.args.names.now c.loop-index.index c.loop-index.listings.items c.index-names-index.result c.in_ok-listing.listing _ _ _ c.loop-index-test.true c.index-names-index.is c.loop-index.invariant
-    touches c.read_feed.ensures.handles c.read_feed.ensures.quiet read)
+pub returns-in_err-push : goal.returns-in_err-push
+returns-in_err-push g c =
+    let took = rw c.as_str.ensures at c.in_ok-listing.ensures.took in let halt = err_from_is_err_and c.from_residual-in_err-push.result c.from_residual-in_err-push.ensures.1 in
+    let more = until_more c.args.reclen c.args.shape c.loop-index.index c.args.names.now c.loop-index.listings.items c.index-names-index.result c.in_ok-listing.listing _ _ _ c.loop-index-test.true c.index-names-index.is c.loop-index.invariant took in
+    record { took = rw (halt.1, halt.2) (until_lacked c.args.reclen c.args.shape _ c.args.names.now _ _ _ more) }

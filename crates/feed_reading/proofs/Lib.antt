@@ -1,0 +1,4 @@
+mod ReadNamedLemmas
+mod ContentLemmas
+mod NamedLemmas
+pub mod FeedLemmas
