@@ -6,9 +6,9 @@ use Rattle.vio.specs.Touches.{IsOneOf}
 use Rattle.vio.proofs.TouchLemmas.{one_of_left, one_of_right}
 use Rattle.traffic_feed.specs.declared.listing.Listing.{Listing}
 use Rattle.traffic_feed.specs.Lines.{IsFirstBad}
-use Rattle.feed_files.specs.declared.fault.FeedFault.{FeedFault}
-use Rattle.feed_files.specs.declared.fault.FeedFault.TheVariants as feed_faults
-use Rattle.feed_files.specs.Feeds.{AreListings, FeedsHold, HasBytesFault, HasContentFault, IsFeedFault, most_feed_bytes}
+use Rattle.feed_reading.specs.declared.fault.FeedFault.{FeedFault}
+use Rattle.feed_reading.specs.declared.fault.FeedFault.TheVariants as feed_faults
+use Rattle.feed_reading.specs.Feeds.{AreListings, FeedsHold, HasBytesFault, HasContentFault, IsFeedFault, most_feed_bytes}
 use Rattle.tool_words.specs.declared.job.Job.{Job}
 use Rattle.varnish_tools.specs.declared.fault.ToolFault.{ToolFault}
 use Rattle.varnish_tools.specs.declared.outcome.RunRecord.{RunRecord}

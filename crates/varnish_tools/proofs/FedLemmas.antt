@@ -9,10 +9,10 @@ use Rattle.vio.specs.declared.world.TheConstants.{ERRORS}
 use Rattle.vio.specs.World.{Seen, Creating, Writing, Gains, NoCountFalls, HasStreams}
 use Rattle.vio.specs.Writes.{GainsSome}
 use Rattle.vio.specs.Touches.{IsOneOf, Touches}
-use Rattle.vio.specs.Named.{OnlyReads}
+use Rattle.feed_reading.specs.Named.{OnlyReads}
 use Rattle.vio.proofs.WholeLemmas.{NoCountFalls-then, some_since}
 use Rattle.vio.proofs.TouchLemmas.{one_of_left, one_of_right, touches_in, touches_then}
-use Rattle.feed_files.proofs.FeedLemmas.{feeds_then, feeds_since, fault_then, fault_since}
+use Rattle.feed_reading.proofs.FeedLemmas.{feeds_then, feeds_since, fault_then, fault_since}
 use Rattle.feed_schedule.specs.Schedule.{Event, events_of}
 use Rattle.txn_rows.specs.Grouping.{Taken}
 use Rattle.query_parser.specs.declared.query.Query.{Query}
@@ -35,7 +35,7 @@ use Rattle.varnish_tools.specs.inside.QueryFiles as reading
 use Rattle.varnish_tools.specs.inside.Report.{ReportsPart}
 use Rattle.varnish_tools.proofs.ObjectLemmas.{IsStill, is_sink, untouched_still, untouched_until, gained_until, gained_so, begins_before, gives_then, gives_more, gives_still, gives_none}
 use Rattle.varnish_tools.proofs.OutputLemmas.{job_output}
-use Rattle.varnish_tools.proofs.PrinterLemmas.{tested_text, text_prefix}
+use Rattle.text_printer.proofs.DueLemmas.{tested_text, text_prefix}
 use Rattle.varnish_tools.proofs.FeedLoopLemmas.{taken_append}
 use Rattle.varnish_tools.proofs.FedTextLemmas.{last_parts}
 use Rattle.varnish_tools.proofs.QueryLemmas.{taken_then}

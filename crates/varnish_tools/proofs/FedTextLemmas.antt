@@ -11,13 +11,13 @@ use Rattle.vsl_dispatch.specs.Groups.{kept}
 use Rattle.varnish_tools.specs.Asked.{options_of}
 use Rattle.varnish_tools.specs.Queries.{Ask, chosen}
 use Rattle.varnish_tools.specs.Output.{head_text, output_of}
-use Rattle.varnish_tools.specs.Printer.{Plan, IsOutput, due, has_all}
+use Rattle.text_printer.specs.Printer.{Plan, IsOutput, due, has_all}
 use Rattle.varnish_tools.specs.Feeds.{taken_of, without_last, messages_of, fills, fed_text, whole_fed_text, begun_text, IsFedText, Unwritten}
 use Rattle.varnish_tools.specs.inside.LogFile.{IsJobPlan}
 use Rattle.varnish_tools.specs.inside.FeedLoop.{LeftBy}
 use Rattle.varnish_tools.proofs.FeedLoopLemmas.{taken_append, messages_append}
 use Rattle.varnish_tools.proofs.OutputLemmas.{job_output}
-use Rattle.varnish_tools.proofs.PrinterLemmas.{due_prefix, due_flag, due_filled}
+use Rattle.text_printer.proofs.DueLemmas.{due_prefix, due_flag, due_filled}
 use Rattle.varnish_tools.proofs.RunLemmas.{fills_is, due_is}
 
 -- what was met first

@@ -21,12 +21,12 @@ use Rattle.feed_schedule.specs.declared.replay.Advanced.TheVariants.{Took, Overr
 use Rattle.varnish_tools.specs.declared.feed_loop.Met.{Met}
 use Rattle.varnish_tools.specs.declared.feed_loop.FeedStopped.{FeedStopped}
 use Rattle.varnish_tools.specs.declared.feed_loop.FeedStopped.TheVariants as stops
-use Rattle.varnish_tools.specs.declared.printer.PrintFault.{PrintFault}
-use Rattle.varnish_tools.specs.declared.printer.PrintFault.TheVariants.{WriteFault, NoMemory}
+use Rattle.text_printer.specs.declared.printer.PrintFault.{PrintFault}
+use Rattle.text_printer.specs.declared.printer.PrintFault.TheVariants.{WriteFault, NoMemory}
 use Rattle.varnish_tools.specs.Feeds.{taken_of, without_last, count_units, count_overruns, ends_overrun, overrun_message, messages_of}
-use Rattle.varnish_tools.specs.Printer.{Plan, PrinterState, IsOutput, Represents, HasPrintCause, IsLeft, due, has_all}
+use Rattle.text_printer.specs.Printer.{Plan, PrinterState, IsOutput, Represents, HasPrintCause, IsLeft, due, has_all}
 use Rattle.varnish_tools.specs.inside.FeedLoop.{AddedBoth, Came, FedPart, FedSoFar, FedToEnd, FedToKept, FedUntil, Feeding, IsMet}
-use Rattle.varnish_tools.proofs.PrinterLemmas.{due_prefix}
+use Rattle.text_printer.proofs.DueLemmas.{due_prefix}
 use Rattle.varnish_tools.proofs.LoopLemmas.{cause_since}
 
 -- ---- lists of events

@@ -2,8 +2,6 @@ mod LayoutLemmas
 mod ConsumerLemmas
 mod OutputLemmas
 mod ObjectLemmas
-mod GivenLemmas
-mod PrinterLemmas
 mod LoopLemmas
 mod FeedLoopLemmas
 mod QueryLemmas

@@ -19,7 +19,7 @@ use Rattle.tool_words.specs.declared.job.Job.{Job}
 use Rattle.varnish_tools.specs.declared.fault.ToolFault.TheVariants.{NoOpen, WriteFault}
 use Rattle.varnish_tools.specs.declared.outcome.Ran.{Ran}
 use Rattle.varnish_tools.specs.declared.outcome.RunRecord.TheVariants.{Nothing, Counted}
-use Rattle.varnish_tools.specs.declared.printer.PrintFault.TheVariants as print_faults
+use Rattle.text_printer.specs.declared.printer.PrintFault.TheVariants as print_faults
 use Rattle.varnish_tools.specs.declared.run.Stopped.TheVariants.{BySource, ByPrinter}
 use Rattle.varnish_tools.specs.declared.log_source.LogFile.{LogFile}
 use Rattle.varnish_tools.specs.declared.source.SourceFault.{SourceFault}
@@ -31,7 +31,7 @@ use Rattle.varnish_tools.specs.Run.{Ending, Faulted, no_run, run_of}
 use Rattle.vsl_dispatch.specs.Groups.{kept, is_filled}
 use Rattle.vsl_dispatch.proofs.GroupLemmas.{kept_none}
 use Rattle.varnish_tools.specs.Output.{head_text, output_of, is_flushed, is_ended, sink_text}
-use Rattle.varnish_tools.specs.Printer.{Plan, IsOutput, due}
+use Rattle.text_printer.specs.Printer.{Plan, IsOutput, due}
 use Rattle.varnish_tools.specs.Promise.{Input, IsInput, IsDue, ReadsOnce, HasFailed, HasFailedInput, WritesFilePrefix, whole_text, is_whole, ending_begun}
 use Rattle.varnish_tools.specs.inside.LogFile.{HasBegun, HoldsAsAsked, IsJobPlan, SourceOpened, SinkCreated, job_plan}
 use Rattle.varnish_tools.specs.inside.LogSource.{GaveUnits, GaveFirst, StoppedSo}
@@ -40,7 +40,7 @@ use Rattle.varnish_tools.specs.inside.Loop.{Added, AddedSome, RanUntil}
 use Rattle.varnish_tools.proofs.LogSourceLemmas.{gave_as_first}
 use Rattle.varnish_tools.proofs.ObjectLemmas.{source_name, sink_name, source_still, sink_still, holds_more, IsStill, untouched_none, untouched_still, still_counts, still_then, still_opened, is_open, is_made, sink_before, begins_before, holds_before, touches_opening, touches_making, is_source, are_sources, source_still_left, gives_then, gives_still, gives_none, gives_more, gives_opening, gives_making}
 use Rattle.varnish_tools.proofs.OutputLemmas.{job_output}
-use Rattle.varnish_tools.proofs.PrinterLemmas.{due_first, tested_text}
+use Rattle.text_printer.proofs.DueLemmas.{due_first, tested_text}
 use Rattle.varnish_tools.proofs.RunLemmas.{each_one, run_began, works_by, sink_gained, given_first, given_all, whole_is}
 
 -- a file has fewer units than a count has values

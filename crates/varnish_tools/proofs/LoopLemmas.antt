@@ -12,12 +12,12 @@ use Rattle.vsl_record.specs.Unit.{LogUnit, Log}
 use Rattle.txn_rows.specs.declared.group.Group.{Group}
 use Rattle.txn_rows.specs.Grouping.{Taken, TakenUnit, all_taken}
 use Rattle.varnish_tools.specs.declared.source.SourceFault.{SourceFault}
-use Rattle.varnish_tools.specs.declared.printer.PrintFault.{PrintFault}
-use Rattle.varnish_tools.specs.declared.printer.PrintFault.TheVariants.{WriteFault, NoMemory}
+use Rattle.text_printer.specs.declared.printer.PrintFault.{PrintFault}
+use Rattle.text_printer.specs.declared.printer.PrintFault.TheVariants.{WriteFault, NoMemory}
 use Rattle.varnish_tools.specs.declared.run.Stopped.TheVariants.{BySource, ByPrinter}
-use Rattle.varnish_tools.specs.Printer.{Plan, PrinterState, IsOutput, Represents, HasPrintCause, IsLeft, due, has_all}
+use Rattle.text_printer.specs.Printer.{Plan, PrinterState, IsOutput, Represents, HasPrintCause, IsLeft, due, has_all}
 use Rattle.varnish_tools.specs.inside.Loop.{Added, AddedSome, Running, IsOpen, IsLeftOf, RanToEnd, RanToKept, RanUntil}
-use Rattle.varnish_tools.proofs.PrinterLemmas.{due_first, due_none}
+use Rattle.text_printer.proofs.DueLemmas.{due_first, due_none}
 use Rattle.vio.proofs.TouchLemmas.{touches_none, touches_wrote, touches_then, touches_read}
 
 -- nothing was added

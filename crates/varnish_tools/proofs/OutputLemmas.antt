@@ -12,7 +12,7 @@ use Rattle.ncsa_format.specs.Line.{group_lines}
 use Rattle.ncsa_format.specs.Reading.{pieces_of}
 use Rattle.varnish_tools.specs.Formats.{format_text}
 use Rattle.varnish_tools.specs.Output.{look_of, showing_of, output_of, tool_output}
-use Rattle.varnish_tools.specs.Printer.{IsOutput}
+use Rattle.text_printer.specs.Printer.{IsOutput}
 use Rattle.varnish_tools.proofs.ConsumerLemmas.{laid_append, laid_nil}
 
 tool_none : (tool : Tool) (job : Job) (ended : Bool) → tool_output tool job [] ended ≡ []

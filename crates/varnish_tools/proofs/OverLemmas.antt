@@ -10,12 +10,12 @@ use Rattle.vio.specs.declared.world.TheConstants.{ERRORS}
 use Rattle.vio.specs.World.{Seen, Creating, Writing, Gains, FaultsRose, HasStreams, OnlyCounts, Wrote}
 use Rattle.vio.specs.Writes.{GainsSome, WroteOn}
 use Rattle.vio.specs.Touches.{Touches}
-use Rattle.vio.specs.Named.{OnlyReads}
+use Rattle.feed_reading.specs.Named.{OnlyReads}
 use Rattle.vio.proofs.WholeLemmas.{NoCountFalls-none, NoCountFalls-then, some_since}
 use Rattle.vio.proofs.TouchLemmas.{only_one, touches_in, touches_over, touches_counts, touches_created, touches_wrote, IsNewSink, new_sink}
-use Rattle.feed_files.specs.Feeds.{AreFeedsRead, StoppedByFeed}
-use Rattle.feed_files.specs.declared.fault.FeedFault.{FeedFault}
-use Rattle.feed_files.proofs.FeedLemmas.{feeds_then}
+use Rattle.feed_reading.specs.Feeds.{AreFeedsRead, StoppedByFeed}
+use Rattle.feed_reading.specs.declared.fault.FeedFault.{FeedFault}
+use Rattle.feed_reading.proofs.FeedLemmas.{feeds_then}
 use Rattle.feed_schedule.specs.Schedule.{Event, events_of}
 use Rattle.feed_schedule.specs.Replaying.{ReplayState, Represents}
 use Rattle.traffic_feed.specs.declared.listing.Listing.{Listing}
@@ -33,7 +33,7 @@ use Rattle.varnish_tools.specs.Faults.{fault_of_feed}
 use Rattle.varnish_tools.specs.Objects.{GivesAtMost, Object, OpenedFile, CreatedFile, Stream, sink_of, created_of, streams_of, IsSinkHandle, HoldsText, SinkGained}
 use Rattle.varnish_tools.specs.Queries.{Ask}
 use Rattle.varnish_tools.specs.Output.{head_text}
-use Rattle.varnish_tools.specs.Printer.{Plan, due, has_all}
+use Rattle.text_printer.specs.Printer.{Plan, due, has_all}
 use Rattle.varnish_tools.specs.Feeds.{FeedEnding, Whole, Kept, Unwritten, Unreported, ending_fault, taken_of, without_last, count_units, count_items, messages_of, Meets, AreMessages, IsFedText, whole_fed_text}
 use Rattle.varnish_tools.specs.FeedPromise.{Scheduled, StopsAtFeed, RanOver, WorksOver, HasEndingCause, WritesErrors}
 use Rattle.varnish_tools.specs.inside.LogFile.{HoldsAsAsked, IsJobPlan, SinkCreated}

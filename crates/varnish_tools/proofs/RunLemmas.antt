@@ -24,7 +24,7 @@ use Rattle.varnish_tools.specs.declared.fault.ToolFault.{ToolFault}
 use Rattle.varnish_tools.specs.declared.fault.ToolFault.TheVariants.{ReadFault, WriteFault, NotALog, Damaged, TooLarge}
 use Rattle.varnish_tools.specs.declared.outcome.RunRecord.{RunRecord}
 use Rattle.varnish_tools.specs.declared.outcome.RunRecord.TheVariants.{Counted}
-use Rattle.varnish_tools.specs.declared.printer.PrintFault.TheVariants as print_faults
+use Rattle.text_printer.specs.declared.printer.PrintFault.TheVariants as print_faults
 use Rattle.varnish_tools.specs.declared.source.SourceFault.{SourceFault}
 use Rattle.varnish_tools.specs.declared.source.SourceFault.TheVariants as source_faults
 use Rattle.varnish_tools.specs.declared.run.Stopped.TheVariants.{BySource, ByPrinter}
@@ -36,8 +36,8 @@ use Rattle.varnish_tools.specs.Queries.{Ask, chosen, is_asked}
 use Rattle.varnish_tools.specs.Run.{Ending, Whole, Kept, Faulted, run_of, taken_of}
 use Rattle.vsl_dispatch.specs.Groups.{kept, is_filled}
 use Rattle.varnish_tools.specs.Output.{head_text, output_of, is_flushed, is_ended, sink_text}
-use Rattle.varnish_tools.specs.Printer.{Plan, IsOutput, asked_groups, due, has_all}
-use Rattle.varnish_tools.specs.Held.{held_groups}
+use Rattle.text_printer.specs.Printer.{Plan, IsOutput, asked_groups, due, has_all}
+use Rattle.text_printer.specs.Held.{held_groups}
 use Rattle.varnish_tools.specs.Promise.{Input, SourceHolds, IsInput, RunBegan, TakesUntil, fills, ReadsOnceUntil, IsDueUntil, IsDue, ReadsOnce, Took, WritesFor, whole_text, whole_run, input_fault, is_whole}
 use Rattle.varnish_tools.specs.inside.LogFile.{HasBegun, IsJobPlan, fault_as}
 use Rattle.varnish_tools.specs.inside.LogSource.{TookFrom, BeginsLog, GaveUnits, GaveFirst, EndsFile, FailedAfter, StoppedSo}
@@ -46,7 +46,7 @@ use Rattle.varnish_tools.specs.inside.Loop.{AddedSome, IsOpen, RanToEnd, RanToKe
 use Rattle.varnish_tools.proofs.LogSourceLemmas.{gave_as_first}
 use Rattle.varnish_tools.proofs.ObjectLemmas.{source_name, sink_name, source_still, gained_after}
 use Rattle.varnish_tools.proofs.OutputLemmas.{job_output}
-use Rattle.varnish_tools.proofs.PrinterLemmas.{due_flag, due_filled, tested_text}
+use Rattle.text_printer.proofs.DueLemmas.{due_flag, due_filled, tested_text}
 
 -- the units that were given, and the input
 

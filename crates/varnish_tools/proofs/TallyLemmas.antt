@@ -9,14 +9,14 @@ use Rattle.vio.specs.declared.world.TheConstants.{ERRORS, OUTPUT}
 use Rattle.vio.specs.World.{Seen, Writing, FaultsRose, HasStreams, NoCountFalls}
 use Rattle.vio.specs.Writes.{GainsSome, WroteOn}
 use Rattle.vio.specs.Touches.{Touches}
-use Rattle.vio.specs.Named.{OnlyReads}
+use Rattle.feed_reading.specs.Named.{OnlyReads}
 use Rattle.vio.proofs.WholeLemmas.{some_since}
 use Rattle.vio.proofs.TouchLemmas.{only_one}
 use Rattle.vsl_record.specs.Unit.{Log}
 use Rattle.ring_plain.specs.Ring.{count_wraps}
-use Rattle.feed_files.specs.declared.fault.FeedFault.{FeedFault}
-use Rattle.feed_files.specs.Feeds.{AreFeedsRead, StoppedByFeed}
-use Rattle.feed_files.proofs.FeedLemmas.{feeds_then}
+use Rattle.feed_reading.specs.declared.fault.FeedFault.{FeedFault}
+use Rattle.feed_reading.specs.Feeds.{AreFeedsRead, StoppedByFeed}
+use Rattle.feed_reading.proofs.FeedLemmas.{feeds_then}
 use Rattle.feed_schedule.specs.Unread.{IsUnread}
 use Rattle.traffic_feed.specs.Counted.{counter_values}
 use Rattle.traffic_feed.specs.declared.listing.Listing.{Listing}

@@ -33,7 +33,7 @@ use Rattle.varnish_tools.specs.Theorem.{TouchesJob, reads_of, writes_of, opens_o
 use Rattle.varnish_tools.specs.inside.Report.{ReportsPart}
 use Rattle.varnish_tools.proofs.ObjectLemmas.{last_name, last_opened, IsSink, is_sink, IsSource, is_source, are_sources, untouched_until, gained_until, gained_so, took_until, error_no_sink, source_until, gives_still, gives_none}
 use Rattle.varnish_tools.proofs.OutputLemmas.{job_output}
-use Rattle.varnish_tools.proofs.PrinterLemmas.{kept_first, tested_text, text_first}
+use Rattle.text_printer.proofs.DueLemmas.{kept_first, tested_text, text_first}
 use Rattle.varnish_tools.proofs.RunLemmas.{run_taken, run_text}
 use Rattle.varnish_tools.proofs.QueryLemmas.{taken_then}
 use Rattle.varnish_tools.proofs.TakenLemmas.{formatted_then, began_then, stopped_then, none_stopped}

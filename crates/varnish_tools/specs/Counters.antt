@@ -11,7 +11,7 @@ use Rattle.vsl_record.specs.Unit.{Log}
 use Rattle.ring_plain.specs.Ring.{count_wraps}
 use Rattle.traffic_feed.specs.declared.listing.Listing.{Listing}
 use Rattle.traffic_feed.specs.Counted.{counter_values}
-use Rattle.feed_files.specs.Feeds.{AreFeedsRead}
+use Rattle.feed_reading.specs.Feeds.{AreFeedsRead}
 use Rattle.feed_schedule.specs.Unread.{IsUnread}
 use Rattle.vsl_stat.specs.Report.{stat_text, stat_json, stat_list}
 use Rattle.tool_words.specs.declared.job.Job.{Job}

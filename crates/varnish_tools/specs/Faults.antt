@@ -6,8 +6,8 @@ use Rattle.query_parser.specs.declared.fault.QueryFault.{QueryFault}
 use Rattle.query_parser.specs.declared.fault.QueryFault.TheVariants.{Syntax, UnknownTag, Number, Pattern, Deep, NoMemory}
 use Rattle.varnish_tools.specs.declared.fault.ToolFault.{ToolFault}
 use Rattle.varnish_tools.specs.declared.fault.ToolFault.TheVariants.{Usage, NotBuilt, BadPattern, BadQuery, BadFormat, BadListing, NoOpen, ReadFault, WriteFault, NotALog, Damaged, TooLarge}
-use Rattle.feed_files.specs.declared.fault.FeedFault.{FeedFault}
-use Rattle.feed_files.specs.declared.fault.FeedFault.TheVariants as feed_faults
+use Rattle.feed_reading.specs.declared.fault.FeedFault.{FeedFault}
+use Rattle.feed_reading.specs.declared.fault.FeedFault.TheVariants as feed_faults
 use Rattle.varnish_tools.specs.Queries.{most_query_bytes}
 
 -- the classes of faults; causes, what is taken and statuses are stated by class

@@ -9,8 +9,8 @@ use Rattle.vio.specs.Touches.{IsOneOf, Touches}
 use Rattle.vsl_record.specs.Unit.{LogUnit, Log}
 use Rattle.ring_layout.specs.declared.history.HistoryItem.{HistoryItem}
 use Rattle.traffic_feed.specs.declared.listing.Listing.{Listing}
-use Rattle.feed_files.specs.declared.fault.FeedFault.{FeedFault}
-use Rattle.feed_files.specs.Feeds.{AreFeedsRead, AreListings, FeedsHold, IsFeedFault}
+use Rattle.feed_reading.specs.declared.fault.FeedFault.{FeedFault}
+use Rattle.feed_reading.specs.Feeds.{AreFeedsRead, AreListings, FeedsHold, IsFeedFault}
 use Rattle.feed_schedule.specs.Schedule.{Event, IsScheduled, events_of}
 use Rattle.tool_words.specs.declared.job.Job.{Job}
 use Rattle.varnish_tools.specs.declared.fault.ToolFault.{ToolFault}

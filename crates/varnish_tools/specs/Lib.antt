@@ -7,8 +7,6 @@ pub mod Formats
 pub mod Faults
 pub mod Run
 pub mod Output
-pub mod Held
-pub mod Printer
 pub mod Promise
 pub mod Feeds
 pub mod FeedPromise

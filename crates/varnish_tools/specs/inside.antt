@@ -1,6 +1,5 @@
 -- What private steps say of one another; no public contract cites these definitions.
 pub mod Consumer
-pub mod Given
 pub mod Source
 pub mod Loop
 pub mod FeedLoop

@@ -20,7 +20,7 @@ use crate::asked::is_fed;
 use crate::fault::ToolFault;
 use crate::listings::{feed_fault, order_seed, with_made};
 use crate::outcome::{Ran, RunRecord, refused};
-use feed_files::read_feeds;
+use feed_reading::read_feeds;
 use feed_schedule::{count_feeds, every_writing_ends};
 use ring_layout::Shape;
 use std::alloc::Global;

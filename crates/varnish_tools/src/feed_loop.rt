@@ -10,14 +10,14 @@ ghost use Rattle.vsl_record.specs.Unit.{LogUnit};
 ghost use Rattle.feed_schedule.specs.Schedule.{Event, TookUnit, WasOverrun};
 ghost use Rattle.feed_schedule.specs.Replaying as replaying;
 ghost use Rattle.varnish_tools.specs.Feeds.{overrun_message, count_units, count_items};
-ghost use Rattle.varnish_tools.specs.Printer.{Represents, plan_of, printer_state};
+ghost use Rattle.text_printer.specs.Printer.{Represents, plan_of, printer_state};
 ghost use Rattle.varnish_tools.specs.inside.FeedLoop.{FedToEnd, FedToKept, FedUntil, IsMet};
 
 use crate::message::overrun_text;
 use crate::outcome::RunRecord;
-use crate::printer::{PrintFault, Printer};
 use feed_schedule::{Advanced, Replay};
 use std::alloc::Global;
+use text_printer::{PrintFault, Printer};
 use vio::{ERRORS, NoMemory, World, WorldFault, write_all};
 use vsl_dispatch::{Consumer, Go};
 use vsl_select::Text;

@@ -23,7 +23,7 @@ use crate::listings::{feed_fault, order_seed, with_made};
 use crate::log_file::{head_of, job_printer};
 use crate::objects::create_sink;
 use crate::outcome::{Ran, counted, refused};
-use feed_files::read_feeds;
+use feed_reading::read_feeds;
 use feed_schedule::{Replay, every_schedule_ends};
 use query_parser::Query;
 use ring_layout::Shape;

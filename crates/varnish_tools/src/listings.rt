@@ -8,7 +8,7 @@ ghost use Rattle.varnish_tools.specs.Feeds.{order_seed, with_made};
 ghost use Rattle.varnish_tools.specs.inside.Over.{FitsRing};
 
 use crate::fault::ToolFault;
-use feed_files::FeedFault;
+use feed_reading::FeedFault;
 use ring_layout::Shape;
 use std::alloc::Global;
 use tool_words::{Job, Order};

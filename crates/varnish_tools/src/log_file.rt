@@ -6,7 +6,7 @@ ghost use Rattle.vio.specs.Touches.{Touches};
 ghost use Rattle.varnish_tools.specs.Asked.{Work, write_of};
 ghost use Rattle.varnish_tools.specs.Objects.{GivesAtMost, created_of, opened_of, source_of, streams_of, sink_of};
 ghost use Rattle.varnish_tools.specs.Output.{head_text};
-ghost use Rattle.varnish_tools.specs.Printer.{Represents, plan_of, printer_state};
+ghost use Rattle.text_printer.specs.Printer.{Represents, plan_of, printer_state};
 ghost use Rattle.vsl_dispatch.specs.Groups.{is_filled};
 ghost use Rattle.varnish_tools.specs.Queries.{Ask};
 ghost use Rattle.varnish_tools.specs.inside.Works.{WorksFor, PrefixFor};
@@ -17,14 +17,14 @@ use crate::fault::ToolFault;
 use crate::log_source::LogFile;
 use crate::objects::{create_sink, open_source};
 use crate::outcome::{Ran, counted, refused};
-use crate::printer::{PrintFault, Printer};
 use crate::run::{Stopped, print_source};
 use crate::source::SourceFault;
 use query_parser::Query;
 use std::alloc::Global;
+use text_printer::{PrintFault, Printer};
 use tool_words::Job;
 use vio::{Created, NoMemory, World, WorldFault, write_all};
-use vsl_dispatch::{Consumer, Dispatcher};
+use vsl_dispatch::Consumer;
 use vsl_file::put_header;
 use vsl_select::Text;
 
@@ -58,10 +58,7 @@ pub fn job_printer<'q, C: Consumer>(
     ensures name { IfOk result (λ p. (printer_state p).name ≡ write_of job.now) }
 {
     let name = Text::new(alloc, written_name(job))?;
-    let mut consumers = Vec::new(alloc);
-    consumers.push(consumer)?;
-    let dispatch = Dispatcher::new(alloc, consumers)?;
-    Printer::new(alloc, options_of(job), query, dispatch, sink, name)
+    Printer::new(alloc, options_of(job), query, consumer, sink, name)
 }
 
 /// The fault of a log of this name that stopped so; want of memory is none.

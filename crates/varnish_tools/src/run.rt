@@ -3,11 +3,11 @@
 ghost use Rattle.std.specs.Prelude.{◌≡◌, ◌⊎◌, ◌<◌, ◌^◌, [], ◌∷◌, true, false, IsTrue, IfOk, IfErr};
 ghost use Rattle.vio.specs.World.{Writing};
 ghost use Rattle.vio.specs.Touches.{Touches};
-ghost use Rattle.varnish_tools.specs.Printer.{Represents, plan_of, printer_state};
+ghost use Rattle.text_printer.specs.Printer.{Represents, plan_of, printer_state};
 ghost use Rattle.varnish_tools.specs.inside.Loop.{RanToEnd, RanToKept, RanUntil};
 
-use crate::printer::{PrintFault, Printer};
 use crate::source::{Source, SourceFault};
+use text_printer::{PrintFault, Printer};
 use vio::World;
 use vsl_dispatch::{Consumer, Go};
 

@@ -22,7 +22,7 @@ use crate::job_run::run_job;
 use crate::message::{message_of, status_of};
 use crate::outcome::{Outcome, Ran, refused};
 use crate::queries::read_queries;
-use feed_files::feeds_are_listings_or_have_a_fault;
+use feed_reading::feeds_are_listings_or_have_a_fault;
 use std::alloc::Global;
 use vio::{ERRORS, NoMemory, World, WorldFault, write_all};
 

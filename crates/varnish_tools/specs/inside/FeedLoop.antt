@@ -13,9 +13,9 @@ use Rattle.feed_schedule.specs.Replaying as replaying
 use Rattle.varnish_tools.specs.declared.feed_loop.Met.{Met}
 use Rattle.varnish_tools.specs.declared.feed_loop.FeedStopped.{FeedStopped}
 use Rattle.varnish_tools.specs.declared.feed_loop.FeedStopped.TheVariants.{Unwritten, Unreported, NoMemory}
-use Rattle.varnish_tools.specs.declared.printer.PrintFault.TheVariants.{WriteFault}
+use Rattle.text_printer.specs.declared.printer.PrintFault.TheVariants.{WriteFault}
 use Rattle.varnish_tools.specs.Feeds.{taken_of, without_last, count_units, count_overruns, ends_overrun, messages_of, IsLastOverrun}
-use Rattle.varnish_tools.specs.Printer.{Plan, PrinterState, Represents, HasPrintCause, due, has_all}
+use Rattle.text_printer.specs.Printer.{Plan, PrinterState, Represents, HasPrintCause, due, has_all}
 
 -- a text was added to what a handle tells, and to a file that it names and to which no message goes
 pub record AddedApart (h : ℕ) (text : List ℕ) (before now : Seen) : Type 0 where

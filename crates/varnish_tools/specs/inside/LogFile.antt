@@ -15,7 +15,7 @@ use Rattle.varnish_tools.specs.Asked.{options_of, file_of, write_of}
 use Rattle.varnish_tools.specs.Objects.{Object, OpenedFile, CreatedFile, Stream, source_of, sink_of, IsSourceHandle, IsSinkHandle, HoldsText}
 use Rattle.varnish_tools.specs.Output.{output_of}
 use Rattle.varnish_tools.specs.Promise.{SourceHolds, SinkBegins}
-use Rattle.varnish_tools.specs.Printer.{Plan}
+use Rattle.text_printer.specs.Printer.{Plan}
 
 -- a source has this handle: a stream's own, with no call, or that of a file that was opened
 abbrev pub SourceOpened : Object → ℕ → Seen → Seen → Type 0

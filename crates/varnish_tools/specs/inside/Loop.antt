@@ -7,11 +7,11 @@ use Rattle.vio.specs.Touches.{Touches}
 use Rattle.vsl_record.specs.Unit.{Log}
 use Rattle.txn_rows.specs.Grouping.{all_taken}
 use Rattle.varnish_tools.specs.declared.source.SourceFault.{SourceFault}
-use Rattle.varnish_tools.specs.declared.printer.PrintFault.{PrintFault}
-use Rattle.varnish_tools.specs.declared.printer.PrintFault.TheVariants.{WriteFault, NoMemory}
+use Rattle.text_printer.specs.declared.printer.PrintFault.{PrintFault}
+use Rattle.text_printer.specs.declared.printer.PrintFault.TheVariants.{WriteFault, NoMemory}
 use Rattle.varnish_tools.specs.declared.run.Stopped.{Stopped}
 use Rattle.varnish_tools.specs.declared.run.Stopped.TheVariants.{BySource, ByPrinter}
-use Rattle.varnish_tools.specs.Printer.{Plan, PrinterState, Represents, HasPrintCause, due, has_all}
+use Rattle.text_printer.specs.Printer.{Plan, PrinterState, Represents, HasPrintCause, due, has_all}
 
 -- a text was added to what a handle tells, and to a file that it names
 pub record Added (h : ℕ) (text : List ℕ) (before now : Seen) : Type 0 where

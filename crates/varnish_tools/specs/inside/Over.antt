@@ -3,10 +3,10 @@ use Rattle.std.specs.Prelude.{◌≡◌, ◌≢◌, ◌⊎◌, ℕ, Bool, true, 
 use Rattle.vio.specs.declared.world.TheConstants.{ERRORS}
 use Rattle.vio.specs.World.{Seen, Writing, Gains, NoCountFalls, HasStreams}
 use Rattle.vio.specs.Touches.{Touches}
-use Rattle.vio.specs.Named.{OnlyReads}
+use Rattle.feed_reading.specs.Named.{OnlyReads}
 use Rattle.vsl_record.specs.Unit.{LogUnit, Log}
 use Rattle.ring_layout.specs.declared.history.HistoryItem.{HistoryItem}
-use Rattle.feed_files.specs.Feeds.{AreFeedsRead, IsWithinRing}
+use Rattle.feed_reading.specs.Feeds.{AreFeedsRead, IsWithinRing}
 use Rattle.feed_schedule.specs.Schedule.{events_of, IsScheduled}
 use Rattle.feed_schedule.specs.Replaying.{ReplayState, Represents}
 use Rattle.traffic_feed.specs.declared.listing.Listing.{Listing}

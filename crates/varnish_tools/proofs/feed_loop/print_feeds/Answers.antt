@@ -1,7 +1,7 @@
 use Rattle.std.proofs.Common.{◌∙◌, ap, inl, inr, Err, rules}
 use Rattle.std.proofs.lemmas.Result.{err_from_is_err_and}
 use Rattle.feed_schedule.specs.Schedule.{TookUnit, WasOverrun}
-use Rattle.varnish_tools.specs.inside.Given.{is_done}
+use Rattle.text_printer.specs.Printer.{is_done}
 use Rattle.varnish_tools.proofs.FeedLoopLemmas.{both_told, came_unit, came_overrun, unit_spelled, one_unit, one_overrun, printed, printed_end, fed_to_kept, feeding_more, part_still, part_unreported, unreported, printer_stopped, fed_to_end, end_stopped}
 use Rattle.varnish_tools.proofs.feed_loop.print_feeds.Goals as goal
 

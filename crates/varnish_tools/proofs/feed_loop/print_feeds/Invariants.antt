@@ -1,6 +1,6 @@
 -- What came was given to the printer, which goes on. Each turn that goes on counts one more, and both counts have an end.
 use Rattle.std.proofs.Common.{◌+◌, ◌-◌}
-use Rattle.varnish_tools.specs.Printer.{plan_of, printer_state}
+use Rattle.text_printer.specs.Printer.{plan_of, printer_state}
 use Rattle.varnish_tools.specs.inside.FeedLoop.{Feeding}
 use Rattle.varnish_tools.proofs.feed_loop.print_feeds.Given as goal
 

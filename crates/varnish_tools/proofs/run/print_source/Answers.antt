@@ -1,8 +1,7 @@
 use Rattle.std.proofs.Common.{◌∙◌, ap, Bool, false, refl, inl, inr, rules, arith}
 use Rattle.vsl_record.specs.Unit.{Log}
 use Rattle.txn_rows.specs.Grouping.{all_taken}
-use Rattle.varnish_tools.specs.inside.Given.{is_done}
-use Rattle.varnish_tools.specs.Printer.{plan_of, printer_state}
+use Rattle.text_printer.specs.Printer.{is_done, plan_of, printer_state}
 use Rattle.varnish_tools.proofs.LoopLemmas.{running_more, running_none, open_more, printer_stopped, end_stopped, ran_to_end, ran_to_kept, source_stopped, touches_printed, named_still}
 use Rattle.varnish_tools.proofs.run.print_source.Goals as goal
 

@@ -1,6 +1,6 @@
 -- Each unit that the source gave was printed, they complete fewer groups than are kept, and the count of units fits.
 use Rattle.std.proofs.Common.{◌≡◌, ◌+◌, ◌<◌, ◌^◌, false}
-use Rattle.varnish_tools.specs.Printer.{plan_of, printer_state}
+use Rattle.text_printer.specs.Printer.{plan_of, printer_state}
 use Rattle.varnish_tools.specs.inside.Loop.{Running, IsOpen}
 use Rattle.varnish_tools.proofs.run.print_source.Given as goal
 

@@ -1,0 +1,54 @@
+-- What an output of text gains is a prefix of what is due for all that its source has.
+use Rattle.std.proofs.Common.{◌≡◌, ℕ, Bool, true, false, List, [], ◌++◌, refl, sym, subst, inl, inr}
+use Rattle.std.proofs.lemmas.List.{append-nil, map-append}
+use Rattle.std.proofs.lemmas.Grind.{flat_map-append}
+use Rattle.log_model.specs.Prefix.{IsPrefix}
+use Rattle.log_model.proofs.PrefixLemmas.{prefix_append, prefix_by, prefix_equal, prefix_after, prefix_then}
+use Rattle.vio.specs.Calls.{Call}
+use Rattle.txn_rows.specs.Grouping.{Taken}
+use Rattle.ring_layout.specs.declared.item.Item.{Item}
+use Rattle.text_printer.specs.declared.output.TextEnding.{TextEnding}
+use Rattle.text_printer.specs.declared.output.TextEnding.TheVariants as endings
+use Rattle.text_printer.specs.Messages.{message_of, messages_of}
+use Rattle.text_printer.specs.Printer.{Plan, IsOutput, due}
+use Rattle.text_printer.specs.Ends.{Due, Grows, TextEnded, TextShort, TextWritten, taken, taken_of}
+use Rattle.text_printer.specs.Output.{due_of}
+use Rattle.text_printer.proofs.DueLemmas.{due_prefix}
+
+pub messages_append : (xs ys : List Item) → messages_of (xs ++ ys) ≡ messages_of xs ++ messages_of ys
+messages_append = flat_map-append message_of
+
+-- the messages of items are a prefix of those of items and more items
+pub messages_prefix : (xs ys : List Item) → IsPrefix (messages_of xs) (messages_of (xs ++ ys))
+messages_prefix xs ys = prefix_by (messages_of xs) (messages_of (xs ++ ys)) (messages_of ys) (messages_append xs ys)
+
+-- what is due under a plan grows
+pub due_grows : (head : List ℕ) (p : Plan) → IsOutput p.writes → Grows (due_of head p)
+due_grows head p is met more all = subst (λ (list : List Taken). IsPrefix (due p (taken_of met) false) (due p list all)) (sym (map-append taken met more)) (due_prefix p is (taken_of met) (taken_of more) all)
+
+-- ---- what was gained is no more than what is due
+
+module _ (sink : ℕ) (d : Due) where
+  pub written_short : (calls : List Call) (done : List Item) → TextWritten sink d calls done → TextShort sink d calls done false
+  written_short calls done written = record { text = prefix_equal (sym written.text); told = prefix_equal (sym written.told) }
+
+  -- with the items that follow, where all have not come
+  pub short_prefix : Grows d → (calls : List Call) (met rest : List Item) (all : Bool) → (all ≡ true → rest ≡ []) → TextShort sink d calls met all → TextShort sink d calls (met ++ rest) true
+  short_prefix grows calls met rest true none short = rw (none refl, append-nil met) short
+  short_prefix grows calls met rest false none short = record { text = prefix_then short.text (prefix_after d.head (grows met rest true)); told = prefix_then short.told (messages_prefix met rest) }
+
+  pub ended_short : Grows d → (ending : TextEnding) (calls : List Call) (done last : List Item) (all : Bool) → TextEnded sink d ending calls done last all → TextShort sink d calls (done ++ last) all
+  ended_short grows endings.Whole calls done last all ended = let so = ended.ends in rw (so.0, so.1, append-nil done) (record { text = prefix_equal (sym so.2); told = prefix_equal (sym so.3) })
+  ended_short grows endings.Kept calls done last all ended = let so = ended.ends in rw so.0 (record { text = prefix_equal (sym so.2); told = prefix_equal (sym so.3) })
+  ended_short grows (endings.Unwritten name) calls done last all ended = let so = ended.ends in record {
+    text = elim so.2 [ inl early ↦ prefix_then early.2.prefix (prefix_append d.head (d.text (done ++ last) all)) | inr part ↦ part.1.prefix ];
+    told = prefix_equal (sym so.1);
+  }
+  ended_short grows endings.Unreported calls done last all ended = let so = ended.ends in record { text = rw (so.0, so.1) (prefix_after d.head (grows done last false)); told = so.3.prefix }
+
+  -- where an output ended, and where it goes on
+  pub ended_prefix : Grows d → (ending : TextEnding) (calls : List Call) (done last rest : List Item) (all : Bool) → (all ≡ true → rest ≡ []) → TextEnded sink d ending calls done last all → TextShort sink d calls (done ++ last ++ rest) true
+  ended_prefix grows ending calls done last rest all none ended = short_prefix grows calls (done ++ last) rest all none (ended_short grows ending calls done last all ended)
+
+  pub written_prefix : Grows d → (calls : List Call) (done rest : List Item) → TextWritten sink d calls done → TextShort sink d calls (done ++ rest) true
+  written_prefix grows calls done rest written = short_prefix grows calls done rest false (λ all. absurd cc) (written_short calls done written)

@@ -1,0 +1,4 @@
+pub mod DueLemmas
+pub mod EndLemmas
+mod NextLemmas
+mod OutputLemmas

@@ -1,0 +1,142 @@
+-- How what comes next changes a printer, step by step.
+use Rattle.std.proofs.Common.{◌≡◌, ℕ, ◌<◌, ◌+◌, ◌||◌, Bool, false, true, not, cond, List, [], ◌∷◌, ◌++◌, length, take, get_or, Option, refl, sym, ap, subst, ◌∙◌, append_assoc}
+use Rattle.std.proofs.lemmas.List.{append-nil, take_more}
+use Rattle.std.proofs.lemmas.List.Elements.{filter-append}
+use Rattle.log_model.specs.Prefix.{IsPrefix}
+use Rattle.log_model.proofs.PrefixLemmas.{prefix_after, proper_after}
+use Rattle.vio.specs.World.{Seen}
+use Rattle.vio.specs.Writes.{WroteOn}
+use Rattle.vio.proofs.WholeLemmas.{Wrote-none}
+use Rattle.vsl_record.specs.Unit.{LogUnit}
+use Rattle.txn_rows.specs.declared.group.Group.{Group}
+use Rattle.txn_rows.specs.declared.group.Grouping.{Grouping}
+use Rattle.txn_rows.specs.declared.group.Grouping.TheVariants.{Raw}
+use Rattle.txn_rows.specs.Grouping.{Taken, TakenUnit, unit_step, no_state, nothing_left, passes_over, reported, steps, taken_step, taken_steps}
+use Rattle.txn_rows.specs.Grouping as taken_items
+use Rattle.txn_rows.specs.TableState.{TableState}
+use Rattle.txn_rows.proofs.GroupingLemmas.{steps_append}
+use Rattle.query_parser.specs.declared.query.Query.{Query}
+use Rattle.query_eval.specs.Meaning.{is_held}
+use Rattle.vsl_select.proofs.RawLemmas.{raw_groups_left}
+use Rattle.vsl_dispatch.specs.Groups.{raw_groups, kept, is_filled}
+use Rattle.vsl_dispatch.specs.Entries.{Stands, TextTaken, is_live}
+use Rattle.vsl_dispatch.specs.declared.entry.Entry.{Entry}
+use Rattle.vsl_dispatch.specs.declared.entry.Entry.TheVariants.{Live, Gone}
+use Rattle.vsl_dispatch.proofs.StandsLemmas.{stands_text, ended_text}
+use Rattle.text_printer.specs.declared.next.Next.{Next}
+use Rattle.text_printer.specs.declared.next.Next.TheVariants.{Unit, Missed, End}
+use Rattle.text_printer.specs.declared.printer.PrintFault.{PrintFault}
+use Rattle.text_printer.specs.declared.printer.PrintFault.TheVariants.{WriteFault, NoMemory}
+use Rattle.text_printer.specs.Held.{held_groups}
+use Rattle.text_printer.specs.Printer.{Plan, PrinterState, IsOutput, IsSameSink, IsLeft, Represents, asked_groups, due}
+use Rattle.text_printer.specs.inside.Next.{Advanced, Completed, Gave, StandsOr, due_with, is_end, item_of}
+use Rattle.text_printer.proofs.DueLemmas.{due_prefix, due_flag, tested_more, tested_end}
+
+-- a query that holds always holds for each group
+always_holds : (query : Query) → query.always ≡ true → (groups : List Group) → held_groups query groups ≡ groups
+always_holds query always [] = refl
+always_holds query always (group ∷ groups) = rw always (ap (λ (gs : List Group). group ∷ gs) (always_holds query always groups))
+
+-- what is due with what comes next, by the groups
+due_is : (plan : Plan) (taken : List Taken) (next : Next) → let all = asked_groups plan (taken ++ item_of next ∷ []) false in due_with plan taken next ≡ plan.writes (kept plan.keep all) (is_end next || is_filled plan.keep all)
+due_is plan taken (Unit u) = refl
+due_is plan taken Missed = refl
+due_is plan taken End = ap (λ (gs : List Group). plan.writes (kept plan.keep gs) true) (tested_end (is_held plan.query) plan.options taken)
+
+-- what was due is a prefix of it
+due_on : (plan : Plan) → IsOutput plan.writes → (taken : List Taken) (next : Next) → IsPrefix (due plan taken false) (due_with plan taken next)
+due_on plan is taken (Unit u) = due_prefix plan is taken (TakenUnit u ∷ []) false
+due_on plan is taken Missed = due_prefix plan is taken (taken_items.Missed ∷ []) false
+due_on plan is taken End = due_flag plan is taken true
+
+module _ {C : Type 0} (keep : C → Option ℕ) (output : C → List Group → Bool → List ℕ) (represents : C → List Group → Bool → List ℕ → Type 0) where
+  -- ---- groups that are given
+
+  -- groups were given, and more
+  gave_then : (gs hs : List Group) (ended : Bool) (old middle new : Entry C) → Gave keep output represents gs false old middle → Gave keep output represents hs ended middle new → Gave keep output represents (gs ++ hs) ended old new
+  gave_then gs hs ended old middle new first next = record {
+    each = λ most writes before taken stands. subst (λ (all : List Group). StandsOr keep output represents ended most writes new all taken) (append_assoc before gs hs)
+        (next.each most writes (before ++ gs) taken (first.each most writes before taken stands));
+  }
+
+  -- a group more was given, where the query holds for it
+  pub gave_next : (query : Query) (groups : List Group) (i : ℕ) (group : Group) (old middle new : Entry C) → i < length groups → group ≡ get_or groups i group → Gave keep output represents (held_groups query (take i groups)) false old middle
+      → Gave keep output represents (held_groups query (group ∷ [])) false middle new → Gave keep output represents (held_groups query (take (i + 1) groups)) false old new
+  gave_next query groups i group old middle new within is first next =
+      let more : held_groups query (take (i + 1) groups) ≡ held_groups query (take i groups) ++ held_groups query (group ∷ []) =
+      rw (take_more groups i group within, sym is, filter-append) refl in
+      rw more (gave_then (held_groups query (take i groups)) (held_groups query (group ∷ [])) false old middle new first next)
+
+  -- ---- what comes next, in a table
+
+  -- the records of a unit were taken, each as a group by itself
+  pub completed_raw : (query : Query) (u : LogUnit) (table : TableState) (old new : Entry C) → (table.options.grouping ≡ Raw) × (query.always ≡ true) → Gave keep output represents (raw_groups u) false old new
+      → Completed keep output represents query (Unit u) table table old new []
+  completed_raw query u table old new raw gave =
+      let run = steps table.options u.vxid u.records table.state in
+      let is : unit_step table.options u table.state ≡ run = ap (λ (g : Grouping). cond (passes_over g u.vxid) (nothing_left table.state) run) raw.0 in
+      let left = raw_groups_left table.options raw.0 u.vxid u.records table.state in record {
+        options = refl;
+        state = rw is (sym left.0);
+        sound = λ sound. sound;
+        given = raw_groups u;
+        groups = rw (is, always_holds query raw.1, append-nil) (rw (sym raw.0) at left.1);
+        gave = gave;
+      }
+
+  -- ---- the text that is handed out
+
+  -- after a text was taken of an entry, what was taken is the whole text of its groups, and it is gone where it has all that are kept, or they have ended
+  text_out : (ended : Bool) (most : Option ℕ) (writes : List Group → Bool → List ℕ) (text : List ℕ) (old new : Entry C) (groups : List Group) (taken : List ℕ)
+      → TextTaken keep output represents text old new → StandsOr keep output represents ended most writes old groups taken
+      → (taken ++ text ≡ writes (kept most groups) (ended || is_filled most groups)) × ((ended || is_filled most groups) ≡ not (is_live new))
+      × (is_live new ≡ true → (c : C) × (new ≡ Live c) × Stands keep output represents most writes (Live c) groups (writes (kept most groups) (is_filled most groups)))
+  text_out false most writes text old (Live c) groups taken took stands =
+      let now = stands_text keep output represents most writes text old (Live c) groups taken took stands in
+      (now.1, now.0.2, λ live. (c, refl, subst (λ (x : List ℕ). Stands keep output represents most writes (Live c) groups x) now.1 now.0))
+  text_out false most writes text old (Gone bytes) groups taken took stands =
+      let now = stands_text keep output represents most writes text old (Gone bytes) groups taken took stands in (now.1, now.0.0, λ live. absurd (cc live))
+  text_out true most writes text old (Live c) groups taken took stands = absurd (ended_text keep output represents most writes text old (Live c) groups taken took stands).0
+  text_out true most writes text old (Gone bytes) groups taken took stands =
+      ((ended_text keep output represents most writes text old (Gone bytes) groups taken took stands).1, refl, λ live. absurd (cc live))
+
+  -- what comes next was taken, its groups were given, and the text was taken
+  pub advanced : (plan : Plan) (next : Next) (taken : List Taken) (p q : PrinterState C) (middle given : Entry C) (left : List Group) (text : List ℕ) → Represents keep output represents plan p taken → q.query ≡ p.query → IsSameSink p q
+      → Completed keep output represents p.query next p.table q.table p.entry middle left → Gave keep output represents (held_groups p.query left) (is_end next) middle given → TextTaken keep output represents text given q.entry
+      → Advanced keep output represents plan next q taken text
+  advanced plan next taken p q middle given left text old query same step gave took =
+      let all = asked_groups plan (taken ++ item_of next ∷ []) false in
+      let whole : asked_groups plan taken false ++ (step.given ++ held_groups p.query left) ≡ all = rw (sym step.groups, old.query, old.options, old.state) (sym (tested_more (is_held plan.query) plan.options taken (item_of next))) in
+      let stands = (gave_then step.given (held_groups p.query left) (is_end next) p.entry middle given step.gave gave).each plan.keep plan.writes (asked_groups plan taken false) (due plan taken false) (rw old.live old.stands) in
+      let out = text_out (is_end next) plan.keep plan.writes text given q.entry all (due plan taken false) took (rw whole at stands) in record {
+        text_due = due_is plan taken next ∙ sym out.0;
+        done = out.1;
+        goes_on = λ live. let only = out.2 live in record {
+          options = step.options ∙ old.options;
+          query = query ∙ old.query;
+          sink = same.sink ∙ old.sink;
+          name = same.name ∙ old.name;
+          is_output = old.is_output;
+          state = step.state ∙ rw (old.options, old.state) (sym (steps_append plan.options taken (item_of next ∷ []) no_state).0);
+          sound = step.sound old.sound;
+          consumer = only.0;
+          live = only.1;
+          stands = only.2;
+        };
+      }
+
+  -- ---- writes
+
+  -- nothing was written
+  pub none_left : (plan : Plan) (p : PrinterState C) (next : Next) (taken : List Taken) (s : Seen) → Represents keep output represents plan p taken
+      → WroteOn plan.sink (due plan taken false) (IsLeft NoMemory (due_with plan taken next)) s s
+  none_left plan p next taken s old = record { added = []; is = rw (append-nil (due plan taken false)) (due_on plan old.is_output taken next); wrote = Wrote-none plan.sink s }
+
+  -- of the text that was handed out so much was written
+  pub some_left : (f : PrintFault) (plan : Plan) (q : PrinterState C) (next : Next) (taken : List Taken) (text : List ℕ) (h : ℕ) (s t : Seen) → h ≡ plan.sink → Advanced keep output represents plan next q taken text
+      → WroteOn h [] (IsLeft f text) s t → WroteOn plan.sink (due plan taken false) (IsLeft f (due_with plan taken next)) s t
+  some_left f plan q next taken text h s t sink now part = record { added = part.added; is = rw now.text_due (behind f part.is); wrote = rw sink at part.wrote }
+    where
+      behind : (f : PrintFault) → IsLeft f text part.added → IsLeft f (due plan taken false ++ text) (due plan taken false ++ part.added)
+      behind (WriteFault name) is = proper_after (due plan taken false) is
+      behind NoMemory is = prefix_after (due plan taken false) is

@@ -1,0 +1,42 @@
+//! Lines for standard error, in pieces.
+
+ghost use Rattle.std.specs.Prelude.{◌≡◌, ◌++◌, IfOk};
+ghost use Rattle.text_printer.specs.Messages.{numbered, overrun_message, told};
+
+use itoa::Buffer;
+use std::alloc::{AllocError, Global};
+
+/// A line of two texts, after the program's name.
+pub fn tell_both(alloc: Global, first: &[u8], second: &[u8]) -> Result<Vec<u8>, AllocError>
+    ensures { IfOk result (λ v. v.items ≡ told (first.now ++ second.now)) }
+{
+    let mut text = Vec::from_slice(alloc, b"vtools: ")?;
+    text.extend_from_slice(first)?;
+    text.extend_from_slice(second)?;
+    text.push(b'\n')?;
+    Ok(text)
+}
+
+/// A text with a number in it.
+pub fn numbered(
+    alloc: Global,
+    before: &str,
+    number: u64,
+    after: &str,
+) -> Result<Vec<u8>, AllocError>
+    ensures { IfOk result (λ v. v.items ≡ numbered before.now number after.now) }
+{
+    let mut digits = Buffer::new();
+    let mut text = Vec::from_slice(alloc, before.as_bytes())?;
+    text.extend_from_slice(digits.format(number).as_bytes())?;
+    text.extend_from_slice(after.as_bytes())?;
+    Ok(text)
+}
+
+/// The message of an overrun: the segment where a reader stood, and that to which the writers had come.
+pub fn overrun_text(alloc: Global, at: u64, seen: u64) -> Result<Vec<u8>, AllocError>
+    ensures { IfOk result (λ v. v.items ≡ overrun_message at seen) }
+{
+    let place = numbered(alloc, "log overrun at segment ", at, ", counter ")?;
+    tell_both(alloc, &place, &numbered(alloc, "", seen, "")?)
+}

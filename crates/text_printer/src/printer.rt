@@ -1,0 +1,223 @@
+//! The printer: items in, and out comes what a consumer writes of the groups that they complete and for which the
+//! query holds.
+
+ghost use Rattle.std.specs.Prelude.{◌≡◌, ◌||◌, not, List, [], ◌∷◌, ◌++◌, false, true, IsTrue, Ok, IfOk, IfErr, OnOk};
+ghost use Rattle.vio.specs.World.{Writing, Wrote};
+ghost use Rattle.vio.specs.Writes.{WroteOn};
+ghost use Rattle.txn_rows.specs.Grouping.{Missed, Taken, TakenUnit, no_state};
+ghost use Rattle.vsl_dispatch.specs.Entries.{is_live};
+ghost use Rattle.vsl_dispatch.specs.declared.entry.Entry.TheVariants.{Live};
+ghost use Rattle.text_printer.specs.Printer.{Plan, printer_state, Represents, IsSameSink, HasPrintCause, IsLeft, due, has_all, is_done};
+ghost use Rattle.text_printer.specs.Ends.{taken};
+ghost use Rattle.text_printer.specs.inside.Next.{Advanced, due_with, is_end, item_of};
+
+use crate::next::{Next, complete, give_all};
+use query_eval::Asker;
+use query_parser::Query;
+use ring_layout::Item;
+use std::alloc::Global;
+use txn_rows::{GroupOptions, Table};
+use vio::{NoMemory, World, WorldFault, write_all};
+use vsl_dispatch::{Consumer, Entry, Go};
+use vsl_record::Unit;
+use vsl_select::Text;
+
+/// Why printing stopped.
+#[derive(Debug, Drop)]
+pub enum PrintFault {
+    /// A write to the sink failed.
+    WriteFault {
+        /// The sink's name.
+        name: Text,
+    },
+    /// There was no memory.
+    NoMemory,
+}
+
+/// Where text is written: the handle, and its name in faults.
+#[derive(Drop)]
+struct Sink {
+    alloc: Global,
+    handle: u32,
+    name: Text,
+}
+
+/// Writes a text.
+fn print_text<W: World>(world: &mut W, sink: &Sink, text: &[u8]) -> Result<(), PrintFault>
+    requires named { IsTrue ((W.seen world.old).names Writing sink.now.handle sink.now.name) }
+    ensures ok { OnOk result (Wrote sink.now.handle text.now (W.seen world.old) (W.seen world.new)) }
+    ensures refused { IfErr result (λ f. WroteOn sink.now.handle [] (IsLeft f text.now) (W.seen world.old) (W.seen world.new)) }
+    ensures cause { IfErr result (λ f. HasPrintCause f sink.now.name (W.seen world.old) (W.seen world.new)) }
+{
+    match write_all(world, sink.handle, text) {
+        Ok(()) => Ok(()),
+        Err(WorldFault::Failed) => match Text::new(sink.alloc, sink.name.as_str()) {
+            Ok(name) => Err(PrintFault::WriteFault { name }),
+            Err(_) => Err(PrintFault::NoMemory),
+        },
+        Err(WorldFault::NoMemory) => Err(PrintFault::NoMemory),
+    }
+}
+
+/// Groups units, gives each group for which the query holds to a consumer when it is complete, and writes what that hands out.
+/// Contracts see the table of what is pending, the query, which it borrows, the place of the consumer, and the sink; under a plan,
+/// every list of units and overruns that it represents has a text that is due.
+#[derive(Drop)]
+pub struct Printer<'q, C> {
+    alloc: Global,
+    table: Table,
+    asker: Asker<'q>,
+    entry: Entry<C>,
+    sink: Sink,
+}
+
+impl<'q, C: Consumer> Printer<'q, C> {
+    /// A printer that was given nothing, and its consumer. It writes to the handle `sink`, whose name is `name`.
+    pub fn new(
+        alloc: Global,
+        options: GroupOptions,
+        query: &'q Query,
+        consumer: C,
+        sink: u32,
+        name: Text,
+    ) -> Result<Printer<'q, C>, NoMemory>
+        ensures { IfOk result (λ p. printer_state p ≡ record { table = record { options = options; state = no_state; failed = false }; query = query.now; entry = Live consumer; sink = sink; name = name }) }
+    {
+        Ok(Printer {
+            alloc,
+            table: Table::new(alloc, options)?,
+            asker: Asker::new(alloc, query)?,
+            entry: Entry::Live(consumer),
+            sink: Sink {
+                alloc,
+                handle: sink,
+                name,
+            },
+        })
+    }
+
+    /// Takes what comes next, and gives the consumer the groups that it completed; what the consumer hands out of them.
+    fn advance(&mut self, next: Next) -> Result<Vec<u8>, NoMemory>
+        ensures same { IsSameSink (printer_state self.old) (printer_state self.new) }
+        ensures advanced { IfOk result (λ text. (plan : Plan) (taken : List Taken) → Represents C.keep C.output C.represents plan (printer_state self.old) taken → Advanced C.keep C.output C.represents plan next (printer_state self.new) taken text.items) }
+    {
+        let ended = next.is_end();
+        let groups = complete(
+            self.alloc,
+            &mut self.table,
+            &self.asker,
+            &mut self.entry,
+            next,
+        )?;
+        give_all(&mut self.asker, &mut self.entry, &groups, ended)?;
+        Ok(self.entry.text(self.alloc))
+    }
+
+    /// Whether the consumer takes more groups.
+    fn go(&self) -> Go
+        ensures done { is_done result ≡ not (is_live (printer_state self.now).entry) }
+        ensures more { result ≡ Go.More → is_live (printer_state self.now).entry ≡ true }
+    {
+        if self.entry.is_live() {
+            Go::More
+        } else {
+            Go::Done
+        }
+    }
+
+    /// Takes what comes next, and writes what the consumer hands out.
+    fn take<W: World>(&mut self, world: &mut W, next: Next) -> Result<Go, PrintFault>
+        requires named { IsTrue ((W.seen world.old).names Writing (printer_state self.old).sink (printer_state self.old).name) }
+        ensures same { IsSameSink (printer_state self.old) (printer_state self.new) }
+        ensures takes { result ≡ Ok Go.More → (plan : Plan) (taken : List Taken) → Represents C.keep C.output C.represents plan (printer_state self.old) taken → Represents C.keep C.output C.represents plan (printer_state self.new) (taken ++ item_of next ∷ []) }
+        ensures done { IfOk result (λ go. (plan : Plan) (taken : List Taken) → Represents C.keep C.output C.represents plan (printer_state self.old) taken → (is_end next || has_all plan (taken ++ item_of next ∷ [])) ≡ is_done go) }
+        ensures writes { OnOk result ((plan : Plan) (taken : List Taken) → Represents C.keep C.output C.represents plan (printer_state self.old) taken →
+            WroteOn plan.sink (due plan taken false) (λ text. text ≡ due_with plan taken next) (W.seen world.old) (W.seen world.new)) }
+        ensures refused { IfErr result (λ f. (plan : Plan) (taken : List Taken) → Represents C.keep C.output C.represents plan (printer_state self.old) taken →
+            WroteOn plan.sink (due plan taken false) (IsLeft f (due_with plan taken next)) (W.seen world.old) (W.seen world.new)) }
+        ensures cause { IfErr result (λ f. HasPrintCause f (printer_state self.old).name (W.seen world.old) (W.seen world.new)) }
+    {
+        let Ok(text) = self.advance(next) else {
+            return Err(PrintFault::NoMemory);
+        };
+        print_text(world, &self.sink, &text)?;
+        Ok(self.go())
+    }
+
+    /// Writes a text to the sink, of no item.
+    pub(crate) fn print<W: World>(&self, world: &mut W, text: &[u8]) -> Result<(), PrintFault>
+        requires named { IsTrue ((W.seen world.old).names Writing (printer_state self.now).sink (printer_state self.now).name) }
+        ensures ok { OnOk result (Wrote (printer_state self.now).sink text.now (W.seen world.old) (W.seen world.new)) }
+        ensures refused { IfErr result (λ f. WroteOn (printer_state self.now).sink [] (IsLeft f text.now) (W.seen world.old) (W.seen world.new)) }
+        ensures cause { IfErr result (λ f. HasPrintCause f (printer_state self.now).name (W.seen world.old) (W.seen world.new)) }
+    {
+        print_text(world, &self.sink, text)
+    }
+
+    /// Takes an item: a unit, or an overrun, which completes what is pending. It writes what the consumer hands out of the groups that the
+    /// item completed and for which the query holds. It is done with the item that completes the last group that is kept; no more may
+    /// follow then.
+    pub(crate) fn item<W: World>(&mut self, world: &mut W, item: Item) -> Result<Go, PrintFault>
+        requires named { IsTrue ((W.seen world.old).names Writing (printer_state self.old).sink (printer_state self.old).name) }
+        ensures same { IsSameSink (printer_state self.old) (printer_state self.new) }
+        ensures takes { result ≡ Ok Go.More → (plan : Plan) (before : List Taken) → Represents C.keep C.output C.represents plan (printer_state self.old) before → Represents C.keep C.output C.represents plan (printer_state self.new) (before ++ taken item ∷ []) }
+        ensures done { IfOk result (λ go. (plan : Plan) (before : List Taken) → Represents C.keep C.output C.represents plan (printer_state self.old) before → has_all plan (before ++ taken item ∷ []) ≡ is_done go) }
+        ensures writes { OnOk result ((plan : Plan) (before : List Taken) → Represents C.keep C.output C.represents plan (printer_state self.old) before →
+            WroteOn plan.sink (due plan before false) (λ text. text ≡ due plan (before ++ taken item ∷ []) false) (W.seen world.old) (W.seen world.new)) }
+        ensures refused { IfErr result (λ f. (plan : Plan) (before : List Taken) → Represents C.keep C.output C.represents plan (printer_state self.old) before →
+            WroteOn plan.sink (due plan before false) (IsLeft f (due plan (before ++ taken item ∷ []) false)) (W.seen world.old) (W.seen world.new)) }
+        ensures cause { IfErr result (λ f. HasPrintCause f (printer_state self.old).name (W.seen world.old) (W.seen world.new)) }
+    {
+        match item {
+            Item::Unit(unit) => self.take(world, Next::Unit(unit)),
+            Item::Overrun { .. } => self.take(world, Next::Missed),
+        }
+    }
+
+    /// Takes a unit, and writes what the consumer hands out of the groups that it completed and for which the query holds. It is
+    /// done with the unit that completes the last group that is kept; no more may follow then.
+    pub fn unit<W: World>(&mut self, world: &mut W, unit: Unit) -> Result<Go, PrintFault>
+        requires named { IsTrue ((W.seen world.old).names Writing (printer_state self.old).sink (printer_state self.old).name) }
+        ensures same { IsSameSink (printer_state self.old) (printer_state self.new) }
+        ensures takes { result ≡ Ok Go.More → (plan : Plan) (taken : List Taken) → Represents C.keep C.output C.represents plan (printer_state self.old) taken → Represents C.keep C.output C.represents plan (printer_state self.new) (taken ++ TakenUnit unit ∷ []) }
+        ensures done { IfOk result (λ go. (plan : Plan) (taken : List Taken) → Represents C.keep C.output C.represents plan (printer_state self.old) taken → has_all plan (taken ++ TakenUnit unit ∷ []) ≡ is_done go) }
+        ensures writes { OnOk result ((plan : Plan) (taken : List Taken) → Represents C.keep C.output C.represents plan (printer_state self.old) taken →
+            WroteOn plan.sink (due plan taken false) (λ text. text ≡ due plan (taken ++ TakenUnit unit ∷ []) false) (W.seen world.old) (W.seen world.new)) }
+        ensures refused { IfErr result (λ f. (plan : Plan) (taken : List Taken) → Represents C.keep C.output C.represents plan (printer_state self.old) taken →
+            WroteOn plan.sink (due plan taken false) (IsLeft f (due plan (taken ++ TakenUnit unit ∷ []) false)) (W.seen world.old) (W.seen world.new)) }
+        ensures cause { IfErr result (λ f. HasPrintCause f (printer_state self.old).name (W.seen world.old) (W.seen world.new)) }
+    {
+        self.take(world, Next::Unit(unit))
+    }
+
+    /// The reader was overrun and missed units: completes what is pending, and writes what the consumer hands out of these groups,
+    /// where the query holds for them. It is done with the overrun that completes the last group that is kept; no more may
+    /// follow then.
+    pub fn lost<W: World>(&mut self, world: &mut W) -> Result<Go, PrintFault>
+        requires named { IsTrue ((W.seen world.old).names Writing (printer_state self.old).sink (printer_state self.old).name) }
+        ensures same { IsSameSink (printer_state self.old) (printer_state self.new) }
+        ensures takes { result ≡ Ok Go.More → (plan : Plan) (taken : List Taken) → Represents C.keep C.output C.represents plan (printer_state self.old) taken → Represents C.keep C.output C.represents plan (printer_state self.new) (taken ++ Missed ∷ []) }
+        ensures done { IfOk result (λ go. (plan : Plan) (taken : List Taken) → Represents C.keep C.output C.represents plan (printer_state self.old) taken → has_all plan (taken ++ Missed ∷ []) ≡ is_done go) }
+        ensures writes { OnOk result ((plan : Plan) (taken : List Taken) → Represents C.keep C.output C.represents plan (printer_state self.old) taken →
+            WroteOn plan.sink (due plan taken false) (λ text. text ≡ due plan (taken ++ Missed ∷ []) false) (W.seen world.old) (W.seen world.new)) }
+        ensures refused { IfErr result (λ f. (plan : Plan) (taken : List Taken) → Represents C.keep C.output C.represents plan (printer_state self.old) taken →
+            WroteOn plan.sink (due plan taken false) (IsLeft f (due plan (taken ++ Missed ∷ []) false)) (W.seen world.old) (W.seen world.new)) }
+        ensures cause { IfErr result (λ f. HasPrintCause f (printer_state self.old).name (W.seen world.old) (W.seen world.new)) }
+    {
+        self.take(world, Next::Missed)
+    }
+
+    /// The log has ended: completes what is pending, ends the consumer, and writes what it hands out.
+    pub fn end<W: World>(&mut self, world: &mut W) -> Result<(), PrintFault>
+        requires named { IsTrue ((W.seen world.old).names Writing (printer_state self.old).sink (printer_state self.old).name) }
+        ensures same { IsSameSink (printer_state self.old) (printer_state self.new) }
+        ensures writes { OnOk result ((plan : Plan) (taken : List Taken) → Represents C.keep C.output C.represents plan (printer_state self.old) taken →
+            WroteOn plan.sink (due plan taken false) (λ text. text ≡ due plan taken true) (W.seen world.old) (W.seen world.new)) }
+        ensures refused { IfErr result (λ f. (plan : Plan) (taken : List Taken) → Represents C.keep C.output C.represents plan (printer_state self.old) taken →
+            WroteOn plan.sink (due plan taken false) (IsLeft f (due plan taken true)) (W.seen world.old) (W.seen world.new)) }
+        ensures cause { IfErr result (λ f. HasPrintCause f (printer_state self.old).name (W.seen world.old) (W.seen world.new)) }
+    {
+        self.take(world, Next::End)?;
+        Ok(())
+    }
+}
