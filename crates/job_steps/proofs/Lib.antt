@@ -1,0 +1,8 @@
+pub mod StepFacts
+mod WordLemmas
+mod ObjectLemmas
+pub mod TookLemmas
+mod QueryLemmas
+mod FeedStepLemmas
+mod FitLemmas
+mod BegunLemmas

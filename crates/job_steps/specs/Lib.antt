@@ -1,0 +1,7 @@
+pub mod Built
+pub mod Queries
+pub mod Jobs
+pub mod Steps
+pub mod Begun
+pub mod Fits
+pub mod inside

@@ -1,0 +1,19 @@
+//! The steps of a job before its run, in order: words, rules, queries, format, input, and what is written.
+//!
+//! Each step asks something of the words or of a world, and finds something, or refuses the job with a fault; then nothing
+//! comes behind it. `read_task` takes the steps of the words alone, and `take_group_steps` and `take_counter_steps` those of
+//! a job. The list of the steps, how each passes and how it stops a job stand in `specs/Steps.antt`: start there.
+//! Source: varnishlog(1), varnishncsa(1), varnishtop(1), varnishstat(1); the order of refusals is this project's choice.
+#![tactic(auto)]
+
+mod fault;
+mod feeds;
+mod formats;
+mod objects;
+mod queries;
+mod steps;
+mod words;
+
+pub use fault::ToolFault;
+pub use steps::{Begun, Counting, Input, take_counter_steps, take_group_steps};
+pub use words::{Task, file_name, is_counting, is_fed, options_of, read_task, written_name};

@@ -1,0 +1,3 @@
+mod ConsumerLemmas
+mod LayoutLemmas
+pub mod OutputLemmas
