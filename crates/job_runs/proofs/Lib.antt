@@ -1,0 +1,5 @@
+mod PrinterLemmas
+mod SourceLemmas
+mod ReplayLemmas
+mod CounterLemmas
+pub mod RowLemmas

@@ -1,0 +1,44 @@
+use Rattle.std.proofs.Common.{ℕ, ◌∷◌, [], Some, ap, subst, ◌∙◌}
+use Rattle.std.proofs.lemmas.Result.{err_from_is_err_and}
+use Rattle.vio.specs.Calls.{Called}
+use Rattle.run_sources.specs.Sources.{FileGave, FileBegins, FileCame, FileStopped}
+use Rattle.run_sources.proofs.FileLemmas.{file_came}
+use Rattle.job_steps.specs.declared.fault.ToolFault.{ToolFault}
+use Rattle.job_runs.specs.Rows.{LogBegan, RanFor, end_answer, job_due}
+use Rattle.job_runs.specs.Runs.{RanShort, RanSo}
+use Rattle.job_runs.proofs.RowLemmas.{can_begin, ended_row, stopped_row, short_row}
+use Rattle.job_runs.proofs.SourceLemmas.{log_began, log_late, log_lacked}
+use Rattle.job_runs.proofs.log.print_log.Goals as goal
+
+pub run-requires-clause-output : goal.run-requires-clause-output
+run-requires-clause-output g c = can_begin g.C.Consumer.keep g.C.Consumer.output g.C.Consumer.represents c.args.job.now c.args.query.now c.args.sink.handle c.args.sink.empty _ _ c.in_ok-output.ensures c.requires.named c.requires.apart
+
+pub returns-in_err-end-clause-short : goal.returns-in_err-end-clause-short
+returns-in_err-end-clause-short g c =
+    let p = err_from_is_err_and c.from_residual-in_err-end.result c.from_residual-in_err-end.ensures.1 in
+    rw p.1 (λ ask holds.
+    let log = c.in_ok-log.log in
+    let h = log.reader.handle in
+    let row = short_row g.C.Consumer.keep g.C.Consumer.output g.C.Consumer.represents c.args.job.now c.args.query.now ask c.args.sink.handle c.args.sink.empty _ c.in_ok-output.ensures holds
+    (λ calls met all. FileGave log c.run.new.source calls met all) (LogBegan h) (FileBegins h) (h ∷ []) _ _ _ (λ calls met all. log_began log c.run.new.source calls met all) (λ calls met all. log_late h calls met all) (λ calls met. log_lacked h calls met) c.in_err-end.ensures.short in
+    subst (λ (k : ℕ). Called (RanShort (k ∷ []) (LogBegan k) c.args.sink.handle (job_due c.args.job.now ask c.args.sink.empty)) (g.W.World.seen c.args.world.now) (g.W.World.seen c.run.new.world)) c.in_ok-log.ensures.handle row)
+
+pub returns-in-ByOutput-clause-ran : goal.returns-in-ByOutput-clause-ran
+returns-in-ByOutput-clause-ran g c = λ ask holds.
+    let log = c.in_ok-log.log in
+    let h = log.reader.handle in
+    let ran = rw c.in-ByOutput.is at c.in_ok-end.ensures.ran in
+    let row = ended_row g.C.Consumer.keep g.C.Consumer.output g.C.Consumer.represents c.args.job.now c.args.query.now ask c.args.sink.handle c.args.sink.empty _ c.in_ok-output.ensures holds
+    (λ calls met all. FileGave log c.run.new.source calls met all) (FileCame h) _ (λ why calls met. FileStopped h why calls met (g.W.World.seen c.run.new.world)) (h ∷ []) _ c.in-ByOutput.ending _ _ _ (end_answer c.args.job.now) _ _
+    (λ calls met all. file_came log c.run.new.source calls met all) (c.counted.ensures.fault ∙ c.answer.ensures) c.counted.ensures.run ran in
+    subst (λ (k : ℕ). Called (RanSo (RanFor (k ∷ []) (FileCame k) (λ why calls met. FileStopped k why calls met (g.W.World.seen c.run.new.world)) c.args.sink.handle (job_due c.args.job.now ask c.args.sink.empty) (end_answer c.args.job.now) c.counted.result.fault c.counted.result.run)) (g.W.World.seen c.args.world.now) (g.W.World.seen c.run.new.world)) c.in_ok-log.ensures.handle row
+
+pub returns-in-BySource-clause-ran : goal.returns-in-BySource-clause-ran
+returns-in-BySource-clause-ran g c = λ ask holds.
+    let log = c.in_ok-log.log in
+    let h = log.reader.handle in
+    let ran = rw c.in-BySource.is at c.in_ok-end.ensures.ran in
+    let row = stopped_row g.C.Consumer.keep g.C.Consumer.output g.C.Consumer.represents c.args.job.now c.args.query.now ask c.args.sink.handle c.args.sink.empty _ c.in_ok-output.ensures holds
+    (λ calls met all. FileGave log c.run.new.source calls met all) (FileCame h) (λ why calls met. FileStopped h why calls met (g.W.World.seen c.run.new.world)) (h ∷ []) _ c.in-BySource.stop _ _ _ (end_answer c.args.job.now) _ _
+    (c.counted-in-BySource.ensures.fault ∙ ap (λ (f : ToolFault). Some f) (rw (c.in_ok-name.ensures, c.file_name.ensures) at c.stop_answer.ensures)) c.counted-in-BySource.ensures.run ran in
+    subst (λ (k : ℕ). Called (RanSo (RanFor (k ∷ []) (FileCame k) (λ why calls met. FileStopped k why calls met (g.W.World.seen c.run.new.world)) c.args.sink.handle (job_due c.args.job.now ask c.args.sink.empty) (end_answer c.args.job.now) c.counted-in-BySource.result.fault c.counted-in-BySource.result.run)) (g.W.World.seen c.args.world.now) (g.W.World.seen c.run.new.world)) c.in_ok-log.ensures.handle row
