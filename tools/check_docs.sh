@@ -119,7 +119,7 @@ done
 sed -n '/^### Errors as a person reads them/,/^Each text of a message/p' docs/FORMATS.md | grep '^|' >"$work/rows"
 {
     sed -n -E '/^(usage_message|query_message|message) /p' crates/varnish_tools/specs/Faults.antt
-    sed -n '/^overrun_message /p' crates/varnish_tools/specs/Feeds.antt
+    sed -n '/^overrun_message /p' crates/text_printer/specs/Messages.antt
 } | grep -o 'codes "[^"]*"' | sed -e 's/^codes "//' -e 's/"$//' -e 's/^[: ]*//' -e '/^$/d' | sort -u >"$work/texts"
 sed -n 's/.*eprintln!(rt; "vtools: \([^{"]*[^{"]\).*/\1/p' crates/vtools/src/answers.rt >>"$work/texts"
 [ -s "$work/texts" ] || fail "the source has no messages"

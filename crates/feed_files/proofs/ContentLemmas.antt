@@ -137,7 +137,7 @@ listings_or_fault every reclen seg names contents e = listed_or_fault every recl
 -- ---- what the world tells
 
 -- what was told of files before calls is told behind them
-abbrev Keeps : Seen → Seen → Type 0
+abbrev pub Keeps : Seen → Seen → Type 0
 Keeps s t = (name bytes : List ℕ) → s.held name ≡ Some bytes → t.held name ≡ Some bytes
 
 -- a feed that was read is a listing, where it was told what its file holds

@@ -7,7 +7,7 @@ use Rattle.vio.specs.declared.fault.NamedFault.{NamedFault}
 use Rattle.vio.specs.declared.fault.NamedFault.TheVariants as named
 use Rattle.vio.specs.World.{Seen}
 use Rattle.vio.specs.Calls.{Call, Called, OnlyOpen}
-use Rattle.vio.specs.Steps.{Passed, Stopped, PassedSo, Halted}
+use Rattle.vio.specs.Steps.{Stopped, PassedSo, Halted}
 use Rattle.vio.specs.Named.{IsReadBy, IsRefusedBy}
 use Rattle.vio.proofs.CallLemmas.{none_failed_late}
 use Rattle.vio.proofs.ReadLemmas.{read_opens, refused_opens, read_none_failed, refused_last_failed}
@@ -37,16 +37,6 @@ stops_open feed (NoOpen name) calls p = refused_opens most_feed_bytes feed.name 
 stops_open feed (ReadFault name) calls p = refused_opens most_feed_bytes feed.name named.Failed calls p.1
 stops_open feed (TooLarge name limit) calls p = refused_opens most_feed_bytes feed.name named.TooLarge calls p.2
 stops_open feed (BadListing number line) calls p = read_opens most_feed_bytes feed.name p.1 calls p.2
-
--- feeds that were read are within their names, and give no more handles than these are
-pub passed_feeds_open : (reclen seg n : ℕ) (names : List (List ℕ)) (listings : List Listing) (calls : List Call) → Passed (FeedPasses reclen seg) FeedStops (feeds_from n names) listings calls → OnlyOpen names calls
-passed_feeds_open reclen seg n names listings calls p =
-    subst (λ (opened : List (List ℕ)). OnlyOpen opened calls) (names_of n names) (passed_opens (FeedPasses reclen seg) FeedStops name_of (passes_open reclen seg) stops_open (feeds_from n names) listings calls p)
-
--- so are feeds of which one stopped the reading
-pub stopped_feeds_open : (reclen seg n : ℕ) (names : List (List ℕ)) (fault : FeedFault) (calls : List Call) → Stopped (FeedPasses reclen seg) FeedStops (feeds_from n names) fault calls → OnlyOpen names calls
-stopped_feeds_open reclen seg n names fault calls p =
-    subst (λ (opened : List (List ℕ)). OnlyOpen opened calls) (names_of n names) (stopped_opens (FeedPasses reclen seg) FeedStops name_of (passes_open reclen seg) stops_open (feeds_from n names) fault calls p)
 
 -- ---- what reading one feed comes to
 

@@ -3,3 +3,5 @@ mod SourceLemmas
 mod ReplayLemmas
 mod CounterLemmas
 pub mod RowLemmas
+mod ToldLemmas
+mod GoodLemmas

@@ -13,7 +13,7 @@ use Rattle.job_steps.specs.Jobs.{options_of, write_of}
 use Rattle.tool_consumers.specs.Consumers.{IsJobConsumer}
 use Rattle.tool_consumers.specs.Output.{head_text}
 use Rattle.tool_consumers.proofs.OutputLemmas.{job_output}
-use Rattle.job_runs.specs.Runs.{IsJobOutput}
+use Rattle.job_runs.specs.inside.Outputs.{IsJobOutput}
 
 module _ {C : Type 0} (keep : C → Option ℕ) (output : C → List Group → Bool → List ℕ) (represents : C → List Group → Bool → List ℕ → Type 0) where
   -- what a new printer tells

@@ -17,7 +17,7 @@ use Rattle.feed_schedule.specs.Replaying.{ReplayState, Represents, count_feed_wo
 use Rattle.tool_words.specs.declared.job.Job.{Job}
 use Rattle.job_steps.specs.Fits.{FitsRing}
 use Rattle.job_steps.specs.Jobs.{order_seed, units_of, with_made, made_listings}
-use Rattle.job_runs.specs.Runs.{IsFed}
+use Rattle.job_runs.specs.inside.Outputs.{IsFed}
 
 -- units that are within a segment are fit
 are_fit : (seg : ℕ) (units : Log) → AllByRecursion (IsWithin seg) units → AreFit unit_words seg units
@@ -84,9 +84,11 @@ new_replay ends interleaved read tail job listings all replay segment made fit n
     record {
       log = law.0;
       history = law.1;
-      scheduled = law.2;
-      interleaved = interleaved job.seg seed (units_of (with_made job listings)) law.0 law.1 law.2;
-      read = read job.seg seed (units_of (with_made job listings)) law.0 law.1 segment fits law.2;
-      tail = tail job.seg seed (units_of (with_made job listings)) law.0 law.1 segment fits law.2;
+      fed = record {
+        scheduled = law.2;
+        interleaved = interleaved job.seg seed (units_of (with_made job listings)) law.0 law.1 law.2;
+        read = read job.seg seed (units_of (with_made job listings)) law.0 law.1 segment fits law.2;
+        tail = tail job.seg seed (units_of (with_made job listings)) law.0 law.1 segment fits law.2;
+      };
       represents = new law.0 law.1 (subst (λ (ls : List Listing). IsScheduled job.seg seed (units_of ls) law.0 law.1) (sym made) law.2);
     }

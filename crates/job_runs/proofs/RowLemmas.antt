@@ -1,5 +1,5 @@
 -- A run over one source as a row: what is due is the job's, and what came is said of its source.
-use Rattle.std.proofs.Common.{◌≡◌, ◌≢◌, ◌⊎◌, ℕ, ◌||◌, Bool, true, false, List, [], ◌∷◌, ◌++◌, Option, refl, sym, ap, subst, ◌∙◌, inl, inr}
+use Rattle.std.proofs.Common.{◌≡◌, ◌≢◌, ◌⊎◌, ℕ, ◌||◌, Bool, true, false, List, [], ◌∷◌, ◌++◌, Option, sym, ap, subst, ◌∙◌, inl, inr}
 use Rattle.std.specs.Prelude.{filter}
 use Rattle.vio.specs.declared.world.TheConstants.{ERRORS}
 use Rattle.vio.specs.World.{Seen, Writing}
@@ -31,7 +31,8 @@ use Rattle.tool_consumers.specs.Output.{head_text, output_of}
 use Rattle.job_runs.specs.declared.record.RunRecord.{RunRecord}
 use Rattle.job_runs.specs.declared.record.RunRecord.TheVariants.{Counted}
 use Rattle.job_runs.specs.Rows.{RanFor, job_due}
-use Rattle.job_runs.specs.Runs.{IsJobOutput, RanShort, RanSo, job_plan}
+use Rattle.job_runs.specs.Runs.{RanShort, RanSo}
+use Rattle.job_runs.specs.inside.Outputs.{IsJobOutput, job_plan}
 
 -- what is due of the groups for which a test holds
 abbrev due_where : (Group → Bool) → List ℕ → Job → Due
@@ -154,7 +155,3 @@ module _ {C : Type 0} (keep : C → Option ℕ) (output : C → List Group → B
         → Called (RanShort reads came handle (job_due job ask empty)) s t
     short_row gave came lacking reads q s t from late lacked made =
         record { calls = made.calls; did = made.did; is = short_ends gave came lacking reads q made.calls made.is.met made.is.all (from made.calls) (late made.calls) (lacked made.calls) made.on made.is.ends }
-
--- nothing was done
-pub short_none : (reads : List ℕ) (came : List Call → List Item → Bool → Type 0) (handle : ℕ) (d : Due) (s : Seen) → Called (RanShort reads came handle d) s s
-short_none reads came handle d s = record { calls = []; did = refl; is = inl refl }

@@ -14,7 +14,7 @@ use Rattle.run_sources.proofs.FileLemmas.{file_came, came_begins}
 use Rattle.run_sources.proofs.FeedLemmas.{history_events}
 use Rattle.tool_words.specs.declared.job.Job.{Job}
 use Rattle.job_runs.specs.Rows.{FedCame, LogBegan}
-use Rattle.job_runs.specs.Runs.{IsFed}
+use Rattle.job_runs.specs.inside.Outputs.{IsFed}
 
 -- ---- a log
 
@@ -44,10 +44,7 @@ fed_came : (job : Job) (listings : List Listing) (replay : ReplayState) (met : L
 fed_came job listings replay met all fed rest parts whole = record {
   log = fed.log;
   history = fed.history;
-  scheduled = fed.scheduled;
-  interleaved = fed.interleaved;
-  read = fed.read;
-  tail = fed.tail;
+  fed = fed.fed;
   rest = map item_of rest;
   parts = sym (items_back (items_of fed.history)) ∙ ap (λ (events : List Event). map item_of events) (history_events fed.history ∙ parts) ∙ map-append item_of (map event_of met) rest ∙ ap (λ (first : List Item). first ++ map item_of rest) (items_back met);
   whole = λ e. ap (λ (events : List Event). map item_of events) (whole e);
@@ -58,7 +55,7 @@ feeds_came job listings start now met all fed p = let came = p.came (events_of f
 
 pub feeds_late : (job : Job) (listings : List Listing) (met : List Item) (all : Bool) → FedCame job listings met all → FedCame job listings met false
 feeds_late job listings met all p =
-    record { log = p.log; history = p.history; scheduled = p.scheduled; interleaved = p.interleaved; read = p.read; tail = p.tail; rest = p.rest; parts = p.parts; whole = λ e. absurd cc }
+    record { log = p.log; history = p.history; fed = p.fed; rest = p.rest; parts = p.parts; whole = λ e. absurd cc }
 
 pub feeds_lacked : (job : Job) (listings : List Listing) (start : ReplayState) (met : List Item) → IsFed job listings start → FeedsBegan start met → FedCame job listings met false
 feeds_lacked job listings start met fed p = let came = p (events_of fed.history) fed.represents in fed_came job listings start met false fed came.0 came.1 (λ e. absurd cc)

@@ -1,2 +1,5 @@
 pub mod Rows
 pub mod Runs
+pub mod Told
+pub mod Good
+pub mod inside

@@ -46,15 +46,19 @@ use Rattle.job_runs.specs.declared.record.RunRecord.TheVariants.{Nothing, Counte
 
 -- ---- where items come from
 
--- the listings of feeds, with the requests that are made, in the order that a job states, came to these items: their log is an interleaving of them, and what a reader met is a
--- history of that log up to its tail; the items are the first of it, or all
-pub record FedCame (job : Job) (listings : List Listing) (met : List Item) (all : Bool) : Type 0 where
-  pub log : Log
-  pub history : List (HistoryItem LogUnit)
+-- the listings of feeds, with the requests that are made, are put in the order that a job states: their log is an interleaving of them, and what a reader meets is a history of that
+-- log up to its tail
+pub record AreFed (job : Job) (listings : List Listing) (log : Log) (history : List (HistoryItem LogUnit)) : Type 0 where
   pub scheduled : IsScheduled job.seg (order_seed job.order) (units_of (with_made job listings)) log history
   pub interleaved : IsInterleaving log (units_of (with_made job listings))
   pub read : IsReadHistory unit_words job.seg log history
   pub tail : ReachesTail log history
+
+-- these items came of feeds: the first of what a reader meets, or all
+pub record FedCame (job : Job) (listings : List Listing) (met : List Item) (all : Bool) : Type 0 where
+  pub log : Log
+  pub history : List (HistoryItem LogUnit)
+  pub fed : AreFed job listings log history
   pub rest : List Item
   pub parts : items_of history ≡ met ++ rest
   pub whole : all ≡ true → rest ≡ []

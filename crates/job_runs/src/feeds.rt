@@ -12,7 +12,8 @@ ghost use Rattle.job_steps.specs.Jobs.{order_seed, with_made, write_of};
 ghost use Rattle.job_steps.specs.Queries.{Ask, HoldsAsAsked};
 ghost use Rattle.job_steps.specs.Fits.{FitsRing, HasFitFeeds};
 ghost use Rattle.job_runs.specs.Rows.{FedCame, RanFor, end_answer, job_due};
-ghost use Rattle.job_runs.specs.Runs.{IsFed, RanShort, RanSo};
+ghost use Rattle.job_runs.specs.Runs.{RanShort, RanSo};
+ghost use Rattle.job_runs.specs.inside.Outputs.{IsFed};
 
 use crate::output::{answer, output_of};
 use crate::record::Ran;

@@ -4,7 +4,7 @@ ghost use Rattle.std.specs.Prelude.{◌≡◌, [], false, codes, IfOk};
 ghost use Rattle.vsl_dispatch.specs.Groups.{is_filled};
 ghost use Rattle.tool_consumers.specs.Consumers.{IsJobConsumer};
 ghost use Rattle.job_runs.specs.Rows.{output_answer};
-ghost use Rattle.job_runs.specs.Runs.{IsJobOutput};
+ghost use Rattle.job_runs.specs.inside.Outputs.{IsJobOutput};
 
 use job_steps::{ToolFault, options_of, written_name};
 use query_parser::Query;

@@ -45,7 +45,7 @@ either_create : (b : Bool) (xs ys : List Step) → creates_of xs ≡ [] → crea
 either_create true xs ys p q = p
 either_create false xs ys p q = q
 
-read_create : (job : Job) → creates_of (queries job ++ format job ++ input_steps job) ≡ []
+pub read_create : (job : Job) → creates_of (queries job ++ format job ++ input_steps job) ≡ []
 read_create job = both_create (queries job ++ format job) (input_steps job) (formatted_create job)
     (either_create (is_some job.file) (OpenLog (file_of job) ∷ []) (feed_steps job) refl (feeds_create job.reclen job.seg 0 job.feeds))
 
@@ -101,7 +101,7 @@ is_begun job begun us formed p =
 
 -- ---- the steps of counters
 
-counters_create : (job : Job) → creates_of (feed_steps job) ≡ []
+pub counters_create : (job : Job) → creates_of (feed_steps job) ≡ []
 counters_create job = feeds_create job.reclen job.seg 0 job.feeds
 
 abbrev pub EndsCounters : Job → Halt ToolFault → Seen → Seen → Type 0

@@ -6,3 +6,4 @@ mod QueryLemmas
 mod FeedStepLemmas
 mod FitLemmas
 mod BegunLemmas
+mod GoodLemmas

@@ -24,7 +24,7 @@ err_from (Err x) e p = ap Err p
 -- ---- the first steps end a job
 
 -- steps that passed and create nothing touch the files alone that they open
-opens_alone : (xs : List Step) (us : List Found) (a : List Call) → creates_of xs ≡ [] → Passed Passes Stops xs us a → OnlyOpen (opens_of xs) a
+pub opens_alone : (xs : List Step) (us : List Found) (a : List Call) → creates_of xs ≡ [] → Passed Passes Stops xs us a → OnlyOpen (opens_of xs) a
 opens_alone xs us a none p = let w = passed_within xs us a p in
     (subst (λ (created : List (List ℕ)). AreWithin [] [] (opens_of xs) created a) none w.within, omega (arith, w.few, ap length none))
 

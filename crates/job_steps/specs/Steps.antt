@@ -177,29 +177,41 @@ Stops (MakeSink append name) fault calls = (bytes_eq name (codes "-") ≡ false)
 
 -- ---- what steps found
 
+-- the text of a query, where it was found
+abbrev pub text_in : Found → List (List ℕ)
+text_in (FoundText text) = text ∷ []
+text_in other = []
+
+-- the listing of a feed
+abbrev pub listing_in : Found → List Listing
+listing_in (FoundListing listing) = listing ∷ []
+listing_in other = []
+
+-- the handle of a log
+abbrev pub log_in : Found → List ℕ
+log_in (FoundLog h) = h ∷ []
+log_in other = []
+
+-- the handle of what is written, and whether it has no bytes
+abbrev pub sink_in : Found → List (ℕ × Bool)
+sink_in (FoundSink h empty) = (h, empty) ∷ []
+sink_in other = []
+
 -- the texts of queries, in order
 abbrev pub texts_of : List Found → List (List ℕ)
-texts_of [] = []
-texts_of (FoundText text ∷ found) = text ∷ texts_of found
-texts_of (other ∷ found) = texts_of found
+texts_of found = flat_map text_in found
 
 -- the listings of feeds, in order
 abbrev pub listings_of : List Found → List Listing
-listings_of [] = []
-listings_of (FoundListing listing ∷ found) = listing ∷ listings_of found
-listings_of (other ∷ found) = listings_of found
+listings_of found = flat_map listing_in found
 
 -- the handles of logs
 abbrev pub logs_of : List Found → List ℕ
-logs_of [] = []
-logs_of (FoundLog h ∷ found) = h ∷ logs_of found
-logs_of (other ∷ found) = logs_of found
+logs_of found = flat_map log_in found
 
--- the handles of what is written, and whether it has no bytes
+-- the handles of what is written, and whether each has no bytes
 abbrev pub sinks_of : List Found → List (ℕ × Bool)
-sinks_of [] = []
-sinks_of (FoundSink h empty ∷ found) = (h, empty) ∷ sinks_of found
-sinks_of (other ∷ found) = sinks_of found
+sinks_of found = flat_map sink_in found
 
 -- ---- what steps touch
 

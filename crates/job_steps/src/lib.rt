@@ -9,11 +9,13 @@
 mod fault;
 mod feeds;
 mod formats;
+mod laws;
 mod objects;
 mod queries;
 mod steps;
 mod words;
 
 pub use fault::ToolFault;
+pub use laws::good_steps_pass;
 pub use steps::{Begun, Counting, Input, take_counter_steps, take_group_steps};
 pub use words::{Task, file_name, is_counting, is_fed, options_of, read_task, written_name};

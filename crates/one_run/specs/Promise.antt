@@ -1,17 +1,22 @@
 -- What work comes to that is told of its calls: its steps, its run, and the message of its fault (this project's choice).
 use Rattle.std.specs.Prelude.{◌≡◌, ◌⊎◌, ℕ, true, List, [], ◌∷◌, ◌++◌, Option, Some, codes}
-use Rattle.log_model.specs.Prefix.{IsPrefix}
+use Rattle.log_model.specs.Prefix.{IsProperPrefix}
 use Rattle.vio.specs.declared.world.TheConstants.{ERRORS}
 use Rattle.vio.specs.World.{Seen}
 use Rattle.vio.specs.Calls.{Went, Failed, Call, Write, Did, last_failed}
 use Rattle.vio.specs.Steps.{Passed, Stopped}
 
--- a message was said: none where there is none; else it was written to standard error, or a prefix of it where that write failed
+-- a message was said: none where there is none; else it was written to standard error, or not all of it where that write failed
 abbrev pub Says : List ℕ → List Call → Type 0
-Says text calls = ((text ≡ []) × (calls ≡ [])) ⊎ ((calls ≡ Write ERRORS text Went ∷ []) ⊎ ((part : List ℕ) × IsPrefix part text × (calls ≡ Write ERRORS part (Failed (codes "stderr")) ∷ [])))
+Says text calls = ((text ≡ []) × (calls ≡ [])) ⊎ ((calls ≡ Write ERRORS text Went ∷ []) ⊎ ((part : List ℕ) × IsProperPrefix part text × (calls ≡ Write ERRORS part (Failed (codes "stderr")) ∷ [])))
 
--- the steps of a job, how each passes and stops, what its run is by its fault and its record, the steps' calls and what they found, and the record of a job that took nothing
-module _ {S X F R : Type 0} (Passes : S → X → List Call → Type 0) (Stops : S → F → List Call → Type 0) (Ran : Option F → R → List X → List Call → Type 0) (nothing : R) where
+-- there was no memory to say a message: nothing of it was written, or not all
+abbrev pub SaysPart : List ℕ → List Call → Type 0
+SaysPart text calls = (calls ≡ []) ⊎ ((part : List ℕ) × IsProperPrefix part text × (calls ≡ Write ERRORS part Went ∷ []))
+
+-- the steps of a job, how each passes and stops, what its run is by the world behind it, its fault and its record, the steps' calls and what they found, and the record of a job that took
+-- nothing
+module _ {S X F R : Type 0} (Passes : S → X → List Call → Type 0) (Stops : S → F → List Call → Type 0) (Ran : Seen → Option F → R → List X → List Call → Type 0) (nothing : R) where
   -- a step stopped the job before its run
   pub record StoppedEarly (steps : List S) (fault : Option F) (recorded : R) (calls : List Call) : Type 0 where
     pub by : F
@@ -20,23 +25,25 @@ module _ {S X F R : Type 0} (Passes : S → X → List Call → Type 0) (Stops :
     pub stopped : Stopped Passes Stops steps by calls
 
   -- the steps passed, and then the job ran
-  pub record RanOn (steps : List S) (fault : Option F) (recorded : R) (calls : List Call) : Type 0 where
+  pub record RanOn (steps : List S) (at : Seen) (fault : Option F) (recorded : R) (calls : List Call) : Type 0 where
     pub found : List X
     pub first : List Call
     pub last : List Call
     pub are : calls ≡ first ++ last
     pub passed : Passed Passes Stops steps found first
-    pub ran : Ran fault recorded found last
+    pub ran : Ran at fault recorded found last
 
-  -- a job was worked off by these calls, but for the message of its fault
-  abbrev pub Works : List S → Option F → R → List Call → Type 0
-  Works steps fault recorded calls = StoppedEarly steps fault recorded calls ⊎ RanOn steps fault recorded calls
+  -- a job was worked off by these calls, which left this world, but for the message of its fault
+  abbrev pub Works : List S → Seen → Option F → R → List Call → Type 0
+  Works steps at fault recorded calls = StoppedEarly steps fault recorded calls ⊎ RanOn steps at fault recorded calls
 
-  -- the theorem: all that a call did in the world is a list of calls that work off the job, of which none failed but perhaps the last, and that say the message of its fault
-  pub record Promised (steps : List S) (fault : Option F) (recorded : R) (message : List ℕ) (before now : Seen) : Type 0 where
+  -- the theorem: all that a call did in the world is a list of calls that work off the job, of which none failed but perhaps the last, and behind them those that say the message of its fault
+  pub record Promised (IsSaid : List Call → Type 0) (steps : List S) (fault : Option F) (recorded : R) (before now : Seen) : Type 0 where
     pub work : List Call
-    pub said : List Call
-    pub did : Did (work ++ said) before now
-    pub works : Works steps fault recorded work
+    pub at : Seen
+    pub did : Did work before at
+    pub works : Works steps at fault recorded work
     pub fail : last_failed work ≡ true
-    pub says : Says message said
+    pub said : List Call
+    pub told : Did said at now
+    pub says : IsSaid said

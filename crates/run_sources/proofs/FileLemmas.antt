@@ -3,7 +3,7 @@ use Rattle.std.proofs.Common.{◌≡◌, ℕ, ◌+◌, ◌<◌, Bool, true, fals
 use Rattle.std.proofs.lemmas.List.{map-append}
 use Rattle.vio.specs.World.{Seen, Reading, Read}
 use Rattle.vio.specs.Calls.{Mark, Went, MetEnd, FailedEach, Call, Take, AreOn, Marks, taken_by, is_end, fails}
-use Rattle.vio.proofs.TouchLemmas.{one_of_left, one_of_right}
+use Rattle.vio.proofs.TouchLemmas.{one_of_right}
 use Rattle.vio.proofs.CallLemmas.{did_take, taken_append, taken_here, read_last}
 use Rattle.vsl_record.specs.Unit.{LogUnit, Log}
 use Rattle.ring_layout.specs.declared.item.Item.{Item}
@@ -14,10 +14,8 @@ use Rattle.vsl_file.specs.declared.fault.FileFault.{FileFault}
 use Rattle.vsl_file.specs.declared.fault.FileFault.TheVariants as file_faults
 use Rattle.one_run.specs.Run.{Made, CameTo}
 use Rattle.run_sources.specs.declared.file_items.FileItems.{FileItems}
-use Rattle.run_sources.specs.declared.file_items.FileStop.{FileStop}
-use Rattle.run_sources.specs.declared.file_items.FileStop.TheVariants as stops
 use Rattle.run_sources.specs.Sources.{FileGave, FileCame, BeginsLog, FileBegins, FileEnds, FileStopped, file_halt}
-use Rattle.run_sources.specs.Laws.{taken_stays, whole_stays}
+use Rattle.run_sources.specs.Laws.{taken_stays}
 
 -- ---- of the bytes alone
 
@@ -59,34 +57,6 @@ module _ (h : ℕ) (calls more : List Call) (met : List Item) (writes : List ℕ
   came_on : (IsSo : List ℕ → Type 0) → IsSo (taken_by h calls) → IsSo (taken_by h (calls ++ more))
   came_on IsSo p = subst IsSo (taken_stays h calls more writes on) p
 
-  pub came_stays : (all : Bool) → FileCame h calls met all → FileCame h (calls ++ more) met all
-  came_stays all p = record {
-    units = p.units;
-    are = p.are;
-    begins = came_on (λ taken. BeginsLog taken p.units) p.begins;
-    few = came_on (λ taken. length taken < length (file_header ++ log_bytes p.units) + 65536) p.few;
-    whole = λ e. whole_stays h calls more p.units writes on (p.whole e);
-  }
-
-  pub begins_stays : FileBegins h calls met → FileBegins h (calls ++ more) met
-  begins_stays p = record { units = p.units; are = p.are; begins = came_on (λ taken. BeginsLog taken p.units) p.begins }
-
-  ends_stays : (ending : FileEnding) (s t : Seen) → t.left h ≡ s.left h → FileEnds h calls met s ending → FileEnds h (calls ++ more) met t ending
-  ends_stays ending s t same p =
-      record { units = p.units; are = p.are; ends = λ rest left. came_on (λ taken. IsFile (taken ++ rest) p.units ending) (p.ends rest (sym same ∙ left)) }
-
-  pub stopped_stays : (stop : FileStop) (s t : Seen) → t.left h ≡ s.left h → FileStopped h stop calls met s → FileStopped h stop (calls ++ more) met t
-  stopped_stays (stops.NotALog at) s t same p = ends_stays (NotALog at) s t same p
-  stopped_stays (stops.Damaged at) s t same p = ends_stays (Damaged at) s t same p
-  stopped_stays stops.TooLarge s t same p = ends_stays TooLarge s t same p
-  stopped_stays stops.ReadFault s t same p = record {
-    units = p.units;
-    are = p.are;
-    begins = came_on (λ taken. BeginsLog taken p.units) p.begins;
-    holds = came_on (λ taken. HoldsWhole taken p.units) p.holds;
-    failed = (p.failed.0, one_of_left (Take h p.failed.0 FailedEach) calls more p.failed.1);
-  }
-
 -- ---- one read more
 
 taken_more : (h : ℕ) (calls : List Call) (added : List ℕ) (mark : Mark) → taken_by h calls ++ added ≡ taken_by h (calls ++ Take h added mark ∷ [])
@@ -127,6 +97,10 @@ module _ (start now : FileItems) (calls : List Call) (met : List Item) (s t : Se
         whole = λ e. (subst (λ (taken : List ℕ). IsFile taken p.units Whole) more end.whole, read_last is_end h calls end.added MetEnd refl);
       })
 
+  begins_read : (added : List ℕ) (mark : Mark) → BeginsLog (taken_by start.reader.handle (calls ++ Take start.reader.handle added mark ∷ [])) p.units
+  begins_read added mark =
+      let h = start.reader.handle in subst (λ (taken : List ℕ). BeginsLog taken p.units) (taken_more h calls added mark) (begins_on (taken_by h calls) added p.units (begins_so now.reader (taken_by h calls) p.units p.represents))
+
   file_ends : (ending : FileEnding) → EndsSo now.reader (taken_by start.reader.handle calls) p.units ending s t
       → Made false (start.reader.handle ∷ []) [] (λ more. FileEnds start.reader.handle (calls ++ more) met t ending) s t
   file_ends ending ends =
@@ -134,12 +108,9 @@ module _ (start now : FileItems) (calls : List Call) (met : List Item) (s t : Se
       one_read false ends.added Went refl ends.read tt (record {
         units = p.units;
         are = p.are;
+        begins = begins_read ends.added Went;
         ends = λ more left. subst (λ (bytes : List ℕ). IsFile bytes p.units ending) (ap (λ (x : List ℕ). x ++ more) (taken_more h calls ends.added Went)) (ends.ends more (ap (λ (k : ℕ). t.left k) p.handle ∙ left));
       })
-
-  begins_read : (added : List ℕ) (mark : Mark) → BeginsLog (taken_by start.reader.handle (calls ++ Take start.reader.handle added mark ∷ [])) p.units
-  begins_read added mark =
-      let h = start.reader.handle in subst (λ (taken : List ℕ). BeginsLog taken p.units) (taken_more h calls added mark) (begins_on (taken_by h calls) added p.units (begins_so now.reader (taken_by h calls) p.units p.represents))
 
   pub file_stopped : (next : FileItems) (fault : FileFault) → Refused fault now.reader (taken_by start.reader.handle calls) p.units s t
       → Made false (start.reader.handle ∷ []) [] (λ more. CameTo (λ list all. FileGave start next (calls ++ more) list all) (λ stop list. FileStopped start.reader.handle stop (calls ++ more) list t) (λ list. FileBegins start.reader.handle (calls ++ more) list) (Err (file_halt fault)) met) s t

@@ -1,2 +1,3 @@
 pub mod FileLemmas
 pub mod FeedLemmas
+pub mod ToldLemmas

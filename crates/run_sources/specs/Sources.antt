@@ -48,7 +48,7 @@ pub record FileGave (start now : FileItems) (calls : List Call) (met : List Item
   pub represents : Represents now.reader (taken_by start.reader.handle calls) units
   pub whole : all ≡ true → IsReadWhole start.reader.handle calls units
 
--- the bytes begin with a log of these units, or are fewer than its header has
+-- the bytes begin with a log of these units; where none of its header was read there are none
 pub record BeginsLog (taken : List ℕ) (units : Log) : Type 0 where
   pub begun : Bool
   pub rest : List ℕ
@@ -72,10 +72,11 @@ pub record FileBegins (h : ℕ) (calls : List Call) (met : List Item) : Type 0 w
   pub are : met ≡ unit_items units
   pub begins : BeginsLog (taken_by h calls) units
 
--- the items are those of a file that ends so, with whatever the handle has left
+-- the items lie at the beginning of the bytes that were taken, and are those of a file that ends so, with whatever the handle has left
 pub record FileEnds (h : ℕ) (calls : List Call) (met : List Item) (now : Seen) (ending : FileEnding) : Type 0 where
   pub units : Log
   pub are : met ≡ unit_items units
+  pub begins : BeginsLog (taken_by h calls) units
   pub ends : (more : List ℕ) → now.left h ≡ Some more → IsFile (taken_by h calls ++ more) units ending
 
 -- a read failed: the items are all that lie whole in the bytes that were taken

@@ -1,21 +1,20 @@
 -- What is due of what was taken, and of more.
-use Rattle.std.proofs.Common.{◌≡◌, ℕ, ◌||◌, Bool, false, true, List, [], ◌∷◌, ◌++◌, take, drop, Option, refl, sym, ap, subst, ◌∙◌, append_assoc}
-use Rattle.std.proofs.lemmas.List.{append-nil, map-append, take-append-drop}
+use Rattle.std.proofs.Common.{◌≡◌, ℕ, ◌||◌, Bool, false, true, List, [], ◌∷◌, ◌++◌, Option, refl, sym, ap, subst, ◌∙◌, append_assoc}
+use Rattle.std.proofs.lemmas.List.{append-nil}
 use Rattle.std.proofs.lemmas.List.Elements.{filter-append}
 use Rattle.std.proofs.Math.Bool.{or-true}
 use Rattle.std.specs.List.{filter}
 use Rattle.log_model.specs.Prefix.{IsPrefix}
 use Rattle.log_model.proofs.PrefixLemmas.{prefix_same}
-use Rattle.vsl_record.specs.Unit.{Log}
 use Rattle.txn_rows.specs.declared.group.Group.{Group}
 use Rattle.txn_rows.specs.declared.group.GroupOptions.{GroupOptions}
 use Rattle.txn_rows.specs.declared.group.Grouping.{Grouping}
-use Rattle.txn_rows.specs.Grouping.{Taken, TakenUnit, Missed, all_taken, no_state, reported, taken_step, taken_steps, groups_of}
+use Rattle.txn_rows.specs.Grouping.{Taken, Missed, no_state, reported, taken_step, taken_steps, groups_of}
 use Rattle.txn_rows.proofs.GroupingLemmas.{steps_append}
 use Rattle.query_eval.specs.Meaning.{is_held}
 use Rattle.vsl_dispatch.specs.Groups.{kept, is_filled}
 use Rattle.vsl_dispatch.proofs.GroupLemmas.{kept_none, kept_filled, kept_open, kept_goes_on, filled_more}
-use Rattle.text_printer.specs.Printer.{Plan, IsOutput, asked_groups, due, has_all}
+use Rattle.text_printer.specs.Printer.{Plan, IsOutput, due, has_all}
 
 -- ---- groups that pass a test
 
@@ -70,40 +69,28 @@ text_prefix writes is keep test options xs ys true =
 text_prefix writes is keep test options xs ys false =
     let on = tested_on test options xs ys false in rw on.1 (grown writes is keep (tested test options xs false) on.0 false (is_filled keep (tested test options xs false)) refl)
 
--- the units of a log are its first ones and the others
-log_parts : (n : ℕ) (units : Log) → all_taken (take n units) ++ all_taken (drop n units) ≡ all_taken units
-log_parts n units = sym (map-append TakenUnit (take n units) (drop n units)) ∙ ap all_taken (take-append-drop n units)
+-- where groups are as many as are kept, those of more items are too
+pub filled_on : (keep : Option ℕ) (test : Group → Bool) (options : GroupOptions) (xs ys : List Taken) → is_filled keep (tested test options xs false) ≡ true → is_filled keep (tested test options (xs ++ ys) false) ≡ true
+filled_on keep test options xs ys filled =
+    let on = tested_on test options xs ys false in ap (λ (gs : List Group). is_filled keep gs) on.1 ∙ filled_more keep (tested test options xs false) on.0 filled
 
--- the text of the first units of a log goes on in that of all
-pub text_first : (writes : List Group → Bool → List ℕ) → IsOutput writes → (keep : Option ℕ) (test : Group → Bool) (options : GroupOptions) (units : Log) (n : ℕ) (ended : Bool)
-    → IsPrefix (tested_text writes keep test options (all_taken (take n units)) false) (tested_text writes keep test options (all_taken units) ended)
-text_first writes is keep test options units n ended =
-    subst (λ (xs : List Taken). IsPrefix (tested_text writes keep test options (all_taken (take n units)) false) (tested_text writes keep test options xs ended)) (log_parts n units)
-    (text_prefix writes is keep test options (all_taken (take n units)) (all_taken (drop n units)) ended)
-
--- where the first units of a log complete as many groups as are kept, those are kept of all
-pub kept_first : (keep : Option ℕ) (test : Group → Bool) (options : GroupOptions) (units : Log) (n : ℕ) (ended : Bool) → is_filled keep (tested test options (all_taken (take n units)) false) ≡ true
-    → kept keep (tested test options (all_taken units) ended) ≡ kept keep (tested test options (all_taken (take n units)) false)
-kept_first keep test options units n ended filled =
-    let on = tested_on test options (all_taken (take n units)) (all_taken (drop n units)) ended in
-    rw (sym (log_parts n units), on.1) (kept_filled keep (tested test options (all_taken (take n units)) false) on.0 filled)
+-- and the text of more items is theirs, ended or not
+pub text_filled : (writes : List Group → Bool → List ℕ) (keep : Option ℕ) (test : Group → Bool) (options : GroupOptions) (xs ys : List Taken) (ended : Bool) → is_filled keep (tested test options xs false) ≡ true
+    → tested_text writes keep test options xs false ≡ tested_text writes keep test options (xs ++ ys) ended
+text_filled writes keep test options xs ys ended filled =
+    let on = tested_on test options xs ys ended in
+    let same : kept keep (tested test options (xs ++ ys) ended) ≡ kept keep (tested test options xs false) =
+    ap (λ (gs : List Group). kept keep gs) on.1 ∙ kept_filled keep (tested test options xs false) on.0 filled in
+    let all : (ended || is_filled keep (tested test options (xs ++ ys) false)) ≡ true = ap (λ (b : Bool). ended || b) (filled_on keep test options xs ys filled) ∙ or-true ended in
+    ap (λ (b : Bool). writes (kept keep (tested test options xs false)) b) (filled ∙ sym all) ∙ ap (λ (gs : List Group). writes gs (ended || is_filled keep (tested test options (xs ++ ys) false))) (sym same)
 
 -- ---- the same under a plan
 
 pub due_prefix : (p : Plan) → IsOutput p.writes → (xs ys : List Taken) (ended : Bool) → IsPrefix (due p xs false) (due p (xs ++ ys) ended)
 due_prefix p is = text_prefix p.writes is p.keep (is_held p.query) p.options
 
-pub due_first : (p : Plan) → IsOutput p.writes → (units : Log) (n : ℕ) (ended : Bool) → IsPrefix (due p (all_taken (take n units)) false) (due p (all_taken units) ended)
-due_first p is = text_first p.writes is p.keep (is_held p.query) p.options
-
 pub due_flag : (p : Plan) → IsOutput p.writes → (taken : List Taken) (ended : Bool) → IsPrefix (due p taken false) (due p taken ended)
 due_flag p is taken ended = subst (λ (xs : List Taken). IsPrefix (due p taken false) (due p xs ended)) (append-nil taken) (due_prefix p is taken [] ended)
-
--- with as many groups as are kept nothing more is due at the end
-pub due_filled : (p : Plan) (taken : List Taken) → has_all p taken ≡ true → due p taken true ≡ due p taken false
-due_filled p taken filled =
-    let more = tested_end (is_held p.query) p.options taken ∙ tested_more (is_held p.query) p.options taken Missed in
-    ap (λ (gs : List Group). p.writes (kept p.keep gs) true) more ∙ rw (kept_filled p.keep (asked_groups p taken false) _ filled) (ap (λ (b : Bool). p.writes (kept p.keep (asked_groups p taken false)) b) (sym filled))
 
 -- nothing taken, no text
 pub due_none : (p : Plan) → IsOutput p.writes → (ended : Bool) → due p [] ended ≡ []

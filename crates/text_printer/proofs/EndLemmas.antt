@@ -32,10 +32,10 @@ module _ (sink : ℕ) (d : Due) where
   pub written_short : (calls : List Call) (done : List Item) → TextWritten sink d calls done → TextShort sink d calls done false
   written_short calls done written = record { text = prefix_equal (sym written.text); told = prefix_equal (sym written.told) }
 
-  -- with the items that follow, where all have not come
-  pub short_prefix : Grows d → (calls : List Call) (met rest : List Item) (all : Bool) → (all ≡ true → rest ≡ []) → TextShort sink d calls met all → TextShort sink d calls (met ++ rest) true
-  short_prefix grows calls met rest true none short = rw (none refl, append-nil met) short
-  short_prefix grows calls met rest false none short = record { text = prefix_then short.text (prefix_after d.head (grows met rest true)); told = prefix_then short.told (messages_prefix met rest) }
+  -- with the items that follow, and then their end or not, where all have not come
+  pub short_prefix : Grows d → (calls : List Call) (met rest : List Item) (all ended : Bool) → (all ≡ true → (rest ≡ []) × (ended ≡ true)) → TextShort sink d calls met all → TextShort sink d calls (met ++ rest) ended
+  short_prefix grows calls met rest true ended none short = let so = none refl in rw (so.0, so.1, append-nil met) short
+  short_prefix grows calls met rest false ended none short = record { text = prefix_then short.text (prefix_after d.head (grows met rest ended)); told = prefix_then short.told (messages_prefix met rest) }
 
   pub ended_short : Grows d → (ending : TextEnding) (calls : List Call) (done last : List Item) (all : Bool) → TextEnded sink d ending calls done last all → TextShort sink d calls (done ++ last) all
   ended_short grows endings.Whole calls done last all ended = let so = ended.ends in rw (so.0, so.1, append-nil done) (record { text = prefix_equal (sym so.2); told = prefix_equal (sym so.3) })
@@ -45,10 +45,3 @@ module _ (sink : ℕ) (d : Due) where
     told = prefix_equal (sym so.1);
   }
   ended_short grows endings.Unreported calls done last all ended = let so = ended.ends in record { text = rw (so.0, so.1) (prefix_after d.head (grows done last false)); told = so.3.prefix }
-
-  -- where an output ended, and where it goes on
-  pub ended_prefix : Grows d → (ending : TextEnding) (calls : List Call) (done last rest : List Item) (all : Bool) → (all ≡ true → rest ≡ []) → TextEnded sink d ending calls done last all → TextShort sink d calls (done ++ last ++ rest) true
-  ended_prefix grows ending calls done last rest all none ended = short_prefix grows calls (done ++ last) rest all none (ended_short grows ending calls done last all ended)
-
-  pub written_prefix : Grows d → (calls : List Call) (done rest : List Item) → TextWritten sink d calls done → TextShort sink d calls (done ++ rest) true
-  written_prefix grows calls done rest written = short_prefix grows calls done rest false (λ all. absurd cc) (written_short calls done written)

@@ -1,15 +1,4 @@
-pub mod Built
-pub mod Queries
-pub mod Asked
-pub mod Objects
-pub mod QueryFiles
-pub mod Formats
 pub mod Faults
-pub mod Run
-pub mod Output
-pub mod Promise
-pub mod Feeds
-pub mod FeedPromise
-pub mod Counters
 pub mod Theorem
+pub mod Told
 pub mod inside

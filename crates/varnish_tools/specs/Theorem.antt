@@ -1,76 +1,85 @@
--- The main theorem: what the top call writes, answers and leaves, for every command line, input and world (this project's choice).
-use Rattle.std.specs.Prelude.{ℕ, List, [], ◌∷◌, ◌++◌, length}
-use Rattle.vio.specs.declared.world.TheConstants.{ERRORS, OUTPUT}
-use Rattle.vio.specs.World.{Seen, Opening, Creating}
-use Rattle.vio.specs.Touches.{Touches}
+-- The main theorem: what the top call answers, and all that it does in the world, for every command line, input and world (this project's choice).
+use Rattle.std.specs.Prelude.{◌≡◌, ◌⊎◌, ℕ, ◌≤◌, true, if◌then◌else◌, is_some, List, [], ◌∷◌, ◌++◌, length, Option, Some, Result, Ok, Err}
+use Rattle.vio.specs.declared.world.TheConstants.{ERRORS}
+use Rattle.vio.specs.World.{Seen}
+use Rattle.vio.specs.Calls.{Call, Called, AreWithin, OnlyOpen, count_given, none_failed}
+use Rattle.vio.specs.Steps.{Passed}
+use Rattle.one_run.specs.Promise.{Promised, Says, SaysPart}
+use Rattle.vsl_select.specs.Shown.{rules_fault}
+use Rattle.tool_words.specs.declared.fault.UsageFault.{UsageFault}
+use Rattle.tool_words.specs.declared.job.Job.{Job}
+use Rattle.tool_words.specs.Job.{job_of}
+use Rattle.job_steps.specs.declared.fault.ToolFault.{ToolFault}
+use Rattle.job_steps.specs.Built.{is_built}
+use Rattle.job_steps.specs.Steps.{Step, Found, Passes, Stops, job_steps, steps_of, reads_of, writes_of, opens_of, creates_of}
+use Rattle.job_runs.specs.declared.record.RunRecord.{RunRecord}
+use Rattle.job_runs.specs.declared.record.RunRecord.TheVariants.{Nothing}
+use Rattle.job_runs.specs.Rows.{JobRan, JobShort}
 use Rattle.varnish_tools.specs.declared.outcome.Outcome.{Outcome}
-use Rattle.varnish_tools.specs.Asked.{Stated, OfFile, OverFeeds, OfCounters, stated_of}
-use Rattle.varnish_tools.specs.Objects.{GivesAtMost, sink_of, sinks_of, sources_of, query_files, opened_of, created_of, streams_of, calls_of}
-use Rattle.varnish_tools.specs.Promise.{WritesFilePrefix, IsFileFaithful, IsFileComplete, IsFileCutShort}
-use Rattle.varnish_tools.specs.FeedPromise.{WritesFedPrefix, IsFedFaithful, IsFedComplete, IsFedCutShort}
-use Rattle.varnish_tools.specs.Counters.{WritesTallyPrefix, IsTallyFaithful, IsTallyComplete, IsTallyCutShort}
+use Rattle.varnish_tools.specs.Faults.{fault_message, message, status_of}
 
--- the standard streams that are read
-abbrev pub reads_of : Stated → List ℕ
-reads_of (OfFile asked) = streams_of (sources_of asked)
-reads_of (OverFeeds job) = []
-reads_of (OfCounters job) = []
+-- ---- the work
 
--- the standard streams that are written, but for the message of a fault; the messages of overruns go to standard error
-abbrev pub writes_of : Stated → List ℕ
-writes_of (OfFile asked) = streams_of (sinks_of asked)
-writes_of (OverFeeds job) = ERRORS ∷ streams_of (sink_of job ∷ [])
-writes_of (OfCounters job) = OUTPUT ∷ []
+-- the run of the job that words state, which left this world; words that state none have no run
+abbrev pub StatedRan : Result Job UsageFault → Seen → Option ToolFault → RunRecord → List Found → List Call → Type 0
+StatedRan (Err why) at fault recorded found calls = ⊥
+StatedRan (Ok job) at fault recorded found calls = JobRan job at fault recorded found calls
 
--- the names under which files are opened
-abbrev pub opens_of : Stated → List (List ℕ)
-opens_of (OfFile asked) = calls_of asked Opening
-opens_of (OverFeeds job) = opened_of (query_files job.queries) ++ job.feeds
-opens_of (OfCounters job) = job.feeds
+-- the same where it had no memory
+abbrev pub StatedShort : Result Job UsageFault → List Found → List Call → Type 0
+StatedShort (Err why) found calls = ⊥
+StatedShort (Ok job) found calls = JobShort job found calls
 
--- the names under which files are created
-abbrev pub creates_of : Stated → List (List ℕ)
-creates_of (OfFile asked) = calls_of asked Creating
-creates_of (OverFeeds job) = created_of (sink_of job ∷ [])
-creates_of (OfCounters job) = []
+-- the work that words ask for was done, and behind it this was said: a step stopped it, or all passed and the job ran
+abbrev pub WorksOff : (List Call → Type 0) → Result Job UsageFault → Option ToolFault → RunRecord → Seen → Seen → Type 0
+WorksOff IsSaid stated fault recorded before now = Promised Passes Stops (StatedRan stated) Nothing IsSaid (steps_of stated) fault recorded before now
 
--- of handles, names and files only the sources, the sinks and standard error were touched, and no more files were opened or created than they name
-abbrev pub TouchesJob : Stated → Seen → Seen → Type 0
-TouchesJob stated before now =
-    Touches (reads_of stated) (ERRORS ∷ writes_of stated) (opens_of stated) (creates_of stated) before now × GivesAtMost (length (opens_of stated ++ creates_of stated)) before now
+-- ---- an outcome
 
--- for every answer, what is written is as it was, or gained a prefix of the text that the input defines
-abbrev pub WritesPrefix : Stated → Seen → Seen → Type 0
-WritesPrefix (OfFile asked) before now = WritesFilePrefix asked before now
-WritesPrefix (OverFeeds job) before now = WritesFedPrefix job before now
-WritesPrefix (OfCounters job) before now = WritesTallyPrefix job before now
+-- the main theorem, where the call answers an outcome: the work was done and its fault's message said, and the status is that of the fault
+pub record IsFaithful (words : List (List ℕ)) (outcome : Outcome) (before now : Seen) : Type 0 where
+  pub status : outcome.status ≡ status_of outcome.fault
+  pub works : WorksOff (Says (fault_message words outcome.fault)) (job_of words) outcome.fault outcome.run before now
 
--- the theorem where the call answers an outcome, by what the words state
-abbrev pub IsFaithfulTo : Stated → List (List ℕ) → Outcome → Seen → Seen → Type 0
-IsFaithfulTo (OfFile asked) words outcome before now = IsFileFaithful asked words outcome before now
-IsFaithfulTo (OverFeeds job) words outcome before now = IsFedFaithful job words outcome before now
-IsFaithfulTo (OfCounters job) words outcome before now = IsTallyFaithful job words outcome before now
+-- ---- want of memory
 
--- a good input is worked off without a fault where no call failed, by what the words state
-abbrev pub IsCompleteFor : Stated → Outcome → Seen → Seen → Type 0
-IsCompleteFor (OfFile asked) outcome before now = IsFileComplete asked outcome before now
-IsCompleteFor (OverFeeds job) outcome before now = IsFedComplete job outcome before now
-IsCompleteFor (OfCounters job) outcome before now = IsTallyComplete job outcome before now
+-- the steps that are taken in the world: those of a job whose rules are good and that is built
+abbrev pub asked_of : Result Job UsageFault → List Step
+asked_of (Err why) = []
+asked_of (Ok job) = if is_some (rules_fault job.caseless job.rules) then [] else (if is_built job then job_steps job else [])
 
--- the theorem where the call answers want of memory, by what the words state
-abbrev pub IsCutShortOf : Stated → List (List ℕ) → Seen → Seen → Type 0
-IsCutShortOf (OfFile asked) words before now = IsFileCutShort asked words before now
-IsCutShortOf (OverFeeds job) words before now = IsFedCutShort job words before now
-IsCutShortOf (OfCounters job) words before now = IsTallyCutShort job words before now
+-- there was no memory for a step: files of the names of the steps were opened and read, no more than these are, and nothing was written or created
+abbrev pub LacksStep : Result Job UsageFault → List Call → Type 0
+LacksStep stated calls = OnlyOpen (opens_of (asked_of stated)) calls
 
--- the main theorem, where the call answers an outcome
-abbrev pub IsFaithful : List (List ℕ) → Outcome → Seen → Seen → Type 0
-IsFaithful words outcome before now = IsFaithfulTo (stated_of words) words outcome before now
+-- the steps passed, none of their calls failed, and there was no memory for the run
+pub record LacksRun (stated : Result Job UsageFault) (calls : List Call) : Type 0 where
+  pub found : List Found
+  pub first : List Call
+  pub last : List Call
+  pub are : calls ≡ first ++ last
+  pub passed : Passed Passes Stops (steps_of stated) found first
+  pub fail : none_failed first ≡ true
+  pub short : StatedShort stated found last
 
--- a good input is worked off without a fault where no call failed
-abbrev pub IsComplete : List (List ℕ) → Outcome → Seen → Seen → Type 0
-IsComplete words outcome before now = IsCompleteFor (stated_of words) outcome before now
+-- there was no memory for the work
+abbrev pub LacksWork : Result Job UsageFault → List Call → Type 0
+LacksWork stated calls = LacksStep stated calls ⊎ LacksRun stated calls
 
--- where the call answers want of memory
+-- the work was done, and there was no memory for the message of its fault
+abbrev pub LacksMessage : List (List ℕ) → Seen → Seen → Type 0
+LacksMessage words before now = (fault : ToolFault) × (recorded : RunRecord) × WorksOff (SaysPart (message words fault)) (job_of words) (Some fault) recorded before now
+
+-- the main theorem, where the call answers want of memory
 abbrev pub IsCutShort : List (List ℕ) → Seen → Seen → Type 0
-IsCutShort words before now = IsCutShortOf (stated_of words) words before now
+IsCutShort words before now = Called (LacksWork (job_of words)) before now ⊎ LacksMessage words before now
+
+-- ---- what is touched, whatever is answered
+
+-- calls open and create files of the names of the steps, no more than these are; they read and write these, the standard streams that the steps name, and standard error
+abbrev pub TouchesSteps : List Step → List Call → Type 0
+TouchesSteps steps calls = AreWithin (reads_of steps) (ERRORS ∷ writes_of steps) (opens_of steps) (creates_of steps) calls × (count_given calls ≤ length (opens_of steps ++ creates_of steps))
+
+-- nothing is touched but what the steps name that words ask for
+abbrev pub TouchesJob : List (List ℕ) → List Call → Type 0
+TouchesJob words calls = TouchesSteps (asked_of (job_of words)) calls

@@ -2,26 +2,15 @@
 
 ghost use Rattle.std.specs.Prelude.{◌≡◌, ◌++◌, map, IfOk};
 ghost use Rattle.std.specs.String.{string_bytes};
-ghost use Rattle.varnish_tools.specs.Feeds.{overrun_message};
-ghost use Rattle.varnish_tools.specs.Faults.{message, numbered, query_message, status_of, told, usage_message, word_at};
+ghost use Rattle.text_printer.specs.Messages.{numbered, told};
+ghost use Rattle.varnish_tools.specs.Faults.{message, query_message, status_of, usage_message, word_at};
 
-use crate::fault::ToolFault;
-use itoa::Buffer;
+use job_steps::ToolFault;
 use query_parser::QueryFault;
 use std::alloc::{AllocError, Global};
+use text_printer::{numbered, tell_both};
 use tool_words::UsageFault;
 use vsl_select::Text;
-
-/// A line of two texts, after the program's name.
-fn tell_both(alloc: Global, first: &[u8], second: &[u8]) -> Result<Vec<u8>, AllocError>
-    ensures { IfOk result (λ v. v.items ≡ told (first.now ++ second.now)) }
-{
-    let mut text = Vec::from_slice(alloc, b"vtools: ")?;
-    text.extend_from_slice(first)?;
-    text.extend_from_slice(second)?;
-    text.push(b'\n')?;
-    Ok(text)
-}
 
 /// A line of two texts, after the program's name.
 fn tell_bytes(alloc: Global, first: &str, second: &[u8]) -> Result<Vec<u8>, AllocError>
@@ -35,17 +24,6 @@ fn tell(alloc: Global, first: &str, second: &str) -> Result<Vec<u8>, AllocError>
     ensures { IfOk result (λ v. v.items ≡ told (first.now ++ second.now)) }
 {
     tell_bytes(alloc, first, second.as_bytes())
-}
-
-/// A text with a number in it.
-fn numbered(alloc: Global, before: &str, number: u64, after: &str) -> Result<Vec<u8>, AllocError>
-    ensures { IfOk result (λ v. v.items ≡ numbered before.now number after.now) }
-{
-    let mut digits = Buffer::new();
-    let mut text = Vec::from_slice(alloc, before.as_bytes())?;
-    text.extend_from_slice(digits.format(number).as_bytes())?;
-    text.extend_from_slice(after.as_bytes())?;
-    Ok(text)
 }
 
 /// A line of a log's name and a text with a number in it, after the program's name.
@@ -139,14 +117,6 @@ pub fn message_of(alloc: Global, words: &[String], fault: &ToolFault) -> Result<
             tell_number(alloc, name, ": larger than ", *limit, " bytes")
         }
     }
-}
-
-/// The message of an overrun: the segment where a reader stood, and that to which the writers had come.
-pub fn overrun_text(alloc: Global, at: u64, seen: u64) -> Result<Vec<u8>, AllocError>
-    ensures { IfOk result (λ v. v.items ≡ overrun_message at seen) }
-{
-    let place = numbered(alloc, "log overrun at segment ", at, ", counter ")?;
-    tell_both(alloc, &place, &numbered(alloc, "", seen, "")?)
 }
 
 /// The exit status: 0 without a fault, 2 where the words, a pattern, a format or the text of a query was refused, else 1.

@@ -1,22 +1,11 @@
-//! What the top call answers, and what a run does.
+//! What the top call answers.
 
-ghost use Rattle.std.specs.Prelude.{◌≡◌, Some};
+ghost use Rattle.std.specs.Prelude.{IfOk, OnErr};
+ghost use Rattle.varnish_tools.specs.inside.Works.{IsSettled};
 
-use crate::fault::ToolFault;
-
-/// What was taken of the input. With the input it gives the run.
-#[derive(Clone, Copy, Debug, PartialEq, Eq)]
-pub enum RunRecord {
-    /// Nothing was taken: a refusal came before the run, or the job has no log.
-    Nothing,
-    /// Units were taken, from the first on. varnishstat takes none, and both numbers are 0.
-    Counted {
-        /// How many units were taken; after a failed write, how many units' text was begun.
-        units: u64,
-        /// How many items the history has: runs of units, with an overrun between two; over a file one run.
-        items: u64,
-    },
-}
+use job_runs::{Ran, RunRecord};
+use job_steps::ToolFault;
+use log_model::{Halt, NoMemory};
 
 /// How a tool ended.
 #[derive(Debug, Drop)]
@@ -29,31 +18,16 @@ pub struct Outcome {
     pub run: RunRecord,
 }
 
-/// What a run took, and why it stopped early, if it did.
-#[derive(Drop)]
-pub(crate) struct Ran {
-    pub fault: Option<ToolFault>,
-    pub run: RunRecord,
-}
-
-/// What a run answers where nothing was taken.
-pub(crate) fn refused(fault: ToolFault) -> Ran
-    ensures fault { result.fault ≡ Some fault }
-    ensures run { result.run ≡ RunRecord.Nothing }
+/// What is answered where a job was worked off, or stopped before its run with a fault; then nothing was taken.
+pub fn settled(worked: Result<Ran, Halt<ToolFault>>) -> Result<Ran, NoMemory>
+    ensures { IsSettled worked result }
 {
-    Ran {
-        fault: Some(fault),
-        run: RunRecord::Nothing,
-    }
-}
-
-/// What a run answers where so many units were taken.
-pub(crate) fn counted(fault: Option<ToolFault>, units: u64) -> Ran
-    ensures fault { result.fault ≡ fault }
-    ensures run { result.run ≡ RunRecord.Counted units 1 }
-{
-    Ran {
-        fault,
-        run: RunRecord::Counted { units, items: 1 },
+    match worked {
+        Ok(ran) => Ok(ran),
+        Err(Halt::Fault(fault)) => Ok(Ran {
+            fault: Some(fault),
+            run: RunRecord::Nothing,
+        }),
+        Err(Halt::NoMemory) => Err(NoMemory),
     }
 }

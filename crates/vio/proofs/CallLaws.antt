@@ -137,6 +137,27 @@ did_fail kind name call (c ∷ calls) s t (inl e) failed did =
 did_fail kind name call (c ∷ calls) s t (inr is) failed did =
     fault_later kind name s did.0 t (did_counts (c ∷ []) s did.0 (did.0, did.1, refl)) (did_fail kind name call calls did.0 t is failed did.2)
 
+-- a handle that was given keeps its names
+keeps_name : (k : CallKind) (h : ℕ) (name : List ℕ) (call : Call) (s t : Seen) → s.given h ≡ true → s.names k h name ≡ true → Does call s t → (t.given h ≡ true) × (t.names k h name ≡ true)
+keeps_name k h name (Take i bytes mark) s t given named does = ((does.0).given h ∙ given, (does.0).names k h name ∙ named)
+keeps_name k h name (Write i bytes mark) s t given named does = ((does.0).given h ∙ given, (does.0).names k h name ∙ named)
+keeps_name k h name (Open file i) s t given named does = let q = touches_opened file i s t does in (q.given h given, q.names k h name given ∙ named)
+keeps_name k h name (Create append file i empty) s t given named does = let q = touches_created append file i empty s t does in (q.given h given, q.names k h name given ∙ named)
+keeps_name k h name (Refuse kind file) s t given named does = ((does.0).given h ∙ given, (does.0).names k h name ∙ named)
+keeps_name k h name Lack s t given named does = (does.given h ∙ given, does.names k h name ∙ named)
+
+each_failed : (h : ℕ) (part name : List ℕ) (s t : Seen) → s.names Reading h name ≡ true → Does (Take h part Mark.FailedEach) s t → HasNewFault (s.faults Reading name) (t.faults Reading name)
+each_failed h part name s t named does = (does.1).each name named
+
+-- where a read of a handle failed that was given before, the count of failed reads rose for each name that it had
+pub did_fail_each : (h : ℕ) (part name : List ℕ) (calls : List Call) (s t : Seen) → s.given h ≡ true → s.names Reading h name ≡ true → IsOneOf (Take h part Mark.FailedEach) calls → Did calls s t → HasNewFault (s.faults Reading name) (t.faults Reading name)
+did_fail_each h part name [] s t given named is did = absurd is
+did_fail_each h part name (c ∷ calls) s t given named (inl e) did =
+    fault_first Reading name s did.0 t (each_failed h part name s did.0 named (subst (λ (x : Call). Does x s did.0) (sym e) did.1)) (did_counts calls did.0 t did.2)
+did_fail_each h part name (c ∷ calls) s t given named (inr is) did =
+    let kept = keeps_name Reading h name c s did.0 given named did.1 in
+    fault_later Reading name s did.0 t (did_counts (c ∷ []) s did.0 (did.0, did.1, refl)) (did_fail_each h part name calls did.0 t kept.0 kept.1 is did.2)
+
 -- ---- what a file holds
 
 held_by : (b : Bool) (i k : ℕ) (n bytes : List ℕ) (s t : Seen) → eqb i k ≡ b → IsOneOf i (ERRORS ∷ k ∷ []) → 2 < k → s.names Writing k n ≡ true → s.names Writing ERRORS n ≡ false → Wrote i bytes s t → Gains (s.held n) (t.held n) (of_handle b bytes)

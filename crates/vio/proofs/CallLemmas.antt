@@ -6,7 +6,7 @@ use Rattle.vio.specs.World.{Seen, CallKind, Reading, Writing, Wrote, Read, NoCou
 use Rattle.vio.specs.Touches.{IsOneOf}
 use Rattle.vio.proofs.TouchLemmas.{one_of_left, one_of_right}
 use Rattle.vio.proofs.WholeLemmas.{NoCountFalls-none, NoCountFalls-then}
-use Rattle.vio.specs.Calls.{Mark, Call, Take, Write, Open, Create, Refuse, Lack, Marks, Did, AreOn, written_by, taken_by, of_handle, has_read, has_failed, none_failed, last_failed, fails, AreWithin, count_given, OnlyOpen}
+use Rattle.vio.specs.Calls.{Mark, Call, Take, Write, Open, Create, Refuse, Lack, Marks, Did, AreOn, written_by, taken_by, of_handle, has_read, has_failed, none_failed, last_failed, SomeFailed, fails, AreWithin, count_given, OnlyOpen}
 
 pub did_then : (xs ys : List Call) (s t u : Seen) → Did xs s t → Did ys t u → Did (xs ++ ys) s u
 did_then [] ys s t u p q = subst (λ (x : Seen). Did ys x u) p q
@@ -186,6 +186,23 @@ fails_then false xs ys p q = last_failed_then xs ys p q
 pub fails_late : (go : Bool) (xs : List Call) → none_failed xs ≡ true → fails go xs ≡ true
 fails_late true xs p = p
 fails_late false xs p = none_failed_late xs p
+
+-- where one of the calls failed, so did one of all, whatever was called before
+pub some_behind : (xs ys : List Call) → SomeFailed ys → SomeFailed (xs ++ ys)
+some_behind xs ys p = (p.0, one_of_right p.0 xs ys p.1, p.2)
+
+not_failed : (a b : Bool) → (not a && b) ≡ true → a ≡ true → ⊥
+not_failed true b p q = absurd cc
+not_failed false b p q = absurd cc
+
+one_not_failed : (call : Call) (calls : List Call) → none_failed calls ≡ true → IsOneOf call calls → has_failed call ≡ true → ⊥
+one_not_failed call [] none is failed = absurd is
+one_not_failed call (c ∷ calls) none (inl e) failed = not_failed (has_failed c) (none_failed calls) none (ap has_failed (sym e) ∙ failed)
+one_not_failed call (c ∷ calls) none (inr is) failed = one_not_failed call calls (and_later (not (has_failed c)) (none_failed calls) none) is failed
+
+-- calls of which none failed have none that did
+pub none_or_some : (calls : List Call) → none_failed calls ≡ true → SomeFailed calls → ⊥
+none_or_some calls none p = one_not_failed p.0 calls none p.1 p.2
 
 -- ---- calls within some names
 

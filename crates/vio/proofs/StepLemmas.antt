@@ -1,13 +1,13 @@
 -- Work in steps, put together.
 use Rattle.std.specs.List.{flat_map}
-use Rattle.std.proofs.Common.{◌≡◌, ℕ, ◌+◌, ◌<◌, ◌≤◌, true, List, [], ◌∷◌, ◌++◌, length, take, drop, get_or, map, Result, Ok, Err, refl, sym, ap, subst, ◌∙◌, append_assoc, arith}
+use Rattle.std.proofs.Common.{◌≡◌, ℕ, ◌+◌, ◌<◌, ◌≤◌, true, List, [], ◌∷◌, ◌++◌, length, take, drop, get_or, map, refl, sym, ap, subst, ◌∙◌, append_assoc, arith}
 use Rattle.std.proofs.lemmas.List.{append-nil, map-append, take_all, take_more, take-append-drop, drop_more}
 use Rattle.std.proofs.lemmas.Grind.{flat_map-append}
 use Rattle.log_model.specs.declared.fault.Halt.{Halt}
 use Rattle.log_model.specs.declared.fault.Halt.TheVariants.{Fault, NoMemory}
 use Rattle.vio.specs.World.{Seen}
 use Rattle.vio.specs.Calls.{Call, Called, OnlyOpen, none_failed}
-use Rattle.vio.specs.Steps.{Passed, Stopped, PassedSo, Halted, TookSteps}
+use Rattle.vio.specs.Steps.{Passed, Stopped, PassedSo, Halted}
 use Rattle.vio.proofs.CallLemmas.{did_then, none_failed_then, last_failed_then, opens_then, opens_more}
 
 module _ {S X F : Type 0} (Passes : S → X → List Call → Type 0) (Stops : S → F → List Call → Type 0) where
@@ -62,12 +62,6 @@ module _ {S X F : Type 0} (Passes : S → X → List Call → Type 0) (Stops : S
   pub halted_before : (names opened : List (List ℕ)) (xs ys : List S) (halt : Halt F) (a : List Call) → Halted Passes Stops names xs halt a → Halted Passes Stops (names ++ opened) (xs ++ ys) halt a
   halted_before names opened xs ys (Fault fault) a halted = (stopped_before xs ys fault a halted.0, halted.1)
   halted_before names opened xs ys NoMemory a halted = opens_more names opened a halted
-
-  -- steps that passed, and what others come to behind them
-  pub took_behind : {A : Type 0} (IsSo : A → List X → Type 0) (names opened : List (List ℕ)) (xs ys : List S) (us : List X) (a b : List Call) (r : Result A (Halt F)) → Passed Passes Stops xs us a → none_failed a ≡ true → OnlyOpen names a
-      → TookSteps Passes Stops IsSo opened ys r b → TookSteps Passes Stops (λ x found. (vs : List X) × (found ≡ us ++ vs) × IsSo x vs) (names ++ opened) (xs ++ ys) r (a ++ b)
-  took_behind IsSo names opened xs ys us a b (Ok x) p fail opens took = record { found = us ++ took.found; is = (took.found, refl, took.is); passed = passed_then xs ys us took.found a b p took.passed; fail = none_failed_then a b fail took.fail }
-  took_behind IsSo names opened xs ys us a b (Err halt) p fail opens took = halted_behind names opened xs ys us a b halt p fail opens took
 
   -- the only step stopped
   pub stopped_one : (x : S) (fault : F) (a : List Call) → Stops x fault a → Stopped Passes Stops (x ∷ []) fault a

@@ -150,16 +150,6 @@ new_sink created append name k empty s t is p = record {
   alone = λ n bytes told other. p.alone n bytes told (λ e. other (subst (λ (m : List ℕ). IsOneOf m created) (sym e) is));
 }
 
--- a handle that isn't given now wasn't before
-pub new_since : (r w : List ℕ) (o c : List (List ℕ)) (h : ℕ) (s t : Seen) → Touches r w o c s t → t.given h ≡ false → (b : Bool) → s.given h ≡ b → s.given h ≡ false
-new_since r w o c h s t p none true e = let still = p.given h e in absurd cc
-new_since r w o c h s t p none false e = e
-
--- calls before the creation leave the handle as new
-pub new_sink_since : (r w : List ℕ) (o c created : List (List ℕ)) (k : ℕ) (s t u : Seen) → Touches r w o c s t → IsNewSink created k t u → IsNewSink created k s u
-new_sink_since r w o c created k s t u p q =
-    record { fresh = new_since r w o c k s t p q.fresh (s.given k) refl; given = q.given; alone = q.alone }
-
 -- the second part may also read handles that the first gave, and write to those that it gave for files that it created
 pub touches_over : (r r2 w w2 : List ℕ) (o c : List (List ℕ)) (s t u : Seen) → Touches r w o c s t → Touches r2 w2 o c t u
     → ((h : ℕ) → IsOneOf h r2 → (s.given h ≡ false) ⊎ IsOneOf h r) → ((k : ℕ) → IsOneOf k w2 → IsNewSink c k s t ⊎ IsOneOf k w) → Touches r w o c s u
@@ -187,14 +177,3 @@ touches_over r r2 w w2 o c s t u p q sources sinks = record {
 
 pub touches_then : {r w : List ℕ} {o c : List (List ℕ)} {s t u : Seen} → Touches r w o c s t → Touches r w o c t u → Touches r w o c s u
 touches_then {r = r} {w = w} {o = o} {c = c} {s = s} {t = t} {u = u} p q = touches_over r r w w o c s t u p q (λ h is. inr is) (λ k is. inr is)
-
--- the second part reads a handle, and writes to another, that are new or were touched by the first
-pub touches_then_fresh : {r w : List ℕ} {o c : List (List ℕ)} {s t u : Seen} (h k : ℕ) → Touches r w o c s t → Touches (h ∷ r) (k ∷ w) o c t u
-    → (s.given h ≡ false) ⊎ IsOneOf h r → IsNewSink c k s t ⊎ IsOneOf k w → Touches r w o c s u
-touches_then_fresh {r = r} {w = w} {o = o} {c = c} {s = s} {t = t} {u = u} h k p q source sink = touches_over r (h ∷ r) w (k ∷ w) o c s t u p q
-    (λ i is. elim is [ inl e ↦ subst (λ (j : ℕ). (s.given j ≡ false) ⊎ IsOneOf j r) (sym e) source | inr known ↦ inr known ])
-    (λ i is. elim is [ inl e ↦ subst (λ (j : ℕ). IsNewSink c j s t ⊎ IsOneOf j w) (sym e) sink | inr known ↦ inr known ])
-
--- a source was read
-pub touches_read : (r : List ℕ) (h : ℕ) (s t : Seen) → Touches r [] [] [] s t → Touches r (h ∷ []) [] [] s t
-touches_read r h s t p = touches_in r r [] (h ∷ []) [] [] [] [] s t (λ i is. is) (λ i is. absurd is) (λ name is. is) (λ name is. is) p

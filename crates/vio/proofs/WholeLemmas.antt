@@ -1,19 +1,14 @@
 -- What several reads or writes of one handle come to: for `write_all` and `read_whole`, and for callers with loops of their own.
-use Rattle.std.proofs.Common.{◌≡◌, ℕ, ◌<◌, length, length-append, List, [], ◌++◌, take, drop, refl, sym, ◌∙◌, ap, subst, arith, rules, Option, Some, append_assoc, Result, OnOk, OnErr, Ok, Err}
+use Rattle.std.proofs.Common.{◌≡◌, ℕ, ◌<◌, length, length-append, List, [], ◌++◌, take, drop, refl, sym, ◌∙◌, ap, subst, arith, rules, Some, append_assoc, Result, OnOk, OnErr, Ok, Err}
 use Rattle.std.proofs.lemmas.List.{append-nil, take-append-drop}
-use Rattle.log_model.specs.Prefix.{IsPrefix, IsProperPrefix}
-use Rattle.log_model.proofs.PrefixLemmas.{prefix_append}
-use Rattle.vio.specs.Writes.{WroteOn, Gained, GainsSome}
+use Rattle.log_model.specs.Prefix.{IsProperPrefix}
+use Rattle.vio.specs.Writes.{WroteOn}
 use Rattle.vio.specs.World.{Seen, CallKind, NoCountFalls, FaultsRose, Writing, Gains, Loses, Read, Wrote, OnlyCounts, ReadSome}
 
 -- what a call leaves where it has no value
 pub OnErr-always : {T E P : Type 0} (r : Result T E) → P → OnErr r P
 OnErr-always (Ok x) p = Prim.search rules
 OnErr-always (Err e) p = p
-
-pub OnOk-always : {T E P : Type 0} (r : Result T E) → P → OnOk r P
-OnOk-always (Ok x) p = p
-OnOk-always (Err e) p = Prim.search rules
 
 -- what two clauses come to
 pub OnOk-both : {T E P Q R : Type 0} (r : Result T E) → (P → Q → R) → OnOk r P → OnOk r Q → OnOk r R
@@ -103,18 +98,6 @@ IsPartlyWritten-fault {rest = rest} some p q = record {
   wrote = Wrote-fault p.wrote q;
 }
 
--- a text that was written on to another is written on from there
-pub WroteOn-then : {h : ℕ} {a b : List ℕ} {IsSo : List ℕ → Type 0} {s t u : Seen} → WroteOn h a (λ text. text ≡ b) s t → WroteOn h b IsSo t u → WroteOn h a IsSo s u
-WroteOn-then {a = a} {IsSo = IsSo} p q = record {
-  added = p.added ++ q.added;
-  is = subst IsSo (ap (λ text. text ++ q.added) (sym p.is) ∙ append_assoc a p.added q.added) q.is;
-  wrote = Wrote-then p.added q.added p.wrote q.wrote;
-}
-
--- what was so is also otherwise
-pub WroteOn-weaker : {h : ℕ} {a : List ℕ} {IsSo IsToo : List ℕ → Type 0} {s t : Seen} → ((text : List ℕ) → IsPrefix a text → IsSo text → IsToo text) → WroteOn h a IsSo s t → WroteOn h a IsToo s t
-WroteOn-weaker {a = a} also p = record { added = p.added; is = also (a ++ p.added) (prefix_append a p.added) p.is; wrote = p.wrote }
-
 -- a further write takes a prefix of the rest
 pub IsPartlyWritten-then : {h : ℕ} {piece : List ℕ} {s t u : Seen} (n : ℕ) (rest : List ℕ)
     → IsPartlyWritten h piece rest s t → Wrote h (take n rest) t u → IsPartlyWritten h piece (drop n rest) s u
@@ -184,12 +167,3 @@ Read-fault bytes p q = record {
 }
 
 -- what a handle gained
-
-pub some_since : (IsSo : List ℕ → Type 0) (x y z : Option (List ℕ)) → y ≡ x → GainsSome IsSo y z → GainsSome IsSo x z
-some_since IsSo x y z e p = λ a told. p a (e ∙ told)
-
-pub some_until : (IsSo : List ℕ → Type 0) (x y z : Option (List ℕ)) → z ≡ y → GainsSome IsSo x y → GainsSome IsSo x z
-some_until IsSo x y z e p = λ a told. let g = p a told in (g.0, g.1, e ∙ g.2)
-
-pub gained_so : {IsSo IsToo : List ℕ → Type 0} {x y : Option (List ℕ)} → ((text : List ℕ) → IsSo text → IsToo text) → Gained IsSo x y → Gained IsToo x y
-gained_so also p = record { text = p.text; is = also p.text p.is; gains = p.gains }

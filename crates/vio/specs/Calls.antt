@@ -133,6 +133,10 @@ last_failed (call ∷ next ∷ calls) = not (has_failed call) && last_failed (ne
 abbrev pub fails : Bool → List Call → Bool
 fails go calls = if go then none_failed calls else last_failed calls
 
+-- one of the calls failed
+abbrev pub SomeFailed : List Call → Type 0
+SomeFailed calls = (call : Call) × IsOneOf call calls × (has_failed call ≡ true)
+
 -- a call failed that was counted for this kind and name
 abbrev pub IsFailed : CallKind → List ℕ → Call → Type 0
 IsFailed kind name (Take h bytes mark) = (kind ≡ Reading) × (mark ≡ Failed name)

@@ -36,6 +36,13 @@ pub data FileEnding : Type 0 where
   -- past 2^40 bytes, where what was read may go on
   TooLarge : FileEnding
 
+-- whether a file ends whole
+abbrev pub is_whole : FileEnding → Bool
+is_whole Whole = true
+is_whole (NotALog at) = false
+is_whole (Damaged at) = false
+is_whole TooLarge = false
+
 -- the byte is the first that differs from the header's, or that is missing
 pub record DiffersFirst (at : ℕ) (bytes : List ℕ) : Type 0 where
   pub inside : at < length file_header

@@ -3,11 +3,11 @@ use Rattle.std.specs.Prelude.{◌≡◌, ◌⊎◌, ℕ, ◌<◌, List, [], ◌�
 use Rattle.std.specs.Str.{bytes_eq}
 use Rattle.vio.specs.declared.world.TheConstants.{OUTPUT}
 use Rattle.vio.specs.World.{Seen, Writing, Wrote, FaultsRose}
+use Rattle.vio.specs.Calls.{Called}
 use Rattle.vio.specs.Writes.{WroteOn}
 use Rattle.log_model.specs.Prefix.{IsProperPrefix}
 use Rattle.varnish_tools.specs.declared.outcome.Outcome.{Outcome}
-use Rattle.varnish_tools.specs.Theorem.{IsFaithful, IsComplete, IsCutShort, TouchesJob, WritesPrefix}
-use Rattle.varnish_tools.specs.Asked.{stated_of}
+use Rattle.varnish_tools.specs.Theorem.{IsFaithful, IsCutShort, TouchesJob}
 use Rattle.vtools.specs.declared.words.Question.{Question}
 use Rattle.vtools.specs.declared.words.Question.TheVariants.{Help, Version}
 
@@ -27,6 +27,5 @@ pub record IsPrinted (text : List ℕ) (status : ℕ) (before now : Seen) : Type
 -- the tools did what the words ask for and the exit status is theirs; or memory was refused, and it is 3
 abbrev pub IsToolStatus : List (List ℕ) → ℕ → Seen → Seen → Type 0
 IsToolStatus words status before now =
-    TouchesJob (stated_of words) before now × WritesPrefix (stated_of words) before now
-    × (((outcome : Outcome) × (status ≡ outcome.status) × IsFaithful words outcome before now × IsComplete words outcome before now)
-    ⊎ ((status ≡ 3) × IsCutShort words before now))
+    Called (TouchesJob words) before now
+    × (((outcome : Outcome) × (status ≡ outcome.status) × IsFaithful words outcome before now) ⊎ ((status ≡ 3) × IsCutShort words before now))

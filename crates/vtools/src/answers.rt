@@ -165,16 +165,6 @@ pub fn not_text(rt: &impl Eprint, place: usize) -> u8
     2
 }
 
-/// Runs the tool that the words name.
-fn run_tool<W: World>(alloc: Global, rt: &impl Eprint, world: &mut W, words: &[String]) -> u8
-    ensures { IsToolStatus (map string_bytes words.now) result (W.seen world.old) (W.seen world.new) }
-{
-    match run_tools(alloc, words, world) {
-        Ok(outcome) => outcome.status,
-        Err(NoMemory) => no_memory(rt),
-    }
-}
-
 /// Answers the words of a command line, and gives the exit status.
 pub fn run<W: World>(alloc: Global, rt: &impl Eprint, world: &mut W, words: &[String]) -> u8
     ensures help { question_of (map string_bytes words.now) ≡ Some Question.Help → IsPrinted HELP.now result (W.seen world.old) (W.seen world.new) }
@@ -184,6 +174,9 @@ pub fn run<W: World>(alloc: Global, rt: &impl Eprint, world: &mut W, words: &[St
     match read_question(words) {
         Some(Question::Help) => answer(world, rt, HELP),
         Some(Question::Version) => answer(world, rt, VERSION),
-        None => run_tool(alloc, rt, world, words),
+        None => match run_tools(alloc, words, world) {
+            Ok(outcome) => outcome.status,
+            Err(NoMemory) => no_memory(rt),
+        },
     }
 }

@@ -1,52 +1,39 @@
--- What a run comes to for what is asked.
-use Rattle.std.specs.Prelude.{◌≡◌, ◌⊎◌, Option, None, Some}
-use Rattle.log_model.specs.Prefix.{IsPrefix}
-use Rattle.vio.specs.World.{Seen, Opening, Creating, Reading}
-use Rattle.vio.specs.Touches.{IsOneOf}
-use Rattle.varnish_tools.specs.declared.fault.ToolFault.{ToolFault}
-use Rattle.varnish_tools.specs.declared.outcome.RunRecord.{RunRecord}
-use Rattle.varnish_tools.specs.Asked.{Asked, Refuse}
-use Rattle.varnish_tools.specs.Faults.{FaultClass, Refused, RefusedQuery, RefusedFormat, LongQuery, BadFeed, NotOpened, NotRead, NotWritten, BadInput, class_of}
-use Rattle.varnish_tools.specs.Objects.{Object, sinks_of, inputs_of, names_of, SinkGained, SinkUntouched}
-use Rattle.varnish_tools.specs.Queries.{Ask}
-use Rattle.varnish_tools.specs.Promise.{Input, IsInput, HasClassCause, HasFailed, HasFailedInput, LeavesAll, RunBegan, WritesFor, whole_text}
+-- What working off comes to, by its answer.
+use Rattle.std.specs.Prelude.{◌≡◌, ℕ, true, List, Option, Some, Result, Ok, Err}
+use Rattle.log_model.specs.declared.fault.Halt.{Halt}
+use Rattle.log_model.specs.declared.fault.Halt.TheVariants.{Fault, NoMemory}
+use Rattle.vio.specs.World.{Seen}
+use Rattle.vio.specs.Calls.{Call, last_failed}
+use Rattle.one_run.specs.Promise.{SaysPart, Works}
+use Rattle.tool_words.specs.declared.fault.UsageFault.{UsageFault}
+use Rattle.tool_words.specs.declared.job.Job.{Job}
+use Rattle.job_steps.specs.declared.fault.ToolFault.{ToolFault}
+use Rattle.job_steps.specs.Steps.{Passes, Stops, steps_of}
+use Rattle.job_runs.specs.declared.record.Ran.{Ran}
+use Rattle.job_runs.specs.declared.record.RunRecord.{RunRecord}
+use Rattle.job_runs.specs.declared.record.RunRecord.TheVariants.{Nothing}
+use Rattle.varnish_tools.specs.Faults.{message}
+use Rattle.varnish_tools.specs.Theorem.{LacksWork, StatedRan}
 
--- why a fault of a class may be answered of a run, whose fault is none of a query
-abbrev pub HasRunCause : Asked → ToolFault → FaultClass → Seen → Seen → Type 0
-HasRunCause asked fault Refused before now = asked ≡ Refuse fault
-HasRunCause asked fault RefusedQuery before now = ⊥
-HasRunCause asked fault RefusedFormat before now = ⊥
-HasRunCause asked fault LongQuery before now = ⊥
-HasRunCause asked fault BadFeed before now = ⊥
-HasRunCause asked fault (NotOpened name) before now = HasFailedInput asked Opening name before now ⊎ HasFailed asked Creating name before now
-HasRunCause asked fault (NotRead name) before now = HasFailedInput asked Reading name before now
-HasRunCause asked fault (NotWritten name) before now = HasClassCause asked fault (NotWritten name) before now
-HasRunCause asked fault (BadInput name) before now = HasClassCause asked fault (BadInput name) before now
+-- the words were worked off by these calls, of which none failed but perhaps the last
+abbrev pub DidWork : Result Job UsageFault → Seen → Option ToolFault → RunRecord → List Call → Type 0
+DidWork stated at fault recorded calls = Works Passes Stops (StatedRan stated) Nothing (steps_of stated) at fault recorded calls × (last_failed calls ≡ true)
 
--- what a run leaves until a fault of a class, which is none of a query
-abbrev pub RunLeavesUntil : FaultClass → Asked → RunRecord → Seen → Seen → Type 0
-RunLeavesUntil Refused asked recorded before now = ⊥
-RunLeavesUntil RefusedQuery asked recorded before now = ⊥
-RunLeavesUntil RefusedFormat asked recorded before now = ⊥
-RunLeavesUntil LongQuery asked recorded before now = ⊥
-RunLeavesUntil BadFeed asked recorded before now = ⊥
-RunLeavesUntil (NotOpened name) asked recorded before now = LeavesAll asked recorded before now
-RunLeavesUntil (NotRead name) asked recorded before now = IsOneOf name (names_of (inputs_of asked)) × RunBegan asked recorded before now
-RunLeavesUntil (NotWritten name) asked recorded before now = RunBegan asked recorded before now
-RunLeavesUntil (BadInput name) asked recorded before now = RunBegan asked recorded before now
+-- what working off comes to: a run, a fault of a step, or want of memory
+abbrev pub IsWorked : Result Job UsageFault → Seen → Result Ran (Halt ToolFault) → List Call → Type 0
+IsWorked stated at (Ok ran) calls = DidWork stated at ran.fault ran.run calls
+IsWorked stated at (Err (Fault fault)) calls = DidWork stated at (Some fault) Nothing calls
+IsWorked stated at (Err NoMemory) calls = LacksWork stated calls
 
--- what a run leaves, by its fault
-abbrev pub RunLeaves : Option ToolFault → Asked → RunRecord → Seen → Seen → Type 0
-RunLeaves None asked recorded before now = RunBegan asked recorded before now
-RunLeaves (Some fault) asked recorded before now = RunLeavesUntil (class_of fault) asked recorded before now
+-- what is answered of it: a fault of a step is a run that took nothing
+abbrev pub IsSettled : {M : Type 0} → Result Ran (Halt ToolFault) → Result Ran M → Type 0
+IsSettled (Ok ran) (Ok same) = same ≡ ran
+IsSettled (Ok ran) (Err e) = ⊥
+IsSettled (Err (Fault fault)) (Ok ran) = (ran.fault ≡ Some fault) × (ran.run ≡ Nothing)
+IsSettled (Err (Fault fault)) (Err e) = ⊥
+IsSettled (Err NoMemory) (Ok ran) = ⊥
+IsSettled (Err NoMemory) (Err e) = Unit {0}
 
--- a job was worked off for what is asked, but for the message
-pub record WorksFor (ask : Ask) (asked : Asked) (fault : Option ToolFault) (recorded : RunRecord) (before now : Seen) : Type 0 where
-  pub causes : (f : ToolFault) → fault ≡ Some f → HasRunCause asked f (class_of f) before now
-  pub leaves : RunLeaves fault asked recorded before now
-  pub writes : (input : Input) → IsInput asked before input → WritesFor ask asked input fault recorded before now
-
--- a sink is as it was or gained a prefix of the text that the input defines for what is asked
-abbrev pub PrefixFor : Ask → Asked → Seen → Seen → Type 0
-PrefixFor ask asked before now = (input : Input) → IsInput asked before input → (sink : Object) → IsOneOf sink (sinks_of asked) →
-    SinkUntouched sink before now ⊎ SinkGained (λ text. IsPrefix text (whole_text asked ask input)) sink before now
+-- there was no memory to say the message of a fault: nothing of it was written, or not all
+abbrev pub SaysPartOf : List (List ℕ) → Option ToolFault → List Call → Type 0
+SaysPartOf words fault calls = (f : ToolFault) × (fault ≡ Some f) × SaysPart (message words f) calls

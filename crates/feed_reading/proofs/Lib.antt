@@ -1,4 +1,0 @@
-mod ReadNamedLemmas
-mod ContentLemmas
-mod NamedLemmas
-pub mod FeedLemmas

@@ -1,0 +1,103 @@
+-- Why a run has a fault.
+use Rattle.std.proofs.Common.{◌≡◌, ◌⊎◌, ℕ, Bool, true, false, List, [], ◌∷◌, Some, None, refl, sym, subst, inl, inr, codes}
+use Rattle.std.specs.Bool.{MatchBool}
+use Rattle.vio.specs.declared.world.TheConstants.{ERRORS}
+use Rattle.vio.specs.World.{Seen}
+use Rattle.vio.specs.Calls.{Call, Take, Write, Failed, FailedEach, Did, SomeFailed}
+use Rattle.vsl_record.specs.Unit.{Log}
+use Rattle.ring_layout.specs.declared.item.Item.{Item}
+use Rattle.vsl_file.specs.File.{FileEnding, IsFile, Whole}
+use Rattle.vsl_file.specs.File as file
+use Rattle.traffic_feed.specs.declared.listing.Listing.{Listing}
+use Rattle.tool_words.specs.declared.job.Job.{Job}
+use Rattle.one_run.specs.declared.met.Met.{Met}
+use Rattle.one_run.specs.declared.pass.RunEnd.{RunEnd}
+use Rattle.one_run.specs.declared.pass.RunEnd.TheVariants as ends
+use Rattle.one_run.specs.Run.{Ran}
+use Rattle.run_sources.specs.declared.file_items.FileStop.{FileStop}
+use Rattle.run_sources.specs.declared.file_items.FileStop.TheVariants as stops
+use Rattle.run_sources.specs.Sources.{FileStopped}
+use Rattle.run_sources.specs.Told.{TellsLog}
+use Rattle.run_sources.proofs.ToldLemmas.{stopped_ends}
+use Rattle.text_printer.specs.declared.output.TextEnding.{TextEnding}
+use Rattle.text_printer.specs.declared.output.TextEnding.TheVariants as endings
+use Rattle.text_printer.specs.Ends.{Due, TextWritten, TextEnded, EndCause}
+use Rattle.job_steps.specs.declared.fault.ToolFault.{ToolFault}
+use Rattle.job_steps.specs.Jobs.{file_of, is_counting}
+use Rattle.job_steps.specs.Steps.{Found, listings_of, logs_of}
+use Rattle.job_runs.specs.declared.record.RunRecord.{RunRecord}
+use Rattle.job_runs.specs.Good.{HasCause, StoppedByLog}
+use Rattle.job_runs.specs.Rows.{CameOf, JobRan, PrintsCounters, PrintsGroups, RanFor, StopsOf, WritesText, counters_text, end_answer, job_due, output_answer, stop_answer}
+
+-- ---- a run's end
+
+-- an output that ended with a fault has a write that failed
+output_failed : (sink : ℕ) (d : Due) (ending : TextEnding) (fault : ToolFault) (calls : List Call) → Some fault ≡ output_answer ending → EndCause sink d ending calls → SomeFailed calls
+output_failed sink d endings.Whole fault calls e cause = absurd cc
+output_failed sink d endings.Kept fault calls e cause = absurd cc
+output_failed sink d (endings.Unwritten name) fault calls e cause = (Write sink cause.0 (Failed d.name), cause.1, refl)
+output_failed sink d endings.Unreported fault calls e cause = (Write ERRORS cause.0 (Failed (codes "stderr")), cause.1, refl)
+
+-- a source stopped so, and that is the fault
+record SourceStopped (stopped : FileStop → List Call → List Item → Type 0) (job : Job) (fault : ToolFault) (calls : List Call) : Type 0 where
+  why : FileStop
+  met : List Item
+  stops : stopped why calls met
+  is : fault ≡ stop_answer (file_of job) why
+
+end_fault : (came : List Call → List Item → Bool → Type 0) (stopped : FileStop → List Call → List Item → Type 0) (job : Job) (sink : ℕ) (d : Due) (fault : ToolFault) (end : RunEnd TextEnding FileStop) (met : Met) (calls : List Call) → Some fault ≡ end_answer job end
+    → Ran came stopped (TextWritten sink d) (TextEnded sink d) (ERRORS ∷ sink ∷ []) end met calls → SomeFailed calls ⊎ SourceStopped stopped job fault calls
+end_fault came stopped job sink d fault (ends.ByOutput ending) met calls e r = inl (output_failed sink d ending fault calls e ((r.ends.5).cause))
+end_fault came stopped job sink d fault (ends.BySource why) met calls e r = inr (record { why = why; met = r.done; stops = r.ends.1; is = cc })
+
+-- a run with a fault has a call that failed, or its source stopped it
+ran_fault : (reads : List ℕ) (came : List Call → List Item → Bool → Type 0) (stopped : FileStop → List Call → List Item → Type 0) (job : Job) (sink : ℕ) (d : Due) (fault : ToolFault) (recorded : RunRecord) (calls : List Call)
+    → RanFor reads came stopped sink d (end_answer job) (Some fault) recorded calls → SomeFailed calls ⊎ SourceStopped stopped job fault calls
+ran_fault reads came stopped job sink d fault recorded calls p = end_fault came stopped job sink d fault p.end p.met calls p.answers p.ran
+
+-- ---- a log
+
+-- a log that stopped a run has a read that failed, or stopped it for what it holds
+log_stopped : (h : ℕ) (name : List ℕ) (fault : ToolFault) (why : FileStop) (met : List Item) (calls : List Call) (now : Seen) → fault ≡ stop_answer name why → FileStopped h why calls met now → SomeFailed calls ⊎ StoppedByLog h name fault calls now
+log_stopped h name fault (stops.NotALog at) met calls now e p = inr (record { why = stops.NotALog at; content = λ same. cc; met = met; stops = p; is = e })
+log_stopped h name fault (stops.Damaged at) met calls now e p = inr (record { why = stops.Damaged at; content = λ same. cc; met = met; stops = p; is = e })
+log_stopped h name fault stops.TooLarge met calls now e p = inr (record { why = stops.TooLarge; content = λ same. cc; met = met; stops = p; is = e })
+log_stopped h name fault stops.ReadFault met calls now e p = inl (Take h p.failed.0 FailedEach, p.failed.1, refl)
+
+-- a log that its handle told to be whole is stopped by a failed read alone
+whole_stopped : (h : ℕ) (why : FileStop) (met : List Item) (units : Log) (calls : List Call) (s t : Seen) → TellsLog h units Whole s → Did calls s t → FileStopped h why calls met t → why ≡ stops.ReadFault
+whole_stopped h (stops.NotALog at) met units calls s t tells did p = let no : Whole ≡ file.NotALog at = (stopped_ends h units Whole s tells calls t did (stops.NotALog at) (file.NotALog at) met refl p).1 in absurd cc
+whole_stopped h (stops.Damaged at) met units calls s t tells did p = let no : Whole ≡ file.Damaged at = (stopped_ends h units Whole s tells calls t did (stops.Damaged at) (file.Damaged at) met refl p).1 in absurd cc
+whole_stopped h stops.TooLarge met units calls s t tells did p = let no : Whole ≡ file.TooLarge = (stopped_ends h units Whole s tells calls t did stops.TooLarge file.TooLarge met refl p).1 in absurd cc
+whole_stopped h stops.ReadFault met units calls s t tells did p = refl
+
+-- and what it holds stops no run
+pub whole_runs : (h : ℕ) (name : List ℕ) (fault : ToolFault) (units : Log) (calls : List Call) (s t : Seen) → TellsLog h units Whole s → Did calls s t → StoppedByLog h name fault calls t → ⊥
+whole_runs h name fault units calls s t tells did p = p.content (whole_stopped h p.why p.met units calls s t tells did p.stops)
+
+-- ---- counters
+
+counters_fault : (sink : ℕ) (text : List ℕ) (fault : ToolFault) (calls : List Call) → WritesText sink text (Some fault) calls → SomeFailed calls
+counters_fault sink text fault calls (inl p) = let no : Some fault ≡ None = p.0 in absurd cc
+counters_fault sink text fault calls (inr p) = subst (λ (c : List Call). SomeFailed c) (sym p.1.2) (Write sink p.1.0 (Failed (codes "-")), inl refl, refl)
+
+-- ---- the run of a job
+
+groups_fault : (job : Job) (listings : List Listing) (logs : List ℕ) (sink : ℕ) (d : Due) (fault : ToolFault) (recorded : RunRecord) (calls : List Call) (now : Seen)
+    → RanFor logs (CameOf logs job listings) (StopsOf logs now) sink d (end_answer job) (Some fault) recorded calls → HasCause logs (file_of job) fault calls now
+groups_fault job listings [] sink d fault recorded calls now p = elim (ran_fault [] (CameOf [] job listings) (StopsOf [] now) job sink d fault recorded calls p) [
+  | inl failed ↦ inl failed
+  | inr by ↦ absurd by.stops
+]
+groups_fault job listings (h ∷ others) sink d fault recorded calls now p = elim (ran_fault (h ∷ others) (CameOf (h ∷ others) job listings) (StopsOf (h ∷ others) now) job sink d fault recorded calls p) [
+  | inl failed ↦ inl failed
+  | inr by ↦ elim (log_stopped h (file_of job) fault by.why by.met calls now by.is by.stops) [ inl failed ↦ inl failed | inr log ↦ inr (h, inl refl, log) ]
+]
+
+tool_fault : (b : Bool) (job : Job) (fault : ToolFault) (recorded : RunRecord) (found : List Found) (calls : List Call) (now : Seen)
+    → MatchBool b (PrintsCounters job (Some fault) recorded found calls) (PrintsGroups job now (Some fault) recorded found calls) → HasCause (logs_of found) (file_of job) fault calls now
+tool_fault true job fault recorded found calls now p = inl (counters_fault p.sink (counters_text job (listings_of found) p.log) fault calls p.writes)
+tool_fault false job fault recorded found calls now p = groups_fault job (listings_of found) (logs_of found) p.1 (job_due job p.0 p.2) fault recorded calls now p.4
+
+pub job_fault : (job : Job) (fault : ToolFault) (recorded : RunRecord) (found : List Found) (calls : List Call) (now : Seen) → JobRan job now (Some fault) recorded found calls → HasCause (logs_of found) (file_of job) fault calls now
+job_fault job fault recorded found calls now p = tool_fault (is_counting job.tool) job fault recorded found calls now p

@@ -1,0 +1,8 @@
+use Rattle.job_runs.proofs.GoodLemmas.{job_fault, whole_runs}
+use Rattle.job_runs.proofs.laws.faults_have_failed_calls.Goals as goal
+
+pub returns-clause-cause : goal.returns-clause-cause
+returns-clause-cause c = job_fault
+
+pub returns-clause-whole : goal.returns-clause-whole
+returns-clause-whole c = whole_runs

@@ -1,8 +1,0 @@
--- the records so far were added, each by itself
-use Rattle.std.proofs.Common.{◌≡◌, ◌++◌, take}
-use Rattle.std.specs.List.{flat_map}
-use Rattle.varnish_tools.specs.inside.Consumer.{alone_bytes}
-use Rattle.varnish_tools.proofs.layout.put_each_alone.Given as goal
-
-abbrev pub invariant-loop-rec : goal.invariant-loop-rec
-invariant-loop-rec l = l.out.items ≡ l.initial.out.items ++ flat_map (alone_bytes l.vxid) (take l.rec-index l.records)

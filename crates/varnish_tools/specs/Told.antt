@@ -1,0 +1,58 @@
+-- Where the world tells what the log of a job holds: what the main theorem comes to (this project's choice).
+use Rattle.std.specs.Prelude.{◌≡◌, ℕ, ◌==◌, Bool, true, false, List, [], ◌∷◌, ◌++◌, length, Option, Some, None, codes}
+use Rattle.std.specs.Bool.{MatchBool}
+use Rattle.std.specs.Str.{bytes_eq}
+use Rattle.log_model.specs.Prefix.{IsPrefix}
+use Rattle.vio.specs.declared.world.TheConstants.{ERRORS, INPUT, OUTPUT}
+use Rattle.vio.specs.World.{Seen, Gains, Writing, begins_with}
+use Rattle.vsl_record.specs.Unit.{Log}
+use Rattle.vsl_file.specs.File.{FileEnding, IsFile, is_whole}
+use Rattle.tool_words.specs.declared.job.Job.{Job}
+use Rattle.tool_words.specs.declared.job.QueryText.{QueryText}
+use Rattle.run_sources.specs.Sources.{unit_items}
+use Rattle.text_printer.specs.Ends.{whole}
+use Rattle.job_steps.specs.declared.fault.ToolFault.{ToolFault}
+use Rattle.job_steps.specs.Good.{TellsText}
+use Rattle.job_steps.specs.Jobs.{file_of, write_of}
+use Rattle.job_steps.specs.Queries.{Ask, AreAsked}
+use Rattle.job_runs.specs.Rows.{job_due}
+
+-- the world tells that the log of a job has these units and ends so: its file holds them, or standard input has them left
+pub record TellsInput (job : Job) (units : Log) (ending : FileEnding) (before : Seen) : Type 0 where
+  pub bytes : List ℕ
+  pub told : MatchBool (bytes_eq (file_of job) (codes "-")) (before.left INPUT ≡ Some bytes) (before.held (file_of job) ≡ Some bytes)
+  pub file : IsFile bytes units ending
+
+-- these are the texts of queries: of each the one that the world tells, which is that of its word, or what its file holds
+abbrev pub AreTexts : Seen → List QueryText → List (List ℕ) → Type 0
+AreTexts before [] [] = Unit {0}
+AreTexts before (query ∷ queries) (text ∷ texts) = ((told : List ℕ) → TellsText before query told → text ≡ told) × AreTexts before queries texts
+AreTexts before [] (text ∷ texts) = ⊥
+AreTexts before (query ∷ queries) [] = ⊥
+
+-- a file was created under this name, and has this handle: it began empty or not, and holds this text behind what it began with, as far as that is told and no message goes to it
+pub record IsFileSink (append : Bool) (name : List ℕ) (h : ℕ) (empty : Bool) (text : List ℕ) (before now : Seen) : Type 0 where
+  pub fresh : before.given h ≡ false
+  pub given : now.given h ≡ true
+  pub is_named : now.names Writing h name ≡ true
+  pub emptied : append ≡ false → empty ≡ true
+  pub is_empty : (first : List ℕ) → begins_with append name before ≡ Some first → empty ≡ (length first == 0)
+  pub holds : (first : List ℕ) → begins_with append name before ≡ Some first → before.names Writing ERRORS name ≡ false → now.held name ≡ Some (first ++ text)
+
+-- OUT is standard output, or such a file
+abbrev pub IsOut : Job → ℕ → Bool → List ℕ → Seen → Seen → Type 0
+IsOut job h empty text before now = MatchBool (bytes_eq (write_of job) (codes "-")) ((h ≡ OUTPUT) × (empty ≡ true)) (IsFileSink job.append (write_of job) h empty text before now)
+
+-- what was written of a log of these units, for what the queries ask: a part of what is due of it, and without a fault all of it
+pub record PrintsLog (job : Job) (fault : Option ToolFault) (units : Log) (ending : FileEnding) (before now : Seen) : Type 0 where
+  pub ask : Ask
+  pub sink : ℕ
+  pub empty : Bool
+  pub texts : List (List ℕ)
+  pub are_texts : AreTexts before job.queries texts
+  pub asked : AreAsked job.caseless None texts ask
+  pub text : List ℕ
+  pub is_out : IsOut job sink empty text before now
+  pub part : IsPrefix text (whole (job_due job ask empty) (unit_items units) (is_whole ending))
+  pub done : fault ≡ None → text ≡ whole (job_due job ask empty) (unit_items units) (is_whole ending)
+  pub gains : Gains (before.written sink) (now.written sink) text
