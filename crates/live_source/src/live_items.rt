@@ -1,0 +1,96 @@
+//! What a reader's pass meets of a ring that threads share.
+
+ghost use Rattle.std.specs.Prelude.{◌≡◌, ◌++◌, ◌∷◌, [], false, IfSome, IfNone, None};
+ghost use Rattle.live_source.specs.Live.{LiveGave, met_by};
+
+use log_model::Halt;
+use log_ring::{ReaderPass, Ring};
+use one_run::{Never, Source};
+use ring_layout::{Item, Sought, Step};
+use std::alloc::Global;
+use std::sync::Wait;
+use std::thread;
+use vio::World;
+
+/// A ring that is lent, and a pass of it, with what holds a unit that is taken. Where nothing is there yet it yields to other
+/// threads and asks again, until all writers have left. It never stops with a fault. Where there is no memory for a copy of a
+/// unit, the pass has taken that unit all the same.
+#[derive(Drop)]
+pub struct LiveItems<'a, R> {
+    pub rt: &'a R,
+    pub alloc: Global,
+    pub ring: &'a Ring,
+    pub pass: ReaderPass,
+}
+
+impl<'a, R> LiveItems<'a, R> {
+    /// What a pass of this ring meets from here on.
+    pub fn new(rt: &'a R, alloc: Global, ring: &'a Ring, pass: ReaderPass) -> LiveItems<'a, R>
+        requires ours { pass.ring ≡ ring.now }
+        ensures pass { result.pass ≡ pass }
+        ensures ready { result.pass.ring ≡ result.ring.now }
+        ensures fresh { LiveGave result.pass result.pass [] false }
+    {
+        LiveItems {
+            rt,
+            alloc,
+            ring,
+            pass,
+        }
+    }
+}
+
+/// Seeks where the pass was overrun; the overrun, where it was overrun again.
+#[tactic(auto, using(crate::proofs::ItemLemmas::lost_items, crate::proofs::ItemLemmas::at_items))]
+fn seek(ring: &Ring, pass: &mut ReaderPass) -> Option<Item>
+    requires ours { pass.old.ring ≡ ring.now }
+    ensures same { pass.new.ring ≡ pass.old.ring }
+    ensures overrun { IfSome result (λ item. met_by pass.new ≡ met_by pass.old ++ item ∷ []) }
+    ensures sought { IfNone result (met_by pass.new ≡ met_by pass.old) }
+{
+    if !pass.is_lost() {
+        return None;
+    }
+    match pass.seek(ring) {
+        Sought::At { .. } => None,
+        Sought::Lost { at, seen } => Some(Item::Overrun { at, seen }),
+    }
+}
+
+impl<'a, R: Wait> Source for LiveItems<'a, R> {
+    ghost use Rattle.std.specs.Prelude.{[], ◌≡◌};
+    ghost use Rattle.live_source.specs.Live.{LiveGave, LiveStarved};
+
+    type Fault = Never;
+
+    ghost gave = { λ start now calls met all. LiveGave start.pass now.pass met all };
+
+    ghost stopped = { λ start fault calls met world. ⊥ };
+
+    ghost starved = { λ start now calls met. LiveStarved start.pass now.pass met };
+
+    ghost reads = { λ live. [] };
+
+    ghost is_ready = { λ live. live.pass.ring ≡ live.ring.now };
+
+    fn next<W: World>(&mut self, _world: &mut W) -> Result<Option<Item>, Halt<Never>> {
+        let rt = self.rt;
+        for _ in rt.forever() {
+            if let Some(overrun) = seek(self.ring, &mut self.pass) {
+                return Ok(Some(overrun));
+            }
+            match self.pass.next(self.ring) {
+                Step::Took => match self.pass.unit().to_unit(self.alloc) {
+                    Ok(unit) => return Ok(Some(Item::Unit(unit))),
+                    Err(_) => return Err(Halt::NoMemory),
+                },
+                Step::NotYet { .. } => thread::yield_now(),
+                Step::Ended => return Ok(None),
+                Step::Lost { at, seen } => return Ok(Some(Item::Overrun { at, seen })),
+            }
+        }
+        unreachable!()
+    }
+
+    ghost stays = { λ start now calls more met all writes gave on. gave };
+}
