@@ -1,9 +1,8 @@
-//! Feeds, and messages that can't be written.
+//! Feeds: messages that can't be written, and a closed ring.
 
-use crate::support::{Answer, Ending, expect_run, refused};
+use crate::support::{Answer, Ending, Took, expect_run, refused};
 use std::alloc::Global;
 use std::test::Fail;
-use varnish_tools::RunRecord;
 use vio::MemWorld;
 
 /// A listing of twelve units, each as long as a segment of 64 words.
@@ -36,8 +35,24 @@ fn an_overrun_whose_message_fails_ends_the_run(rt: HostRuntime) -> Result<(), Fa
     // an open, two reads, and then the write of the overrun's message
     world.fail(4)?;
     let want = Answer {
-        run: RunRecord::Counted { units: 0, items: 2 },
+        took: Took::Counted(0, 2),
         ..refused(Ending::WriteFault("stderr"))
     };
     expect_run(&rt, rt.alloc(), words, &mut world, &want, "feeds", 0)
+}
+
+#[test]
+fn a_feed_that_a_worker_puts_is_printed_and_leaves_a_closed_ring(
+    rt: HostRuntime,
+) -> Result<(), Fail> {
+    let words = &["--feed", "a", "varnishlog", "-g", "raw"];
+    let line = b"         0 CLI            - Rd ping\n";
+    let mut world = MemWorld::new(rt.alloc())?;
+    world.file("a", line)?;
+    let want = Answer {
+        took: Took::Closed,
+        output: line,
+        ..refused(Ending::Done)
+    };
+    expect_run(&rt, rt.alloc(), words, &mut world, &want, "feeds", 1)
 }

@@ -9,7 +9,9 @@ use crate::support::{
 };
 use std::alloc::Global;
 use std::process::Abort;
+use std::sync::Wait;
 use std::test::Fail;
+use std::thread::Threads;
 use vio::World;
 use vsl_file::{FileFault, FileReader, put_header, put_unit};
 use vsl_record::{Mark, Record, Unit};
@@ -40,7 +42,12 @@ fn answer_of_cut<'a>(log: &Log, cut: usize, text: &'a mut Vec<u8>) -> Result<Ans
 }
 
 /// Cuts a log at every length, and reads it in pieces of so many bytes.
-fn expect_cuts(rt: &impl Abort, alloc: Global, log: &Log, piece: usize) -> Result<(), Fail> {
+fn expect_cuts<R: Abort + Threads + Wait + Sync>(
+    rt: &R,
+    alloc: Global,
+    log: &Log,
+    piece: usize,
+) -> Result<(), Fail> {
     let mut text = Vec::new(alloc);
     for cut in 0..=log.bytes.len() {
         let want = answer_of_cut(log, cut, &mut text)?;

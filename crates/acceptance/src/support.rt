@@ -3,9 +3,11 @@
 use crate::byte_table::REQUEST_WITH_FETCH;
 use std::alloc::Global;
 use std::process::Abort;
+use std::sync::Wait;
 use std::test::Fail;
+use std::thread::Threads;
 use tool_words::UsageFault;
-use varnish_tools::{Outcome, RunRecord, ToolFault, run_tools};
+use varnish_tools::{OpenGate, Outcome, RunRecord, ToolFault, run_tools};
 use vio::{MemWorld, World};
 use vsl_file::{FileFault, FileReader, FileStep};
 
@@ -153,7 +155,6 @@ pub const OPEN_TO_FILE: Log = Log {
 pub enum Ending {
     Done,
     BadValue,
-    NotBuilt,
     /// The file of this name can't be opened or created.
     NoOpen(&'static str),
     /// A read of the file of this name failed.
@@ -170,7 +171,7 @@ pub enum Ending {
 fn status_of(ending: Ending) -> u8 {
     match ending {
         Ending::Done => 0,
-        Ending::BadValue | Ending::NotBuilt => 2,
+        Ending::BadValue => 2,
         _ => 1,
     }
 }
@@ -180,7 +181,6 @@ fn fault_of(ending: Ending) -> (&'static str, &'static str, u64) {
     match ending {
         Ending::Done => ("", "", 0),
         Ending::BadValue => ("BadValue", "", 0),
-        Ending::NotBuilt => ("NotBuilt", "", 0),
         Ending::NoOpen(name) => ("NoOpen", name, 0),
         Ending::ReadFault(name) => ("ReadFault", name, 0),
         Ending::WriteFault(name) => ("WriteFault", name, 0),
@@ -194,7 +194,6 @@ fn what_of(ending: Ending) -> &'static str {
     match ending {
         Ending::Done => "",
         Ending::BadValue => "bad value: -k0",
-        Ending::NotBuilt => "not built yet",
         Ending::NoOpen(_) => ": cannot open",
         Ending::ReadFault(_) => ": read failed",
         Ending::WriteFault(_) => ": write failed",
@@ -235,7 +234,6 @@ fn variant_of(fault: &ToolFault) -> &'static str {
     match fault {
         ToolFault::Usage(UsageFault::BadValue { .. }) => "BadValue",
         ToolFault::Usage(_) => "Usage",
-        ToolFault::NotBuilt => "NotBuilt",
         ToolFault::BadPattern { .. } => "BadPattern",
         ToolFault::BadQuery { .. } => "BadQuery",
         ToolFault::BadFormat { .. } => "BadFormat",
@@ -253,7 +251,6 @@ fn variant_of(fault: &ToolFault) -> &'static str {
 fn told_in(fault: &ToolFault) -> (&str, u64) {
     match fault {
         ToolFault::Usage(_) => ("", 0),
-        ToolFault::NotBuilt => ("", 0),
         ToolFault::BadPattern { word } => ("", u64::from(*word)),
         ToolFault::BadQuery { query, .. } => ("", u64::from(*query)),
         ToolFault::BadFormat { at } => ("", *at),
@@ -279,11 +276,30 @@ fn expect_fault(rt: &impl Abort, fault: &Option<ToolFault>, ending: Ending) {
     }
 }
 
+/// What a run record tells.
+#[derive(Clone, Copy, Debug, PartialEq, Eq)]
+pub enum Took {
+    Nothing,
+    /// So many units, and so many items of their history.
+    Counted(u64, u64),
+    /// A ring that is closed.
+    Closed,
+}
+
+/// What a run record tells.
+fn took_of(run: &RunRecord) -> Took {
+    match run {
+        RunRecord::Nothing => Took::Nothing,
+        RunRecord::Counted { units, items } => Took::Counted(*units, *items),
+        RunRecord::Closed(_) => Took::Closed,
+    }
+}
+
 /// All that a run answers and writes.
 #[derive(Clone, Copy)]
 pub struct Answer<'a> {
     pub ending: Ending,
-    pub run: RunRecord,
+    pub took: Took,
     /// The handle of what is written, and what it has then.
     pub sink: u32,
     pub output: &'a [u8],
@@ -295,7 +311,7 @@ pub struct Answer<'a> {
 pub fn refused(ending: Ending) -> Answer<'static> {
     Answer {
         ending,
-        run: RunRecord::Nothing,
+        took: Took::Nothing,
         sink: OUTPUT.handle,
         output: b"",
         written: usize::MAX,
@@ -305,7 +321,7 @@ pub fn refused(ending: Ending) -> Answer<'static> {
 /// The answer of a run that takes so many units.
 pub fn taken<'a>(ending: Ending, units: u64, output: &'a [u8]) -> Answer<'a> {
     Answer {
-        run: RunRecord::Counted { units, items: 1 },
+        took: Took::Counted(units, 1),
         output,
         ..refused(ending)
     }
@@ -339,17 +355,22 @@ pub fn read_content(
     Ok((1000, None))
 }
 
-fn run(alloc: Global, words: &[&str], world: &mut MemWorld) -> Result<Outcome, Fail> {
+fn run<R: Threads + Wait + Sync>(
+    rt: &R,
+    alloc: Global,
+    words: &[&str],
+    world: &mut MemWorld,
+) -> Result<Outcome, Fail> {
     let mut typed = Vec::new(alloc);
     for word in words {
         typed.push(String::from_str(alloc, word)?)?;
     }
-    Ok(run_tools(alloc, &typed, world)?)
+    Ok(run_tools(rt, alloc, &typed, world, &OpenGate)?)
 }
 
 /// Runs the words, and compares all that comes out; `what` and `at` tell the run from others.
-pub fn expect_run(
-    rt: &impl Abort,
+pub fn expect_run<R: Abort + Threads + Wait + Sync>(
+    rt: &R,
     alloc: Global,
     words: &[&str],
     world: &mut MemWorld,
@@ -357,12 +378,12 @@ pub fn expect_run(
     what: &str,
     at: usize,
 ) -> Result<(), Fail> {
-    let outcome = run(alloc, words, world)?;
+    let outcome = run(rt, alloc, words, world)?;
     let message = message_of(alloc, want.ending)?;
     let errors = message.get(..want.written).unwrap_or(&message);
     expect_fault(rt, &outcome.fault, want.ending);
     assert_eq!(rt; outcome.status, status_of(want.ending), "{what}, {at}");
-    assert_eq!(rt; outcome.run, want.run, "{what}, {at}");
+    assert_eq!(rt; took_of(&outcome.run), want.took, "{what}, {at}");
     assert_eq!(rt; world.content(want.sink), want.output, "{what}, {at}");
     assert_eq!(rt; world.content(2), errors, "{what}, {at}");
     Ok(())

@@ -8,7 +8,6 @@ use Rattle.vsl_record.specs.Unit.{Log}
 use Rattle.ring_layout.specs.declared.item.Item.{Item}
 use Rattle.vsl_file.specs.File.{FileEnding, IsFile, Whole}
 use Rattle.vsl_file.specs.File as file
-use Rattle.traffic_feed.specs.declared.listing.Listing.{Listing}
 use Rattle.tool_words.specs.declared.job.Job.{Job}
 use Rattle.one_run.specs.declared.met.Met.{Met}
 use Rattle.one_run.specs.declared.pass.RunEnd.{RunEnd}
@@ -24,10 +23,12 @@ use Rattle.text_printer.specs.declared.output.TextEnding.TheVariants as endings
 use Rattle.text_printer.specs.Ends.{Due, TextWritten, TextEnded, EndCause}
 use Rattle.job_steps.specs.declared.fault.ToolFault.{ToolFault}
 use Rattle.job_steps.specs.Jobs.{file_of, is_counting}
-use Rattle.job_steps.specs.Steps.{Found, listings_of, logs_of}
+use Rattle.job_steps.specs.Steps.{Found, logs_of}
 use Rattle.job_runs.specs.declared.record.RunRecord.{RunRecord}
 use Rattle.job_runs.specs.Good.{HasCause, StoppedByLog}
-use Rattle.job_runs.specs.Rows.{CameOf, JobRan, PrintsCounters, PrintsGroups, RanFor, StopsOf, WritesText, counters_text, end_answer, job_due, output_answer, stop_answer}
+use Rattle.job_runs.specs.Sources.{StopsOf}
+use Rattle.job_runs.specs.Counters.{PrintsCounters, WritesText}
+use Rattle.job_runs.specs.Rows.{JobRan, PrintsGroups, RanFor, end_answer, job_due, output_answer, stop_answer}
 
 -- ---- a run's end
 
@@ -51,9 +52,9 @@ end_fault came stopped job sink d fault (ends.ByOutput ending) met calls e r = i
 end_fault came stopped job sink d fault (ends.BySource why) met calls e r = inr (record { why = why; met = r.done; stops = r.ends.1; is = cc })
 
 -- a run with a fault has a call that failed, or its source stopped it
-ran_fault : (reads : List ℕ) (came : List Call → List Item → Bool → Type 0) (stopped : FileStop → List Call → List Item → Type 0) (job : Job) (sink : ℕ) (d : Due) (fault : ToolFault) (recorded : RunRecord) (calls : List Call)
-    → RanFor reads came stopped sink d (end_answer job) (Some fault) recorded calls → SomeFailed calls ⊎ SourceStopped stopped job fault calls
-ran_fault reads came stopped job sink d fault recorded calls p = end_fault came stopped job sink d fault p.end p.met calls p.answers p.ran
+ran_fault : (reads : List ℕ) (came : List Call → List Item → Bool → Type 0) (stopped : FileStop → List Call → List Item → Type 0) (job : Job) (sink : ℕ) (d : Due) (fault : ToolFault) (records : List Item → Type 0) (calls : List Call)
+    → RanFor reads came stopped records sink d (end_answer job) (Some fault) calls → SomeFailed calls ⊎ SourceStopped stopped job fault calls
+ran_fault reads came stopped job sink d fault records calls p = end_fault came stopped job sink d fault p.end p.met calls p.answers p.ran
 
 -- ---- a log
 
@@ -83,21 +84,21 @@ counters_fault sink text fault calls (inr p) = subst (λ (c : List Call). SomeFa
 
 -- ---- the run of a job
 
-groups_fault : (job : Job) (listings : List Listing) (logs : List ℕ) (sink : ℕ) (d : Due) (fault : ToolFault) (recorded : RunRecord) (calls : List Call) (now : Seen)
-    → RanFor logs (CameOf logs job listings) (StopsOf logs now) sink d (end_answer job) (Some fault) recorded calls → HasCause logs (file_of job) fault calls now
-groups_fault job listings [] sink d fault recorded calls now p = elim (ran_fault [] (CameOf [] job listings) (StopsOf [] now) job sink d fault recorded calls p) [
+groups_fault : (job : Job) (logs : List ℕ) (came : List Call → List Item → Bool → Type 0) (records : List Item → Type 0) (sink : ℕ) (d : Due) (fault : ToolFault) (calls : List Call) (now : Seen)
+    → RanFor logs came (StopsOf logs now) records sink d (end_answer job) (Some fault) calls → HasCause logs (file_of job) fault calls now
+groups_fault job [] came records sink d fault calls now p = elim (ran_fault [] came (StopsOf [] now) job sink d fault records calls p) [
   | inl failed ↦ inl failed
   | inr by ↦ absurd by.stops
 ]
-groups_fault job listings (h ∷ others) sink d fault recorded calls now p = elim (ran_fault (h ∷ others) (CameOf (h ∷ others) job listings) (StopsOf (h ∷ others) now) job sink d fault recorded calls p) [
+groups_fault job (h ∷ others) came records sink d fault calls now p = elim (ran_fault (h ∷ others) came (StopsOf (h ∷ others) now) job sink d fault records calls p) [
   | inl failed ↦ inl failed
   | inr by ↦ elim (log_stopped h (file_of job) fault by.why by.met calls now by.is by.stops) [ inl failed ↦ inl failed | inr log ↦ inr (h, inl refl, log) ]
 ]
 
 tool_fault : (b : Bool) (job : Job) (fault : ToolFault) (recorded : RunRecord) (found : List Found) (calls : List Call) (now : Seen)
     → MatchBool b (PrintsCounters job (Some fault) recorded found calls) (PrintsGroups job now (Some fault) recorded found calls) → HasCause (logs_of found) (file_of job) fault calls now
-tool_fault true job fault recorded found calls now p = inl (counters_fault p.sink (counters_text job (listings_of found) p.log) fault calls p.writes)
-tool_fault false job fault recorded found calls now p = groups_fault job (listings_of found) (logs_of found) p.1 (job_due job p.0 p.2) fault recorded calls now p.4
+tool_fault true job fault recorded found calls now p = inl (counters_fault p.0 _ fault calls p.3.writes)
+tool_fault false job fault recorded found calls now p = groups_fault job (logs_of found) _ _ p.1 (job_due job p.0 p.2) fault calls now p.4
 
 pub job_fault : (job : Job) (fault : ToolFault) (recorded : RunRecord) (found : List Found) (calls : List Call) (now : Seen) → JobRan job now (Some fault) recorded found calls → HasCause (logs_of found) (file_of job) fault calls now
 job_fault job fault recorded found calls now p = tool_fault (is_counting job.tool) job fault recorded found calls now p

@@ -1,5 +1,7 @@
 -- Feeds that fit in the ring of a job can be replayed, and counted.
-use Rattle.std.proofs.Common.{◌≡◌, ℕ, ◌*◌, ◌≤◌, Option, Some, None, List, [], ◌∷◌, length, length-append, get_or, sym, ap, subst, arith}
+use Rattle.std.proofs.Common.{◌≡◌, ◌⊎◌, ℕ, ◌*◌, ◌<◌, ◌≤◌, ◌||◌, ◌&&◌, not, Bool, true, Option, Some, None, List, [], ◌∷◌, ◌++◌, length, length-append, get_or, refl, sym, ap, subst, inl, inr, arith}
+use Rattle.std.specs.Prelude.{is_some}
+use Rattle.tool_words.specs.Job.{is_nil}
 use Rattle.std.specs.List.{All, AllByRecursion}
 use Rattle.std.proofs.lemmas.List.Elements.{All-cons, recursion_from_All}
 use Rattle.std.proofs.lemmas.List.Sums.{sum_by-cons}
@@ -15,8 +17,9 @@ use Rattle.traffic_feed.specs.Listing.{record_count, word_count}
 use Rattle.feed_schedule.specs.Schedule.{IsScheduled, events_of}
 use Rattle.feed_schedule.specs.Replaying.{ReplayState, Represents, count_feed_words}
 use Rattle.tool_words.specs.declared.job.Job.{Job}
-use Rattle.job_steps.specs.Fits.{FitsRing}
-use Rattle.job_steps.specs.Jobs.{order_seed, units_of, with_made, made_listings}
+use Rattle.job_steps.specs.Fits.{FitsRing, HasFitFeeds}
+use Rattle.job_steps.specs.Jobs.{is_on_threads, is_threads, order_seed, units_of, with_made, made_listings}
+use Rattle.live_run.specs.Runs.{MayBePut}
 use Rattle.job_runs.specs.inside.Outputs.{IsFed}
 
 -- units that are within a segment are fit
@@ -85,10 +88,32 @@ new_replay ends interleaved read tail job listings all replay segment made fit n
       log = law.0;
       history = law.1;
       fed = record {
-        scheduled = law.2;
+        turns = λ stated. (law.2, tail job.seg seed (units_of (with_made job listings)) law.0 law.1 segment fits law.2);
         interleaved = interleaved job.seg seed (units_of (with_made job listings)) law.0 law.1 law.2;
         read = read job.seg seed (units_of (with_made job listings)) law.0 law.1 segment fits law.2;
-        tail = tail job.seg seed (units_of (with_made job listings)) law.0 law.1 segment fits law.2;
       };
       represents = new law.0 law.1 (subst (λ (ls : List Listing). IsScheduled job.seg seed (units_of ls) law.0 law.1) (sym made) law.2);
     }
+
+-- ---- listings that workers may put
+
+-- a job that has feeds, or made requests, has a listing
+fed_by : (feeds : List (List ℕ)) (made : Option (ℕ × ℕ)) (b : Bool) → ((not (is_nil feeds) || is_some made) && b) ≡ true → (0 < length feeds) ⊎ (is_some made ≡ true)
+fed_by [] None b e = absurd cc
+fed_by [] (Some m) b e = inr refl
+fed_by (feed ∷ feeds) made b e = inl (omega arith)
+
+some_made : (feeds : List (List ℕ)) (made : Option (ℕ × ℕ)) (reclen seg : ℕ) (listings : List Listing) → ((0 < length feeds) ⊎ (is_some made ≡ true)) → length listings ≡ length feeds → 0 < length (listings ++ made_listings reclen seg made)
+some_made feeds made reclen seg listings (inl some) same = omega (arith, some, same, length-append listings (made_listings reclen seg made))
+some_made feeds None reclen seg listings (inr some) same = absurd cc
+some_made feeds (Some m) reclen seg listings (inr some) same = omega (arith, length-append listings (made_listings reclen seg (Some m)))
+
+pub may_be_put : (job : Job) (listings all : List Listing) (seg : ℕ) → seg ≡ job.seg → is_on_threads job ≡ true → HasFitFeeds job listings → all ≡ with_made job listings → All (FitsRing job.seg) all → MayBePut seg all
+may_be_put job listings all seg same threads fit made fits = rw same (record {
+  some = subst (λ (ls : List Listing). 0 < length ls) (sym made) (some_made job.feeds job.made job.reclen job.seg listings (fed_by job.feeds job.made (is_threads job.order) threads) fit.all);
+  many = writers_few job listings all fit.few made;
+  within = λ k d inside. let f : FitsRing job.seg (get_or all k d) = fits k d inside in f.units;
+  words = words_few job.seg all fits (writers_few job listings all fit.few made);
+  records = records_few job.seg all fits;
+  cuts = cuts_few job.seg all fits;
+})

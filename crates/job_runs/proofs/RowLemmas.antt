@@ -7,7 +7,6 @@ use Rattle.vio.specs.Calls.{Call, Called, AreOn}
 use Rattle.txn_rows.specs.declared.group.Group.{Group}
 use Rattle.txn_rows.specs.Grouping.{groups_of}
 use Rattle.ring_layout.specs.declared.item.Item.{Item}
-use Rattle.ring_layout.specs.Items.{count_units, count_items}
 use Rattle.query_parser.specs.declared.query.Query.{Query}
 use Rattle.vsl_dispatch.specs.Groups.{kept, is_filled}
 use Rattle.tool_words.specs.declared.job.Job.{Job}
@@ -28,8 +27,6 @@ use Rattle.job_steps.specs.declared.fault.ToolFault.{ToolFault}
 use Rattle.job_steps.specs.Jobs.{options_of, write_of}
 use Rattle.job_steps.specs.Queries.{Ask, HoldsAsAsked}
 use Rattle.tool_consumers.specs.Output.{head_text, output_of}
-use Rattle.job_runs.specs.declared.record.RunRecord.{RunRecord}
-use Rattle.job_runs.specs.declared.record.RunRecord.TheVariants.{Counted}
 use Rattle.job_runs.specs.Rows.{RanFor, job_due}
 use Rattle.job_runs.specs.Runs.{RanShort, RanSo}
 use Rattle.job_runs.specs.inside.Outputs.{IsJobOutput, job_plan}
@@ -83,12 +80,12 @@ module _ {C : Type 0} (keep : C → Option ℕ) (output : C → List Group → B
     wrote_as calls p = on_as [] calls p
 
     -- its output ended
-    pub ended_row : {F : Type 0} (gave came : List Call → List Item → Bool → Type 0) (stopped : F → List Call → List Item → Type 0) (stops : FileStop → List Call → List Item → Type 0) (reads : List ℕ) (q : PrinterState C) (ending : TextEnding) (met : Met) (fault : Option ToolFault) (recorded : RunRecord)
+    pub ended_row : {F : Type 0} (gave came : List Call → List Item → Bool → Type 0) (stopped : F → List Call → List Item → Type 0) (stops : FileStop → List Call → List Item → Type 0) (reads : List ℕ) (q : PrinterState C) (ending : TextEnding) (met : Met) (fault : Option ToolFault) (records : List Item → Type 0)
         (answer : RunEnd TextEnding FileStop → Option ToolFault) (s t : Seen) → ((calls : List Call) (list : List Item) (all : Bool) → gave calls list all → came calls list all) → fault ≡ answer (ends.ByOutput ending)
-        → ((list : List Item) → IsMet met list → recorded ≡ Counted (count_units list) (count_items list))
+        → ((list : List Item) → IsMet met list → records list)
         → runs.Made false reads (ERRORS ∷ (printer_state o.printer).sink ∷ []) (runs.Ran gave stopped (TextPrinted keep output represents o.head.items (output_plan keep output o) q) (TextEnded (printer_state o.printer).sink (output_due keep output o)) (ERRORS ∷ (printer_state o.printer).sink ∷ []) (ends.ByOutput ending) met) s t
-        → Called (RanSo (RanFor reads came stops handle (job_due job ask empty) answer fault recorded)) s t
-    ended_row gave came stopped stops reads q ending met fault recorded answer s t from is_answer counts made =
+        → Called (RanSo (RanFor reads came stops records handle (job_due job ask empty) answer fault)) s t
+    ended_row gave came stopped stops reads q ending met fault records answer s t from is_answer counts made =
         let r = made.is in record {
           calls = made.calls;
           did = made.did;
@@ -106,19 +103,19 @@ module _ {C : Type 0} (keep : C → Option ℕ) (output : C → List Group → B
                 ends = (r.ends.0, r.ends.1, r.ends.2, wrote_as r.ends.1 r.ends.3, from r.ends.0 (r.done ++ r.last) r.all r.ends.4, ended_as ending made.calls r.done r.last r.all r.ends.5);
               };
               answers = is_answer;
-              counted = counts (r.done ++ r.last) r.count;
+              recorded = counts (r.done ++ r.last) r.count;
             },
             made.fail,
           );
         }
 
     -- its source stopped
-    pub stopped_row : (gave came : List Call → List Item → Bool → Type 0) (stops : FileStop → List Call → List Item → Type 0) (reads : List ℕ) (q : PrinterState C) (stop : FileStop) (met : Met) (fault : Option ToolFault) (recorded : RunRecord)
+    pub stopped_row : (gave came : List Call → List Item → Bool → Type 0) (stops : FileStop → List Call → List Item → Type 0) (reads : List ℕ) (q : PrinterState C) (stop : FileStop) (met : Met) (fault : Option ToolFault) (records : List Item → Type 0)
         (answer : RunEnd TextEnding FileStop → Option ToolFault) (s t : Seen) → fault ≡ answer (ends.BySource stop)
-        → ((list : List Item) → IsMet met list → recorded ≡ Counted (count_units list) (count_items list))
+        → ((list : List Item) → IsMet met list → records list)
         → runs.Made false reads (ERRORS ∷ (printer_state o.printer).sink ∷ []) (runs.Ran gave stops (TextPrinted keep output represents o.head.items (output_plan keep output o) q) (TextEnded (printer_state o.printer).sink (output_due keep output o)) (ERRORS ∷ (printer_state o.printer).sink ∷ []) (ends.BySource stop) met) s t
-        → Called (RanSo (RanFor reads came stops handle (job_due job ask empty) answer fault recorded)) s t
-    stopped_row gave came stops reads q stop met fault recorded answer s t is_answer counts made =
+        → Called (RanSo (RanFor reads came stops records handle (job_due job ask empty) answer fault)) s t
+    stopped_row gave came stops reads q stop met fault records answer s t is_answer counts made =
         let r = made.is in record {
           calls = made.calls;
           did = made.did;
@@ -129,7 +126,7 @@ module _ {C : Type 0} (keep : C → Option ℕ) (output : C → List Group → B
               met = met;
               ran = record { done = r.done; last = r.last; all = r.all; one = r.one; count = r.count; ends = (r.ends.0, r.ends.1, written_as q made.calls r.done r.ends.2) };
               answers = is_answer;
-              counted = counts (r.done ++ r.last) r.count;
+              recorded = counts (r.done ++ r.last) r.count;
             },
             made.fail,
           );
@@ -155,3 +152,18 @@ module _ {C : Type 0} (keep : C → Option ℕ) (output : C → List Group → B
         → Called (RanShort reads came handle (job_due job ask empty)) s t
     short_row gave came lacking reads q s t from late lacked made =
         record { calls = made.calls; did = made.did; is = short_ends gave came lacking reads q made.calls made.is.met made.is.all (from made.calls) (late made.calls) (lacked made.calls) made.on made.is.ends }
+
+    -- the same where perhaps nothing was done, and no item was lacking
+    live_ends : (began came : List Call → List Item → Bool → Type 0) (q : PrinterState C) (calls : List Call)
+        → ((list : List Item) (all : Bool) → began calls list all → came calls list all) → ((list : List Item) (all : Bool) → came calls list all → came calls list false)
+        → AreOn [] (ERRORS ∷ (printer_state o.printer).sink ∷ []) calls
+        → (calls ≡ []) ⊎ runs.RanShort began (λ cs met. ⊥) (TextPrinted keep output represents o.head.items (output_plan keep output o) q) (TextShort (printer_state o.printer).sink (output_due keep output o)) calls
+        → RanShort [] came handle (job_due job ask empty) calls
+    live_ends began came q calls from late on (inl none) = inl none
+    live_ends began came q calls from late on (inr p) = short_ends began came (λ cs met. ⊥) [] q calls p.met p.all from late (λ list no. absurd no) on p.ends
+
+    pub live_short_row : (began came : List Call → List Item → Bool → Type 0) (q : PrinterState C) (s t : Seen)
+        → ((calls : List Call) (list : List Item) (all : Bool) → began calls list all → came calls list all) → ((calls : List Call) (list : List Item) (all : Bool) → came calls list all → came calls list false)
+        → runs.Made false [] (ERRORS ∷ (printer_state o.printer).sink ∷ []) (λ calls. (calls ≡ []) ⊎ runs.RanShort began (λ cs met. ⊥) (TextPrinted keep output represents o.head.items (output_plan keep output o) q) (TextShort (printer_state o.printer).sink (output_due keep output o)) calls) s t
+        → Called (RanShort [] came handle (job_due job ask empty)) s t
+    live_short_row began came q s t from late made = record { calls = made.calls; did = made.did; is = live_ends began came q made.calls (from made.calls) (late made.calls) made.on made.is }

@@ -1,10 +1,15 @@
 -- What came of a log, and of feeds.
-use Rattle.std.proofs.Common.{◌≡◌, ℕ, Bool, true, false, List, [], ◌∷◌, ◌++◌, map, refl, sym, ap, ◌∙◌}
-use Rattle.std.proofs.lemmas.List.{map-append}
+use Rattle.std.proofs.Common.{◌≡◌, ℕ, Bool, true, false, List, [], ◌∷◌, ◌++◌, map, refl, sym, ap, subst, ◌∙◌}
+use Rattle.std.proofs.lemmas.List.{append-nil, map-append}
+use Rattle.log_model.specs.Interleaving.{IsInterleaving}
 use Rattle.vio.specs.Calls.{Call}
 use Rattle.ring_layout.specs.declared.item.Item.{Item}
 use Rattle.ring_layout.specs.declared.item.Item.TheVariants as items
+use Rattle.ring_layout.specs.History.{IsReadHistory}
 use Rattle.ring_layout.specs.Items.{items_of}
+use Rattle.vsl_record.specs.Words.{unit_words}
+use Rattle.log_ring.specs.Closed.{ClosedState}
+use Rattle.live_run.specs.Runs.{LiveBegan, LiveCame, feeds_of}
 use Rattle.traffic_feed.specs.declared.listing.Listing.{Listing}
 use Rattle.feed_schedule.specs.Schedule.{Event, TookUnit, WasOverrun, events_of}
 use Rattle.feed_schedule.specs.Replaying.{ReplayState}
@@ -13,7 +18,10 @@ use Rattle.run_sources.specs.Sources.{FileGave, FileBegins, FeedsGave, FeedsBega
 use Rattle.run_sources.proofs.FileLemmas.{file_came, came_begins}
 use Rattle.run_sources.proofs.FeedLemmas.{history_events}
 use Rattle.tool_words.specs.declared.job.Job.{Job}
-use Rattle.job_runs.specs.Rows.{FedCame, LogBegan}
+use Rattle.job_steps.specs.Jobs.{is_on_threads, units_of, with_made}
+use Rattle.job_runs.specs.declared.record.RunRecord.{RunRecord}
+use Rattle.job_runs.specs.declared.record.RunRecord.TheVariants.{Closed}
+use Rattle.job_runs.specs.Sources.{FedCame, FeedsCame, LogBegan}
 use Rattle.job_runs.specs.inside.Outputs.{IsFed}
 
 -- ---- a log
@@ -40,22 +48,64 @@ items_back [] = refl
 items_back (items.Unit u ∷ met) = ap (λ (rest : List Item). items.Unit u ∷ rest) (items_back met)
 items_back (items.Overrun at seen ∷ met) = ap (λ (rest : List Item). items.Overrun at seen ∷ rest) (items_back met)
 
-fed_came : (job : Job) (listings : List Listing) (replay : ReplayState) (met : List Item) (all : Bool) → (fed : IsFed job listings replay) → (rest : List Event) → events_of fed.history ≡ map event_of met ++ rest → (all ≡ true → rest ≡ []) → FedCame job listings met all
-fed_came job listings replay met all fed rest parts whole = record {
+fed_came : (job : Job) (listings : List Listing) (replay : ReplayState) (met : List Item) (all : Bool) → (fed : IsFed job listings replay) → (stated : is_on_threads job ≡ false) → (rest : List Event) → events_of fed.history ≡ map event_of met ++ rest → (all ≡ true → rest ≡ []) → FedCame job listings met all
+fed_came job listings replay met all fed stated rest parts whole = record {
   log = fed.log;
   history = fed.history;
   fed = fed.fed;
   rest = map item_of rest;
   parts = sym (items_back (items_of fed.history)) ∙ ap (λ (events : List Event). map item_of events) (history_events fed.history ∙ parts) ∙ map-append item_of (map event_of met) rest ∙ ap (λ (first : List Item). first ++ map item_of rest) (items_back met);
-  whole = λ e. ap (λ (events : List Event). map item_of events) (whole e);
+  whole = λ e. (ap (λ (events : List Event). map item_of events) (whole e), (fed.fed.turns stated).1);
 }
 
-pub feeds_came : (job : Job) (listings : List Listing) (start now : ReplayState) (met : List Item) (all : Bool) → IsFed job listings start → FeedsGave start now met all → FedCame job listings met all
-feeds_came job listings start now met all fed p = let came = p.came (events_of fed.history) fed.represents in fed_came job listings start met all fed came.0 came.1 came.3
+pub feeds_came : (job : Job) (listings : List Listing) (start now : ReplayState) (met : List Item) (all : Bool) → IsFed job listings start → is_on_threads job ≡ false → FeedsGave start now met all → FedCame job listings met all
+feeds_came job listings start now met all fed stated p = let came = p.came (events_of fed.history) fed.represents in fed_came job listings start met all fed stated came.0 came.1 came.3
+
+-- nothing is on threads and in a stated order
+pub never_both : (b : Bool) → b ≡ false → b ≡ true → ⊥
+never_both b stated threads = let no : false ≡ true = sym stated ∙ threads in cc
+
+-- no ring is recorded of a stated order
+pub stated_came : (job : Job) (listings : List Listing) (recorded : RunRecord) (met : List Item) (all : Bool) → is_on_threads job ≡ false → FedCame job listings met all → FeedsCame job listings recorded met all
+stated_came job listings recorded met all stated p = record { came = p; ring = λ threads. absurd (never_both (is_on_threads job) stated threads) }
+
+-- what came of a ring that threads share, which is recorded
+pub live_came : (job : Job) (listings made : List Listing) (seg : ℕ) (ring : ClosedState) (recorded : RunRecord) (met : List Item) (all : Bool) → is_on_threads job ≡ true → made ≡ with_made job listings → seg ≡ job.seg → recorded ≡ Closed ring → LiveCame seg (feeds_of made) ring met all
+    → FeedsCame job listings recorded met all
+live_came job listings made seg ring recorded met all threads made_is seg_is is p = record {
+  came = record {
+    log = ring.log;
+    history = p.history;
+    fed = record {
+      turns = λ stated. absurd (never_both (is_on_threads job) stated threads);
+      interleaved = subst (λ (ls : List Listing). IsInterleaving ring.log (units_of ls)) made_is p.interleaved;
+      read = subst (λ (k : ℕ). IsReadHistory unit_words k ring.log p.history) seg_is p.read;
+    };
+    rest = [];
+    parts = p.are ∙ sym (append-nil met);
+    whole = λ e. (refl, p.tail e);
+  };
+  ring = λ on. (refl, record { ring = ring; is = is; log_is = refl; only = p.only });
+}
+
+-- what began to come of it before there was no memory
+pub live_began : (job : Job) (listings made : List Listing) (seg : ℕ) (met : List Item) (all : Bool) → is_on_threads job ≡ true → made ≡ with_made job listings → seg ≡ job.seg → LiveBegan seg (feeds_of made) met all → FedCame job listings met all
+live_began job listings made seg met all threads made_is seg_is p = record {
+  log = p.log;
+  history = p.history;
+  fed = record {
+    turns = λ stated. absurd (never_both (is_on_threads job) stated threads);
+    interleaved = subst (λ (ls : List Listing). IsInterleaving p.log (units_of ls)) made_is p.interleaved;
+    read = subst (λ (k : ℕ). IsReadHistory unit_words k p.log p.history) seg_is p.read;
+  };
+  rest = p.rest;
+  parts = p.parts;
+  whole = p.whole;
+}
 
 pub feeds_late : (job : Job) (listings : List Listing) (met : List Item) (all : Bool) → FedCame job listings met all → FedCame job listings met false
 feeds_late job listings met all p =
     record { log = p.log; history = p.history; fed = p.fed; rest = p.rest; parts = p.parts; whole = λ e. absurd cc }
 
-pub feeds_lacked : (job : Job) (listings : List Listing) (start : ReplayState) (met : List Item) → IsFed job listings start → FeedsBegan start met → FedCame job listings met false
-feeds_lacked job listings start met fed p = let came = p (events_of fed.history) fed.represents in fed_came job listings start met false fed came.0 came.1 (λ e. absurd cc)
+pub feeds_lacked : (job : Job) (listings : List Listing) (start : ReplayState) (met : List Item) → IsFed job listings start → is_on_threads job ≡ false → FeedsBegan start met → FedCame job listings met false
+feeds_lacked job listings start met fed stated p = let came = p (events_of fed.history) fed.represents in fed_came job listings start met false fed stated came.0 came.1 (λ e. absurd cc)

@@ -2,11 +2,14 @@
 use Rattle.std.proofs.Common.{◌≡◌, ◌⊎◌, ℕ, ◌||◌, Bool, true, false, List, [], ◌∷◌, ◌++◌, Option, Some, None, refl, sym, ap, subst, ◌∙◌, inl, inr}
 use Rattle.std.specs.Prelude.{filter}
 use Rattle.std.proofs.lemmas.List.{append-nil, map-append}
+use Rattle.log_model.specs.Interleaving.{IsInterleaving}
 use Rattle.log_model.specs.Prefix.{IsPrefix}
 use Rattle.vio.specs.declared.world.TheConstants.{ERRORS}
 use Rattle.vio.specs.World.{Seen}
 use Rattle.vio.specs.Calls.{Call, Did, written_by}
 use Rattle.vsl_record.specs.Unit.{LogUnit, Log}
+use Rattle.vsl_record.specs.Words.{unit_words}
+use Rattle.ring_layout.specs.History.{IsReadHistory, ReachesTail}
 use Rattle.txn_rows.specs.Grouping.{Taken, groups_of}
 use Rattle.ring_layout.specs.declared.history.HistoryItem.{HistoryItem}
 use Rattle.ring_layout.specs.declared.item.Item.{Item}
@@ -32,14 +35,15 @@ use Rattle.text_printer.proofs.DueLemmas.{filled_on, text_filled, text_prefix}
 use Rattle.text_printer.proofs.EndLemmas.{ended_short, short_prefix, written_short}
 use Rattle.job_steps.specs.declared.fault.ToolFault.{ToolFault}
 use Rattle.job_steps.specs.declared.fault.ToolFault.TheVariants.{ReadFault, NotALog, Damaged, TooLarge}
-use Rattle.job_steps.specs.Jobs.{file_of, options_of}
+use Rattle.job_steps.specs.Jobs.{file_of, is_on_threads, options_of, units_of, with_made}
 use Rattle.job_steps.specs.Queries.{Ask, is_asked}
 use Rattle.job_steps.specs.Steps.{Found, listings_of, logs_of}
 use Rattle.tool_consumers.specs.Output.{output_of}
 use Rattle.tool_consumers.proofs.OutputLemmas.{job_output}
 use Rattle.job_runs.specs.declared.record.RunRecord.{RunRecord}
-use Rattle.job_runs.specs.Rows.{AreFed, BeganOf, FedCame, GroupsShort, LogBegan, RanFor, end_answer, fills, job_due, output_answer, stop_answer}
-use Rattle.job_runs.specs.Told.{WritesOf, WritesPart}
+use Rattle.job_runs.specs.Sources.{AreFed, BeganOf, FedCame, FeedsCame, LogBegan}
+use Rattle.job_runs.specs.Rows.{GroupsShort, RanFor, end_answer, fills, job_due, output_answer, stop_answer}
+use Rattle.job_runs.specs.Told.{WritesFedPart, WritesOf, WritesPart, WritesRing}
 
 -- ---- what is due of a job
 
@@ -109,8 +113,8 @@ module _ (job : Job) (ask : Ask) (empty : Bool) where
         subst (λ (f : Option ToolFault). WritesOf sink (job_due job ask empty) f every ended calls) (sym is) (stopped_writes sink every ended calls (stop_answer (file_of job) why) ran.done (stays why ran.done e.1) e.2)
 
     -- what it wrote is of all that its source has
-    pub ran_writes : (reads : List ℕ) (fault : Option ToolFault) (recorded : RunRecord) → RanFor reads came stopped sink (job_due job ask empty) (end_answer job) fault recorded calls → WritesOf sink (job_due job ask empty) fault every ended calls
-    ran_writes reads fault recorded r = end_writes r.end r.met fault r.ran r.answers
+    pub ran_writes : (reads : List ℕ) (fault : Option ToolFault) (records : List Item → Type 0) → RanFor reads came stopped records sink (job_due job ask empty) (end_answer job) fault calls → WritesOf sink (job_due job ask empty) fault every ended calls
+    ran_writes reads fault records r = end_writes r.end r.met fault r.ran r.answers
 
 -- ---- how a fault names the end of a log
 
@@ -155,10 +159,10 @@ module _ (job : Job) (ask : Ask) (h : ℕ) (others : List ℕ) (sink : ℕ) (emp
   came_first first more met all are p = first_are h units ending before now first more met all tells (subst (λ (cs : List Call). Did cs before now) are did) p
 
   -- what a run wrote of the log
-  pub log_writes : (fault : Option ToolFault) (recorded : RunRecord) → RanFor (h ∷ others) (FileCame h) (λ why cs met. FileStopped h why cs met now) sink (job_due job ask empty) (end_answer job) fault recorded calls
+  pub log_writes : (fault : Option ToolFault) (records : List Item → Type 0) → RanFor (h ∷ others) (FileCame h) (λ why cs met. FileStopped h why cs met now) records sink (job_due job ask empty) (end_answer job) fault calls
       → WritesOf sink (job_due job ask empty) fault (unit_items units) (is_whole ending) calls
-  log_writes fault recorded r =
-      ran_writes job ask empty sink (unit_items units) (is_whole ending) calls (FileCame h) (λ why cs met. FileStopped h why cs met now) came_first (stopped_are h units ending before tells calls now did) (h ∷ others) fault recorded r
+  log_writes fault records r =
+      ran_writes job ask empty sink (unit_items units) (is_whole ending) calls (FileCame h) (λ why cs met. FileStopped h why cs met now) came_first (stopped_are h units ending before tells calls now did) (h ∷ others) fault records r
 
   -- where it was answered that the source stopped so, it did
   stop_ends : (end : RunEnd TextEnding FileStop) (met : Met) (why : FileStop) (named : FileEnding) → runs.Ran (FileCame h) (λ why cs met. FileStopped h why cs met now) (TextWritten sink (job_due job ask empty)) (TextEnded sink (job_due job ask empty)) (ERRORS ∷ sink ∷ []) end met calls
@@ -171,34 +175,61 @@ module _ (job : Job) (ask : Ask) (h : ℕ) (others : List ℕ) (sink : ℕ) (emp
       (so.1, (e.2).text ∙ ap (λ (xs : List Item). whole (job_due job ask empty) xs false) (sym so.0) ∙ ap (λ (b : Bool). whole (job_due job ask empty) (unit_items units) b) (sym (ap is_whole so.1 ∙ not_whole other named (names_same why other named same names))))
 
   -- where the source stopped so, it ends as it is named, and all that is due of it was written
-  pub log_stops : (fault : Option ToolFault) (recorded : RunRecord) (why : FileStop) (named : FileEnding) → RanFor (h ∷ others) (FileCame h) (λ why cs met. FileStopped h why cs met now) sink (job_due job ask empty) (end_answer job) fault recorded calls
+  pub log_stops : (fault : Option ToolFault) (records : List Item → Type 0) (why : FileStop) (named : FileEnding) → RanFor (h ∷ others) (FileCame h) (λ why cs met. FileStopped h why cs met now) records sink (job_due job ask empty) (end_answer job) fault calls
       → fault ≡ Some (stop_answer (file_of job) why) → named_ending why ≡ Some named → (ending ≡ named) × (written_by sink calls ≡ whole (job_due job ask empty) (unit_items units) (is_whole ending))
-  log_stops fault recorded why named r is names = stop_ends r.end r.met why named r.ran (sym is ∙ r.answers) names
+  log_stops fault records why named r is names = stop_ends r.end r.met why named r.ran (sym is ∙ r.answers) names
 
 -- ---- over feeds
 
--- items that came of feeds are of all that a reader meets
+-- items that came of feeds in a stated order are of all that a reader meets
 fed_are : (job : Job) (listings : List Listing) (met : List Item) (all : Bool) → (p : FedCame job listings met all) → AreOf met all (items_of p.history) true
-fed_are job listings met all p = record { rest = p.rest; parts = p.parts; whole = λ e. (p.whole e, refl) }
+fed_are job listings met all p = record { rest = p.rest; parts = p.parts; whole = λ e. ((p.whole e).0, refl) }
 
-module _ (job : Job) (ask : Ask) (sink : ℕ) (empty : Bool) (listings : List Listing) (calls : List Call) where
+-- items that came of a ring are of all that a reader took, which may not have ended
+live_are : (job : Job) (listings : List Listing) (met : List Item) (all : Bool) → (p : FedCame job listings met all) → AreOf met all (items_of p.history) all
+live_are job listings met all p = record { rest = p.rest; parts = p.parts; whole = λ e. ((p.whole e).0, e) }
+
+module _ (job : Job) (ask : Ask) (sink : ℕ) (empty : Bool) (listings : List Listing) (recorded : RunRecord) (calls : List Call) where
+  -- what an output that ended so wrote of all that its source has
+  ended_of : (ending : TextEnding) (done last : List Item) (all ended : Bool) (every : List Item) (fault : Option ToolFault) → fault ≡ output_answer ending → AreOf (done ++ last) all every ended → TextEnded sink (job_due job ask empty) ending calls done last all
+      → WritesOf sink (job_due job ask empty) fault every ended calls
+  ended_of ending done last all ended every fault is are p = subst (λ (f : Option ToolFault). WritesOf sink (job_due job ask empty) f every ended calls) (sym is) (ended_writes job ask empty sink every ended calls ending done last all are p)
+
   -- a run that ended so
-  fed_end : (end : RunEnd TextEnding FileStop) (met : Met) (fault : Option ToolFault) → runs.Ran (λ cs. FedCame job listings) (λ why cs met. ⊥) (TextWritten sink (job_due job ask empty)) (TextEnded sink (job_due job ask empty)) (ERRORS ∷ sink ∷ []) end met calls → fault ≡ end_answer job end
+  fed_end : (end : RunEnd TextEnding FileStop) (met : Met) (fault : Option ToolFault) → runs.Ran (λ cs. FeedsCame job listings recorded) (λ why cs met. ⊥) (TextWritten sink (job_due job ask empty)) (TextEnded sink (job_due job ask empty)) (ERRORS ∷ sink ∷ []) end met calls → fault ≡ end_answer job end
       → (log : Log) × (history : List (HistoryItem LogUnit)) × AreFed job listings log history × WritesOf sink (job_due job ask empty) fault (items_of history) true calls
   fed_end (ends.ByOutput ending) met fault ran is =
       let e = ran.ends in
-      let came = e.4 in (
-        came.log,
-        came.history,
-        came.fed,
-        subst (λ (f : Option ToolFault). WritesOf sink (job_due job ask empty) f (items_of came.history) true calls) (sym is) (ended_writes job ask empty sink (items_of came.history) true calls ending ran.done ran.last ran.all (fed_are job listings (ran.done ++ ran.last) ran.all came) e.5),
-      )
+      let came = e.4.came in (came.log, came.history, came.fed, ended_of ending ran.done ran.last ran.all true (items_of came.history) fault is (fed_are job listings (ran.done ++ ran.last) ran.all came) e.5)
   fed_end (ends.BySource why) met fault ran is = absurd ran.ends.1
 
   -- what a run wrote of them
-  pub feeds_write : (fault : Option ToolFault) (recorded : RunRecord) → RanFor [] (λ cs. FedCame job listings) (λ why cs met. ⊥) sink (job_due job ask empty) (end_answer job) fault recorded calls
+  pub feeds_write : (fault : Option ToolFault) (records : List Item → Type 0) → RanFor [] (λ cs. FeedsCame job listings recorded) (λ why cs met. ⊥) records sink (job_due job ask empty) (end_answer job) fault calls
       → (log : Log) × (history : List (HistoryItem LogUnit)) × AreFed job listings log history × WritesOf sink (job_due job ask empty) fault (items_of history) true calls
-  feeds_write fault recorded r = fed_end r.end r.met fault r.ran r.answers
+  feeds_write fault records r = fed_end r.end r.met fault r.ran r.answers
+
+  -- the same of a ring that threads share
+  live_end : (end : RunEnd TextEnding FileStop) (met : Met) (fault : Option ToolFault) → is_on_threads job ≡ true → runs.Ran (λ cs. FeedsCame job listings recorded) (λ why cs met. ⊥) (TextWritten sink (job_due job ask empty)) (TextEnded sink (job_due job ask empty)) (ERRORS ∷ sink ∷ []) end met calls → fault ≡ end_answer job end
+      → WritesRing job listings recorded sink (job_due job ask empty) fault calls
+  live_end (ends.ByOutput ending) met fault threads ran is =
+      let e = ran.ends in
+      let came = e.4.came in
+      let ring = (e.4.ring threads).1 in record {
+        ring = ring.ring;
+        is = ring.is;
+        interleaved = subst (λ (l : Log). IsInterleaving l (units_of (with_made job listings))) (sym ring.log_is) came.fed.interleaved;
+        history = came.history;
+        only = ring.only;
+        read = subst (λ (l : Log). IsReadHistory unit_words job.seg l came.history) (sym ring.log_is) came.fed.read;
+        ended = ran.all;
+        tail = λ all. subst (λ (l : Log). ReachesTail l came.history) (sym ring.log_is) (came.whole all).1;
+        writes = ended_of ending ran.done ran.last ran.all ran.all (items_of came.history) fault is (live_are job listings (ran.done ++ ran.last) ran.all came) e.5;
+      }
+  live_end (ends.BySource why) met fault threads ran is = absurd ran.ends.1
+
+  pub live_write : (fault : Option ToolFault) (records : List Item → Type 0) → is_on_threads job ≡ true → RanFor [] (λ cs. FeedsCame job listings recorded) (λ why cs met. ⊥) records sink (job_due job ask empty) (end_answer job) fault calls
+      → WritesRing job listings recorded sink (job_due job ask empty) fault calls
+  live_write fault records threads r = live_end r.end r.met fault threads r.ran r.answers
 
 -- ---- with no memory
 
@@ -215,10 +246,30 @@ short_log job found h others units ending calls before now is tells did p =
     let began : LogBegan h calls met all = subst (λ (logs : List ℕ). BeganOf logs job (listings_of found) calls met all) is p.7 in
     (p.0, p.1, p.2, p.5, short_of job p.0 p.2 p.1 (unit_items units) (is_whole ending) calls met all (began_are h units ending calls before now met all tells did began) p.8)
 
--- and of feeds
-pub short_feeds : (job : Job) (found : List Found) (calls : List Call) → logs_of found ≡ [] → GroupsShort job found calls
-    → (log : Log) × (history : List (HistoryItem LogUnit)) × AreFed job (listings_of found) log history × WritesPart job found (items_of history) true calls
-short_feeds job found calls is p =
+-- and of feeds: in a stated order all that a reader meets has come to an end
+short_by : (b : Bool) (job : Job) (found : List Found) (calls : List Call) → is_on_threads job ≡ b → logs_of found ≡ [] → GroupsShort job found calls → WritesFedPart job found calls
+short_by false job found calls stated is p =
     let met = p.3 in let all = p.4 in
-    let came : FedCame job (listings_of found) met all = subst (λ (logs : List ℕ). BeganOf logs job (listings_of found) calls met all) is p.7 in
-    (came.log, came.history, came.fed, (p.0, p.1, p.2, p.5, short_of job p.0 p.2 p.1 (items_of came.history) true calls met all (fed_are job (listings_of found) met all came) p.8))
+    let came : FedCame job (listings_of found) met all = subst (λ (logs : List ℕ). BeganOf logs job (listings_of found) calls met all) is p.7 in record {
+      log = came.log;
+      history = came.history;
+      fed = came.fed;
+      ended = true;
+      stated = λ e. refl;
+      tail = λ e. (came.fed.turns stated).1;
+      writes = (p.0, p.1, p.2, p.5, short_of job p.0 p.2 p.1 (items_of came.history) true calls met all (fed_are job (listings_of found) met all came) p.8);
+    }
+short_by true job found calls threads is p =
+    let met = p.3 in let all = p.4 in
+    let came : FedCame job (listings_of found) met all = subst (λ (logs : List ℕ). BeganOf logs job (listings_of found) calls met all) is p.7 in record {
+      log = came.log;
+      history = came.history;
+      fed = came.fed;
+      ended = all;
+      stated = λ stated. let no : true ≡ false = sym threads ∙ stated in absurd cc;
+      tail = λ e. (came.whole e).1;
+      writes = (p.0, p.1, p.2, p.5, short_of job p.0 p.2 p.1 (items_of came.history) all calls met all (live_are job (listings_of found) met all came) p.8);
+    }
+
+pub short_feeds : (job : Job) (found : List Found) (calls : List Call) → logs_of found ≡ [] → GroupsShort job found calls → WritesFedPart job found calls
+short_feeds job found calls is p = short_by (is_on_threads job) job found calls refl is p

@@ -1,3 +1,5 @@
+pub mod Sources
+pub mod Counters
 pub mod Rows
 pub mod Runs
 pub mod Told

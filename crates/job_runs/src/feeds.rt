@@ -8,10 +8,11 @@ ghost use Rattle.vio.specs.Calls.{Called};
 ghost use Rattle.vsl_dispatch.specs.Groups.{is_filled};
 ghost use Rattle.tool_words.specs.Sound.{IsSound};
 ghost use Rattle.tool_consumers.specs.Consumers.{IsJobConsumer};
-ghost use Rattle.job_steps.specs.Jobs.{order_seed, with_made, write_of};
+ghost use Rattle.job_steps.specs.Jobs.{is_on_threads, order_seed, with_made, write_of};
 ghost use Rattle.job_steps.specs.Queries.{Ask, HoldsAsAsked};
 ghost use Rattle.job_steps.specs.Fits.{FitsRing, HasFitFeeds};
-ghost use Rattle.job_runs.specs.Rows.{FedCame, RanFor, end_answer, job_due};
+ghost use Rattle.job_runs.specs.Sources.{FedCame, FeedsCame, RecordsOf};
+ghost use Rattle.job_runs.specs.Rows.{RanFor, end_answer, job_due};
 ghost use Rattle.job_runs.specs.Runs.{RanShort, RanSo};
 ghost use Rattle.job_runs.specs.inside.Outputs.{IsFed};
 
@@ -29,7 +30,7 @@ use vio::{Created, NoMemory, World};
 use vsl_dispatch::Consumer;
 use vsl_select::Text;
 
-/// The seed from which an order's turns are drawn; feed after feed draws none.
+/// The seed from which an order's turns are drawn; feed after feed draws none, and neither do threads.
 pub fn order_seed(order: Order) -> Option<u32>
     ensures { result ≡ order_seed order }
 {
@@ -75,7 +76,7 @@ fn items_of(alloc: Global, job: &Job, listings: Vec<Listing>) -> Result<FeedItem
     Ok(FeedItems { alloc, replay })
 }
 
-/// Prints the groups of feeds.
+/// Prints the groups of feeds, which are put in the order that a job states.
 pub fn print_feeds<W: World, C: Consumer>(
     alloc: Global,
     job: &Job,
@@ -91,7 +92,8 @@ pub fn print_feeds<W: World, C: Consumer>(
     requires keeps { is_filled job.now.keep [] ≡ false }
     requires named { (W.seen world.old).names Writing sink.handle (write_of job.now) ≡ true }
     requires apart { sink.handle ≢ ERRORS }
-    ensures ran { IfOk result (λ r. (ask : Ask) → HoldsAsAsked query.now ask → Called (RanSo (RanFor [] (λ calls. FedCame job.now listings.items) (λ why calls met. ⊥) sink.handle (job_due job.now ask sink.empty) (end_answer job.now) r.fault r.run)) (W.seen world.old) (W.seen world.new)) }
+    requires stated { is_on_threads job.now ≡ false }
+    ensures ran { IfOk result (λ r. (ask : Ask) → HoldsAsAsked query.now ask → Called (RanSo (RanFor [] (λ calls. FeedsCame job.now listings.items r.run) (λ why calls met. ⊥) (RecordsOf [] job.now r.run) sink.handle (job_due job.now ask sink.empty) (end_answer job.now) r.fault)) (W.seen world.old) (W.seen world.new)) }
     ensures short { OnErr result ((ask : Ask) → HoldsAsAsked query.now ask → Called (RanShort [] (λ calls. FedCame job.now listings.items) sink.handle (job_due job.now ask sink.empty)) (W.seen world.old) (W.seen world.new)) }
 {
     let errors = Text::new(alloc, "stderr")?;

@@ -1,6 +1,6 @@
 //! Laws: functions that do nothing, for what their clauses say.
 
-ghost use Rattle.std.specs.Prelude.{◌≡◌, ℕ, Bool, true, List, [], ◌∷◌, Option, Some};
+ghost use Rattle.std.specs.Prelude.{◌≡◌, ℕ, Bool, true, false, List, [], ◌∷◌, Option, Some};
 ghost use Rattle.vio.specs.World.{Seen};
 ghost use Rattle.vio.specs.Calls.{Call, Did, written_by};
 ghost use Rattle.vsl_record.specs.Unit.{LogUnit, Log};
@@ -14,12 +14,13 @@ ghost use Rattle.run_sources.specs.Sources.{FileCame, FileStopped, unit_items};
 ghost use Rattle.run_sources.specs.Told.{TellsLog, named_ending};
 ghost use Rattle.text_printer.specs.Ends.{whole};
 ghost use Rattle.job_steps.specs.declared.fault.ToolFault.{ToolFault};
-ghost use Rattle.job_steps.specs.Jobs.{file_of};
+ghost use Rattle.job_steps.specs.Jobs.{file_of, is_on_threads};
 ghost use Rattle.job_steps.specs.Queries.{Ask};
-ghost use Rattle.job_steps.specs.Steps.{Found, listings_of, logs_of};
+ghost use Rattle.job_steps.specs.Steps.{Found, logs_of};
 ghost use Rattle.job_runs.specs.declared.record.RunRecord.{RunRecord};
-ghost use Rattle.job_runs.specs.Rows.{AreFed, FedCame, GroupsShort, JobRan, RanFor, end_answer, job_due, stop_answer};
-ghost use Rattle.job_runs.specs.Told.{WritesOf, WritesPart};
+ghost use Rattle.job_runs.specs.Sources.{AreFed, FeedsCame, RecordsCount, RecordsOf};
+ghost use Rattle.job_runs.specs.Rows.{GroupsShort, JobRan, RanFor, end_answer, job_due, stop_answer};
+ghost use Rattle.job_runs.specs.Told.{WritesFedPart, WritesOf, WritesPart, WritesRing};
 ghost use Rattle.job_runs.specs.Good.{HasCause, StoppedByLog};
 
 /// Where a handle told what it had left, a run over its log wrote a part of what is due of that log, and without a fault all
@@ -27,20 +28,24 @@ ghost use Rattle.job_runs.specs.Good.{HasCause, StoppedByLog};
 pub fn told_logs_are_written()
     ensures writes { (job : Job) (ask : Ask) (h : ℕ) (others : List ℕ) (sink : ℕ) (empty : Bool) (units : Log) (ending : FileEnding) (fault : Option ToolFault) (recorded : RunRecord) (calls : List Call) (before now : Seen) →
         TellsLog h units ending before → Did calls before now →
-        RanFor (h ∷ others) (FileCame h) (λ why cs met. FileStopped h why cs met now) sink (job_due job ask empty) (end_answer job) fault recorded calls →
+        RanFor (h ∷ others) (FileCame h) (λ why cs met. FileStopped h why cs met now) (RecordsCount recorded) sink (job_due job ask empty) (end_answer job) fault calls →
         WritesOf sink (job_due job ask empty) fault (unit_items units) (is_whole ending) calls }
     ensures stops { (job : Job) (ask : Ask) (h : ℕ) (others : List ℕ) (sink : ℕ) (empty : Bool) (units : Log) (ending : FileEnding) (fault : Option ToolFault) (recorded : RunRecord) (calls : List Call) (before now : Seen) (why : FileStop) (named : FileEnding) →
         TellsLog h units ending before → Did calls before now →
-        RanFor (h ∷ others) (FileCame h) (λ why cs met. FileStopped h why cs met now) sink (job_due job ask empty) (end_answer job) fault recorded calls →
+        RanFor (h ∷ others) (FileCame h) (λ why cs met. FileStopped h why cs met now) (RecordsCount recorded) sink (job_due job ask empty) (end_answer job) fault calls →
         fault ≡ Some (stop_answer (file_of job) why) → named_ending why ≡ Some named →
         (ending ≡ named) × (written_by sink calls ≡ whole (job_due job ask empty) (unit_items units) (is_whole ending)) }
 {}
 
-/// A run over feeds wrote a part of what is due of all that a reader meets of them, and without a fault all of it.
+/// A run over feeds in a stated order wrote a part of what is due of all that a reader meets of them, and without a fault all of
+/// it; over feeds that threads put, so much of what is due of all that the only reader of the ring took, which is recorded.
 pub fn feeds_are_written()
-    ensures { (job : Job) (ask : Ask) (sink : ℕ) (empty : Bool) (listings : List Listing) (fault : Option ToolFault) (recorded : RunRecord) (calls : List Call) →
-        RanFor [] (λ cs. FedCame job listings) (λ why cs met. ⊥) sink (job_due job ask empty) (end_answer job) fault recorded calls →
+    ensures stated { (job : Job) (ask : Ask) (sink : ℕ) (empty : Bool) (listings : List Listing) (fault : Option ToolFault) (recorded : RunRecord) (calls : List Call) →
+        is_on_threads job ≡ false → RanFor [] (λ cs. FeedsCame job listings recorded) (λ why cs met. ⊥) (RecordsOf [] job recorded) sink (job_due job ask empty) (end_answer job) fault calls →
         (log : Log) × (history : List (HistoryItem LogUnit)) × AreFed job listings log history × WritesOf sink (job_due job ask empty) fault (items_of history) true calls }
+    ensures live { (job : Job) (ask : Ask) (sink : ℕ) (empty : Bool) (listings : List Listing) (fault : Option ToolFault) (recorded : RunRecord) (calls : List Call) →
+        is_on_threads job ≡ true → RanFor [] (λ cs. FeedsCame job listings recorded) (λ why cs met. ⊥) (RecordsOf [] job recorded) sink (job_due job ask empty) (end_answer job) fault calls →
+        WritesRing job listings recorded sink (job_due job ask empty) fault calls }
 {}
 
 /// A job that had no memory wrote a part of what is due of all that its log has, where that was told, or of all that a reader
@@ -49,8 +54,7 @@ pub fn short_runs_are_part()
     ensures log { (job : Job) (found : List Found) (h : ℕ) (others : List ℕ) (units : Log) (ending : FileEnding) (calls : List Call) (before now : Seen) →
         logs_of found ≡ h ∷ others → TellsLog h units ending before → Did calls before now → GroupsShort job found calls →
         WritesPart job found (unit_items units) (is_whole ending) calls }
-    ensures feeds { (job : Job) (found : List Found) (calls : List Call) → logs_of found ≡ [] → GroupsShort job found calls →
-        (log : Log) × (history : List (HistoryItem LogUnit)) × AreFed job (listings_of found) log history × WritesPart job found (items_of history) true calls }
+    ensures feeds { (job : Job) (found : List Found) (calls : List Call) → logs_of found ≡ [] → GroupsShort job found calls → WritesFedPart job found calls }
 {}
 
 /// Where a run has a fault, one of its calls failed, or its log stopped it for what that holds: it is no log, is damaged or is too

@@ -10,14 +10,16 @@
 mod counters;
 mod feeds;
 mod laws;
+mod live;
 mod log;
 mod output;
 mod record;
 
-pub use counters::print_counters;
+pub use counters::{print_counters, print_live_counters};
 pub use feeds::print_feeds;
 pub use laws::{
     faults_have_failed_calls, feeds_are_written, short_runs_are_part, told_logs_are_written,
 };
+pub use live::print_live;
 pub use log::print_log;
 pub use record::{Ran, RunRecord};

@@ -9,7 +9,8 @@ ghost use Rattle.run_sources.specs.Sources.{FileCame, FileStopped};
 ghost use Rattle.tool_consumers.specs.Consumers.{IsJobConsumer};
 ghost use Rattle.job_steps.specs.Jobs.{file_of, write_of};
 ghost use Rattle.job_steps.specs.Queries.{Ask, HoldsAsAsked};
-ghost use Rattle.job_runs.specs.Rows.{LogBegan, RanFor, end_answer, job_due, stop_answer};
+ghost use Rattle.job_runs.specs.Sources.{LogBegan, RecordsCount};
+ghost use Rattle.job_runs.specs.Rows.{RanFor, end_answer, job_due, stop_answer};
 ghost use Rattle.job_runs.specs.Runs.{RanShort, RanSo};
 
 use crate::output::{answer, output_of};
@@ -57,7 +58,7 @@ pub fn print_log<W: World, C: Consumer>(
     requires keeps { is_filled job.now.keep [] ≡ false }
     requires named { (W.seen world.old).names Writing sink.handle (write_of job.now) ≡ true }
     requires apart { sink.handle ≢ ERRORS }
-    ensures ran { IfOk result (λ r. (ask : Ask) → HoldsAsAsked query.now ask → Called (RanSo (RanFor (handle ∷ []) (FileCame handle) (λ why calls met. FileStopped handle why calls met (W.seen world.new)) sink.handle (job_due job.now ask sink.empty) (end_answer job.now) r.fault r.run)) (W.seen world.old) (W.seen world.new)) }
+    ensures ran { IfOk result (λ r. (ask : Ask) → HoldsAsAsked query.now ask → Called (RanSo (RanFor (handle ∷ []) (FileCame handle) (λ why calls met. FileStopped handle why calls met (W.seen world.new)) (RecordsCount r.run) sink.handle (job_due job.now ask sink.empty) (end_answer job.now) r.fault)) (W.seen world.old) (W.seen world.new)) }
     ensures short { OnErr result ((ask : Ask) → HoldsAsAsked query.now ask → Called (RanShort (handle ∷ []) (LogBegan handle) sink.handle (job_due job.now ask sink.empty)) (W.seen world.old) (W.seen world.new)) }
 {
     let name = Text::new(alloc, file_name(job))?;

@@ -2,24 +2,29 @@
 
 ghost use Rattle.std.specs.Prelude.{◌≡◌, List};
 ghost use Rattle.ring_layout.specs.declared.item.Item.{Item};
-ghost use Rattle.ring_layout.specs.Items.{count_items, count_units};
 ghost use Rattle.one_run.specs.Counts.{IsMet};
+ghost use Rattle.job_runs.specs.Sources.{RecordsCount};
 
 use job_steps::ToolFault;
+use log_ring::ClosedRing;
 use one_run::Met;
 
 /// What was taken of the input. With the input it gives the run.
-#[derive(Clone, Copy, Debug, PartialEq, Eq)]
+#[derive(Drop)]
 pub enum RunRecord {
     /// Nothing was taken: a refusal came before the run, or the job has no log.
     Nothing,
-    /// Units were taken, from the first on. varnishstat takes none, and both numbers are 0.
+    /// Units were taken, from the first on, of a log file or of feeds in a stated order. varnishstat takes none, and both
+    /// numbers are 0.
     Counted {
         /// How many units were taken; after a failed write, how many units' text was begun.
         units: u64,
         /// How many items the history has: runs of units, with an overrun between two; over a file one run.
         items: u64,
     },
+    /// Workers put feeds on threads into this ring, which is closed. It holds no byte: contracts see its log, what was taken
+    /// of it, and how often a worker waited for another.
+    Closed(ClosedRing),
 }
 
 /// What a run took, and why it stopped early, if it did.
@@ -33,7 +38,7 @@ impl Ran {
     /// What a run took that met so much.
     pub(crate) fn counted(fault: Option<ToolFault>, met: Met) -> Ran
         ensures fault { result.fault ≡ fault }
-        ensures run { (list : List Item) → IsMet met list → result.run ≡ RunRecord.Counted (count_units list) (count_items list) }
+        ensures run { (list : List Item) → IsMet met list → RecordsCount result.run list }
     {
         let run = RunRecord::Counted {
             units: met.units,

@@ -24,7 +24,7 @@ feeds_fit reclen seg n [] (l ∷ listings) calls p = absurd p
 feeds_fit reclen seg n (name ∷ names) [] calls p = absurd p
 feeds_fit reclen seg n (name ∷ names) (l ∷ listings) calls p = All-cons (FitsRing seg) l listings (feed_fits reclen seg (record { number = n; name = name }) l p.0 p.3) (feeds_fit reclen seg (n + 1) names listings p.1 p.4)
 
-feeds_count : (reclen seg n : ℕ) (names : List (List ℕ)) (listings : List Listing) (calls : List Call) → Passed (FeedPasses reclen seg) FeedStops (feeds_from n names) listings calls → length listings ≤ length names
+feeds_count : (reclen seg n : ℕ) (names : List (List ℕ)) (listings : List Listing) (calls : List Call) → Passed (FeedPasses reclen seg) FeedStops (feeds_from n names) listings calls → length listings ≡ length names
 feeds_count reclen seg n [] [] calls p = omega arith
 feeds_count reclen seg n [] (l ∷ listings) calls p = absurd p
 feeds_count reclen seg n (name ∷ names) [] calls p = absurd p
@@ -32,4 +32,5 @@ feeds_count reclen seg n (name ∷ names) (l ∷ listings) calls p = let more = 
 
 pub fit_feeds : (job : Job) (listings : List Listing) (s t : Seen) → length job.feeds ≤ 16 → Called (PassedSo (FeedPasses job.reclen job.seg) FeedStops (λ found. found ≡ listings) (feeds_from 0 job.feeds)) s t → HasFitFeeds job listings
 fit_feeds job listings s t few p =
-    let so = p.is in subst (λ (all : List Listing). HasFitFeeds job all) so.is (record { each = feeds_fit job.reclen job.seg 0 job.feeds so.found p.calls so.passed; few = omega (arith, few, feeds_count job.reclen job.seg 0 job.feeds so.found p.calls so.passed) })
+    let so = p.is in let count = feeds_count job.reclen job.seg 0 job.feeds so.found p.calls so.passed in
+    subst (λ (all : List Listing). HasFitFeeds job all) so.is (record { each = feeds_fit job.reclen job.seg 0 job.feeds so.found p.calls so.passed; all = count; few = omega (arith, few, count) })

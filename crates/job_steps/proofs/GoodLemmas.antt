@@ -24,7 +24,7 @@ use Rattle.tool_words.specs.declared.job.QueryText.{QueryText}
 use Rattle.job_steps.specs.declared.fault.ToolFault.{ToolFault}
 use Rattle.job_steps.specs.Good.{IsGoodStep, AreGoodSteps}
 use Rattle.job_steps.specs.Jobs.{is_counting, write_of}
-use Rattle.job_steps.specs.Steps.{Step, RefuseWords, TakeRules, TakeOrder, TakeQuery, TakeFormat, OpenLog, ReadFeed, MakeSink, Passes, Stops, most_query_bytes, feed_steps, input_steps, group_steps, counter_steps, word_steps, steps_of, creates, creates_of, opens_of}
+use Rattle.job_steps.specs.Steps.{Step, RefuseWords, TakeRules, TakeQuery, TakeFormat, OpenLog, ReadFeed, MakeSink, Passes, Stops, most_query_bytes, feed_steps, input_steps, group_steps, counter_steps, word_steps, steps_of, creates, creates_of, opens_of}
 use Rattle.job_steps.proofs.TookLemmas.{opens_alone}
 use Rattle.job_steps.proofs.BegunLemmas.{queries, format, read_create, counters_create}
 
@@ -79,7 +79,6 @@ feed_failed none reclen seg feed bytes listing (feeds.BadListing number line) ca
 step_failed : NoneBad → (step : Step) (fault : ToolFault) (calls : List Call) (s t : Seen) → IsGoodStep s step → Did calls s t → Stops step fault calls → SomeFailed calls
 step_failed none (RefuseWords why) fault calls s t good did p = absurd good
 step_failed none (TakeRules caseless texts) fault calls s t good did p = absurd (none_some _ p.1.0 good p.1.1)
-step_failed none (TakeOrder job) fault calls s t good did p = let no : true ≡ false = sym good ∙ p.1 in absurd cc
 step_failed none (TakeQuery caseless n query) fault calls s t good did p = query_failed caseless n query fault calls s t good did p
 step_failed none (TakeFormat tool text) fault calls s t good did p = absurd (none_some _ fault good p.1)
 step_failed none (OpenLog name) fault calls s t good did p = refuse_failed Opening name calls p.1
@@ -97,7 +96,6 @@ text_kept false name word held s t keeps told = told
 good_kept : (step : Step) (s t : Seen) → Keeps s t → IsGoodStep s step → IsGoodStep t step
 good_kept (RefuseWords why) s t keeps good = good
 good_kept (TakeRules caseless texts) s t keeps good = good
-good_kept (TakeOrder job) s t keeps good = good
 good_kept (TakeQuery caseless n query) s t keeps good = (good.0, text_kept query.file query.text query.text good.0 s t keeps good.1, good.2)
 good_kept (TakeFormat tool text) s t keeps good = good
 good_kept (OpenLog name) s t keeps good = good

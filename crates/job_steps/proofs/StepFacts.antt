@@ -17,7 +17,7 @@ use Rattle.feed_files.specs.declared.fault.FeedFault.{FeedFault}
 use Rattle.feed_files.specs.declared.fault.FeedFault.TheVariants as feeds
 use Rattle.feed_files.specs.Feeds.{Feed, FeedStops, most_feed_bytes}
 use Rattle.job_steps.specs.declared.fault.ToolFault.{ToolFault}
-use Rattle.job_steps.specs.Steps.{Step, RefuseWords, TakeRules, TakeOrder, TakeQuery, TakeFormat, OpenLog, ReadFeed, MakeSink, Found, Passes, Stops, most_query_bytes, file_named, opens, creates, opens_of, creates_of}
+use Rattle.job_steps.specs.Steps.{Step, RefuseWords, TakeRules, TakeQuery, TakeFormat, OpenLog, ReadFeed, MakeSink, Found, Passes, Stops, most_query_bytes, file_named, opens, creates, opens_of, creates_of}
 
 -- calls open and create files of these names alone, give no more handles than there are names, and write nothing
 pub record StaysWithin (opened created : List (List ℕ)) (calls : List Call) : Type 0 where
@@ -77,7 +77,6 @@ made_within false append name h empty calls p = rw p (record { within = (inl ref
 pub passes_within : (step : Step) (found : Found) (calls : List Call) → Passes step found calls → StaysWithin (opens step) (creates step) calls
 passes_within (RefuseWords why) found calls p = absurd p
 passes_within (TakeRules caseless texts) found calls p = within_none [] [] calls p.1
-passes_within (TakeOrder job) found calls p = within_none [] [] calls p.1
 passes_within (TakeQuery caseless n query) found calls p = within_opens (opens (TakeQuery caseless n query)) calls (text_opens query.file query.text query.text p.0 calls p.2)
 passes_within (TakeFormat tool text) found calls p = within_none [] [] calls p.1
 passes_within (OpenLog name) found calls p = opened_within (bytes_eq name (codes "-")) name p.0 calls p.2
@@ -94,7 +93,6 @@ feed_opens feed (feeds.BadListing number line) calls p = read_opens most_feed_by
 pub stops_within : (step : Step) (fault : ToolFault) (calls : List Call) → Stops step fault calls → StaysWithin (opens step) (creates step) calls
 stops_within (RefuseWords why) fault calls p = within_none [] [] calls p.0
 stops_within (TakeRules caseless texts) fault calls p = within_none [] [] calls p.0
-stops_within (TakeOrder job) fault calls p = within_none [] [] calls p.0
 stops_within (TakeQuery caseless n query) fault calls (inl p) = within_opens (opens (TakeQuery caseless n query)) calls (file_refused query.file query.text p.1.0 calls p.0 p.1.1)
 stops_within (TakeQuery caseless n query) fault calls (inr p) = within_opens (opens (TakeQuery caseless n query)) calls (text_opens query.file query.text query.text p.0 calls p.2)
 stops_within (TakeFormat tool text) fault calls p = within_none [] [] calls p.0

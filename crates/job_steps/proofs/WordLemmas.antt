@@ -1,36 +1,24 @@
--- How the steps of the words stop.
-use Rattle.std.proofs.Common.{◌≡◌, ◌≢◌, true, false, [], ◌∷◌, Some, None, Result, Ok, Err, refl, arith}
+-- How the rules in the words stop a job.
+use Rattle.std.proofs.Common.{◌≡◌, ◌≢◌, [], Some, Ok, refl, arith}
 use Rattle.log_model.specs.declared.fault.Halt.{Halt}
 use Rattle.log_model.specs.declared.fault.Halt.TheVariants as halts
-use Rattle.vio.specs.Steps.{Stopped, Halted}
-use Rattle.vio.proofs.StepLemmas.{passed_one, stopped_one, stopped_before, stopped_behind}
+use Rattle.vio.specs.Steps.{Halted}
 use Rattle.vsl_select.specs.declared.rule_text.SelectFault.{SelectFault}
 use Rattle.vsl_select.specs.declared.rule_text.SelectFault.TheVariants as rules
 use Rattle.vsl_select.specs.Shown.{rules_fault}
-use Rattle.tool_words.specs.declared.fault.UsageFault.{UsageFault}
 use Rattle.tool_words.specs.declared.job.Job.{Job}
 use Rattle.job_steps.specs.declared.fault.ToolFault.{ToolFault}
-use Rattle.job_steps.specs.declared.fault.ToolFault.TheVariants.{Usage, NotBuilt}
-use Rattle.job_steps.specs.Built.{is_built}
-use Rattle.job_steps.specs.Steps.{RefuseWords, TakeRules, TakeOrder, FoundNone, Passes, Stops, rule_answer, word_steps}
+use Rattle.job_steps.specs.Steps.{TakeRules, Passes, Stops, IsRuleAnswer, word_steps}
+use Rattle.job_steps.specs.inside.Tasks.{IsRuleHalt}
+use Rattle.job_steps.proofs.ObjectLemmas.{halted_one}
 
--- a job isn't built, whose rules are good
-pub order_stops : (job : Job) → rules_fault job.caseless job.rules ≡ None → is_built job ≡ false → Stopped Passes Stops (word_steps (Ok job)) NotBuilt []
-order_stops job good built =
-    stopped_behind Passes Stops (TakeRules job.caseless job.rules ∷ []) (TakeOrder job ∷ []) NotBuilt (FoundNone ∷ []) [] []
-    (passed_one Passes Stops (TakeRules job.caseless job.rules) FoundNone [] (refl, refl, good)) (stopped_one Passes Stops (TakeOrder job) NotBuilt [] (refl, built, refl))
-
-rules_stop : (job : Job) (fault : SelectFault) (halt : Halt ToolFault) → rules_fault job.caseless job.rules ≡ Some fault → halt ≡ halts.Fault (rule_answer fault) → Halted Passes Stops [] (word_steps (Ok job)) halt []
-rules_stop job fault halt first e = rw e
-    (stopped_before Passes Stops (TakeRules job.caseless job.rules ∷ []) (TakeOrder job ∷ []) (rule_answer fault) [] (stopped_one Passes Stops (TakeRules job.caseless job.rules) (rule_answer fault) [] (refl, (fault, first, refl))), refl)
+-- a fault with an answer isn't want of memory
+answered : (why : SelectFault) (fault : ToolFault) → IsRuleAnswer why fault → why ≢ rules.NoMemory
+answered (rules.BadTags word) fault is = λ e. absurd cc
+answered (rules.BadPattern word) fault is = λ e. absurd cc
+answered rules.NoMemory fault is = absurd is
 
 -- a rule is refused, or there is no memory for it
-pub rules_halt : (job : Job) (fault : SelectFault) (halt : Halt ToolFault) → (fault ≢ rules.NoMemory → rules_fault job.caseless job.rules ≡ Some fault) → (fault ≢ rules.NoMemory → halt ≡ halts.Fault (rule_answer fault))
-    → (fault ≡ rules.NoMemory → halt ≡ halts.NoMemory) → Halted Passes Stops [] (word_steps (Ok job)) halt []
-rules_halt job (rules.BadTags word) halt first answered short = rules_stop job (rules.BadTags word) halt (first (λ e. absurd cc)) (answered (λ e. absurd cc))
-rules_halt job (rules.BadPattern word) halt first answered short = rules_stop job (rules.BadPattern word) halt (first (λ e. absurd cc)) (answered (λ e. absurd cc))
-rules_halt job rules.NoMemory halt first answered short = rw (short refl) (tt, omega arith)
-
--- the words state no job
-pub words_stop : (stated : Result Job UsageFault) (fault : UsageFault) → stated ≡ Err fault → Stopped Passes Stops (word_steps stated) (Usage fault) [] × (true ≡ true)
-words_stop stated fault e = (rw e (stopped_one Passes Stops (RefuseWords fault) (Usage fault) [] (refl, refl)), refl)
+pub rules_halt : (job : Job) (why : SelectFault) (halt : Halt ToolFault) → (why ≢ rules.NoMemory → rules_fault job.caseless job.rules ≡ Some why) → IsRuleHalt why halt → Halted Passes Stops [] (word_steps (Ok job)) halt []
+rules_halt job why (halts.Fault fault) first is = halted_one [] (TakeRules job.caseless job.rules) fault [] (refl, (why, first (answered why fault is), is)) refl
+rules_halt job why halts.NoMemory first is = (tt, omega arith)

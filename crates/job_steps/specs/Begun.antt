@@ -1,13 +1,19 @@
 -- What the steps of a job found (this project's choice).
 use Rattle.std.specs.Prelude.{◌≡◌, ℕ, List, [], ◌∷◌, ◌++◌, map, None}
+use Rattle.vsl_select.specs.Showing.{Showing}
 use Rattle.tool_words.specs.declared.job.Job.{Job}
 use Rattle.job_steps.specs.declared.steps.Input.{Input}
 use Rattle.job_steps.specs.declared.steps.Input.TheVariants as inputs
 use Rattle.job_steps.specs.declared.steps.Begun.{Begun}
 use Rattle.job_steps.specs.declared.steps.Counting.{Counting}
 use Rattle.job_steps.specs.Queries.{Ask, AreAsked, HoldsAsAsked}
-use Rattle.job_steps.specs.Jobs.{HasFormat}
+use Rattle.job_steps.specs.Jobs.{HasFormat, showing_of}
 use Rattle.job_steps.specs.Steps.{Found, FoundNone, FoundText, FoundLog, FoundListing, FoundSink}
+
+-- a selection is what a job shows, and the reading of its rules found nothing else
+pub record IsShown (job : Job) (selection : Showing) (found : List Found) : Type 0 where
+  pub shows : selection ≡ showing_of job
+  pub are : found ≡ FoundNone ∷ []
 
 -- the handle of the log was found, or the listings of the feeds
 abbrev pub HasInput : Input → List Found → Type 0

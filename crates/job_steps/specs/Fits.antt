@@ -1,5 +1,5 @@
 -- Listings that fit in the ring of a job (this project's choice).
-use Rattle.std.specs.Prelude.{ℕ, ◌≤◌, List, length}
+use Rattle.std.specs.Prelude.{◌≡◌, ℕ, ◌≤◌, List, length}
 use Rattle.std.specs.List.{All}
 use Rattle.traffic_feed.specs.declared.listing.Listing.{Listing}
 use Rattle.feed_files.specs.Feeds.{IsWithinRing}
@@ -11,9 +11,10 @@ use Rattle.job_steps.specs.declared.steps.Input.TheVariants as inputs
 abbrev pub FitsRing : ℕ → Listing → Type 0
 FitsRing seg listing = IsWithinRing seg 33554432 listing
 
--- the listings of a job's feeds fit in its ring, and are sixteen at most
+-- the listings of a job's feeds fit in its ring, are one a feed, and are sixteen at most
 pub record HasFitFeeds (job : Job) (listings : List Listing) : Type 0 where
   pub each : All (FitsRing job.seg) listings
+  pub all : length listings ≡ length job.feeds
   pub few : length listings ≤ 16
 
 -- those of what a job takes its units from

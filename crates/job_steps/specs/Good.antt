@@ -1,5 +1,5 @@
 -- What the steps of a job need to pass where no call fails, in a world that tells what its files hold (this project's choice).
-use Rattle.std.specs.Prelude.{◌≡◌, ℕ, ◌≤◌, true, List, length, Some, None}
+use Rattle.std.specs.Prelude.{◌≡◌, ℕ, ◌≤◌, List, length, Some, None}
 use Rattle.std.specs.Bool.{MatchBool}
 use Rattle.std.specs.List.{AllByRecursion}
 use Rattle.vio.specs.World.{Seen}
@@ -8,20 +8,18 @@ use Rattle.vsl_select.specs.Shown.{rules_fault}
 use Rattle.traffic_feed.specs.declared.listing.Listing.{Listing}
 use Rattle.feed_files.specs.Feeds.{IsFeed}
 use Rattle.tool_words.specs.declared.job.QueryText.{QueryText}
-use Rattle.job_steps.specs.Built.{is_built}
 use Rattle.job_steps.specs.Jobs.{text_fault}
-use Rattle.job_steps.specs.Steps.{Step, RefuseWords, TakeRules, TakeOrder, TakeQuery, TakeFormat, OpenLog, ReadFeed, MakeSink, most_query_bytes}
+use Rattle.job_steps.specs.Steps.{Step, RefuseWords, TakeRules, TakeQuery, TakeFormat, OpenLog, ReadFeed, MakeSink, most_query_bytes}
 
 -- the text of a query is told: it is that of the word, or what the file of this name holds, which is within the bound
 abbrev pub TellsText : Seen → QueryText → List ℕ → Type 0
 TellsText before query text = MatchBool query.file ((before.held query.text ≡ Some text) × (length text ≤ most_query_bytes)) (text ≡ query.text)
 
--- what a step needs to pass: rules without a fault, a job that is built, the text of a query without a fault, a good format, a feed whose file is told to hold a listing, within the bound; a log
+-- what a step needs to pass: rules without a fault, the text of a query without a fault, a good format, a feed whose file is told to hold a listing, within the bound; a log
 -- and what is written need nothing, and words that are refused never pass
 abbrev pub IsGoodStep : Seen → Step → Type 0
 IsGoodStep before (RefuseWords why) = ⊥
 IsGoodStep before (TakeRules caseless texts) = rules_fault caseless texts ≡ None
-IsGoodStep before (TakeOrder job) = is_built job ≡ true
 IsGoodStep before (TakeQuery caseless n query) = (text : List ℕ) × TellsText before query text × (first_fault caseless text ≡ None)
 IsGoodStep before (TakeFormat tool text) = text_fault tool text ≡ None
 IsGoodStep before (OpenLog name) = Unit {0}

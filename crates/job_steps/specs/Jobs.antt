@@ -1,5 +1,5 @@
 -- What a job reads, shows and writes (this project's choice).
-use Rattle.std.specs.Prelude.{◌≡◌, ℕ, Bool, true, false, List, [], ◌++◌, ◌∷◌, map, unwrap_or, codes, Option, Some, None, option_map}
+use Rattle.std.specs.Prelude.{◌≡◌, ℕ, ◌&&◌, Bool, true, false, List, [], ◌++◌, ◌∷◌, map, unwrap_or, codes, Option, Some, None, option_map}
 use Rattle.txn_rows.specs.declared.group.GroupOptions.{GroupOptions}
 use Rattle.vsl_record.specs.Unit.{Log}
 use Rattle.vsl_select.specs.Showing.{Showing}
@@ -13,6 +13,7 @@ use Rattle.tool_words.specs.declared.job.Order.{Order}
 use Rattle.tool_words.specs.declared.job.Order.TheVariants.{Threads, Turns, FeedFirst}
 use Rattle.tool_words.specs.declared.job.Tool.{Tool}
 use Rattle.tool_words.specs.declared.job.Tool.TheVariants as tools
+use Rattle.tool_words.specs.Job.{is_fed}
 use Rattle.job_steps.specs.declared.fault.ToolFault.{ToolFault}
 use Rattle.job_steps.specs.declared.fault.ToolFault.TheVariants.{BadFormat}
 
@@ -62,11 +63,21 @@ HasFormat job format = job.tool ≡ tools.Ncsa → format ≡ Some (pieces_of (f
 
 -- ---- the feeds of a job
 
--- the seed from which an order's turns are drawn; feed after feed draws none, and the order side by side isn't built
+-- the seed from which an order's turns are drawn; feed after feed draws none, and threads draw none
 abbrev pub order_seed : Order → Option ℕ
 order_seed Threads = None
 order_seed (Turns seed) = Some seed
 order_seed FeedFirst = None
+
+-- whether an order puts each feed on a thread of its own; the others state whose turn it is
+abbrev pub is_threads : Order → Bool
+is_threads Threads = true
+is_threads (Turns seed) = false
+is_threads FeedFirst = false
+
+-- whether workers put a job's feeds, or its made requests, on threads: where it has some and states no order
+abbrev pub is_on_threads : Job → Bool
+is_on_threads job = is_fed job && is_threads job.order
 
 -- the units of listings, list by list
 abbrev pub units_of : List Listing → List Log

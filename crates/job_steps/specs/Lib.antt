@@ -1,4 +1,3 @@
-pub mod Built
 pub mod Queries
 pub mod Jobs
 pub mod Steps

@@ -28,8 +28,7 @@ use Rattle.tool_words.specs.declared.job.Job.{Job}
 use Rattle.tool_words.specs.declared.job.QueryText.{QueryText}
 use Rattle.tool_words.specs.declared.job.Tool.{Tool}
 use Rattle.job_steps.specs.declared.fault.ToolFault.{ToolFault}
-use Rattle.job_steps.specs.declared.fault.ToolFault.TheVariants.{Usage, NotBuilt, BadPattern, BadQuery, BadListing, NoOpen, ReadFault, TooLarge}
-use Rattle.job_steps.specs.Built.{is_built}
+use Rattle.job_steps.specs.declared.fault.ToolFault.TheVariants.{Usage, BadPattern, BadQuery, BadListing, NoOpen, ReadFault, TooLarge}
 use Rattle.job_steps.specs.Jobs.{is_counting, file_of, write_of, format_text, text_fault}
 
 -- a step of a job
@@ -38,8 +37,6 @@ pub data Step : Type 0 where
   RefuseWords : UsageFault → Step
   -- the rules of -i, -x, -I and -X are read, caseless or not
   TakeRules : Bool → List RuleText → Step
-  -- the job must be one that is built
-  TakeOrder : Job → Step
   -- a query is taken, caseless or not, which is the n-th from 0
   TakeQuery : Bool → ℕ → QueryText → Step
   -- the format of a tool is read
@@ -89,7 +86,7 @@ counter_steps job = feed_steps job ++ MakeSink false (codes "-") ∷ []
 -- the words alone: they are refused, or they state a job, whose rules are read
 abbrev pub word_steps : Result Job UsageFault → List Step
 word_steps (Err why) = RefuseWords why ∷ []
-word_steps (Ok job) = TakeRules job.caseless job.rules ∷ TakeOrder job ∷ []
+word_steps (Ok job) = TakeRules job.caseless job.rules ∷ []
 
 -- what a job does
 abbrev pub job_steps : Job → List Step
@@ -122,7 +119,6 @@ IsMadeBy append name h empty calls = MatchBool (bytes_eq name (codes "-")) ((h �
 abbrev pub Passes : Step → Found → List Call → Type 0
 Passes (RefuseWords why) found calls = ⊥
 Passes (TakeRules caseless texts) found calls = (found ≡ FoundNone) × (calls ≡ []) × (rules_fault caseless texts ≡ None)
-Passes (TakeOrder job) found calls = (found ≡ FoundNone) × (calls ≡ []) × (is_built job ≡ true)
 Passes (TakeQuery caseless n query) found calls = (text : List ℕ) × (found ≡ FoundText text) × IsTextBy query text calls × (first_fault caseless text ≡ None)
 Passes (TakeFormat tool text) found calls = (found ≡ FoundNone) × (calls ≡ []) × (text_fault tool text ≡ None)
 Passes (OpenLog name) found calls = (h : ℕ) × (found ≡ FoundLog h) × IsOpenedBy name h calls
@@ -132,10 +128,10 @@ Passes (MakeSink append name) found calls = (h : ℕ) × (empty : Bool) × (foun
 -- ---- how a step stops a job
 
 -- the first that is wrong with rules refuses them: a taglist is a bad value, and a pattern is refused; no rule has want of memory as its fault
-abbrev pub rule_answer : SelectFault → ToolFault
-rule_answer (rules.BadTags word) = Usage (BadValue word)
-rule_answer (rules.BadPattern word) = BadPattern word
-rule_answer rules.NoMemory = NotBuilt
+abbrev pub IsRuleAnswer : SelectFault → ToolFault → Type 0
+IsRuleAnswer (rules.BadTags word) fault = fault ≡ Usage (BadValue word)
+IsRuleAnswer (rules.BadPattern word) fault = fault ≡ BadPattern word
+IsRuleAnswer rules.NoMemory fault = ⊥
 
 -- how a file is answered that isn't read whole
 abbrev pub named_answer : ℕ → List ℕ → NamedFault → ToolFault
@@ -167,8 +163,7 @@ QueryStops caseless n query fault calls =
 -- a step stops a job with this fault, by these calls
 abbrev pub Stops : Step → ToolFault → List Call → Type 0
 Stops (RefuseWords why) fault calls = (calls ≡ []) × (fault ≡ Usage why)
-Stops (TakeRules caseless texts) fault calls = (calls ≡ []) × ((why : SelectFault) × (rules_fault caseless texts ≡ Some why) × (fault ≡ rule_answer why))
-Stops (TakeOrder job) fault calls = (calls ≡ []) × (is_built job ≡ false) × (fault ≡ NotBuilt)
+Stops (TakeRules caseless texts) fault calls = (calls ≡ []) × ((why : SelectFault) × (rules_fault caseless texts ≡ Some why) × IsRuleAnswer why fault)
 Stops (TakeQuery caseless n query) fault calls = QueryStops caseless n query fault calls
 Stops (TakeFormat tool text) fault calls = (calls ≡ []) × (text_fault tool text ≡ Some fault)
 Stops (OpenLog name) fault calls = (bytes_eq name (codes "-") ≡ false) × (calls ≡ Refuse Opening name ∷ []) × (fault ≡ NoOpen name)

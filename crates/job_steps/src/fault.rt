@@ -10,8 +10,6 @@ use vsl_select::Text;
 pub enum ToolFault {
     /// Something is wrong with the words.
     Usage(UsageFault),
-    /// The words state a job that isn't built.
-    NotBuilt,
     /// The pattern of a rule of `-I` or `-X` is no good one.
     BadPattern {
         /// The place of the word that has it, from 0.

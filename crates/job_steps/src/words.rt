@@ -1,16 +1,17 @@
 //! What the words of a command line ask for.
 
-ghost use Rattle.std.specs.Prelude.{◌≡◌, ◌≢◌, false, [], map, Ok, IfOk, IfErr};
+ghost use Rattle.std.specs.Prelude.{◌≡◌, false, [], map, Ok, Err, IfOk};
 ghost use Rattle.std.specs.String.{string_bytes};
-ghost use Rattle.log_model.specs.declared.fault.Halt.TheVariants as halts;
+ghost use Rattle.log_model.specs.Halts.{IfFault};
 ghost use Rattle.vio.specs.Steps.{TookSteps};
 ghost use Rattle.vsl_dispatch.specs.Groups.{is_filled};
+ghost use Rattle.tool_words.specs.declared.fault.UsageFault.{UsageFault};
 ghost use Rattle.tool_words.specs.Job.{is_fed, job_of};
 ghost use Rattle.tool_words.specs.Sound.{IsSound};
-ghost use Rattle.job_steps.specs.Built.{is_built, is_built_order};
-ghost use Rattle.job_steps.specs.Jobs.{file_of, is_counting, options_of, showing_of, write_of};
-ghost use Rattle.job_steps.specs.Steps.{Passes, Stops, rule_answer, steps_of, word_steps};
-ghost use Rattle.job_steps.specs.inside.Tasks.{IsTask};
+ghost use Rattle.job_steps.specs.Begun.{IsShown};
+ghost use Rattle.job_steps.specs.Jobs.{file_of, is_counting, is_on_threads, is_threads, options_of, write_of};
+ghost use Rattle.job_steps.specs.Steps.{Passes, Stops, word_steps};
+ghost use Rattle.job_steps.specs.inside.Tasks.{IsRuleHalt};
 
 use crate::fault::ToolFault;
 use log_model::{Halt, NoMemory};
@@ -29,13 +30,13 @@ pub fn is_counting(tool: Tool) -> bool
     }
 }
 
-/// Whether the order is built.
-fn has_order(order: Order) -> bool
-    ensures { result ≡ is_built_order order }
+/// Whether an order puts each feed on a thread of its own.
+fn is_threads(order: Order) -> bool
+    ensures { result ≡ is_threads order }
 {
     match order {
-        Order::Threads => false,
-        Order::Turns(_) | Order::FeedFirst => true,
+        Order::Threads => true,
+        Order::Turns(_) | Order::FeedFirst => false,
     }
 }
 
@@ -46,11 +47,11 @@ pub fn is_fed(job: &Job) -> bool
     job.feeds.as_slice().len() > 0 || job.made.is_some()
 }
 
-/// Whether a job asks for nothing that isn't built.
-fn is_built_job(job: &Job) -> bool
-    ensures { result ≡ is_built job.now }
+/// Whether workers put a job's feeds, or its made requests, on threads.
+pub fn is_on_threads(job: &Job) -> bool
+    ensures { result ≡ is_on_threads job.now }
 {
-    !is_fed(job) || has_order(job.order)
+    is_fed(job) && is_threads(job.order)
 }
 
 /// How a job groups records.
@@ -105,8 +106,7 @@ fn rules_of(alloc: Global, job: &Job) -> Result<Vec<RuleText>, NoMemory>
 
 /// How it is answered that a rule is refused.
 fn rule_halt(fault: SelectFault) -> Halt<ToolFault>
-    ensures fault { fault ≢ SelectFault.NoMemory → result ≡ halts.Fault (rule_answer fault) }
-    ensures memory { fault ≡ SelectFault.NoMemory → result ≡ halts.NoMemory }
+    ensures { IsRuleHalt fault result }
 {
     match fault {
         SelectFault::BadTags { word } => {
@@ -117,40 +117,28 @@ fn rule_halt(fault: SelectFault) -> Halt<ToolFault>
     }
 }
 
-/// What a job's words ask for: the job, and what it shows.
-#[derive(Drop)]
-pub struct Task {
-    pub job: Job,
-    pub selection: Selection,
-}
-
-/// The task of a job, where its rules are good and it is built, or the fault that refuses it.
-fn task_of(alloc: Global, job: Job) -> Result<Task, Halt<ToolFault>>
-    ensures took { TookSteps Passes Stops (IsTask (Ok job)) [] (word_steps (Ok job)) result [] }
-    ensures same { IfOk result (λ task. task.job ≡ job) }
+/// The job that the words state, or the fault that refuses them.
+pub fn read_job(alloc: Global, words: &[String]) -> Result<Job, Halt<ToolFault>>
+    ensures job { IfOk result (λ job. job_of (map string_bytes words.now) ≡ Ok job) }
+    ensures refused { IfFault result (λ fault. (why : UsageFault) ×
+        (job_of (map string_bytes words.now) ≡ Err why) × (fault ≡ ToolFault.Usage why)) }
+    ensures keeps { IfOk result (λ job. is_filled job.keep [] ≡ false) }
+    ensures sound { IfOk result (λ job. IsSound job) }
 {
-    let rules = rules_of(alloc, &job)?;
-    match Selection::new(alloc, job.sides, rules, job.caseless) {
-        Ok(selection) => {
-            if is_built_job(&job) {
-                Ok(Task { job, selection })
-            } else {
-                Err(Halt::Fault(ToolFault::NotBuilt))
-            }
-        }
-        Err(fault) => Err(rule_halt(fault)),
+    match read_words(alloc, words) {
+        Ok(job) => Ok(job),
+        Err(WordsFault::Usage(fault)) => Err(Halt::Fault(ToolFault::Usage(fault))),
+        Err(WordsFault::NoMemory) => Err(Halt::NoMemory),
     }
 }
 
-/// The task that the words state, where it is built, or the fault that refuses them.
-pub fn read_task(alloc: Global, words: &[String]) -> Result<Task, Halt<ToolFault>>
-    ensures took { let stated = job_of (map string_bytes words.now) in TookSteps Passes Stops (IsTask stated) [] (word_steps stated) result [] }
-    ensures keeps { IfOk result (λ task. is_filled task.job.keep [] ≡ false) }
-    ensures sound { IfOk result (λ task. IsSound task.job) }
+/// What a job shows, where its rules are good, or the fault of the first that isn't.
+pub fn read_selection(alloc: Global, job: &Job) -> Result<Selection, Halt<ToolFault>>
+    ensures took { TookSteps Passes Stops (IsShown job.now) [] (word_steps (Ok job.now)) result [] }
 {
-    match read_words(alloc, words) {
-        Ok(job) => task_of(alloc, job),
-        Err(WordsFault::Usage(fault)) => Err(Halt::Fault(ToolFault::Usage(fault))),
-        Err(WordsFault::NoMemory) => Err(Halt::NoMemory),
+    let rules = rules_of(alloc, job)?;
+    match Selection::new(alloc, job.sides, rules, job.caseless) {
+        Ok(selection) => Ok(selection),
+        Err(fault) => Err(rule_halt(fault)),
     }
 }

@@ -1,8 +1,10 @@
 //! What a reader's pass meets of a ring that threads share.
 
-ghost use Rattle.std.specs.Prelude.{◌≡◌, ◌++◌, ◌∷◌, [], false, IfSome, IfNone, None};
+ghost use Rattle.std.specs.Prelude.{◌≡◌, [], false, IfSome, IfNone, None};
+ghost use Rattle.log_ring.specs.Readers.{IsAnswer};
 ghost use Rattle.live_source.specs.Live.{LiveGave, met_by};
 
+use live_feed::Gate;
 use log_model::Halt;
 use log_ring::{ReaderPass, Ring};
 use one_run::{Never, Source};
@@ -12,20 +14,29 @@ use std::sync::Wait;
 use std::thread;
 use vio::World;
 
-/// A ring that is lent, and a pass of it, with what holds a unit that is taken. Where nothing is there yet it yields to other
-/// threads and asks again, until all writers have left. It never stops with a fault. Where there is no memory for a copy of a
-/// unit, the pass has taken that unit all the same.
+/// A ring that is lent, and a pass of it, with what holds a unit that is taken. A gate is asked before each call of the pass.
+/// Where nothing is there yet it yields to other threads and asks again, until all writers have left. It never stops with a
+/// fault. Where there is no memory for a copy of a unit, the pass has taken that unit all the same.
 #[derive(Drop)]
-pub struct LiveItems<'a, R> {
+pub struct LiveItems<'a, R, G> {
     pub rt: &'a R,
     pub alloc: Global,
     pub ring: &'a Ring,
     pub pass: ReaderPass,
+    pub gate: &'a G,
+    /// The number of the next call of the pass, counted from 0.
+    pub call: u64,
 }
 
-impl<'a, R> LiveItems<'a, R> {
+impl<'a, R, G> LiveItems<'a, R, G> {
     /// What a pass of this ring meets from here on.
-    pub fn new(rt: &'a R, alloc: Global, ring: &'a Ring, pass: ReaderPass) -> LiveItems<'a, R>
+    pub fn new(
+        rt: &'a R,
+        alloc: Global,
+        ring: &'a Ring,
+        pass: ReaderPass,
+        gate: &'a G,
+    ) -> LiveItems<'a, R, G>
         requires ours { pass.ring ≡ ring.now }
         ensures pass { result.pass ≡ pass }
         ensures ready { result.pass.ring ≡ result.ring.now }
@@ -36,28 +47,30 @@ impl<'a, R> LiveItems<'a, R> {
             alloc,
             ring,
             pass,
+            gate,
+            call: 0,
         }
     }
 }
 
-/// Seeks where the pass was overrun; the overrun, where it was overrun again.
-#[tactic(auto, using(crate::proofs::ItemLemmas::lost_items, crate::proofs::ItemLemmas::at_items))]
-fn seek(ring: &Ring, pass: &mut ReaderPass) -> Option<Item>
+/// One call of a pass: it seeks where it was overrun, and else takes the next unit. None where it sought and goes on.
+#[tactic(auto, using(crate::proofs::ItemLemmas::at_items))]
+fn step(ring: &Ring, pass: &mut ReaderPass) -> Option<Step>
     requires ours { pass.old.ring ≡ ring.now }
     ensures same { pass.new.ring ≡ pass.old.ring }
-    ensures overrun { IfSome result (λ item. met_by pass.new ≡ met_by pass.old ++ item ∷ []) }
+    ensures answer { IfSome result (λ step. IsAnswer pass.old step pass.new) }
     ensures sought { IfNone result (met_by pass.new ≡ met_by pass.old) }
 {
     if !pass.is_lost() {
-        return None;
+        return Some(pass.next(ring));
     }
     match pass.seek(ring) {
         Sought::At { .. } => None,
-        Sought::Lost { at, seen } => Some(Item::Overrun { at, seen }),
+        Sought::Lost { at, seen } => Some(Step::Lost { at, seen }),
     }
 }
 
-impl<'a, R: Wait> Source for LiveItems<'a, R> {
+impl<'a, R: Wait, G: Gate> Source for LiveItems<'a, R, G> {
     ghost use Rattle.std.specs.Prelude.{[], ◌≡◌};
     ghost use Rattle.live_source.specs.Live.{LiveGave, LiveStarved};
 
@@ -76,17 +89,17 @@ impl<'a, R: Wait> Source for LiveItems<'a, R> {
     fn next<W: World>(&mut self, _world: &mut W) -> Result<Option<Item>, Halt<Never>> {
         let rt = self.rt;
         for _ in rt.forever() {
-            if let Some(overrun) = seek(self.ring, &mut self.pass) {
-                return Ok(Some(overrun));
-            }
-            match self.pass.next(self.ring) {
-                Step::Took => match self.pass.unit().to_unit(self.alloc) {
+            self.gate.before_read(rt, self.call);
+            self.call = self.call.saturating_add(1);
+            match step(self.ring, &mut self.pass) {
+                None => {}
+                Some(Step::Took) => match self.pass.unit().to_unit(self.alloc) {
                     Ok(unit) => return Ok(Some(Item::Unit(unit))),
                     Err(_) => return Err(Halt::NoMemory),
                 },
-                Step::NotYet { .. } => thread::yield_now(),
-                Step::Ended => return Ok(None),
-                Step::Lost { at, seen } => return Ok(Some(Item::Overrun { at, seen })),
+                Some(Step::NotYet { .. }) => thread::yield_now(),
+                Some(Step::Ended) => return Ok(None),
+                Some(Step::Lost { at, seen }) => return Ok(Some(Item::Overrun { at, seen })),
             }
         }
         unreachable!()

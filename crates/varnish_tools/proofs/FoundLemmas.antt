@@ -12,7 +12,7 @@ use Rattle.vio.specs.Steps.{Passed}
 use Rattle.vio.proofs.CallLemmas.{handles_opened, handles_created}
 use Rattle.vio.proofs.TouchLemmas.{one_of_left, one_of_right}
 use Rattle.traffic_feed.specs.declared.listing.Listing.{Listing}
-use Rattle.job_steps.specs.Steps.{Step, RefuseWords, TakeRules, TakeOrder, TakeQuery, TakeFormat, OpenLog, ReadFeed, MakeSink, Found, FoundNone, FoundText, FoundLog, FoundListing, FoundSink, Passes, Stops, text_in, listing_in, log_in, sink_in, texts_of, listings_of, logs_of, sinks_of, reads, writes}
+use Rattle.job_steps.specs.Steps.{Step, RefuseWords, TakeRules, TakeQuery, TakeFormat, OpenLog, ReadFeed, MakeSink, Found, FoundNone, FoundText, FoundLog, FoundListing, FoundSink, Passes, Stops, text_in, listing_in, log_in, sink_in, texts_of, listings_of, logs_of, sinks_of, reads, writes}
 
 -- one of two lists is one of the first or of the second
 pub one_of_either : (h : ℕ) (xs ys : List ℕ) → IsOneOf h (xs ++ ys) → IsOneOf h xs ⊎ IsOneOf h ys
@@ -66,7 +66,6 @@ opened_log false name k h calls p is = rw p is
 step_log : (step : Step) (u : Found) (calls : List Call) (h : ℕ) → Passes step u calls → IsOneOf h (log_in u) → IsOneOf h (handles_opened calls ++ reads step)
 step_log (RefuseWords why) u calls h p is = absurd p
 step_log (TakeRules caseless texts) u calls h p is = absurd (subst (λ (x : Found). IsOneOf h (log_in x)) p.0 is)
-step_log (TakeOrder job) u calls h p is = absurd (subst (λ (x : Found). IsOneOf h (log_in x)) p.0 is)
 step_log (TakeQuery caseless n query) u calls h p is = absurd (subst (λ (x : Found). IsOneOf h (log_in x)) p.1 is)
 step_log (TakeFormat tool text) u calls h p is = absurd (subst (λ (x : Found). IsOneOf h (log_in x)) p.0 is)
 step_log (OpenLog name) u calls h p is = opened_log (bytes_eq name (codes "-")) name p.0 h calls p.2 (subst (λ (x : Found). IsOneOf h (log_in x)) p.1 is)
@@ -101,7 +100,6 @@ made_sink false append name k h empty calls p is = rw p is
 step_sink : (step : Step) (u : Found) (calls : List Call) (h : ℕ) → Passes step u calls → IsOneOf h (handle_in u) → IsOneOf h (handles_created calls ++ writes step)
 step_sink (RefuseWords why) u calls h p is = absurd p
 step_sink (TakeRules caseless texts) u calls h p is = absurd (subst (λ (x : Found). IsOneOf h (handle_in x)) p.0 is)
-step_sink (TakeOrder job) u calls h p is = absurd (subst (λ (x : Found). IsOneOf h (handle_in x)) p.0 is)
 step_sink (TakeQuery caseless n query) u calls h p is = absurd (subst (λ (x : Found). IsOneOf h (handle_in x)) p.1 is)
 step_sink (TakeFormat tool text) u calls h p is = absurd (subst (λ (x : Found). IsOneOf h (handle_in x)) p.0 is)
 step_sink (OpenLog name) u calls h p is = absurd (subst (λ (x : Found). IsOneOf h (handle_in x)) p.1 is)
@@ -137,7 +135,7 @@ module _ {A : Type 0} where
 
   -- by parts: texts, inputs, and what is written, behind what the words found
   parts_of : (pick : Found → List A) (texts : List (List ℕ)) (inputs : List Found) (sink : Found) → pick FoundNone ≡ []
-      → flat_map pick (FoundNone ∷ FoundNone ∷ (map FoundText texts ++ (FoundNone ∷ []) ++ inputs ++ sink ∷ [])) ≡ flat_map pick (map FoundText texts) ++ flat_map pick inputs ++ pick sink
+      → flat_map pick (FoundNone ∷ (map FoundText texts ++ (FoundNone ∷ []) ++ inputs ++ sink ∷ [])) ≡ flat_map pick (map FoundText texts) ++ flat_map pick inputs ++ pick sink
   parts_of pick texts inputs sink none = rw (
     flat_map-append pick (map FoundText texts ++ (FoundNone ∷ []) ++ inputs) (sink ∷ []),
     flat_map-append pick (map FoundText texts ++ (FoundNone ∷ [])) inputs,
@@ -149,7 +147,7 @@ module _ {A : Type 0} where
 
 -- what was found, with the words before it
 abbrev pub found_behind : List Found → List Found
-found_behind found = FoundNone ∷ FoundNone ∷ found
+found_behind found = FoundNone ∷ found
 
 -- the texts of queries, the handles of logs, the listings of feeds, and what is written
 pub record FoundSo (found : List Found) (texts : List (List ℕ)) (logs : List ℕ) (listings : List Listing) (sink : ℕ) (empty : Bool) : Type 0 where

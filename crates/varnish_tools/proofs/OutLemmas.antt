@@ -20,7 +20,7 @@ use Rattle.one_run.specs.Promise.{Says}
 use Rattle.tool_words.specs.declared.job.Job.{Job}
 use Rattle.tool_words.specs.declared.job.QueryText.{QueryText}
 use Rattle.job_steps.specs.Jobs.{file_of, format_text, is_counting, write_of}
-use Rattle.job_steps.specs.Steps.{Step, RefuseWords, TakeRules, TakeOrder, TakeQuery, TakeFormat, OpenLog, ReadFeed, MakeSink, Found, IsMadeBy, Passes, Stops, creates, creates_of, most_query_bytes, opens_of, queries_from, sink_in, sinks_of, steps_of, text_in, texts_of, writes}
+use Rattle.job_steps.specs.Steps.{Step, RefuseWords, TakeRules, TakeQuery, TakeFormat, OpenLog, ReadFeed, MakeSink, Found, IsMadeBy, Passes, Stops, creates, creates_of, most_query_bytes, opens_of, queries_from, sink_in, sinks_of, steps_of, text_in, texts_of, writes}
 use Rattle.job_steps.proofs.TookLemmas.{opens_alone}
 use Rattle.varnish_tools.specs.Told.{AreTexts, IsFileSink}
 use Rattle.varnish_tools.proofs.FoundLemmas.{found_sink, one_of_either, sink_is}
@@ -46,7 +46,6 @@ stream_only false h k is = absurd is
 step_writes : (step : Step) (h : ℕ) → IsOneOf h (writes step) → h ≡ OUTPUT
 step_writes (RefuseWords why) h is = absurd is
 step_writes (TakeRules caseless texts) h is = absurd is
-step_writes (TakeOrder job) h is = absurd is
 step_writes (TakeQuery caseless n query) h is = absurd is
 step_writes (TakeFormat tool text) h is = absurd is
 step_writes (OpenLog name) h is = absurd is
@@ -86,7 +85,6 @@ text_told false name word told text calls s t is did p = p.0 ∙ sym is
 step_text : (step : Step) (u : Found) (calls : List Call) (s t : Seen) → Passes step u calls → Did calls s t → AreTexts s (query_in step) (text_in u)
 step_text (RefuseWords why) u calls s t p did = absurd p
 step_text (TakeRules caseless texts) u calls s t p did = subst (λ (v : Found). AreTexts s [] (text_in v)) (sym p.0) tt
-step_text (TakeOrder job) u calls s t p did = subst (λ (v : Found). AreTexts s [] (text_in v)) (sym p.0) tt
 step_text (TakeQuery caseless n query) u calls s t p did = subst (λ (v : Found). AreTexts s (query ∷ []) (text_in v)) (sym p.1) ((λ told is. text_told query.file query.text query.text told p.0 calls s t is did p.2), tt)
 step_text (TakeFormat tool text) u calls s t p did = subst (λ (v : Found). AreTexts s [] (text_in v)) (sym p.0) tt
 step_text (OpenLog name) u calls s t p did = subst (λ (v : Found). AreTexts s [] (text_in v)) (sym p.1) tt
@@ -154,7 +152,6 @@ IsNoSink step = Unit {0}
 no_sink : (step : Step) (u : Found) (calls : List Call) → IsNoSink step → Passes step u calls → sink_in u ≡ []
 no_sink (RefuseWords why) u calls none p = absurd p
 no_sink (TakeRules caseless texts) u calls none p = ap sink_in p.0
-no_sink (TakeOrder job) u calls none p = ap sink_in p.0
 no_sink (TakeQuery caseless n query) u calls none p = ap sink_in p.1
 no_sink (TakeFormat tool text) u calls none p = ap sink_in p.0
 no_sink (OpenLog name) u calls none p = ap sink_in p.1
@@ -177,7 +174,7 @@ queries_no_sink caseless n (query ∷ queries) = (tt, queries_no_sink caseless (
 
 reading_no_sink : (job : Job) → AllByRecursion IsNoSink (reading job)
 reading_no_sink job =
-    no_sinks_then (early job) (OpenLog (file_of job) ∷ []) (tt, (tt, no_sinks_then (queries_from job.caseless 0 job.queries) (TakeFormat job.tool (format_text job) ∷ []) (queries_no_sink job.caseless 0 job.queries) (tt, tt))) (tt, tt)
+    no_sinks_then (early job) (OpenLog (file_of job) ∷ []) (tt, no_sinks_then (queries_from job.caseless 0 job.queries) (TakeFormat job.tool (format_text job) ∷ []) (queries_no_sink job.caseless 0 job.queries) (tt, tt)) (tt, tt)
 
 -- what a job writes was made by these calls, behind calls that keep the files, and its queries have these texts
 pub record MadeOut (job : Job) (found : List Found) (sink : ℕ) (empty : Bool) (s t : Seen) : Type 0 where

@@ -8,7 +8,7 @@ use Rattle.vio.specs.Steps.{Passed}
 use Rattle.tool_words.specs.declared.job.Job.{Job}
 use Rattle.tool_words.specs.declared.job.QueryText.{QueryText}
 use Rattle.job_steps.specs.Jobs.{file_of, format_text, is_counting, write_of}
-use Rattle.job_steps.specs.Steps.{Step, RefuseWords, TakeRules, TakeOrder, TakeQuery, TakeFormat, OpenLog, ReadFeed, MakeSink, Found, Passes, Stops, counter_steps, creates, creates_of, feed_steps, group_steps, log_in, logs_of, queries_from, steps_of, word_steps}
+use Rattle.job_steps.specs.Steps.{Step, RefuseWords, TakeRules, TakeQuery, TakeFormat, OpenLog, ReadFeed, MakeSink, Found, Passes, Stops, counter_steps, creates, creates_of, feed_steps, group_steps, log_in, logs_of, queries_from, steps_of, word_steps}
 
 -- ---- steps that passed, by parts
 
@@ -59,7 +59,6 @@ AreNoLogs steps = AllByRecursion IsNoLog steps
 no_log : (step : Step) (u : Found) (calls : List Call) → IsNoLog step → Passes step u calls → log_in u ≡ []
 no_log (RefuseWords why) u calls none p = absurd p
 no_log (TakeRules caseless texts) u calls none p = ap log_in p.0
-no_log (TakeOrder job) u calls none p = ap log_in p.0
 no_log (TakeQuery caseless n query) u calls none p = ap log_in p.1
 no_log (TakeFormat tool text) u calls none p = ap log_in p.0
 no_log (OpenLog name) u calls none p = absurd none
@@ -96,7 +95,7 @@ abbrev pub early : Job → List Step
 early job = word_steps (Ok job) ++ (queries_from job.caseless 0 job.queries ++ TakeFormat job.tool (format_text job) ∷ [])
 
 pub early_no_log : (job : Job) → AreNoLogs (early job)
-early_no_log job = (tt, (tt, no_logs_then (queries_from job.caseless 0 job.queries) (TakeFormat job.tool (format_text job) ∷ []) (queries_no_log job.caseless 0 job.queries) (tt, tt)))
+early_no_log job = (tt, no_logs_then (queries_from job.caseless 0 job.queries) (TakeFormat job.tool (format_text job) ∷ []) (queries_no_log job.caseless 0 job.queries) (tt, tt))
 
 -- they create no file
 queries_create : (caseless : Bool) (n : ℕ) (queries : List QueryText) → creates_of (queries_from caseless n queries) ≡ []

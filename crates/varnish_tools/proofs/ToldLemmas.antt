@@ -31,7 +31,9 @@ use Rattle.job_steps.proofs.TookLemmas.{opens_alone}
 use Rattle.job_runs.specs.declared.record.RunRecord.{RunRecord}
 use Rattle.job_runs.specs.declared.record.RunRecord.TheVariants.{Nothing}
 use Rattle.job_runs.specs.Good.{HasCause, StoppedByLog}
-use Rattle.job_runs.specs.Rows.{CameOf, JobRan, PrintsCounters, PrintsGroups, RanFor, StopsOf, end_answer, job_due}
+use Rattle.job_runs.specs.Sources.{CameOf, RecordsCount, RecordsOf, StopsOf}
+use Rattle.job_runs.specs.Counters.{PrintsCounters}
+use Rattle.job_runs.specs.Rows.{JobRan, PrintsGroups, RanFor, end_answer, job_due}
 use Rattle.job_runs.specs.Told.{WritesOf}
 use Rattle.varnish_tools.specs.declared.outcome.Outcome.{Outcome}
 use Rattle.varnish_tools.specs.Faults.{fault_message}
@@ -125,7 +127,7 @@ found_told job units ending found calls s t groups file streams tells passed did
 -- that a run over a log whose handle told what it had left writes what is due of it
 abbrev pub TellsWrites : Type 0
 TellsWrites = (job : Job) (ask : Ask) (h : ℕ) (others : List ℕ) (sink : ℕ) (empty : Bool) (units : Log) (ending : FileEnding) (fault : Option ToolFault) (recorded : RunRecord) (calls : List Call) (before now : Seen) → TellsLog h units ending before → Did calls before now
-    → RanFor (h ∷ others) (FileCame h) (λ why cs met. FileStopped h why cs met now) sink (job_due job ask empty) (end_answer job) fault recorded calls → WritesOf sink (job_due job ask empty) fault (unit_items units) (is_whole ending) calls
+    → RanFor (h ∷ others) (FileCame h) (λ why cs met. FileStopped h why cs met now) (RecordsCount recorded) sink (job_due job ask empty) (end_answer job) fault calls → WritesOf sink (job_due job ask empty) fault (unit_items units) (is_whole ending) calls
 
 module _ (writes_told : TellsWrites) (job : Job) (units : Log) (ending : FileEnding) (groups : is_counting job.tool ≡ false) (file : is_some job.file ≡ true) where
   work_prints : (message : List ℕ) (fault : Option ToolFault) (recorded : RunRecord) (s t : Seen) → HasStreams s → TellsInput job units ending s → WorksOff (Says message) (Ok job) fault recorded s t → (recorded ≡ Nothing) ⊎ PrintsLog job fault units ending s t
@@ -136,7 +138,7 @@ module _ (writes_told : TellsWrites) (job : Job) (units : Log) (ending : FileEnd
         let of = found_told job units ending ran.found ran.first s parts.0 groups file streams tells ran.passed parts.1 in
         let g = subst (λ (b : Bool). MatchBool b (PrintsCounters job fault recorded ran.found ran.last) (PrintsGroups job q.at fault recorded ran.found ran.last)) groups ran.ran in
         let sink = g.1 in
-        let over = subst (λ (logs : List ℕ). RanFor logs (CameOf logs job (listings_of ran.found)) (StopsOf logs q.at) sink (job_due job g.0 g.2) (end_answer job) fault recorded ran.last) of.logs g.4 in
+        let over = subst (λ (logs : List ℕ). RanFor logs (CameOf logs job (listings_of ran.found) recorded) (StopsOf logs q.at) (RecordsOf logs job recorded) sink (job_due job g.0 g.2) (end_answer job) fault ran.last) of.logs g.4 in
         let so = writes_told job g.0 of.h [] sink g.2 units ending fault recorded ran.last parts.0 q.at of.tells parts.2 over in
         let apart = sink_apart (steps_of (Ok job)) ran.found ran.first sink g.2 s parts.0 ran.passed parts.1 (g.3).is_sink in
         let gained = promised_gain Passes Stops (StatedRan (Ok job)) Nothing (Says message) (steps_of (Ok job)) fault recorded sink s t (λ calls says. said_other sink message calls apart says) q in
@@ -195,7 +197,7 @@ log_stops : WholeRuns → (b c : Bool) (job : Job) (found : List Found) (first l
     → Did first r s → Did last s t → IsOneOf h (logs_of found) → StoppedByLog h (file_of job) fault last t → ⊥
 log_stops whole true c job found first last h fault r s t counts is streams tells passed did more one stopped =
     let none = no_logs_then (feed_steps job) (MakeSink false (codes "-") ∷ []) (feeds_no_log job) (tt, tt) in
-    none_found h (logs_of found) (no_logs (word_steps (Ok job) ++ counter_steps job) found first (tt, (tt, none)) (subst (λ (steps : List Step). Passed Passes Stops steps found first) (counter_are job counts) passed)) one
+    none_found h (logs_of found) (no_logs (word_steps (Ok job) ++ counter_steps job) found first (tt, none) (subst (λ (steps : List Step). Passed Passes Stops steps found first) (counter_are job counts) passed)) one
 log_stops whole false true job found first last h fault r s t groups is streams tells passed did more one stopped =
     let told = tells is groups in
     let of = found_told job told.0 Whole found first r s groups is streams told.1 passed did in

@@ -16,13 +16,13 @@ use Rattle.tool_words.specs.declared.fault.UsageFault.TheVariants.{NoTool}
 use Rattle.tool_words.specs.declared.job.Job.{Job}
 use Rattle.tool_words.specs.Job.{job_of}
 use Rattle.job_steps.specs.declared.fault.ToolFault.{ToolFault}
-use Rattle.job_steps.specs.Built.{is_built}
 use Rattle.job_steps.specs.Jobs.{is_counting}
-use Rattle.job_steps.specs.Steps.{Step, RefuseWords, TakeRules, TakeOrder, Found, Passes, Stops, job_steps, logs_of, opens_of, creates_of, reads_of, writes_of, steps_of}
+use Rattle.job_steps.specs.Steps.{Step, RefuseWords, TakeRules, Found, Passes, Stops, job_steps, logs_of, opens_of, creates_of, reads_of, writes_of, steps_of}
 use Rattle.job_steps.proofs.StepFacts.{StaysWithin, passed_within, stopped_within}
 use Rattle.job_runs.specs.declared.record.RunRecord.{RunRecord}
 use Rattle.job_runs.specs.declared.record.RunRecord.TheVariants.{Nothing}
-use Rattle.job_runs.specs.Rows.{CountersShort, GroupsShort, JobRan, JobShort, PrintsCounters, PrintsGroups, WritesText}
+use Rattle.job_runs.specs.Counters.{CountersShort, PrintsCounters, WritesText}
+use Rattle.job_runs.specs.Rows.{GroupsShort, JobRan, JobShort, PrintsGroups}
 use Rattle.varnish_tools.specs.Faults.{message}
 use Rattle.varnish_tools.specs.Theorem.{LacksWork, StatedRan, TouchesJob, TouchesSteps, asked_of}
 use Rattle.varnish_tools.specs.inside.Works.{DidWork, SaysPartOf}
@@ -61,7 +61,7 @@ write_on found sink text fault calls is (inl p) = rw (p.1, is) (inr (inl refl), 
 write_on found sink text fault calls is (inr p) = rw (p.1.2, is) (inr (inl refl), tt)
 
 counters_on : (job : Job) (fault : Option ToolFault) (recorded : RunRecord) (found : List Found) (calls : List Call) → PrintsCounters job fault recorded found calls → AreOn (logs_of found) (ERRORS ∷ flat_map handle_in found) calls
-counters_on job fault recorded found calls p = write_on found p.sink _ fault calls (sink_is found p.sink p.empty p.is_sink) p.writes
+counters_on job fault recorded found calls p = write_on found p.0 _ fault calls (sink_is found p.0 p.1 p.2) p.3.writes
 
 groups_on : (job : Job) (at : Seen) (fault : Option ToolFault) (recorded : RunRecord) (found : List Found) (calls : List Call) → PrintsGroups job at fault recorded found calls → AreOn (logs_of found) (ERRORS ∷ flat_map handle_in found) calls
 groups_on job at fault recorded found calls p = rw (sink_is found p.1 p.2 p.3.is_sink) p.4.on
@@ -75,7 +75,7 @@ run_on : (job : Job) (at : Seen) (fault : Option ToolFault) (recorded : RunRecor
 run_on job at fault recorded found calls = either_on (is_counting job.tool) found calls (counters_on job fault recorded found calls) (groups_on job at fault recorded found calls)
 
 counters_short_on : (job : Job) (found : List Found) (calls : List Call) → CountersShort job found calls → AreOn (logs_of found) (ERRORS ∷ flat_map handle_in found) calls
-counters_short_on job found calls p = rw (p.are, sink_is found p.sink p.empty p.is_sink) (inr (inl refl), tt)
+counters_short_on job found calls p = rw (p.3.3.2, sink_is found p.0 p.1 p.2) (inr (inl refl), tt)
 
 groups_short_on : (job : Job) (found : List Found) (calls : List Call) → GroupsShort job found calls → AreOn (logs_of found) (ERRORS ∷ flat_map handle_in found) calls
 groups_short_on job found calls p = rw (sink_is found p.1 p.2 p.5.is_sink) p.6
@@ -86,34 +86,23 @@ short_on job found calls (inr p) = either_on (is_counting job.tool) found calls 
 
 -- ---- words
 
--- a job whose rules are good and that is built is asked its steps
-pub asked_good : (job : Job) → rules_fault job.caseless job.rules ≡ None → is_built job ≡ true → asked_of (Ok job) ≡ job_steps job
-asked_good job rules built = rw (rules, built) refl
+-- a job whose rules are good is asked its steps
+pub asked_good : (job : Job) → rules_fault job.caseless job.rules ≡ None → asked_of (Ok job) ≡ job_steps job
+asked_good job rules = rw rules refl
 
 -- so is one whose steps passed
 pub asked_passed : (job : Job) (found : List Found) (calls : List Call) → Passed Passes Stops (steps_of (Ok job)) found calls → asked_of (Ok job) ≡ job_steps job
-asked_passed job (u ∷ v ∷ us) calls p = asked_good job p.3.2 p.4.3.2
-asked_passed job (u ∷ []) calls p = absurd p.4
+asked_passed job (u ∷ us) calls p = asked_good job p.3.2
 asked_passed job [] calls p = absurd p
 
 -- steps of words that passed call nothing, and leave the others their calls
 passed_words : (job : Job) (found : List Found) (calls : List Call) → Passed Passes Stops (steps_of (Ok job)) found calls → (us : List Found) × Passed Passes Stops (job_steps job) us calls × (logs_of found ≡ logs_of us) × (flat_map handle_in found ≡ flat_map handle_in us)
-passed_words job (u ∷ v ∷ us) calls p = (
-  us,
-  subst (λ (c : List Call). Passed Passes Stops (job_steps job) us c) (sym (p.2 ∙ rw p.3.1 (p.4.2 ∙ rw p.4.3.1 refl))) p.4.4,
-  rw (p.3.0, p.4.3.0) refl,
-  rw (p.3.0, p.4.3.0) refl,
-)
-passed_words job (u ∷ []) calls p = absurd p.4
+passed_words job (u ∷ us) calls p = (us, subst (λ (c : List Call). Passed Passes Stops (job_steps job) us c) (sym (p.2 ∙ rw p.3.1 refl)) p.4, rw p.3.0 refl, rw p.3.0 refl)
 passed_words job [] calls p = absurd p
 
 abbrev head_of : List Step → Step
 head_of [] = RefuseWords NoTool
 head_of (step ∷ steps) = step
-
-abbrev tail_of : List Step → List Step
-tail_of [] = []
-tail_of (step ∷ steps) = steps
 
 -- words that stop the work at their own steps call nothing, and those behind them come to a job that is asked
 stopped_words : (job : Job) (earlier later : List Step) (step : Step) (found : List Found) (first last : List Call) (fault : ToolFault) → steps_of (Ok job) ≡ earlier ++ step ∷ later → Passed Passes Stops earlier found first → Stops step fault last
@@ -121,18 +110,9 @@ stopped_words : (job : Job) (earlier later : List Step) (step : Step) (found : L
 stopped_words job [] later step [] first last fault e p s =
     let stops : Stops (TakeRules job.caseless job.rules) fault last = subst (λ (x : Step). Stops x fault last) (sym (ap head_of e)) s in inl (rw (p, stops.0) refl)
 stopped_words job [] later step (u ∷ us) first last fault e p s = absurd p
-stopped_words job (x ∷ []) later step (u ∷ []) first last fault e p s =
-    let passes : Passes (TakeRules job.caseless job.rules) u p.0 = subst (λ (y : Step). Passes y u p.0) (sym (ap head_of e)) p.3 in
-    let stops : Stops (TakeOrder job) fault last = subst (λ (y : Step). Stops y fault last) (sym (ap (λ (ys : List Step). head_of (tail_of ys)) e)) s in
-    inl (rw (p.2, passes.1, p.4, stops.0) refl)
-stopped_words job (x ∷ []) later step [] first last fault e p s = absurd p
-stopped_words job (x ∷ []) later step (u ∷ v ∷ us) first last fault e p s = absurd p.4
-stopped_words job (x ∷ y ∷ earlier) later step (u ∷ v ∷ us) first last fault e p s =
-    let rules : Passes (TakeRules job.caseless job.rules) u p.0 = subst (λ (z : Step). Passes z u p.0) (sym (ap head_of e)) p.3 in
-    let built : Passes (TakeOrder job) v p.4.0 = subst (λ (z : Step). Passes z v p.4.0) (sym (ap (λ (ys : List Step). head_of (tail_of ys)) e)) p.4.3 in
-    inr (asked_good job rules.2 built.2)
-stopped_words job (x ∷ y ∷ earlier) later step (u ∷ []) first last fault e p s = absurd p.4
-stopped_words job (x ∷ y ∷ earlier) later step [] first last fault e p s = absurd p
+stopped_words job (x ∷ earlier) later step (u ∷ us) first last fault e p s =
+    let rules : Passes (TakeRules job.caseless job.rules) u p.0 = subst (λ (z : Step). Passes z u p.0) (sym (ap head_of e)) p.3 in inr (asked_good job rules.2)
+stopped_words job (x ∷ earlier) later step [] first last fault e p s = absurd p
 
 -- words that are refused call nothing
 refused_words : (why : UsageFault) (earlier later : List Step) (step : Step) (found : List Found) (first last : List Call) (fault : ToolFault) → steps_of (Err why) ≡ earlier ++ step ∷ later → Passed Passes Stops earlier found first → Stops step fault last → first ++ last ≡ []

@@ -2,77 +2,84 @@
 use Rattle.std.proofs.Common.{◌≡◌, ℕ, Bool, true, false, List, [], ◌∷◌, ◌++◌, map, Option, None, Result, Ok, Err, refl, sym, subst, inl, inr, arith}
 use Rattle.log_model.specs.declared.fault.Halt.{Halt}
 use Rattle.log_model.specs.declared.fault.Halt.TheVariants.{Fault, NoMemory}
+use Rattle.log_model.specs.Halts.{IfFault}
 use Rattle.vio.specs.World.{Seen}
 use Rattle.vio.specs.Calls.{Call, Called, OnlyOpen, last_failed}
 use Rattle.vio.specs.Steps.{Passed, PassedSo, Halted}
 use Rattle.vio.proofs.CallLemmas.{did_then, last_failed_then}
-use Rattle.vio.proofs.StepLemmas.{passed_then}
+use Rattle.vio.proofs.StepLemmas.{passed_then, stopped_one}
 use Rattle.one_run.proofs.PromiseLemmas.{early_first, early_behind}
 use Rattle.run_sources.specs.Sources.{FileCame, FileStopped}
 use Rattle.traffic_feed.specs.declared.listing.Listing.{Listing}
 use Rattle.tool_words.specs.declared.fault.UsageFault.{UsageFault}
 use Rattle.tool_words.specs.declared.job.Job.{Job}
+use Rattle.vsl_select.specs.Showing.{Showing}
 use Rattle.job_steps.specs.declared.fault.ToolFault.{ToolFault}
-use Rattle.job_steps.specs.declared.words.Task.{Task}
+use Rattle.job_steps.specs.declared.fault.ToolFault.TheVariants.{Usage}
 use Rattle.job_steps.specs.declared.steps.Begun.{Begun}
 use Rattle.job_steps.specs.declared.steps.Counting.{Counting}
 use Rattle.job_steps.specs.declared.steps.Input.{Input}
 use Rattle.job_steps.specs.declared.steps.Input.TheVariants as inputs
-use Rattle.job_steps.specs.Begun.{HasInput, IsBegun, IsCounting}
+use Rattle.job_steps.specs.Begun.{HasInput, IsBegun, IsCounting, IsShown}
 use Rattle.job_steps.specs.Jobs.{is_counting}
 use Rattle.job_steps.specs.Queries.{Ask, AreAsked, HoldsAsAsked}
-use Rattle.job_steps.specs.Steps.{Step, Found, FoundListing, FoundNone, Passes, Stops, counter_steps, group_steps, job_steps, word_steps, opens_of}
-use Rattle.job_steps.specs.inside.Tasks.{IsTask}
+use Rattle.job_steps.specs.Steps.{Step, RefuseWords, Found, FoundListing, FoundNone, Passes, Stops, counter_steps, group_steps, job_steps, word_steps, opens_of}
 use Rattle.job_runs.specs.declared.record.Ran.{Ran}
 use Rattle.job_runs.specs.declared.record.RunRecord.{RunRecord}
 use Rattle.job_runs.specs.declared.record.RunRecord.TheVariants.{Nothing}
-use Rattle.job_runs.specs.Rows.{BeganOf, CameOf, FedCame, JobRan, JobShort, LogBegan, PrintsCounters, RanFor, StopsOf, WritesText, end_answer, job_due}
-use Rattle.job_runs.specs.Runs.{CountsShort, CountsSo, RanShort, RanSo}
+use Rattle.job_runs.specs.Sources.{BeganOf, CameOf, FedCame, FeedsCame, LogBegan, RecordsCount, RecordsOf, StopsOf}
+use Rattle.job_runs.specs.Counters.{CountsSo, PrintsCounters, WritesText}
+use Rattle.job_runs.specs.Rows.{JobRan, JobShort, RanFor, end_answer, job_due}
+use Rattle.job_runs.specs.Runs.{CountsShort, RanShort, RanSo}
 use Rattle.varnish_tools.specs.Theorem.{StatedRan, asked_of}
 use Rattle.varnish_tools.specs.inside.Works.{IsWorked}
 use Rattle.varnish_tools.proofs.FoundLemmas.{FoundSo, found_behind, found_counting, found_feeds, found_file}
 use Rattle.varnish_tools.proofs.TouchLemmas.{asked_good}
 
 -- the words ended the work
-pub words_end : (stated : Result Job UsageFault) (halt : Halt ToolFault) (s : Seen) → Halted Passes Stops [] (word_steps stated) halt [] → Called (IsWorked stated s (Err halt)) s s
-words_end (Err why) (Fault fault) s p = record { calls = []; did = refl; is = (inl (record { by = fault; is = refl; none = refl; stopped = p.0 }), refl) }
-words_end (Ok job) (Fault fault) s p = record { calls = []; did = refl; is = (early_first Passes Stops (StatedRan (Ok job)) Nothing (word_steps (Ok job)) (job_steps job) s fault [] p.0, refl) }
+pub words_end : (stated : Result Job UsageFault) (halt : Halt ToolFault) (s : Seen) → IfFault {A = Ran} (Err halt) (λ fault. (why : UsageFault) × (stated ≡ Err why) × (fault ≡ Usage why)) → Called (IsWorked stated s (Err halt)) s s
+words_end stated (Fault fault) s p = rw (p.1, p.2) (record { calls = []; did = refl; is = (inl (record { by = Usage p.0; is = refl; none = refl; stopped = stopped_one Passes Stops (RefuseWords p.0) (Usage p.0) [] (refl, refl) }), refl) })
 words_end stated NoMemory s p = record { calls = []; did = refl; is = inl (tt, omega arith) }
 
--- ---- behind words that state a task
+-- what work comes to is said of the words that state the job
+pub of_words : (stated : Result Job UsageFault) (job : Job) (r : Result Ran (Halt ToolFault)) (s t : Seen) → stated ≡ Ok job → Called (IsWorked (Ok job) t r) s t → Called (IsWorked stated t r) s t
+of_words stated job r s t states p = subst (λ (st : Result Job UsageFault). Called (IsWorked st t r) s t) (sym states) p
 
--- words that passed
-abbrev pub PassedWords : Result Job UsageFault → Task → Type 0
-PassedWords stated task = PassedSo Passes Stops (IsTask stated task) (word_steps stated) []
+-- ---- the rules
 
-module _ (stated : Result Job UsageFault) (task : Task) (words : PassedWords stated task) where
-  passed_words : Passed Passes Stops (word_steps (Ok task.job)) (FoundNone ∷ FoundNone ∷ []) []
-  passed_words = subst (λ (us : List Found). Passed Passes Stops (word_steps (Ok task.job)) us []) words.is.are (subst (λ (st : Result Job UsageFault). Passed Passes Stops (word_steps st) words.found []) words.is.states words.passed)
+-- they ended the work
+pub rules_end : (job : Job) (halt : Halt ToolFault) (s : Seen) → Halted Passes Stops [] (word_steps (Ok job)) halt [] → Called (IsWorked (Ok job) s (Err halt)) s s
+rules_end job (Fault fault) s p = record { calls = []; did = refl; is = (early_first Passes Stops (StatedRan (Ok job)) Nothing (word_steps (Ok job)) (job_steps job) s fault [] p.0, refl) }
+rules_end job NoMemory s p = record { calls = []; did = refl; is = inl (tt, omega arith) }
 
-  asked : asked_of (Ok task.job) ≡ job_steps task.job
-  asked = asked_good task.job passed_words.3.2 passed_words.4.3.2
+-- they are good
+abbrev pub PassedRules : Job → Showing → Type 0
+PassedRules job selection = PassedSo Passes Stops (IsShown job selection) (word_steps (Ok job)) []
 
-  -- what the work of the job comes to is what that of the words comes to
-  of_words : (r : Result Ran (Halt ToolFault)) (s t : Seen) → Called (IsWorked (Ok task.job) t r) s t → Called (IsWorked stated t r) s t
-  of_words r s t p = subst (λ (st : Result Job UsageFault). Called (IsWorked st t r) s t) (sym words.is.states) p
+module _ (job : Job) (selection : Showing) (rules : PassedRules job selection) where
+  passed_rules : Passed Passes Stops (word_steps (Ok job)) (FoundNone ∷ []) []
+  passed_rules = subst (λ (us : List Found). Passed Passes Stops (word_steps (Ok job)) us []) rules.is.are rules.passed
+
+  asked : asked_of (Ok job) ≡ job_steps job
+  asked = asked_good job passed_rules.3.2
 
   -- a step of the job ended the work
-  steps_end : (halt : Halt ToolFault) (s t : Seen) → Called (Halted Passes Stops (opens_of (job_steps task.job)) (job_steps task.job) halt) s t → Called (IsWorked (Ok task.job) t (Err halt)) s t
+  steps_end : (halt : Halt ToolFault) (s t : Seen) → Called (Halted Passes Stops (opens_of (job_steps job)) (job_steps job) halt) s t → Called (IsWorked (Ok job) t (Err halt)) s t
   steps_end (Fault fault) s t p = record {
     calls = p.calls;
     did = p.did;
-    is = (early_behind Passes Stops (StatedRan (Ok task.job)) Nothing (word_steps (Ok task.job)) (job_steps task.job) t fault (FoundNone ∷ FoundNone ∷ []) [] p.calls passed_words p.is.0, p.is.1);
+    is = (early_behind Passes Stops (StatedRan (Ok job)) Nothing (word_steps (Ok job)) (job_steps job) t fault (FoundNone ∷ []) [] p.calls passed_rules p.is.0, p.is.1);
   }
   steps_end NoMemory s t p = record { calls = p.calls; did = p.did; is = inl (subst (λ (steps : List Step). OnlyOpen (opens_of steps) p.calls) (sym asked) p.is) }
 
-  pub job_end : (steps : List Step) (halt : Halt ToolFault) (s t : Seen) → steps ≡ job_steps task.job → Called (Halted Passes Stops (opens_of steps) steps halt) s t → Called (IsWorked stated t (Err halt)) s t
-  job_end steps halt s t are p = of_words (Err halt) s t (steps_end halt s t (subst (λ (xs : List Step). Called (Halted Passes Stops (opens_of xs) xs halt) s t) are p))
+  pub job_end : (steps : List Step) (halt : Halt ToolFault) (s t : Seen) → steps ≡ job_steps job → Called (Halted Passes Stops (opens_of steps) steps halt) s t → Called (IsWorked (Ok job) t (Err halt)) s t
+  job_end steps halt s t are p = steps_end halt s t (subst (λ (xs : List Step). Called (Halted Passes Stops (opens_of xs) xs halt) s t) are p)
 
   -- the steps of the job passed, and then it ran
-  pub job_ran : (IsSo : List Found → Type 0) (steps : List Step) (ran : Ran) (s t u : Seen) → steps ≡ job_steps task.job → Called (PassedSo Passes Stops IsSo steps) s t
-      → ((us : List Found) → IsSo us → Called (RanSo (JobRan task.job u ran.fault ran.run (found_behind us))) t u) → Called (IsWorked stated u (Ok ran)) s u
+  pub job_ran : (IsSo : List Found → Type 0) (steps : List Step) (ran : Ran) (s t u : Seen) → steps ≡ job_steps job → Called (PassedSo Passes Stops IsSo steps) s t
+      → ((us : List Found) → IsSo us → Called (RanSo (JobRan job u ran.fault ran.run (found_behind us))) t u) → Called (IsWorked (Ok job) u (Ok ran)) s u
   job_ran IsSo steps ran s t u are p run =
-      let q = run p.is.found p.is.is in of_words (Ok ran) s u (record {
+      let q = run p.is.found p.is.is in record {
         calls = p.calls ++ q.calls;
         did = did_then p.calls q.calls s t u p.did q.did;
         is = (
@@ -81,18 +88,18 @@ module _ (stated : Result Job UsageFault) (task : Task) (words : PassedWords sta
             first = p.calls;
             last = q.calls;
             are = refl;
-            passed = passed_then Passes Stops (word_steps (Ok task.job)) (job_steps task.job) (FoundNone ∷ FoundNone ∷ []) p.is.found [] p.calls passed_words (subst (λ (xs : List Step). Passed Passes Stops xs p.is.found p.calls) are p.is.passed);
+            passed = passed_then Passes Stops (word_steps (Ok job)) (job_steps job) (FoundNone ∷ []) p.is.found [] p.calls passed_rules (subst (λ (xs : List Step). Passed Passes Stops xs p.is.found p.calls) are p.is.passed);
             ran = q.is.0;
           }),
           last_failed_then p.calls q.calls p.is.fail q.is.1,
         );
-      })
+      }
 
   -- or had no memory
-  pub job_short : (IsSo : List Found → Type 0) (steps : List Step) (s t u : Seen) → steps ≡ job_steps task.job → Called (PassedSo Passes Stops IsSo steps) s t
-      → ((us : List Found) → IsSo us → Called (JobShort task.job (found_behind us)) t u) → Called (IsWorked stated u (Err NoMemory)) s u
+  pub job_short : (IsSo : List Found → Type 0) (steps : List Step) (s t u : Seen) → steps ≡ job_steps job → Called (PassedSo Passes Stops IsSo steps) s t
+      → ((us : List Found) → IsSo us → Called (JobShort job (found_behind us)) t u) → Called (IsWorked (Ok job) u (Err NoMemory)) s u
   job_short IsSo steps s t u are p run =
-      let q = run p.is.found p.is.is in of_words (Err NoMemory) s u (record {
+      let q = run p.is.found p.is.is in record {
         calls = p.calls ++ q.calls;
         did = did_then p.calls q.calls s t u p.did q.did;
         is = inr (record {
@@ -100,11 +107,11 @@ module _ (stated : Result Job UsageFault) (task : Task) (words : PassedWords sta
           first = p.calls;
           last = q.calls;
           are = refl;
-          passed = passed_then Passes Stops (word_steps (Ok task.job)) (job_steps task.job) (FoundNone ∷ FoundNone ∷ []) p.is.found [] p.calls passed_words (subst (λ (xs : List Step). Passed Passes Stops xs p.is.found p.calls) are p.is.passed);
+          passed = passed_then Passes Stops (word_steps (Ok job)) (job_steps job) (FoundNone ∷ []) p.is.found [] p.calls passed_rules (subst (λ (xs : List Step). Passed Passes Stops xs p.is.found p.calls) are p.is.passed);
           fail = p.is.fail;
           short = q.is;
         });
-      })
+      }
 
 -- nothing was done for want of memory
 pub none_short : (job : Job) (found : List Found) (s : Seen) → Called (JobShort job found) s s
@@ -121,7 +128,7 @@ counter_job job counts = rw counts refl
 
 module _ (job : Job) (reads : is_counting job.tool ≡ false) (texts : List (List ℕ)) (logs : List ℕ) (listings : List Listing) (sink : ℕ) (empty : Bool) (ask : Ask) (asked : AreAsked job.caseless None texts ask) where
   ran_as : (found : List Found) (u : Seen) (fault : Option ToolFault) (recorded : RunRecord) (calls : List Call) → FoundSo found texts logs listings sink empty
-      → RanFor logs (CameOf logs job listings) (StopsOf logs u) sink (job_due job ask empty) (end_answer job) fault recorded calls → JobRan job u fault recorded found calls
+      → RanFor logs (CameOf logs job listings recorded) (StopsOf logs u) (RecordsOf logs job recorded) sink (job_due job ask empty) (end_answer job) fault calls → JobRan job u fault recorded found calls
   ran_as found u fault recorded calls so ran = rw (reads, so.logs_are, so.listings_are) (ask, sink, empty, record { asked = rw so.texts_are asked; is_sink = so.sinks_are }, ran)
 
   short_as : (found : List Found) (calls : List Call) → FoundSo found texts logs listings sink empty → RanShort logs (BeganOf logs job listings) sink (job_due job ask empty) calls → JobShort job found calls
@@ -129,7 +136,7 @@ module _ (job : Job) (reads : is_counting job.tool ≡ false) (texts : List (Lis
   short_as found calls so (inr p) = rw (reads, so.logs_are, so.listings_are) (inr (ask, sink, empty, p.0, p.1, record { asked = rw so.texts_are asked; is_sink = so.sinks_are }, p.2, p.3, p.4))
 
   groups_ran : (found : List Found) (fault : Option ToolFault) (recorded : RunRecord) (t u : Seen) → FoundSo found texts logs listings sink empty
-      → Called (RanSo (RanFor logs (CameOf logs job listings) (StopsOf logs u) sink (job_due job ask empty) (end_answer job) fault recorded)) t u → Called (RanSo (JobRan job u fault recorded found)) t u
+      → Called (RanSo (RanFor logs (CameOf logs job listings recorded) (StopsOf logs u) (RecordsOf logs job recorded) sink (job_due job ask empty) (end_answer job) fault)) t u → Called (RanSo (JobRan job u fault recorded found)) t u
   groups_ran found fault recorded t u so p = record { calls = p.calls; did = p.did; is = (ran_as found u fault recorded p.calls so p.is.0, p.is.1) }
 
   groups_short : (found : List Found) (t u : Seen) → FoundSo found texts logs listings sink empty → Called (RanShort logs (BeganOf logs job listings) sink (job_due job ask empty)) t u → Called (JobShort job found) t u
@@ -142,7 +149,7 @@ found_input job begun us input is p = subst (λ (i : Input). HasInput i p.inputs
 module _ (job : Job) (begun : Begun) (us : List Found) (reads : is_counting job.tool ≡ false) (p : IsBegun job begun us) where
   -- of a log
   pub log_ran : (h : ℕ) (fault : Option ToolFault) (recorded : RunRecord) (t u : Seen) → begun.input ≡ inputs.Log h
-      → ((ask : Ask) → HoldsAsAsked begun.query ask → Called (RanSo (RanFor (h ∷ []) (FileCame h) (λ why calls met. FileStopped h why calls met u) begun.sink.handle (job_due job ask begun.sink.empty) (end_answer job) fault recorded)) t u)
+      → ((ask : Ask) → HoldsAsAsked begun.query ask → Called (RanSo (RanFor (h ∷ []) (FileCame h) (λ why calls met. FileStopped h why calls met u) (RecordsCount recorded) begun.sink.handle (job_due job ask begun.sink.empty) (end_answer job) fault)) t u)
       → Called (RanSo (JobRan job u fault recorded (found_behind us))) t u
   log_ran h fault recorded t u is ran = groups_ran job reads p.texts (h ∷ []) [] begun.sink.handle begun.sink.empty p.ask p.asked (found_behind us) fault recorded t u
       (found_file p.texts p.inputs us h begun.sink.handle begun.sink.empty p.are (found_input job begun us (inputs.Log h) is p)) (ran p.ask p.holds)
@@ -156,7 +163,7 @@ module _ (job : Job) (begun : Begun) (us : List Found) (reads : is_counting job.
   fed input listings is are = found_feeds p.texts p.inputs us listings begun.sink.handle begun.sink.empty p.are (are p.inputs (found_input job begun us input is p))
 
   pub feeds_ran : (input : Input) (listings : List Listing) (fault : Option ToolFault) (recorded : RunRecord) (t u : Seen) → begun.input ≡ input → ((vs : List Found) → HasInput input vs → vs ≡ map FoundListing listings)
-      → ((ask : Ask) → HoldsAsAsked begun.query ask → Called (RanSo (RanFor [] (λ calls. FedCame job listings) (λ why calls met. ⊥) begun.sink.handle (job_due job ask begun.sink.empty) (end_answer job) fault recorded)) t u)
+      → ((ask : Ask) → HoldsAsAsked begun.query ask → Called (RanSo (RanFor [] (λ calls. FeedsCame job listings recorded) (λ why calls met. ⊥) (RecordsOf [] job recorded) begun.sink.handle (job_due job ask begun.sink.empty) (end_answer job) fault)) t u)
       → Called (RanSo (JobRan job u fault recorded (found_behind us))) t u
   feeds_ran input listings fault recorded t u is are ran = groups_ran job reads p.texts [] listings begun.sink.handle begun.sink.empty p.ask p.asked (found_behind us) fault recorded t u (fed input listings is are) (ran p.ask p.holds)
 
@@ -168,15 +175,8 @@ module _ (job : Job) (begun : Begun) (us : List Found) (reads : is_counting job.
 
 module _ (job : Job) (counting : Counting) (us : List Found) (counts : is_counting job.tool ≡ true) (found : IsCounting counting us) where
   counters_so : (fault : Option ToolFault) (recorded : RunRecord) (calls : List Call) → CountsSo job counting.listings.items counting.sink.handle fault recorded calls → PrintsCounters job fault recorded (found_behind us) calls
-  counters_so fault recorded calls p = let so = found_counting counting.listings.items us counting.sink.handle counting.sink.empty found in record {
-    sink = counting.sink.handle;
-    empty = counting.sink.empty;
-    is_sink = so.1;
-    log = p.log;
-    written = rw so.0 p.written;
-    counted = p.counted;
-    writes = rw so.0 p.writes;
-  }
+  counters_so fault recorded calls p = let so = found_counting counting.listings.items us counting.sink.handle counting.sink.empty found in
+      (counting.sink.handle, counting.sink.empty, so.1, rw so.0 p)
 
   written_last : (h : ℕ) (text : List ℕ) (fault : Option ToolFault) (calls : List Call) → WritesText h text fault calls → last_failed calls ≡ true
   written_last h text fault calls (inl p) = rw p.1 refl
@@ -189,7 +189,7 @@ module _ (job : Job) (counting : Counting) (us : List Found) (counts : is_counti
   counters_part : (calls : List Call) → CountsShort job counting.listings.items counting.sink.handle calls → JobShort job (found_behind us) calls
   counters_part calls (inl none) = inl none
   counters_part calls (inr p) = let so = found_counting counting.listings.items us counting.sink.handle counting.sink.empty found in
-      rw counts (inr (record { sink = counting.sink.handle; empty = counting.sink.empty; is_sink = so.1; log = p.0; written = rw so.0 p.1; part = p.2.0; is_part = rw so.0 p.2.1; are = p.2.2 }))
+      rw counts (inr (counting.sink.handle, counting.sink.empty, so.1, rw so.0 p))
 
   pub counters_short : (t u : Seen) → Called (CountsShort job counting.listings.items counting.sink.handle) t u → Called (JobShort job (found_behind us)) t u
   counters_short t u p = record { calls = p.calls; did = p.did; is = counters_part p.calls p.is }

@@ -6,7 +6,7 @@ use Rattle.query_parser.specs.declared.fault.QueryFault.{QueryFault}
 use Rattle.query_parser.specs.declared.fault.QueryFault.TheVariants.{Syntax, UnknownTag, Number, Pattern, Deep, NoMemory}
 use Rattle.text_printer.specs.Messages.{told, numbered}
 use Rattle.job_steps.specs.declared.fault.ToolFault.{ToolFault}
-use Rattle.job_steps.specs.declared.fault.ToolFault.TheVariants.{Usage, NotBuilt, BadPattern, BadQuery, BadFormat, BadListing, NoOpen, ReadFault, WriteFault, NotALog, Damaged, TooLarge}
+use Rattle.job_steps.specs.declared.fault.ToolFault.TheVariants.{Usage, BadPattern, BadQuery, BadFormat, BadListing, NoOpen, ReadFault, WriteFault, NotALog, Damaged, TooLarge}
 
 -- the word at a place, counted from 0
 abbrev pub word_at : List (List ℕ) → ℕ → List ℕ
@@ -36,7 +36,6 @@ query_message NoMemory = codes "out of memory"
 -- the message of a fault of these words, for standard error: one line, where names and words have no line feed
 abbrev pub message : List (List ℕ) → ToolFault → List ℕ
 message words (Usage fault) = usage_message words fault
-message words NotBuilt = told (codes "not built yet")
 message words (BadPattern word) = told (codes "pattern refused: " ++ word_at words word)
 message words (BadQuery query fault) = told (numbered (codes "query ") query (codes ": ") ++ query_message fault)
 message words (BadFormat at) = told (numbered (codes "format: syntax at ") at [])
@@ -53,11 +52,10 @@ abbrev pub fault_message : List (List ℕ) → Option ToolFault → List ℕ
 fault_message words None = []
 fault_message words (Some fault) = message words fault
 
--- the status of a run: 0 without a fault, 2 where the words, a pattern, the text of a query or a format was refused or the job isn't built, else 1
+-- the status of a run: 0 without a fault, 2 where the words, a pattern, the text of a query or a format was refused, else 1
 abbrev pub status_of : Option ToolFault → ℕ
 status_of None = 0
 status_of (Some (Usage fault)) = 2
-status_of (Some NotBuilt) = 2
 status_of (Some (BadPattern word)) = 2
 status_of (Some (BadQuery query fault)) = 2
 status_of (Some (BadFormat at)) = 2

@@ -10,7 +10,6 @@ use Rattle.tool_words.specs.declared.fault.UsageFault.{UsageFault}
 use Rattle.tool_words.specs.declared.job.Job.{Job}
 use Rattle.tool_words.specs.Job.{job_of}
 use Rattle.job_steps.specs.declared.fault.ToolFault.{ToolFault}
-use Rattle.job_steps.specs.Built.{is_built}
 use Rattle.job_steps.specs.Steps.{Step, Found, Passes, Stops, job_steps, steps_of, reads_of, writes_of, opens_of, creates_of}
 use Rattle.job_runs.specs.declared.record.RunRecord.{RunRecord}
 use Rattle.job_runs.specs.declared.record.RunRecord.TheVariants.{Nothing}
@@ -43,10 +42,10 @@ pub record IsFaithful (words : List (List ℕ)) (outcome : Outcome) (before now 
 
 -- ---- want of memory
 
--- the steps that are taken in the world: those of a job whose rules are good and that is built
+-- the steps that are taken in the world: those of a job whose rules are good
 abbrev pub asked_of : Result Job UsageFault → List Step
 asked_of (Err why) = []
-asked_of (Ok job) = if is_some (rules_fault job.caseless job.rules) then [] else (if is_built job then job_steps job else [])
+asked_of (Ok job) = if is_some (rules_fault job.caseless job.rules) then [] else job_steps job
 
 -- there was no memory for a step: files of the names of the steps were opened and read, no more than these are, and nothing was written or created
 abbrev pub LacksStep : Result Job UsageFault → List Call → Type 0

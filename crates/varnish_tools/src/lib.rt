@@ -2,7 +2,8 @@
 //!
 //! `run_tools` takes the steps of the words and of the job that they state, one after the other, until one refuses it; then the
 //! job runs, and the message of a fault is said. Nothing else is opened, read, created or written, and no call follows one that
-//! failed but that of the message. Its contract is the main theorem of this project.
+//! failed but that of the message. Its contract is the main theorem of this project. A job that starts no thread it gives to
+//! `run_alone`, which waits for nobody.
 //!
 //! Start with `IsFaithful` in `specs/Theorem.antt`; the steps stand in `job_steps`, the runs in `job_runs`.
 //! Source: varnishlog(1), varnishncsa(1), varnishtop(1), varnishstat(1); messages and statuses are this project's choice.
@@ -16,5 +17,6 @@ mod tools;
 pub use job_runs::RunRecord;
 pub use job_steps::ToolFault;
 pub use laws::{good_words_have_no_fault, told_logs_are_printed};
+pub use live_feed::{Gate, OpenGate};
 pub use outcome::Outcome;
-pub use tools::run_tools;
+pub use tools::{run_alone, run_tools};

@@ -93,7 +93,6 @@ pub fn message_of(alloc: Global, words: &[String], fault: &ToolFault) -> Result<
 {
     match fault {
         ToolFault::Usage(fault) => usage_message(alloc, words, *fault),
-        ToolFault::NotBuilt => tell(alloc, "not built yet", ""),
         ToolFault::BadPattern { word } => {
             tell(alloc, "pattern refused: ", word_named(words, *word))
         }
@@ -126,7 +125,6 @@ pub fn status_of(fault: &Option<ToolFault>) -> u8
     match fault {
         None => 0,
         Some(ToolFault::Usage(_)) => 2,
-        Some(ToolFault::NotBuilt) => 2,
         Some(ToolFault::BadPattern { .. }) => 2,
         Some(ToolFault::BadQuery { .. }) => 2,
         Some(ToolFault::BadFormat { .. }) => 2,

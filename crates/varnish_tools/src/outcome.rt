@@ -8,7 +8,7 @@ use job_steps::ToolFault;
 use log_model::{Halt, NoMemory};
 
 /// How a tool ended.
-#[derive(Debug, Drop)]
+#[derive(Drop)]
 pub struct Outcome {
     /// The exit status: 0 done, 1 the input or the outside failed, 2 the words, a format or the text of a query was refused.
     pub status: u8,

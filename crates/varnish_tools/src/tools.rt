@@ -1,45 +1,92 @@
 //! The top call.
 
-ghost use Rattle.std.specs.Prelude.{map, IfOk, OnOk, OnErr};
+ghost use Rattle.std.specs.Prelude.{◌≡◌, [], false, true, map, Ok, IfOk, OnOk, OnErr};
 ghost use Rattle.std.specs.String.{string_bytes};
+ghost use Rattle.vio.specs.World.{Seen};
 ghost use Rattle.vio.specs.Calls.{Called};
+ghost use Rattle.vsl_dispatch.specs.Groups.{is_filled};
 ghost use Rattle.one_run.specs.Promise.{Says};
 ghost use Rattle.tool_words.specs.Job.{job_of};
+ghost use Rattle.tool_words.specs.Sound.{IsSound};
+ghost use Rattle.job_steps.specs.Jobs.{is_on_threads};
 ghost use Rattle.varnish_tools.specs.Faults.{fault_message};
 ghost use Rattle.varnish_tools.specs.Theorem.{IsCutShort, IsFaithful, TouchesJob};
 ghost use Rattle.varnish_tools.specs.inside.Works.{IsWorked, SaysPartOf};
 
 use crate::message::{message_of, status_of};
 use crate::outcome::{Outcome, settled};
-use job_runs::{Ran, print_counters, print_feeds, print_log};
+use job_runs::{Ran, print_counters, print_feeds, print_live, print_live_counters, print_log};
 use job_steps::{
-    Begun, Input, Task, ToolFault, is_counting, read_task, take_counter_steps, take_group_steps,
+    Begun, Input, ToolFault, is_counting, is_on_threads, read_job, read_selection,
+    take_counter_steps, take_group_steps,
 };
+use live_feed::Gate;
 use log_model::Halt;
 use std::alloc::Global;
+use std::sync::Wait;
+use std::thread::Threads;
 use tool_consumers::consumer_of;
+use tool_words::Job;
 use vio::{ERRORS, NoMemory, World, WorldFault, write_all};
 
-/// Works off what the words ask for, but for the message of a fault: takes the steps of the words and of their job, and runs it.
-fn work<W: World>(alloc: Global, words: &[String], world: &mut W) -> Result<Ran, Halt<ToolFault>>
-    ensures { Called (IsWorked (job_of (map string_bytes words.now)) (W.seen world.new) result) (W.seen world.old) (W.seen world.new) }
+/// Works off a job that starts no thread, but for the message of a fault: takes its steps, and runs it.
+fn work_alone<W: World>(alloc: Global, job: &Job, world: &mut W) -> Result<Ran, Halt<ToolFault>>
+    requires sound { IsSound job.now }
+    requires keeps { is_filled job.now.keep [] ≡ false }
+    requires alone { is_on_threads job.now ≡ false }
+    ensures { Called (IsWorked (Ok job.now) (W.seen world.new) result) (W.seen world.old) (W.seen world.new) }
 {
-    let Task { job, selection } = read_task(alloc, words)?;
+    let selection = read_selection(alloc, job)?;
     if is_counting(job.tool) {
-        let counting = take_counter_steps(alloc, &job, world)?;
-        return Ok(print_counters(alloc, &job, counting, world)?);
+        let counting = take_counter_steps(alloc, job, world)?;
+        return Ok(print_counters(alloc, job, counting, world)?);
     }
     let Begun {
         query,
         format,
         input,
         sink,
-    } = take_group_steps(alloc, &job, world)?;
-    let consumer = consumer_of(alloc, &job, selection, format)?;
+    } = take_group_steps(alloc, job, world)?;
+    let consumer = consumer_of(alloc, job, selection, format)?;
     match input {
-        Input::Log(handle) => Ok(print_log(alloc, &job, consumer, &query, handle, sink, world)?),
+        Input::Log(handle) => Ok(print_log(alloc, job, consumer, &query, handle, sink, world)?),
         Input::Feeds(listings) => {
-            Ok(print_feeds(alloc, &job, consumer, &query, listings, sink, world)?)
+            Ok(print_feeds(alloc, job, consumer, &query, listings, sink, world)?)
+        }
+    }
+}
+
+/// The same for a job whose feeds workers put on threads.
+fn work_on_threads<R: Threads + Wait + Sync, W: World, G: Gate>(
+    rt: &R,
+    alloc: Global,
+    job: &Job,
+    world: &mut W,
+    gate: &G,
+) -> Result<Ran, Halt<ToolFault>>
+    requires sound { IsSound job.now }
+    requires keeps { is_filled job.now.keep [] ≡ false }
+    requires threads { is_on_threads job.now ≡ true }
+    ensures { Called (IsWorked (Ok job.now) (W.seen world.new) result) (W.seen world.old) (W.seen world.new) }
+{
+    let selection = read_selection(alloc, job)?;
+    if is_counting(job.tool) {
+        let counting = take_counter_steps(alloc, job, world)?;
+        return Ok(print_live_counters(rt, alloc, job, counting, world, gate)?);
+    }
+    let Begun {
+        query,
+        format,
+        input,
+        sink,
+    } = take_group_steps(alloc, job, world)?;
+    let consumer = consumer_of(alloc, job, selection, format)?;
+    match input {
+        Input::Log(handle) => Ok(print_log(alloc, job, consumer, &query, handle, sink, world)?),
+        Input::Feeds(listings) => {
+            Ok(print_live(
+                rt, alloc, job, consumer, &query, listings, sink, world, gate,
+            )?)
         }
     }
 }
@@ -65,6 +112,43 @@ fn report<W: World>(
     }
 }
 
+/// What is answered where work ended so, once the message of its fault is said.
+fn finish<W: World>(
+    alloc: Global,
+    words: &[String],
+    worked: Result<Ran, Halt<ToolFault>>,
+    world: &mut W,
+) -> Result<Outcome, NoMemory>
+    ensures faithful { (before : Seen) → Called (IsWorked (job_of (map string_bytes words.now)) (W.seen world.old) worked) before (W.seen world.old) → IfOk result (λ o. IsFaithful (map string_bytes words.now) o before (W.seen world.new)) }
+    ensures memory { (before : Seen) → Called (IsWorked (job_of (map string_bytes words.now)) (W.seen world.old) worked) before (W.seen world.old) → OnErr result (IsCutShort (map string_bytes words.now) before (W.seen world.new)) }
+    ensures touches { (before : Seen) → Called (IsWorked (job_of (map string_bytes words.now)) (W.seen world.old) worked) before (W.seen world.old) → Called (TouchesJob (map string_bytes words.now)) before (W.seen world.new) }
+{
+    let Ran { fault, run } = settled(worked)?;
+    report(alloc, words, world, &fault)?;
+    let status = status_of(&fault);
+    Ok(Outcome { status, fault, run })
+}
+
+/// Does what a job asks for that starts no thread: it has a log file, or no feeds, or states whose turn it is. `words` are the words
+/// of a command line that state it, and are named in messages. It waits for nobody, and its contract is that of `run_tools`.
+pub fn run_alone<W: World>(
+    alloc: Global,
+    words: &[String],
+    job: &Job,
+    world: &mut W,
+) -> Result<Outcome, NoMemory>
+    requires job { job_of (map string_bytes words.now) ≡ Ok job.now }
+    requires sound { IsSound job.now }
+    requires keeps { is_filled job.now.keep [] ≡ false }
+    requires alone { is_on_threads job.now ≡ false }
+    ensures faithful { IfOk result (λ o. IsFaithful (map string_bytes words.now) o (W.seen world.old) (W.seen world.new)) }
+    ensures memory { OnErr result (IsCutShort (map string_bytes words.now) (W.seen world.old) (W.seen world.new)) }
+    ensures touches { Called (TouchesJob (map string_bytes words.now)) (W.seen world.old) (W.seen world.new) }
+{
+    let worked = work_alone(alloc, job, world);
+    finish(alloc, words, worked, world)
+}
+
 /// Does what the words of a command line ask for, without the program's name.
 ///
 /// The steps are taken in order: the words, and the rules in them; the queries, in the order of the words, where the file of each is
@@ -78,22 +162,33 @@ fn report<W: World>(
 /// in one pass; with `-k` no more is taken after the unit, or the overrun, that completes the last group that is kept. A reader of
 /// feeds that the writers have overrun says so on standard error.
 ///
+/// Feeds whose order isn't stated are put into a ring by workers, each on a thread of its own, or here where none can be made, while
+/// this thread reads. The gate is asked before each put and each call of the reader. Workers run to their end, and are joined
+/// before the call returns, whatever it answers. Every other job waits for nobody.
+///
 /// The status is 0 without a fault, 2 where the words, a pattern, the text of a query or the format is refused, and else 1. After
 /// `NoMemory` a prefix of the output was written.
 ///
 /// Source: varnishlog(1), varnishncsa(1), varnishtop(1), varnishstat(1); the order of refusals, messages and statuses are this
 /// project's choice.
-pub fn run_tools<W: World>(
+pub fn run_tools<R: Threads + Wait + Sync, W: World, G: Gate>(
+    rt: &R,
     alloc: Global,
     words: &[String],
     world: &mut W,
+    gate: &G,
 ) -> Result<Outcome, NoMemory>
     ensures faithful { IfOk result (λ o. IsFaithful (map string_bytes words.now) o (W.seen world.old) (W.seen world.new)) }
     ensures memory { OnErr result (IsCutShort (map string_bytes words.now) (W.seen world.old) (W.seen world.new)) }
     ensures touches { Called (TouchesJob (map string_bytes words.now)) (W.seen world.old) (W.seen world.new) }
 {
-    let Ran { fault, run } = settled(work(alloc, words, world))?;
-    report(alloc, words, world, &fault)?;
-    let status = status_of(&fault);
-    Ok(Outcome { status, fault, run })
+    let job = match read_job(alloc, words) {
+        Ok(job) => job,
+        Err(halt) => return finish(alloc, words, Err(halt), world),
+    };
+    if !is_on_threads(&job) {
+        return run_alone(alloc, words, &job, world);
+    }
+    let worked = work_on_threads(rt, alloc, &job, world, gate);
+    finish(alloc, words, worked, world)
 }

@@ -7,7 +7,9 @@ ghost use Rattle.vtools.specs.Command.{question_of, IsPrinted, IsToolStatus};
 use crate::words::{Question, read_question};
 use std::alloc::Global;
 use std::io::Eprint;
-use varnish_tools::run_tools;
+use std::sync::Wait;
+use std::thread::Threads;
+use varnish_tools::{OpenGate, run_tools};
 use vio::{NoMemory, OUTPUT, World, WorldFault, write_all};
 
 /// What `vtools --version` prints.
@@ -27,7 +29,7 @@ usage: vtools [OPTIONS] varnishlog [-g GROUPING] [-L N] [-T N] [-q TEXT]
               [-q TEXT] [-Q FILE] [-k N] [-b] [-c] [-E] [-i TAGLIST]
               [-x TAGLIST] [-I RULE] [-X RULE] [-C] -r FILE
        vtools [--feed FILE].. [--gen N,SEED] [--ring N] [--reclen N]
-              (--feed-first | --turns SEED) TOOL .., as above without -r FILE
+              [--feed-first | --turns SEED] TOOL .., as above without -r FILE
        vtools [OPTIONS] varnishstat (-1 | -j | -l) [-f GLOB]..
 
 varnishlog prints the records of a log file, a group of them when it is
@@ -106,8 +108,9 @@ The first -I or -X that matches a record decides, else the last -i or -x that
 names its tag. Other records are hidden where the first of -i and -x is -i, or
 the first of -I and -X is -I.
 
-In the place of -r FILE, before the tool, one of the first two, or both, with
-one of the next two:
+In the place of -r FILE, before the tool, one of the first two, or both. Each
+feed is put into a ring on a thread of its own while the tool reads; with one of
+the next two the order is stated, and the same each time:
 
   --feed FILE       feeds the listing FILE, lines as varnishlog -g raw prints
                     them, at most 16 MiB; up to 16 of these
@@ -122,8 +125,7 @@ one of the next two:
 
 Taken too, and of no effect: -d; beside -r, of these all but --feed and --gen.
 Options stand in any order, letters may share a word, and of -F, -g, -k, -L,
--T, -r and -w the last counts. --feed and --gen without --feed-first or --turns
-are not built yet.
+-T, -r and -w the last counts.
 
   vtools --help     prints this text
   vtools --version  prints the version
@@ -131,8 +133,8 @@ are not built yet.
 Exit status: 0 done, 1 the input or the outside failed, 2 the command line, a
 pattern, a query or a format was refused, 3 out of memory.
 
-All options, and which are built, and formats: docs/FORMATS.md. Manuals:
-docs/man/vtools.1, and docs/man/vtools-TOOL.1 for each TOOL.
+All options and formats: docs/FORMATS.md. Manuals: docs/man/vtools.1, and
+docs/man/vtools-TOOL.1 for each TOOL.
 ";
 
 /// Prints a text, and answers 0, or 1 where a write failed, or 3 where there was no memory.
@@ -166,7 +168,12 @@ pub fn not_text(rt: &impl Eprint, place: usize) -> u8
 }
 
 /// Answers the words of a command line, and gives the exit status.
-pub fn run<W: World>(alloc: Global, rt: &impl Eprint, world: &mut W, words: &[String]) -> u8
+pub fn run<R: Threads + Wait + Sync + Eprint, W: World>(
+    alloc: Global,
+    rt: &R,
+    world: &mut W,
+    words: &[String],
+) -> u8
     ensures help { question_of (map string_bytes words.now) ≡ Some Question.Help → IsPrinted HELP.now result (W.seen world.old) (W.seen world.new) }
     ensures version { question_of (map string_bytes words.now) ≡ Some Question.Version → IsPrinted VERSION.now result (W.seen world.old) (W.seen world.new) }
     ensures tools { question_of (map string_bytes words.now) ≡ None → IsToolStatus (map string_bytes words.now) result (W.seen world.old) (W.seen world.new) }
@@ -174,7 +181,7 @@ pub fn run<W: World>(alloc: Global, rt: &impl Eprint, world: &mut W, words: &[St
     match read_question(words) {
         Some(Question::Help) => answer(world, rt, HELP),
         Some(Question::Version) => answer(world, rt, VERSION),
-        None => match run_tools(alloc, words, world) {
+        None => match run_tools(rt, alloc, words, world, &OpenGate) {
             Ok(outcome) => outcome.status,
             Err(NoMemory) => no_memory(rt),
         },

@@ -13,7 +13,7 @@ use Rattle.text_printer.specs.Output.{IsNew, output_plan}
 use Rattle.text_printer.specs.Printer.{Plan}
 use Rattle.job_steps.specs.Jobs.{options_of, write_of}
 use Rattle.tool_consumers.specs.Output.{head_text, output_of}
-use Rattle.job_runs.specs.Rows.{AreFed}
+use Rattle.job_runs.specs.Sources.{AreFed}
 
 -- the plan of a job's printer with a query, to this handle
 abbrev pub job_plan : Job → Query → ℕ → Plan

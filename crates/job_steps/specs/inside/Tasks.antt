@@ -1,21 +1,21 @@
 -- What single steps come to.
-use Rattle.std.specs.Prelude.{◌≡◌, ℕ, Bool, List, [], ◌∷◌, map, Option, Some, None, Result, Ok}
+use Rattle.std.specs.Prelude.{◌≡◌, ℕ, Bool, List, [], ◌∷◌, map, Option, Some, None}
+use Rattle.log_model.specs.declared.fault.Halt.{Halt}
+use Rattle.log_model.specs.declared.fault.Halt.TheVariants as halts
 use Rattle.query_grammar.specs.Tree as tree
 use Rattle.query_parser.specs.declared.query.Query.{Query}
 use Rattle.query_parser.specs.declared.test.Test.{Test}
 use Rattle.query_parser.specs.Parsed.{Means, HasTree}
-use Rattle.tool_words.specs.declared.fault.UsageFault.{UsageFault}
-use Rattle.tool_words.specs.declared.job.Job.{Job}
-use Rattle.job_steps.specs.declared.words.Task.{Task}
+use Rattle.vsl_select.specs.declared.rule_text.SelectFault.{SelectFault}
+use Rattle.vsl_select.specs.declared.rule_text.SelectFault.TheVariants as rules
+use Rattle.job_steps.specs.declared.fault.ToolFault.{ToolFault}
 use Rattle.job_steps.specs.Queries.{Ask, AreAsked, HoldsAsAsked}
-use Rattle.job_steps.specs.Jobs.{showing_of}
-use Rattle.job_steps.specs.Steps.{Found, FoundNone, FoundText}
+use Rattle.job_steps.specs.Steps.{Found, FoundText, IsRuleAnswer}
 
--- a task is that of the job that words state
-pub record IsTask (stated : Result Job UsageFault) (task : Task) (found : List Found) : Type 0 where
-  pub states : stated ≡ Ok task.job
-  pub shows : task.selection ≡ showing_of task.job
-  pub are : found ≡ FoundNone ∷ FoundNone ∷ []
+-- a rule that is refused is answered by its fault, and want of memory by want of memory
+abbrev pub IsRuleHalt : SelectFault → Halt ToolFault → Type 0
+IsRuleHalt why (halts.Fault fault) = IsRuleAnswer why fault
+IsRuleHalt why halts.NoMemory = why ≡ rules.NoMemory
 
 -- what was read so far is what is asked so far
 abbrev pub HasAsk : Option Query → Ask → Type 0

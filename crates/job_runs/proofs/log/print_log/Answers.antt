@@ -4,7 +4,8 @@ use Rattle.vio.specs.Calls.{Called}
 use Rattle.run_sources.specs.Sources.{FileGave, FileBegins, FileCame, FileStopped}
 use Rattle.run_sources.proofs.FileLemmas.{file_came}
 use Rattle.job_steps.specs.declared.fault.ToolFault.{ToolFault}
-use Rattle.job_runs.specs.Rows.{LogBegan, RanFor, end_answer, job_due}
+use Rattle.job_runs.specs.Sources.{LogBegan, RecordsCount}
+use Rattle.job_runs.specs.Rows.{RanFor, end_answer, job_due}
 use Rattle.job_runs.specs.Runs.{RanShort, RanSo}
 use Rattle.job_runs.proofs.RowLemmas.{can_begin, ended_row, stopped_row, short_row}
 use Rattle.job_runs.proofs.SourceLemmas.{log_began, log_late, log_lacked}
@@ -29,9 +30,9 @@ returns-in-ByOutput-clause-ran g c = λ ask holds.
     let h = log.reader.handle in
     let ran = rw c.in-ByOutput.is at c.in_ok-end.ensures.ran in
     let row = ended_row g.C.Consumer.keep g.C.Consumer.output g.C.Consumer.represents c.args.job.now c.args.query.now ask c.args.sink.handle c.args.sink.empty _ c.in_ok-output.ensures holds
-    (λ calls met all. FileGave log c.run.new.source calls met all) (FileCame h) _ (λ why calls met. FileStopped h why calls met (g.W.World.seen c.run.new.world)) (h ∷ []) _ c.in-ByOutput.ending _ _ _ (end_answer c.args.job.now) _ _
+    (λ calls met all. FileGave log c.run.new.source calls met all) (FileCame h) _ (λ why calls met. FileStopped h why calls met (g.W.World.seen c.run.new.world)) (h ∷ []) _ c.in-ByOutput.ending _ _ (RecordsCount c.counted.result.run) (end_answer c.args.job.now) _ _
     (λ calls met all. file_came log c.run.new.source calls met all) (c.counted.ensures.fault ∙ c.answer.ensures) c.counted.ensures.run ran in
-    subst (λ (k : ℕ). Called (RanSo (RanFor (k ∷ []) (FileCame k) (λ why calls met. FileStopped k why calls met (g.W.World.seen c.run.new.world)) c.args.sink.handle (job_due c.args.job.now ask c.args.sink.empty) (end_answer c.args.job.now) c.counted.result.fault c.counted.result.run)) (g.W.World.seen c.args.world.now) (g.W.World.seen c.run.new.world)) c.in_ok-log.ensures.handle row
+    subst (λ (k : ℕ). Called (RanSo (RanFor (k ∷ []) (FileCame k) (λ why calls met. FileStopped k why calls met (g.W.World.seen c.run.new.world)) (RecordsCount c.counted.result.run) c.args.sink.handle (job_due c.args.job.now ask c.args.sink.empty) (end_answer c.args.job.now) c.counted.result.fault)) (g.W.World.seen c.args.world.now) (g.W.World.seen c.run.new.world)) c.in_ok-log.ensures.handle row
 
 pub returns-in-BySource-clause-ran : goal.returns-in-BySource-clause-ran
 returns-in-BySource-clause-ran g c = λ ask holds.
@@ -39,6 +40,6 @@ returns-in-BySource-clause-ran g c = λ ask holds.
     let h = log.reader.handle in
     let ran = rw c.in-BySource.is at c.in_ok-end.ensures.ran in
     let row = stopped_row g.C.Consumer.keep g.C.Consumer.output g.C.Consumer.represents c.args.job.now c.args.query.now ask c.args.sink.handle c.args.sink.empty _ c.in_ok-output.ensures holds
-    (λ calls met all. FileGave log c.run.new.source calls met all) (FileCame h) (λ why calls met. FileStopped h why calls met (g.W.World.seen c.run.new.world)) (h ∷ []) _ c.in-BySource.stop _ _ _ (end_answer c.args.job.now) _ _
+    (λ calls met all. FileGave log c.run.new.source calls met all) (FileCame h) (λ why calls met. FileStopped h why calls met (g.W.World.seen c.run.new.world)) (h ∷ []) _ c.in-BySource.stop _ _ (RecordsCount c.counted-in-BySource.result.run) (end_answer c.args.job.now) _ _
     (c.counted-in-BySource.ensures.fault ∙ ap (λ (f : ToolFault). Some f) (rw (c.in_ok-name.ensures, c.file_name.ensures) at c.stop_answer.ensures)) c.counted-in-BySource.ensures.run ran in
-    subst (λ (k : ℕ). Called (RanSo (RanFor (k ∷ []) (FileCame k) (λ why calls met. FileStopped k why calls met (g.W.World.seen c.run.new.world)) c.args.sink.handle (job_due c.args.job.now ask c.args.sink.empty) (end_answer c.args.job.now) c.counted-in-BySource.result.fault c.counted-in-BySource.result.run)) (g.W.World.seen c.args.world.now) (g.W.World.seen c.run.new.world)) c.in_ok-log.ensures.handle row
+    subst (λ (k : ℕ). Called (RanSo (RanFor (k ∷ []) (FileCame k) (λ why calls met. FileStopped k why calls met (g.W.World.seen c.run.new.world)) (RecordsCount c.counted-in-BySource.result.run) c.args.sink.handle (job_due c.args.job.now ask c.args.sink.empty) (end_answer c.args.job.now) c.counted-in-BySource.result.fault)) (g.W.World.seen c.args.world.now) (g.W.World.seen c.run.new.world)) c.in_ok-log.ensures.handle row

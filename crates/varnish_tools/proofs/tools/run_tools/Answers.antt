@@ -1,21 +1,21 @@
--- The work, and then what is said of its fault.
-use Rattle.std.proofs.Common.{inr}
-use Rattle.vio.proofs.WholeLemmas.{OnErr-always}
-use Rattle.varnish_tools.proofs.SaidLemmas.{lacks_message, settled_short, settled_work, works_off}
-use Rattle.varnish_tools.proofs.TouchLemmas.{lacks_touches, part_touches, whole_touches}
+-- The words, and then the work that they ask for.
+use Rattle.varnish_tools.proofs.WorkLemmas.{of_words, words_end}
 use Rattle.varnish_tools.proofs.tools.run_tools.Goals as goal
 
-pub returns-in_err-fault-clause-touches : goal.returns-in_err-fault-clause-touches
-returns-in_err-fault-clause-touches g c = lacks_touches _ _ _ (settled_short _ c.work.result _ _ _ c.in_err-fault.ensures c.work.ensures)
+pub returns-in-Err-clause-faithful : goal.returns-in-Err-clause-faithful
+returns-in-Err-clause-faithful g c = c.finish.ensures.faithful _ (words_end _ c.in-Err.halt _ c.in-Err.ensures.refused)
 
-pub returns-in_err-report-clause-memory : goal.returns-in_err-report-clause-memory
-returns-in_err-report-clause-memory g c = OnErr-always _ (inr (lacks_message _ _ _ _ _ _ (settled_work _ _ c.work.result c.in_ok-fault.field-0 _ _ c.in_ok-fault.ensures c.work.ensures) c.in_err-report.ensures.part))
+pub returns-in-Err-clause-memory : goal.returns-in-Err-clause-memory
+returns-in-Err-clause-memory g c = c.finish.ensures.memory _ (words_end _ c.in-Err.halt _ c.in-Err.ensures.refused)
 
-pub returns-in_err-report-clause-touches : goal.returns-in_err-report-clause-touches
-returns-in_err-report-clause-touches g c = part_touches _ _ _ _ _ _ (settled_work _ _ c.work.result c.in_ok-fault.field-0 _ _ c.in_ok-fault.ensures c.work.ensures) c.in_err-report.ensures.part
+pub returns-in-Err-clause-touches : goal.returns-in-Err-clause-touches
+returns-in-Err-clause-touches g c = c.finish.ensures.touches _ (words_end _ c.in-Err.halt _ c.in-Err.ensures.refused)
 
 pub returns-clause-faithful : goal.returns-clause-faithful
-returns-clause-faithful g c = record { status = c.status_of-status.ensures; works = works_off _ _ _ _ _ _ _ (settled_work _ _ c.work.result c.in_ok-fault.field-0 _ _ c.in_ok-fault.ensures c.work.ensures) c.in_ok-report.ensures.said }
+returns-clause-faithful g c = c.finish-2.ensures.faithful _ (of_words _ c.in-Ok.job c.work_on_threads-worked.result _ _ c.in-Ok.ensures.job c.work_on_threads-worked.ensures)
+
+pub returns-clause-memory : goal.returns-clause-memory
+returns-clause-memory g c = c.finish-2.ensures.memory _ (of_words _ c.in-Ok.job c.work_on_threads-worked.result _ _ c.in-Ok.ensures.job c.work_on_threads-worked.ensures)
 
 pub returns-clause-touches : goal.returns-clause-touches
-returns-clause-touches g c = whole_touches _ _ _ _ _ _ _ (settled_work _ _ c.work.result c.in_ok-fault.field-0 _ _ c.in_ok-fault.ensures c.work.ensures) c.in_ok-report.ensures.said
+returns-clause-touches g c = c.finish-2.ensures.touches _ (of_words _ c.in-Ok.job c.work_on_threads-worked.result _ _ c.in-Ok.ensures.job c.work_on_threads-worked.ensures)

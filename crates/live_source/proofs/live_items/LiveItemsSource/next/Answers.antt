@@ -1,19 +1,21 @@
-use Rattle.std.proofs.Common.{true, false, ◌∙◌}
+use Rattle.std.proofs.Common.{true, false}
 use Rattle.live_source.proofs.ItemLemmas.{quiet, gave_unit, gave_lost, starved_unit}
 use Rattle.live_source.proofs.live_items.LiveItemsSource.next.Goals as goal
 
 pub returns-in-Ok-clause-came : goal.returns-in-Ok-clause-came
 returns-in-Ok-clause-came g c = λ start calls met gave.
     let here = c.loop.invariant in
-    let took = c.in-Took.ensures.answer in
-    quiet true _ (gave_unit _ _ _ _ met (c.seek.ensures.same ∙ here.3) (c.in_default.ensures.sought ∙ here.4) c.in-Took.ensures.same gave took c.in-Ok.unit (c.in-Ok.ensures took.unit (rw c.unit.ensures took.spells)))
+    let took = rw c.in-Some-Took.field-0-is at c.in-Some-Took.ensures.answer in
+    quiet true _ (gave_unit _ _ _ _ met here.3 here.4 c.step.ensures.same gave took c.in-Ok.unit (c.in-Ok.ensures took.unit (rw c.unit.ensures took.spells)))
 
 pub returns-in-Err-clause-came : goal.returns-in-Err-clause-came
 returns-in-Err-clause-came g c = λ start calls met gave.
     let here = c.loop.invariant in
-    quiet false _ (starved_unit _ _ _ _ met (c.seek.ensures.same ∙ here.3) (c.in_default.ensures.sought ∙ here.4) c.in-Took.ensures.same gave c.in-Took.ensures.answer)
+    let took = rw c.in-Some-Took.field-0-is at c.in-Some-Took.ensures.answer in
+    quiet false _ (starved_unit _ _ _ _ met here.3 here.4 c.step.ensures.same gave took)
 
-pub returns-in-Lost-clause-came : goal.returns-in-Lost-clause-came
-returns-in-Lost-clause-came g c = λ start calls met gave.
+pub returns-in-Some-Lost-clause-came : goal.returns-in-Some-Lost-clause-came
+returns-in-Some-Lost-clause-came g c = λ start calls met gave.
     let here = c.loop.invariant in
-    quiet true _ (gave_lost _ _ _ _ met (c.seek.ensures.same ∙ here.3) (c.in_default.ensures.sought ∙ here.4) c.in-Lost.ensures.same gave c.in-Lost.at c.in-Lost.seen c.in-Lost.ensures.answer)
+    let lost = rw c.in-Some-Lost.field-0-is at c.in-Some-Lost.ensures.answer in
+    quiet true _ (gave_lost _ _ _ _ met here.3 here.4 c.step.ensures.same gave c.in-Some-Lost.at c.in-Some-Lost.seen lost)

@@ -1,0 +1,5 @@
+mod ListLemmas
+mod SumLemmas
+mod WholeLemmas
+mod OpeningLemmas
+mod RunLemmas

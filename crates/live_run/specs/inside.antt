@@ -1,0 +1,3 @@
+-- What only the private steps of this crate say.
+pub mod Opening
+pub mod Reading

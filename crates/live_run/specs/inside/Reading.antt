@@ -1,0 +1,18 @@
+-- A reader's run, beside the workers.
+use Rattle.std.specs.Prelude.{◌≡◌, ℕ, Bool, false, List, [], Result, IfOk, OnErr}
+use Rattle.log_model.specs.declared.fault.NoMemory.{NoMemory}
+use Rattle.vio.specs.World.{Seen}
+use Rattle.vio.specs.Calls.{Call}
+use Rattle.ring_layout.specs.declared.item.Item.{Item}
+use Rattle.log_ring.specs.Readers.{ReaderState}
+use Rattle.one_run.specs.declared.pass.RunEnded.{RunEnded}
+use Rattle.one_run.specs.declared.source.Never.{Never}
+use Rattle.one_run.specs.Run.{Made, Ran, RanShort}
+use Rattle.live_source.specs.Live.{LiveGave, LiveStarved}
+
+-- a run over what a pass met, from one state of it to a later one, however it ended; no handle is read
+pub record HasRead {E : Type 0} (writes : List ℕ) (printed : List Call → List Item → Type 0) (ended : E → List Call → List Item → List Item → Bool → Type 0) (starved : List Call → List Item → Bool → Type 0)
+    (result : Result (RunEnded E Never) NoMemory) (start now : ReaderState) (before after : Seen) : Type 0 where
+  pub ring : now.ring ≡ start.ring
+  pub ran : IfOk result (λ r. Made false [] writes (Ran (λ calls met all. LiveGave start now met all) (λ fault calls met. ⊥) printed ended writes r.end r.met) before after)
+  pub short : OnErr result (Made false [] writes (RanShort (λ calls met all. LiveGave start now met all) (λ calls met. LiveStarved start now met) printed starved) before after)
