@@ -19,7 +19,7 @@ trap 'rm -rf "$work"' EXIT
 
 # Says what is wrong with the case that runs, and in which row.
 wrong() {
-    echo "cases: $name$row: $1" >&2
+    echo "cases: $name$row$threads: $1" >&2
     right=false
 }
 
@@ -56,11 +56,12 @@ check_form() {
     done
     [ "$words" -eq 1 ] || wrong "has not one of args, args.nul and rows"
     [ ! -f "$made/rows" ] || of_kind=""
+    [ ! -s "$made/also_on_threads" ] || wrong "also_on_threads is not empty"
     for file in stdout stderr status; do
         [ -z "$of_kind" ] || [ -f "$made/$file" ] || wrong "$file is missing"
     done
     for file in "$made"/*; do
-        case " args args.nul rows links hex data $of_kind " in
+        case " args args.nul rows links hex data also_on_threads $of_kind " in
         *" ${file##*/} "*) ;;
         *) wrong "${file##*/} is no file of such a case" ;;
         esac
@@ -83,8 +84,41 @@ run_words() {
         same "$file differs ('<' is wanted)" "$made/$file" "$work/got/$file"
     done
     # what lay there is left as it was, but for what comes out
-    [ ! -d "$made/files" ] || cp -R "$made/files/." "$made/data"
-    same "other files are left" "$made/data" "$work/got/folder"
+    rm -rf "$work/left"
+    cp -R "$made/data" "$work/left"
+    [ ! -d "$made/files" ] || cp -R "$made/files/." "$work/left"
+    same "other files are left" "$work/left" "$work/got/folder"
+}
+
+# Runs the program on words, and where the case says so once more, without the words that state an order of feeds, so on
+# threads; what comes out is the same: run_twice WORD..
+run_twice() {
+    local words=() stated=false
+    run_words "$@"
+    [ -f "$made/also_on_threads" ] || return 0
+    while [ $# -gt 0 ]; do
+        case $1 in
+        --feed-first) stated=true ;;
+        --turns)
+            stated=true
+            shift
+            ;;
+        --feed | --gen | --ring | --reclen)
+            words+=("$1" "${2-}")
+            shift
+            ;;
+        *)
+            words+=("$@")
+            break
+            ;;
+        esac
+        [ $# -eq 0 ] || shift
+    done
+    $stated || return 0
+    on_threads=$((on_threads + 1))
+    threads=", on threads"
+    run_words "${words[@]}"
+    threads=""
 }
 
 # Runs each row of a case: nothing is written but the row's message, and the row's status is answered.
@@ -103,7 +137,7 @@ run_rows() {
         IFS=' ' read -ra words <<<"${BASH_REMATCH[1]}"
         echo "${BASH_REMATCH[4]}" >"$made/status"
         echo "${BASH_REMATCH[5]}" >"$made/stderr"
-        run_words "${words[@]}"
+        run_twice "${words[@]}"
     done
     row=""
 }
@@ -120,7 +154,7 @@ run_case() {
     else
         mapfile -d '' -t words <"$made/args.nul"
     fi
-    run_words "${words[@]}"
+    run_twice "${words[@]}"
 }
 
 # The words of a row, its status and its message; the words may be none.
@@ -128,8 +162,10 @@ row_form=$'^(([^ \t]+( [^ \t]+)*)?)\t([0-9]+)\t([^\t]+)$'
 
 count=0
 rows=0
+on_threads=0
 failed=0
 row=""
+threads=""
 made="$work/made"
 for folder in cases/*; do
     name=${folder##*/}
@@ -139,7 +175,10 @@ for folder in cases/*; do
     if [ -d "$folder" ]; then
         make_case
         check_form
+        before=$on_threads
         ! $right || run_case
+        [ ! -f "$made/also_on_threads" ] || [ "$on_threads" -gt "$before" ] ||
+            wrong "also_on_threads is there, and no words state an order of feeds"
     else
         wrong "is no folder"
     fi
@@ -155,4 +194,4 @@ done
     echo "cases: there are none" >&2
     exit 1
 }
-echo "cases: ok, $count of them, with $rows rows"
+echo "cases: ok, $count of them, with $rows rows; $on_threads command lines on threads too"

@@ -108,7 +108,7 @@ messages "an access line" 0 "$line" varnishncsa -r "$two"
 messages "a report" 0 "$counted" varnishtop -1 -g raw -r one.log
 messages "no report" 1 "" varnishtop -1 -g raw -r cut.log
 messages "a missing file" 1 "" varnishlog -g raw -r missing
-messages "a job that isn't built" 2 "" --feed one.log varnishlog
+messages "a feed that is no listing" 1 "" --feed one.log varnishlog
 messages "a format that is refused" 2 "" varnishncsa -F %Z -r one.log
 messages "words that are refused" 2 "" varnishlog -g raw -r one.log -k0
 messages "a word that is not UTF-8" 2 "" $'\xff'
@@ -122,7 +122,7 @@ expect "no stream and nothing to write" 0 ""
 run --help <&- >&- 2>&-
 expect "no stream for --help" 1 ""
 run --feed one.log varnishlog <&- >&- 2>&-
-expect "no stream for a job that isn't built" 2 ""
+expect "no stream for a feed that is no listing" 1 ""
 run varnishncsa -F %Z -r one.log <&- >&- 2>&-
 expect "no stream for a format that is refused" 2 ""
 run varnishlog -g raw -r one.log <&- >out 2>err
@@ -138,10 +138,8 @@ cmp -s one.log "$one" || fail "no stream: the log was written to"
 run varnishlog -g raw -r pipe >out 2>err </dev/null
 wait
 expect "FILE a pipe" 0 "" "$text"
-run --feed pipe varnishlog >out 2>err </dev/null
-expect "a job that isn't built opens no pipe" 2 "vtools: not built yet"
-run --feed pipe varnishstat -l >out 2>err </dev/null
-expect "counters that aren't built open no pipe" 2 "vtools: not built yet"
+run --feed pipe varnishlog -q % >out 2>err </dev/null
+expect "a query that is refused opens no feed" 2 "vtools: query 0: syntax at 0"
 run varnishncsa -F %Z -r pipe >out 2>err </dev/null
 expect "a format that is refused opens no pipe" 2 "vtools: format: syntax at 0"
 run varnishlog -g raw -r pipe -k0 >out 2>err </dev/null
