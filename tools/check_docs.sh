@@ -20,7 +20,7 @@ fail() {
 find . -type f ! -path './.git/*' ! -path './bin/*' ! -path '*/out/*' ! -path './examples/*' ! -path './cases/*/*' ! -path './crates/*/data/*' >"$work/files"
 
 for file in README.md CHANGELOG.md CONTRIBUTING.md docs/ARCHITECTURE.md docs/PROOF.md docs/DEFINITIONS.md \
-    docs/FORMATS.md docs/DECISIONS.md docs/COMING_FROM_VARNISH.md docs/SPEED.md docs/man/vtools.1 docs/man/vtools-varnishlog.1 \
+    docs/FORMATS.md docs/DECISIONS.md docs/GUIDE.md docs/COMING_FROM_VARNISH.md docs/SPEED.md docs/man/vtools.1 docs/man/vtools-varnishlog.1 \
     docs/man/vtools-varnishncsa.1 docs/man/vtools-varnishtop.1 docs/man/vtools-varnishstat.1; do
     [ -s "$file" ] || fail "$file is missing"
 done
@@ -85,7 +85,7 @@ sed -n '/^const HELP/,/^";/p' crates/vtools/src/answers.rt | sed -e '1d' -e '$d'
 sed -n '/^`vtools --help` prints/,/^`vtools --version`/p' docs/FORMATS.md |
     sed -n '/^```text/,/^```$/p' | sed -e '1d' -e '$d' | diff "$work/help" - >"$work/differ" ||
     fail "the help of docs/FORMATS.md is not the program's ('<' is the program's):" "$work/differ"
-cells 'What is built' | cut -d'|' -f1 | options >"$work/built"
+cells 'What each option does' | cut -d'|' -f1 | options >"$work/built"
 [ -s "$work/built" ] || fail "docs/FORMATS.md has no options that are built"
 options <"$work/help" | diff "$work/built" - >"$work/differ" ||
     fail "options that are built and not in --help, or the reverse ('<' is docs/FORMATS.md):" "$work/differ"

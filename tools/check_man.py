@@ -1,10 +1,10 @@
 #!/usr/bin/env python3
-"""Runs the examples of docs/man/, README and COMING_FROM_VARNISH that show what is printed, and compares it, from their own
-text.
+"""Runs the examples of docs/man/, README, GUIDE and COMING_FROM_VARNISH that show what is printed, and compares it, from
+their own text.
 
 Usage: tools/check_man.py [PROGRAM]; without one it is the program that `rt ci` built. The log `f` of the examples is that of
 a case, of one or of another, whole, without its last byte or not there, as the sentence before an example says. It also
-asks that each option of a page's tool stands in an example of the page that was run. README and COMING_FROM_VARNISH run
+asks that each option of a page's tool stands in an example of the page that was run. The other documents run
 `bin/vtools` in the top folder, and may leave out the empty line behind a last group; examples that write files are
 passed over.
 """
@@ -18,7 +18,7 @@ import tempfile
 
 TOP = pathlib.Path(__file__).resolve().parent.parent
 PAGES = TOP / "docs/man"
-DOCUMENTS = ("README.md", "docs/COMING_FROM_VARNISH.md")
+DOCUMENTS = ("README.md", "docs/GUIDE.md", "docs/COMING_FROM_VARNISH.md")
 LOG = TOP / "cases/a_log_is_written_to_standard_output/data/f"
 ANSWERED = TOP / "cases/ncsa_prints_a_line_of_a_request/hex/f"
 QUERIES = "Link\n"
