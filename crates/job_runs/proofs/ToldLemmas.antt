@@ -28,6 +28,7 @@ use Rattle.run_sources.specs.declared.file_items.FileStop.TheVariants as stops
 use Rattle.run_sources.specs.Sources.{FileCame, FileStopped, unit_items}
 use Rattle.run_sources.specs.Told.{AreOf, TellsLog, named_ending}
 use Rattle.run_sources.proofs.ToldLemmas.{begun_are, whole_are, first_are, stopped_are, stopped_ends}
+use Rattle.text_printer.specs.Messages.{messages_of}
 use Rattle.text_printer.specs.declared.output.TextEnding.{TextEnding}
 use Rattle.text_printer.specs.declared.output.TextEnding.TheVariants as endings
 use Rattle.text_printer.specs.Ends.{Grows, TextEnded, TextShort, TextWritten, taken, taken_of, whole}
@@ -208,6 +209,17 @@ module _ (job : Job) (ask : Ask) (sink : ℕ) (empty : Bool) (listings : List Li
       → (log : Log) × (history : List (HistoryItem LogUnit)) × AreFed job listings log history × WritesOf sink (job_due job ask empty) fault (items_of history) true calls
   feeds_write fault records r = fed_end r.end r.met fault r.ran r.answers
 
+  -- without a fault each message was written
+  none_told : (ending : TextEnding) (done last : List Item) (all : Bool) (fault : Option ToolFault) → fault ≡ output_answer ending → TextEnded sink (job_due job ask empty) ending calls done last all → fault ≡ None → written_by ERRORS calls ≡ messages_of (done ++ last)
+  none_told endings.Whole done last all fault is p none = p.ends.3 ∙ ap messages_of (sym (append-nil done)) ∙ ap (λ (xs : List Item). messages_of (done ++ xs)) (sym p.ends.0)
+  none_told endings.Kept done last all fault is p none = p.ends.3
+  none_told (endings.Unwritten name) done last all fault is p none = let no = sym none ∙ is in absurd cc
+  none_told endings.Unreported done last all fault is p none = let no = sym none ∙ is in absurd cc
+
+  -- the items of a ring are all that were met
+  all_met : (history : List (HistoryItem LogUnit)) (met rest : List Item) → items_of history ≡ met ++ rest → rest ≡ [] → items_of history ≡ met
+  all_met history met rest parts none = parts ∙ ap (λ (xs : List Item). met ++ xs) none ∙ append-nil met
+
   -- the same of a ring that threads share
   live_end : (end : RunEnd TextEnding FileStop) (met : Met) (fault : Option ToolFault) → is_on_threads job ≡ true → runs.Ran (λ cs. FeedsCame job listings recorded) (λ why cs met. ⊥) (TextWritten sink (job_due job ask empty)) (TextEnded sink (job_due job ask empty)) (ERRORS ∷ sink ∷ []) end met calls → fault ≡ end_answer job end
       → WritesRing job listings recorded sink (job_due job ask empty) fault calls
@@ -224,6 +236,7 @@ module _ (job : Job) (ask : Ask) (sink : ℕ) (empty : Bool) (listings : List Li
         ended = ran.all;
         tail = λ all. subst (λ (l : Log). ReachesTail l came.history) (sym ring.log_is) (came.whole all).1;
         writes = ended_of ending ran.done ran.last ran.all ran.all (items_of came.history) fault is (live_are job listings (ran.done ++ ran.last) ran.all came) e.5;
+        messages = λ none. none_told ending ran.done ran.last ran.all fault is e.5 none ∙ ap messages_of (sym (all_met came.history (ran.done ++ ran.last) came.rest came.parts (e.4.ring threads).0));
       }
   live_end (ends.BySource why) met fault threads ran is = absurd ran.ends.1
 

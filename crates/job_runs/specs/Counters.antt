@@ -1,5 +1,5 @@
 -- What a run prints of counters, and what is recorded of it (varnishstat(1); this project's choice).
-use Rattle.std.specs.Prelude.{◌≡◌, ◌⊎◌, ℕ, Bool, true, false, List, [], ◌∷◌, Option, Some, None, codes, if◌then◌else◌}
+use Rattle.std.specs.Prelude.{◌≡◌, ◌⊎◌, ℕ, Bool, true, false, List, [], ◌∷◌, length, Option, Some, None, codes, if◌then◌else◌}
 use Rattle.log_model.specs.Interleaving.{IsInterleaving}
 use Rattle.log_model.specs.Prefix.{IsPrefix, IsProperPrefix}
 use Rattle.vio.specs.Calls.{Went, Failed, Call, Write}
@@ -27,16 +27,18 @@ printed modes.Once globs values = stat_text values globs
 printed modes.Json globs values = stat_json values globs
 printed modes.List globs values = stat_list globs
 
--- listings were put into a ring that nobody reads: their log is an interleaving of them; where a job states whose turn it is it is that of these turns, and no writer waits for another
+-- listings were put into a ring that nobody reads: their log is an interleaving of them; where a job states whose turn it is it is that of these turns, and no writer waits for another. One
+-- writer alone never waits
 pub record ArePut (job : Job) (listings : List Listing) (log : Log) (waits : ℕ) : Type 0 where
   pub turns : is_on_threads job ≡ false → IsUnread (order_seed job.order) (units_of (with_made job listings)) log × (waits ≡ 0)
   pub interleaved : IsInterleaving log (units_of (with_made job listings))
+  pub alone : length (with_made job listings) ≡ 1 → waits ≡ 0
 
 -- what a job prints of these listings, this log, and so many waits of writers
 abbrev pub counters_text : Job → List Listing → Log → ℕ → List ℕ
 counters_text job listings log waits = printed job.stat job.globs (live_values (with_made job listings) waits (count_wraps job.seg log))
 
--- what is recorded of a job that prints counters, which takes no unit; nothing where it has no log
+-- what is recorded of a job that prints counters of no feed, or in the order that it states: it takes no unit, and has nothing where it has no log
 abbrev pub record_of : Job → RunRecord
 record_of job = if is_fed job then Counted 0 0 else Nothing
 

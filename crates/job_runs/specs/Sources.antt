@@ -61,7 +61,7 @@ StopsOf (h ∷ others) now why calls met = FileStopped h why calls met now
 abbrev pub RecordsCount : RunRecord → List Item → Type 0
 RecordsCount recorded met = recorded ≡ Counted (count_units met) (count_items met)
 
--- the same, but of feeds that threads put
+-- what is recorded of a log, or of feeds in the order that a job states; where threads put them the ring is, as above
 abbrev pub RecordsOf : List ℕ → Job → RunRecord → List Item → Type 0
 RecordsOf [] job recorded met = is_on_threads job ≡ false → RecordsCount recorded met
 RecordsOf (h ∷ others) job recorded met = RecordsCount recorded met

@@ -36,7 +36,7 @@ abbrev pub WritesPart : Job → List Found → List Item → Bool → List Call 
 WritesPart job found every ended calls = (ask : Ask) × (sink : ℕ) × (empty : Bool) × IsAsked job found ask sink empty × TextShort sink (job_due job ask empty) calls every ended
 
 -- what a run wrote of feeds that threads put: the ring is recorded, its log is an interleaving of the listings, and this is of all that its only reader took; that goes up to the log's tail
--- where it had ended
+-- where it had ended. Without a fault each overrun was told
 pub record WritesRing (job : Job) (listings : List Listing) (recorded : RunRecord) (sink : ℕ) (d : Due) (fault : Option ToolFault) (calls : List Call) : Type 0 where
   pub ring : ClosedState
   pub is : recorded ≡ Closed ring
@@ -47,8 +47,10 @@ pub record WritesRing (job : Job) (listings : List Listing) (recorded : RunRecor
   pub ended : Bool
   pub tail : ended ≡ true → ReachesTail ring.log history
   pub writes : WritesOf sink d fault (items_of history) ended calls
+  pub messages : fault ≡ None → written_by ERRORS calls ≡ messages_of (items_of history)
 
--- a job that had no memory wrote a part of what is due of all that a reader meets of its feeds; where threads put them, of all that it took, up to the log's tail where it had ended
+-- a job that had no memory wrote a part of what is due of all that a reader meets of its feeds; where threads put them, of what a reader of an interleaving of them may take, up to the log's
+-- tail where it had ended. No ring is recorded then, so which it was isn't said
 pub record WritesFedPart (job : Job) (found : List Found) (calls : List Call) : Type 0 where
   pub log : Log
   pub history : List (HistoryItem LogUnit)

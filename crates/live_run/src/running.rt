@@ -36,8 +36,9 @@ pub struct CountEnded {
 }
 
 /// Puts listings into a ring, each by a worker on a thread of its own, or here where none can be made, and gives an
-/// output what one reader meets meanwhile, until the output ends or all that was put was met. The gate is asked before
-/// each put and each call of the reader. It waits for the workers, also where there is no memory for the run.
+/// output what one reader meets meanwhile, until the output ends or all that was put was met. A gate, for tests, is
+/// asked before each put and each call of the reader, of which no clause here speaks. It waits for the workers, also where
+/// there is no memory for the run.
 pub fn run_live<R: Threads + Wait + Sync, W: World, O: Output, G: Gate>(
     rt: &R,
     alloc: Global,
@@ -79,7 +80,7 @@ pub fn run_live<R: Threads + Wait + Sync, W: World, O: Output, G: Gate>(
 }
 
 /// Puts listings into a ring that nobody reads, each by a worker on a thread of its own, or here where none can be
-/// made, and counts what is put; what the counters came to. The gate is asked before each put.
+/// made, and counts what is put; what the counters came to. A gate, for tests, is asked before each put, of which no clause here speaks.
 pub fn count_live<R: Threads + Wait + Sync, G: Gate>(
     rt: &R,
     alloc: Global,

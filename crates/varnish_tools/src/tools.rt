@@ -163,8 +163,8 @@ pub fn run_alone<W: World>(
 /// feeds that the writers have overrun says so on standard error.
 ///
 /// Feeds whose order isn't stated are put into a ring by workers, each on a thread of its own, or here where none can be made, while
-/// this thread reads. The gate is asked before each put and each call of the reader. Workers run to their end, and are joined
-/// before the call returns, whatever it answers. Every other job waits for nobody.
+/// this thread reads. Workers run to their end, and are joined before the call returns, whatever it answers. A gate, for tests,
+/// is asked before each put and each call of the reader, of which no clause here speaks. Every other job waits for nobody.
 ///
 /// The status is 0 without a fault, 2 where the words, a pattern, the text of a query or the format is refused, and else 1. After
 /// `NoMemory` a prefix of the output was written.
