@@ -1,0 +1,26 @@
+//! Live runs of the tools: what no contract says of workers on threads beside a reader. Tests of the top call over a
+//! world in memory; those of other runs stand in `acceptance`.
+//!
+//! A contract says what comes out whatever the schedule is. That two threads run at once, that a tool prints before the
+//! last unit is put, and that a run ends at all, a test alone shows. Each test ends by itself, and passes whatever the
+//! schedule is; where one has to be met, a gate holds threads.
+#![tactic(auto)]
+
+#[cfg(test)]
+mod beside;
+#[cfg(test)]
+mod faults;
+#[cfg(test)]
+mod gates;
+#[cfg(test)]
+mod kept;
+#[cfg(test)]
+mod overruns;
+#[cfg(test)]
+mod support;
+#[cfg(test)]
+mod sweep;
+#[cfg(test)]
+mod texts;
+#[cfg(test)]
+mod traffic;
