@@ -1,10 +1,11 @@
-//! The run of a job, by what it takes its units from: a log, or feeds in a stated order; or the counters of feeds.
+//! The run of a job, by what it takes its units from: a log, or feeds, in turns or on threads; or the counters of feeds.
 //!
 //! What the steps of a job found goes in. The items of a source go to the output of the job, by the one loop of `one_run`;
 //! what comes out is what was taken, and the fault at which it ended. A run is a row: a source, what is due, and how its
 //! end is answered. The message of a fault isn't written here.
 //!
-//! Start with `specs/Rows.antt`. Source: varnishlog(1), varnishstat(1); the rest is this project's choice.
+//! Start with `specs/Rows.antt` and `specs/Sources.antt`. Source: varnishlog(1), varnishstat(1); the rest is this
+//! project's choice.
 #![tactic(auto)]
 
 mod counters;

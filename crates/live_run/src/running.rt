@@ -80,7 +80,8 @@ pub fn run_live<R: Threads + Wait + Sync, W: World, O: Output, G: Gate>(
 }
 
 /// Puts listings into a ring that nobody reads, each by a worker on a thread of its own, or here where none can be
-/// made, and counts what is put; what the counters came to. A gate, for tests, is asked before each put, of which no clause here speaks.
+/// made, and counts what is put; what the counters came to. A gate, for tests, is asked before each put, of which no
+/// clause here speaks.
 pub fn count_live<R: Threads + Wait + Sync, G: Gate>(
     rt: &R,
     alloc: Global,
