@@ -5,7 +5,7 @@ ghost use Rattle.std.specs.Thread.{IsSync};
 ghost use Rattle.log_ring.specs.Readers.{new_pass};
 ghost use Rattle.live_workers.specs.Workers.{AllReady, AllFed, listings_of};
 ghost use Rattle.live_run.specs.inside.Opening.{WorkReady, WorkFed};
-ghost use Rattle.live_run.specs.inside.Reading.{HasRead};
+ghost use Rattle.live_run.specs.inside.Reading.{HasRead, ReadBeside};
 
 use counter_segments::Counters;
 use live_feed::{Fed, Gate};
@@ -15,7 +15,8 @@ use log_model::NoMemory;
 use log_ring::{ReaderPass, Ring};
 use one_run::{Never, Output, RunEnded, run};
 use std::alloc::Global;
-use std::sync::Wait;
+use std::sync::{Mutex, Wait};
+use std::thread;
 use std::thread::{Threads, join_mut};
 use vio::World;
 
@@ -25,18 +26,23 @@ struct Work {
     workers: Option<(Vec<Worker>, Vec<Fed>)>,
 }
 
-/// Starts the workers, once.
+/// How often a reader looks whether the workers have begun, before it gives up.
+const MOST_LOOKS: u32 = 1_000_000;
+
+/// Starts the workers, once, and says so before.
 fn run_once<R: Threads + Wait + Sync, G: Gate>(
     rt: &R,
     alloc: Global,
     ring: &Ring,
     counters: &Counters,
     work: &mut Work,
+    begun: &Mutex<bool>,
     gate: &G,
 ) -> Vec<Fed>
     requires { WorkReady ring.now counters.now work.old }
     ensures { WorkFed ring.now counters.now work.old result.items }
 {
+    *begun.lock(rt) = true;
     match work.workers.take() {
         Some((workers, room)) => run_workers(rt, ring, counters, workers, room, gate),
         None => Vec::new(alloc),
@@ -55,6 +61,37 @@ fn read<R: Wait, G: Gate, W: World, O: Output>(
     ensures { HasRead (O.writes output.old) (O.printed output.old output.new) (O.ended output.old) (O.starved output.old) result source.old.pass source.new.pass (W.seen world.old) (W.seen world.new) }
 {
     run(world, source, output)
+}
+
+/// Waits until the workers have begun, and tells whether they have. Where no thread could be made for them they begin
+/// behind the reader, which would wait for ever.
+fn have_begun<R: Wait>(rt: &R, begun: &Mutex<bool>) -> bool {
+    for _ in 0..MOST_LOOKS {
+        if *begun.lock(rt) {
+            return true;
+        }
+        thread::yield_now();
+    }
+    false
+}
+
+/// The same run, where the workers have begun; else nothing is done.
+fn read_beside<R: Wait, G: Gate, W: World, O: Output>(
+    world: &mut W,
+    source: &mut LiveItems<'_, R, G>,
+    output: &mut O,
+    begun: &Mutex<bool>,
+) -> Option<Result<RunEnded<O::Ending, Never>, NoMemory>>
+    requires pass { source.old.pass ≡ new_pass source.old.ring.now }
+    requires output { O.is_ready output.old (W.seen world.old) }
+    requires new { O.is_new output.old }
+    ensures { ReadBeside (λ s. s.pass) (O.writes output.old) (O.printed output.old output.new) (O.ended output.old) (O.starved output.old) result source.old source.new output.old output.new (W.seen world.old) (W.seen world.new) }
+{
+    if have_begun(source.rt, begun) {
+        Some(read(world, source, output))
+    } else {
+        None
+    }
 }
 
 /// What is left when the workers and the reader are done, and how the reader's run ended.
@@ -89,20 +126,27 @@ pub fn run_beside<R: Threads + Wait + Sync, W: World, O: Output, G: Gate>(
     let mut work = Work {
         workers: Some((workers, room)),
     };
+    let begun = Mutex::new(false);
     let mut live = LiveItems::new(rt, alloc, ring, pass, gate);
     let todo = &mut work;
     let source = &mut live;
-    let (fed, ran) = join_mut(
+    let flag = &begun;
+    let (fed, beside) = join_mut(
         rt,
         &mut || -> Vec<Fed>
             requires { IsSync R.row × IsSync G.row × WorkReady ring.now counters.now todo.now }
             ensures { WorkFed ring.entry.now counters.entry.now todo.entry.now result.items }
-        { run_once(rt, alloc, ring, counters, todo, gate) },
-        &mut || -> Result<RunEnded<O::Ending, Never>, NoMemory>
+        { run_once(rt, alloc, ring, counters, todo, flag, gate) },
+        &mut || -> Option<Result<RunEnded<O::Ending, Never>, NoMemory>>
             requires { IsSync G.row × (source.now.pass ≡ new_pass source.now.ring.now) × O.is_ready output.now (W.seen world.now) × O.is_new output.now }
-            ensures { HasRead (O.writes output.entry.now) (O.printed output.entry.now output.exit.now) (O.ended output.entry.now) (O.starved output.entry.now) result source.entry.now.pass source.exit.now.pass (W.seen world.entry.now) (W.seen world.exit.now) }
-        { read(world, source, output) },
+            ensures { ReadBeside (λ s. s.pass) (O.writes output.entry.now) (O.printed output.entry.now output.exit.now) (O.ended output.entry.now) (O.starved output.entry.now) result source.entry.now source.exit.now output.entry.now output.exit.now (W.seen world.entry.now) (W.seen world.exit.now) }
+        { read_beside(world, source, output, flag) },
     );
+    // Where no thread could be made the workers have left by now.
+    let ran = match beside {
+        Some(ran) => ran,
+        None => read(world, &mut live, output),
+    };
     Beside {
         fed,
         pass: live.pass,

@@ -1,5 +1,5 @@
 -- A reader's run, beside the workers.
-use Rattle.std.specs.Prelude.{◌≡◌, ℕ, Bool, false, List, [], Result, IfOk, OnErr}
+use Rattle.std.specs.Prelude.{◌≡◌, ℕ, Bool, false, List, [], Option, Result, IfOk, OnErr, IfSome, IfNone}
 use Rattle.log_model.specs.declared.fault.NoMemory.{NoMemory}
 use Rattle.vio.specs.World.{Seen}
 use Rattle.vio.specs.Calls.{Call}
@@ -16,3 +16,9 @@ pub record HasRead {E : Type 0} (writes : List ℕ) (printed : List Call → Lis
   pub ring : now.ring ≡ start.ring
   pub ran : IfOk result (λ r. Made false [] writes (Ran (λ calls met all. LiveGave start now met all) (λ fault calls met. ⊥) printed ended writes r.end r.met) before after)
   pub short : OnErr result (Made false [] writes (RanShort (λ calls met all. LiveGave start now met all) (λ calls met. LiveStarved start now met) printed starved) before after)
+
+-- such a run, or nothing was done
+pub record ReadBeside {E S O : Type 0} (pass_of : S → ReaderState) (writes : List ℕ) (printed : List Call → List Item → Type 0) (ended : E → List Call → List Item → List Item → Bool → Type 0) (starved : List Call → List Item → Bool → Type 0)
+    (result : Option (Result (RunEnded E Never) NoMemory)) (start now : S) (output left : O) (before after : Seen) : Type 0 where
+  pub ran : IfSome result (λ r. HasRead writes printed ended starved r (pass_of start) (pass_of now) before after)
+  pub kept : IfNone result ((now ≡ start) × (left ≡ output) × (after ≡ before))
