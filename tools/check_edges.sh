@@ -467,6 +467,9 @@ expect "a feed of 16 MiB of lines" 0 ""
 run --feed large.lines --ring 1048576 --turns 7 varnishlog -g raw >large 2>err </dev/null
 cmp -s large.lines large || fail "a feed of 16 MiB of lines, in turns: the lines differ"
 expect "a feed of 16 MiB of lines, in turns" 0 ""
+run --feed large.lines --ring 1048576 varnishlog -g raw >large 2>err </dev/null
+cmp -s large.lines large || fail "a feed of 16 MiB of lines, on threads: the lines differ"
+expect "a feed of 16 MiB of lines, on threads" 0 ""
 
 # With an address space of 30 MB there is no memory for the largest ring, nor for such a feed.
 (
@@ -499,5 +502,54 @@ run --feed one.lines --feed-first varnishlog -w . >out 2>err </dev/null
 expect "a folder that is to be written, and a feed" 1 "vtools: .: cannot open"
 run --gen 4,7 --feed-first varnishlog -w /dev/full >out 2>err </dev/null
 expect "a full file for made up requests" 1 "vtools: /dev/full: write failed"
+
+# A feed that a worker puts on a thread comes out as in a stated order.
+messages "a feed on threads" 0 "$text" --feed one.lines varnishlog -g raw
+messages "a counter of a feed on threads" 0 "$counter" --feed one.lines varnishstat -1 -f 'MAIN.shm_w*'
+run --feed one.lines varnishlog -g raw <&- >&- 2>&-
+expect "no stream and a feed on threads" 1 ""
+for words in "--feed one.lines varnishlog -g raw" "--feed $lines varnishlog" "--feed $lines varnishncsa" \
+    "--feed one.lines --feed one.lines varnishtop -1 -g raw" "--gen 4,7 varnishlog -w -" "--gen 4,7 varnishstat -1"; do
+    exec 3<>pipe
+    exec 4>pipe 3>&-
+    # shellcheck disable=SC2086
+    run $words >&4 2>err </dev/null
+    exec 4>&-
+    expect "a closed pipe: $words" 1 "$unwritten"
+    # shellcheck disable=SC2086
+    run $words >/dev/full 2>err </dev/null
+    expect "a full output: $words" 1 "$unwritten"
+    # shellcheck disable=SC2086
+    run $words >&- 2>err </dev/null
+    expect "a closed output: $words" 1 "$unwritten"
+done
+run --feed one.lines varnishlog -g raw -w /dev/full >out 2>err </dev/null
+expect "a full file for a feed on threads" 1 "vtools: /dev/full: write failed"
+(
+    ulimit -v 30000
+    run --feed one.lines --ring 1048576 varnishlog -g raw >out 2>err </dev/null
+)
+expect "no memory for a ring that threads share" 3 "vtools: out of memory"
+run --feed one.lines --ring 1048576 varnishlog -g raw >out 2>err </dev/null
+expect "memory for a ring that threads share" 0 "" "$text"
+
+# With so little address space no thread can be made: the workers run before the reader, which looks a while for them.
+(
+    ulimit -v 8000
+    run --feed one.lines --feed one.lines --ring 64 varnishlog -g raw >out 2>err </dev/null
+)
+expect "no memory for a thread" 0 "" "$text$newline$text"
+
+# The reader of the output goes in mid-run, behind the first line. Overruns may be told before, and nothing else.
+cut_short() {
+    run "${@:2}" 2>err </dev/null | head -n 1 >out
+    grep -qE "$1" out || fail "a pipe that is closed in mid-run: the first line is not as it should be: $(cat out)"
+    grep -vE '^vtools: log overrun at segment [0-9]+, counter [0-9]+$' err >told || true
+    mv told err
+    expect "a pipe that is closed in mid-run: ${*:2}" 1 "$unwritten" "$(cat out)"
+}
+cut_short '^ +[0-9]+ Begin          [bc] ' --gen 100000,1 varnishlog -g raw
+cut_short '^[*]   << (BeReq  |Request|Session|Unknown)  >> [0-9]+ +$' --gen 100000,1 --ring 64 varnishlog
+cut_short '^10[.]0[.]0[.]7 ' --gen 100000,1 varnishncsa
 
 echo "edges: ok, $count of them"
