@@ -16,7 +16,6 @@ use log_ring::{ReaderPass, Ring};
 use one_run::{Never, Output, RunEnded, run};
 use std::alloc::Global;
 use std::sync::{Mutex, Wait};
-use std::thread;
 use std::thread::{Threads, join_mut};
 use vio::World;
 
@@ -27,7 +26,7 @@ struct Work {
 }
 
 /// How often a reader looks whether the workers have begun, before it gives up.
-const MOST_LOOKS: u32 = 1_000_000;
+const MOST_LOOKS: u32 = 20_000_000;
 
 /// Starts the workers, once, and says so before.
 fn run_once<R: Threads + Wait + Sync, G: Gate>(
@@ -70,7 +69,6 @@ fn have_begun<R: Wait>(rt: &R, begun: &Mutex<bool>) -> bool {
         if *begun.lock(rt) {
             return true;
         }
-        thread::yield_now();
     }
     false
 }
