@@ -1,7 +1,8 @@
 //! The level at the beginning of a line.
+#![tactic(auto, using(log_model::proofs::PrefixLemmas::adding))]
 
-ghost use Rattle.std.specs.Prelude.{◌≡◌, ◌≤◌, ◌∷◌, [], ◌++◌, decimal, OnOk};
-ghost use Rattle.log_model.specs.Prefix.{IsPrefix};
+ghost use Rattle.std.specs.Prelude.{◌≡◌, ◌≤◌, ◌∷◌, [], ◌++◌, decimal};
+ghost use Rattle.log_model.specs.Adding.{Puts};
 ghost use Rattle.vsl_select.specs.Lines.{level_field};
 
 use crate::parts::{put_byte, put_text};
@@ -45,10 +46,8 @@ impl LevelField {
     }
 
     /// Adds the text.
-    #[tactic(auto, using(log_model::proofs::PrefixLemmas::adding))]
     pub(crate) fn put(&self, out: &mut Vec<u8>) -> Result<(), NoMemory>
-        ensures ok { OnOk result (out.new.items ≡ out.old.items ++ self.now) }
-        ensures keeps { IsPrefix out.old.items out.new.items }
+        ensures { Puts result out.old.items out.new.items self.now }
     {
         if self.level > LAST_LOW {
             return put_high_level(out, self.character, self.level);
@@ -72,10 +71,8 @@ fn low_field(character: u8, level: u32) -> [u8; 4]
 /// Adds a level above 3 between two of the character. It is kept out of line, since few lines have one.
 #[cold]
 #[inline(never)]
-#[tactic(auto, using(log_model::proofs::PrefixLemmas::adding))]
 fn put_high_level(out: &mut Vec<u8>, character: u8, level: u32) -> Result<(), NoMemory>
-    ensures ok { OnOk result (out.new.items ≡ out.old.items ++ character ∷ decimal level ++ character ∷ 32 ∷ []) }
-    ensures keeps { IsPrefix out.old.items out.new.items }
+    ensures { Puts result out.old.items out.new.items (character ∷ decimal level ++ character ∷ 32 ∷ []) }
 {
     let mut buffer = Buffer::new();
     put_byte(out, character)?;

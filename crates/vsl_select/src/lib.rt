@@ -6,6 +6,7 @@
 //! Start with `specs/Shown.antt`, `specs/Lines.antt` and `specs/FileUnits.antt`. Source: varnishlog(1).
 #![tactic(auto)]
 
+mod columns;
 mod file_units;
 mod level_field;
 mod lines;
@@ -17,6 +18,7 @@ mod selection;
 mod text;
 mod vxid_columns;
 
+pub use columns::{put_left, put_right};
 pub use file_units::first_unit;
 pub use lines::group_text;
 pub use raw::{raw_line, raw_lines, tag_line};

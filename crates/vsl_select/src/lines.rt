@@ -1,9 +1,10 @@
 //! The text of groups.
+#![tactic(auto, using(log_model::proofs::PrefixLemmas::adding))]
 
-ghost use Rattle.std.specs.Prelude.{◌≡◌, ◌==◌, ◌++◌, [], if◌then◌else◌, codes, decimal, OnOk, OnErr};
+ghost use Rattle.std.specs.Prelude.{◌≡◌, ◌==◌, ◌++◌, [], if◌then◌else◌, codes, decimal};
 ghost use Rattle.std.specs.List.{flat_map, list_all};
 ghost use Rattle.vsl_select.specs.RawLine.{at_left, raw_line};
-ghost use Rattle.log_model.specs.Prefix.{IsPrefix};
+ghost use Rattle.log_model.specs.Adding.{Puts, Adds};
 ghost use Rattle.vsl_select.specs.Lines.{header, record_text, record_line, member_text, member_raw_lines, transactions_text, group_text};
 ghost use Rattle.vsl_select.specs.Shown.{shown, shown_member, shown_members};
 
@@ -12,15 +13,13 @@ use crate::parts::{put_byte, put_text, put_vxid_left, title_of};
 use crate::raw::{put_raw_line, put_raw_lines, put_tag_line};
 use crate::selection::Selection;
 use crate::vxid_columns::VxidColumns;
-use log_model::NoMemory;
+use log_model::{NoMemory, or_cut_back};
 use txn_rows::{Group, Member};
 use vsl_record::{Record, Vxid};
 
 /// Adds the raw lines of the shown records of a member.
-#[tactic(auto, using(log_model::proofs::PrefixLemmas::adding))]
 fn put_raw_member(out: &mut Vec<u8>, selection: &Selection, member: &Member) -> Result<(), NoMemory>
-    ensures ok { OnOk result (out.new.items ≡ out.old.items ++ member_raw_lines (shown_member selection.now member.now)) }
-    ensures keeps { IsPrefix out.old.items out.new.items }
+    ensures { Puts result out.old.items out.new.items (member_raw_lines (shown_member selection.now member.now)) }
 {
     if selection.shows_every_record() {
         return put_raw_lines(out, member.vxid, member.records.as_slice());
@@ -35,14 +34,12 @@ fn put_raw_member(out: &mut Vec<u8>, selection: &Selection, member: &Member) -> 
 }
 
 /// Adds the raw lines of what is shown of a group of records by themselves.
-#[tactic(auto, using(log_model::proofs::PrefixLemmas::adding))]
 fn put_raw_members(
     out: &mut Vec<u8>,
     selection: &Selection,
     members: &[Member],
 ) -> Result<(), NoMemory>
-    ensures ok { OnOk result (out.new.items ≡ out.old.items ++ flat_map member_raw_lines (shown_members selection.now members.now)) }
-    ensures keeps { IsPrefix out.old.items out.new.items }
+    ensures { Puts result out.old.items out.new.items (flat_map member_raw_lines (shown_members selection.now members.now)) }
 {
     for member in members {
         if selection.shows_member(member) {
@@ -53,10 +50,8 @@ fn put_raw_members(
 }
 
 /// Adds the end of a header: the VXID and a line feed.
-#[tactic(auto, using(log_model::proofs::PrefixLemmas::adding))]
 fn put_header_end(out: &mut Vec<u8>, vxid: Vxid) -> Result<(), NoMemory>
-    ensures ok { OnOk result (out.new.items ≡ out.old.items ++ (codes " " ++ at_left 10 (decimal vxid) ++ codes "\n")) }
-    ensures keeps { IsPrefix out.old.items out.new.items }
+    ensures { Puts result out.old.items out.new.items (codes " " ++ at_left 10 (decimal vxid) ++ codes "\n") }
 {
     put_byte(out, b' ')?;
     put_vxid_left(out, vxid)?;
@@ -65,10 +60,8 @@ fn put_header_end(out: &mut Vec<u8>, vxid: Vxid) -> Result<(), NoMemory>
 }
 
 /// Adds a transaction's header.
-#[tactic(auto, using(log_model::proofs::PrefixLemmas::adding))]
 fn put_header(out: &mut Vec<u8>, member: &Member) -> Result<(), NoMemory>
-    ensures ok { OnOk result (out.new.items ≡ out.old.items ++ header member.now) }
-    ensures keeps { IsPrefix out.old.items out.new.items }
+    ensures { Puts result out.old.items out.new.items (header member.now) }
 {
     LevelField::new(b'*', member.level).put(out)?;
     put_text(out, title_of(member.kind))?;
@@ -77,16 +70,13 @@ fn put_header(out: &mut Vec<u8>, member: &Member) -> Result<(), NoMemory>
 }
 
 /// Adds the text of a record in its transaction, after the level.
-#[tactic(auto, using(log_model::proofs::PrefixLemmas::adding))]
 fn put_record_text(out: &mut Vec<u8>, rec: &Record) -> Result<(), NoMemory>
-    ensures ok { OnOk result (out.new.items ≡ out.old.items ++ record_text rec.now) }
-    ensures keeps { IsPrefix out.old.items out.new.items }
+    ensures { Puts result out.old.items out.new.items (record_text rec.now) }
 {
     put_tag_line(out, rec.tag, rec.payload.as_slice())
 }
 
 /// Adds the line of a record in a transaction of this level, in dashes, and VXID.
-#[tactic(auto, using(log_model::proofs::PrefixLemmas::adding))]
 fn put_record(
     out: &mut Vec<u8>,
     verbose: bool,
@@ -94,8 +84,7 @@ fn put_record(
     vxid: &VxidColumns,
     rec: &Record,
 ) -> Result<(), NoMemory>
-    ensures ok { OnOk result (out.new.items ≡ out.old.items ++ (level.now ++ (if verbose then raw_line vxid.now rec.now else record_text rec.now))) }
-    ensures keeps { IsPrefix out.old.items out.new.items }
+    ensures { Puts result out.old.items out.new.items (level.now ++ (if verbose then raw_line vxid.now rec.now else record_text rec.now)) }
 {
     level.put(out)?;
     if verbose {
@@ -106,10 +95,8 @@ fn put_record(
 }
 
 /// Adds the lines of all records of a transaction.
-#[tactic(auto, using(log_model::proofs::PrefixLemmas::adding))]
 fn put_every_record(out: &mut Vec<u8>, verbose: bool, member: &Member) -> Result<(), NoMemory>
-    ensures ok { OnOk result (out.new.items ≡ out.old.items ++ flat_map (record_line verbose member.now) member.now.records) }
-    ensures keeps { IsPrefix out.old.items out.new.items }
+    ensures { Puts result out.old.items out.new.items (flat_map (record_line verbose member.now) member.now.records) }
 {
     let level = LevelField::new(b'-', member.level);
     let vxid = VxidColumns::new(member.vxid);
@@ -120,15 +107,13 @@ fn put_every_record(out: &mut Vec<u8>, verbose: bool, member: &Member) -> Result
 }
 
 /// Adds the lines of the shown records of a transaction.
-#[tactic(auto, using(log_model::proofs::PrefixLemmas::adding))]
 fn put_records(
     out: &mut Vec<u8>,
     verbose: bool,
     selection: &Selection,
     member: &Member,
 ) -> Result<(), NoMemory>
-    ensures ok { OnOk result (out.new.items ≡ out.old.items ++ flat_map (record_line verbose member.now) (shown_member selection.now member.now).records) }
-    ensures keeps { IsPrefix out.old.items out.new.items }
+    ensures { Puts result out.old.items out.new.items (flat_map (record_line verbose member.now) (shown_member selection.now member.now).records) }
 {
     if selection.shows_every_record() {
         return put_every_record(out, verbose, member);
@@ -144,15 +129,13 @@ fn put_records(
 }
 
 /// Adds a transaction's header and its shown records, if it has any: the header of one without is cut off again.
-#[tactic(auto, using(log_model::proofs::PrefixLemmas::adding))]
 fn put_member(
     out: &mut Vec<u8>,
     verbose: bool,
     selection: &Selection,
     member: &Member,
 ) -> Result<(), NoMemory>
-    ensures ok { OnOk result (out.new.items ≡ out.old.items ++ member_text verbose (shown_member selection.now member.now)) }
-    ensures keeps { IsPrefix out.old.items out.new.items }
+    ensures { Puts result out.old.items out.new.items (member_text verbose (shown_member selection.now member.now)) }
 {
     let before = out.len();
     put_header(out, member)?;
@@ -165,15 +148,13 @@ fn put_member(
 }
 
 /// Adds the texts of what is shown of transactions, in order.
-#[tactic(auto, using(log_model::proofs::PrefixLemmas::adding))]
 fn put_members(
     out: &mut Vec<u8>,
     verbose: bool,
     selection: &Selection,
     members: &[Member],
 ) -> Result<(), NoMemory>
-    ensures ok { OnOk result (out.new.items ≡ out.old.items ++ flat_map (member_text verbose) (shown_members selection.now members.now)) }
-    ensures keeps { IsPrefix out.old.items out.new.items }
+    ensures { Puts result out.old.items out.new.items (flat_map (member_text verbose) (shown_members selection.now members.now)) }
 {
     for member in members {
         if selection.shows_member(member) {
@@ -193,15 +174,13 @@ fn are_raw(selection: &Selection, members: &[Member]) -> bool
 }
 
 /// Adds the texts of what is shown of transactions, and an empty line if anything was printed.
-#[tactic(auto, using(log_model::proofs::PrefixLemmas::adding))]
 fn put_transactions(
     out: &mut Vec<u8>,
     verbose: bool,
     selection: &Selection,
     members: &[Member],
 ) -> Result<(), NoMemory>
-    ensures ok { OnOk result (out.new.items ≡ out.old.items ++ transactions_text verbose (shown_members selection.now members.now)) }
-    ensures keeps { IsPrefix out.old.items out.new.items }
+    ensures { Puts result out.old.items out.new.items (transactions_text verbose (shown_members selection.now members.now)) }
 {
     let before = out.len();
     put_members(out, verbose, selection, members)?;
@@ -212,15 +191,13 @@ fn put_transactions(
 }
 
 /// Adds the text of what is shown of a group, or a part of it.
-#[tactic(auto, using(log_model::proofs::PrefixLemmas::adding))]
 fn put_group(
     out: &mut Vec<u8>,
     verbose: bool,
     selection: &Selection,
     group: &Group,
 ) -> Result<(), NoMemory>
-    ensures ok { OnOk result (out.new.items ≡ out.old.items ++ group_text verbose (shown selection.now group.now)) }
-    ensures keeps { IsPrefix out.old.items out.new.items }
+    ensures { Puts result out.old.items out.new.items (group_text verbose (shown selection.now group.now)) }
 {
     let members = group.members.as_slice();
     if are_raw(selection, members) {
@@ -234,20 +211,15 @@ fn put_group(
 /// is shown, nothing is added. After want of memory the list is as it was.
 ///
 /// Source: varnishlog(1), `-v`.
-#[tactic(auto, using(log_model::proofs::PrefixLemmas::cut_back))]
 pub fn group_text(
     group: &Group,
     selection: &Selection,
     verbose: bool,
     out: &mut Vec<u8>,
 ) -> Result<(), NoMemory>
-    ensures ok { OnOk result (out.new.items ≡ out.old.items ++ group_text verbose (shown selection.now group.now)) }
-    ensures err { OnErr result (out.new.items ≡ out.old.items) }
+    ensures { Adds result out.old.items out.new.items (group_text verbose (shown selection.now group.now)) }
 {
-    let length = out.len();
-    let added = put_group(out, verbose, selection, group);
-    if added.is_err() {
-        out.truncate(length);
-    }
-    added
+    let before = out.len();
+    let put = put_group(out, verbose, selection, group);
+    or_cut_back(put, before, out)
 }

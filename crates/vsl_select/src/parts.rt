@@ -1,13 +1,15 @@
 //! The parts of a line.
 //!
 //! Each writer adds its text, or a part of it where it answers want of memory.
+#![tactic(auto, using(log_model::proofs::PrefixLemmas::adding))]
 
-ghost use Rattle.std.specs.Prelude.{◌≡◌, ◌≤◌, ◌<◌, ◌==◌, ◌||◌, ◌∷◌, [], ◌++◌, false, length, take, nat_lt, replicate, decimal, OnOk};
+ghost use Rattle.std.specs.Prelude.{◌≡◌, ◌≤◌, ◌<◌, ◌==◌, ◌||◌, ◌∷◌, [], false, length, take, nat_lt, replicate, decimal};
 ghost use Rattle.std.specs.List.{list_any};
 ghost use Rattle.vsl_select.specs.RawLine.{at_left, escaped_byte, escaped, hex_digit, mark_letter};
-ghost use Rattle.log_model.specs.Prefix.{IsPrefix};
+ghost use Rattle.log_model.specs.Adding.{Puts};
 ghost use Rattle.vsl_select.specs.Lines.{title};
 
+use crate::columns::put_left;
 use itoa::Buffer;
 use log_model::NoMemory;
 use txn_rows::Kind;
@@ -16,60 +18,28 @@ use vsl_record::{Mark, Vxid};
 /// The columns of a VXID in a header.
 const VXID_COLUMNS: usize = 10;
 
-/// More spaces than any column has.
-const SPACES: &[u8] = b"                ";
-
 /// Adds a text as it is.
-#[tactic(auto, using(log_model::proofs::PrefixLemmas::adding))]
 pub(crate) fn put_text(out: &mut Vec<u8>, text: &[u8]) -> Result<(), NoMemory>
-    ensures ok { OnOk result (out.new.items ≡ out.old.items ++ text.now) }
-    ensures keeps { IsPrefix out.old.items out.new.items }
+    ensures { Puts result out.old.items out.new.items text.now }
 {
     out.extend_from_slice(text)?;
     Ok(())
 }
 
 /// Adds a byte as it is.
-#[tactic(auto, using(log_model::proofs::PrefixLemmas::adding))]
 pub(crate) fn put_byte(out: &mut Vec<u8>, byte: u8) -> Result<(), NoMemory>
-    ensures ok { OnOk result (out.new.items ≡ out.old.items ++ byte ∷ []) }
-    ensures keeps { IsPrefix out.old.items out.new.items }
+    ensures { Puts result out.old.items out.new.items (byte ∷ []) }
 {
     out.push(byte)?;
     Ok(())
 }
 
-/// Adds this many spaces.
-#[tactic(auto, using(log_model::proofs::PrefixLemmas::adding))]
-fn put_spaces(out: &mut Vec<u8>, count: usize) -> Result<(), NoMemory>
-    requires { count ≤ 16 }
-    ensures ok { OnOk result (out.new.items ≡ out.old.items ++ replicate count 32) }
-    ensures keeps { IsPrefix out.old.items out.new.items }
-{
-    put_text(out, &SPACES[..count])?;
-    Ok(())
-}
-
-/// Adds a text at the left of its columns.
-#[tactic(auto, using(log_model::proofs::PrefixLemmas::adding))]
-fn put_left(out: &mut Vec<u8>, columns: usize, text: &[u8]) -> Result<(), NoMemory>
-    requires { columns ≤ 16 }
-    ensures ok { OnOk result (out.new.items ≡ out.old.items ++ at_left columns text.now) }
-    ensures keeps { IsPrefix out.old.items out.new.items }
-{
-    put_text(out, text)?;
-    put_spaces(out, columns.saturating_sub(text.len()))?;
-    Ok(())
-}
-
 /// Adds a VXID at the left of its columns.
-#[tactic(auto, using(log_model::proofs::PrefixLemmas::adding))]
 pub(crate) fn put_vxid_left(out: &mut Vec<u8>, vxid: Vxid) -> Result<(), NoMemory>
-    ensures ok { OnOk result (out.new.items ≡ out.old.items ++ at_left 10 (decimal vxid)) }
-    ensures keeps { IsPrefix out.old.items out.new.items }
+    ensures { Puts result out.old.items out.new.items (at_left 10 (decimal vxid)) }
 {
     let mut buffer = Buffer::new();
-    put_left(out, VXID_COLUMNS, buffer.format(vxid).as_bytes())
+    put_left(VXID_COLUMNS, buffer.format(vxid).as_bytes(), out)
 }
 
 /// The title in a transaction's header.
@@ -112,10 +82,8 @@ fn has_escape(byte: u8) -> bool
 }
 
 /// Adds a byte of a payload.
-#[tactic(auto, using(log_model::proofs::PrefixLemmas::adding))]
 fn put_escaped_byte(out: &mut Vec<u8>, byte: u8) -> Result<(), NoMemory>
-    ensures ok { OnOk result (out.new.items ≡ out.old.items ++ escaped_byte byte) }
-    ensures keeps { IsPrefix out.old.items out.new.items }
+    ensures { Puts result out.old.items out.new.items (escaped_byte byte) }
 {
     if has_escape(byte) {
         put_text(
@@ -144,10 +112,8 @@ fn plain_length(bytes: &[u8]) -> usize
 /// Adds a payload, run by run. It is kept out of line, since few payloads have an escape.
 #[cold]
 #[inline(never)]
-#[tactic(auto, using(log_model::proofs::PrefixLemmas::adding))]
 fn put_with_escapes(out: &mut Vec<u8>, payload: &[u8]) -> Result<(), NoMemory>
-    ensures ok { OnOk result (out.new.items ≡ out.old.items ++ escaped payload.now) }
-    ensures keeps { IsPrefix out.old.items out.new.items }
+    ensures { Puts result out.old.items out.new.items (escaped payload.now) }
 {
     let mut rest = payload;
     while !rest.is_empty() {
@@ -210,10 +176,8 @@ fn has_any_escape(payload: &[u8]) -> bool
 }
 
 /// Adds a payload; at once where no byte of it needs an escape, as in most.
-#[tactic(auto, using(log_model::proofs::PrefixLemmas::adding))]
 pub(crate) fn put_escaped(out: &mut Vec<u8>, payload: &[u8]) -> Result<(), NoMemory>
-    ensures ok { OnOk result (out.new.items ≡ out.old.items ++ escaped payload.now) }
-    ensures keeps { IsPrefix out.old.items out.new.items }
+    ensures { Puts result out.old.items out.new.items (escaped payload.now) }
 {
     if has_any_escape(payload) {
         put_with_escapes(out, payload)
