@@ -1,20 +1,5 @@
-use Rattle.std.proofs.Common.{◌++◌, sym, ap, ◌∙◌}
-use Rattle.std.specs.Prelude.{codes}
-use Rattle.log_model.proofs.PrefixLemmas.{prefix_then, prefix_equal}
-use Rattle.vsl_stat.specs.Report.{name_of}
-use Rattle.vsl_stat.proofs.SelectLemmas.{text_selected, text_hidden}
-use Rattle.vsl_stat.proofs.report.stat_list.Goals.{then-is_shown+in_ok-put_listed, else-is_shown}
+use Rattle.std.proofs.Common.{◌∙◌}
 use Rattle.vsl_stat.proofs.report.stat_list.Goals as goal
 
-pub loop-which-preserved : goal.loop-which-preserved
-loop-which-preserved c =
-    elim c.if-is_shown.branch [
-      | then-is_shown+in_ok-put_listed w ↦ record {
-        text = text_selected (λ n. name_of n ++ codes "\n") c.args.globs.now c.loop-which.which c.loop-which.out.items _ _ c.loop-which-test.true (sym c.is_shown.ensures ∙ w.if-is_shown.true) (ap (λ v. v.items) w.out-is ∙ w.in_ok-put_listed.ensures.ok) c.loop-which.invariant.text;
-        keeps = prefix_then c.loop-which.invariant.keeps (prefix_then w.in_ok-put_listed.ensures.keeps (prefix_equal (ap (λ v. v.items) w.out-is)));
-      }
-      | else-is_shown w ↦ record {
-        text = text_hidden (λ n. name_of n ++ codes "\n") c.args.globs.now c.loop-which.which c.loop-which.out.items _ _ c.loop-which-test.true (sym c.is_shown.ensures ∙ w.if-is_shown.false) (ap (λ v. v.items) w.out-is) c.loop-which.invariant.text;
-        keeps = prefix_then c.loop-which.invariant.keeps (prefix_equal (ap (λ v. v.items) w.out-is));
-      }
-    ]
+pub returns : goal.returns
+returns c = c.or_cut_back.ensures c.args.out.now.items _ (c.len-before.ensures ∙ c.args.out.now.ok.0) c.put_all_told-put.ensures
