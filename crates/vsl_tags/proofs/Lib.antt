@@ -3,3 +3,4 @@ pub mod NameLemmas
 mod GlobLemmas
 mod TagSetLemmas
 mod Examples
+pub mod CalledLemmas

@@ -1,3 +1,4 @@
+pub mod Called
 pub mod Tags
 pub mod Glob
 pub mod TagSet
