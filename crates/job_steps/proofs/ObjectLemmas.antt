@@ -59,4 +59,4 @@ called_uncreated {append = append} {name = name} {copy = copy} {t = t} same file
 
 -- there was no memory for the one call
 pub called_lack : {opened : List (List ℕ)} {s t : Seen} → OnlyCounts s t → Called (OnlyOpen opened) s t
-called_lack {opened = opened} {t = t} only = record { calls = Lack ∷ []; did = (t, only, refl); is = (tt, omega arith) }
+called_lack {opened = opened} {t = t} only = record { calls = Lack ∷ []; did = (t, only, refl); is = ((tt, tt), omega arith) }

@@ -48,7 +48,7 @@ within_opens names calls p = record { within = p.0; few = omega (arith, p.1); wr
 
 -- a call that failed gives none
 refuse_within : (opened created : List (List ℕ)) (kind : CallKind) (name : List ℕ) (calls : List Call) → calls ≡ Refuse kind name ∷ [] → StaysWithin opened created calls
-refuse_within opened created kind name calls e = rw e (record { within = tt; few = omega arith; writes = λ h. refl })
+refuse_within opened created kind name calls e = rw e (record { within = (tt, tt); few = omega arith; writes = λ h. refl })
 
 -- the text of a query was read; its file wasn't; there was no memory to read it
 pub text_opens : (b : Bool) (name word text : List ℕ) (calls : List Call) → MatchBool b (IsReadBy most_query_bytes name text calls) ((text ≡ word) × (calls ≡ [])) → OnlyOpen (if b then name ∷ [] else []) calls

@@ -11,11 +11,11 @@ use Rattle.vio.specs.Touches.{IsOneOf}
 use Rattle.vio.specs.Calls.{AreOn, Call, Create, Did, Lack, Open, Refuse, Take, Write, written_by}
 use Rattle.vio.specs.Named.{IsReadBy}
 use Rattle.vio.specs.Steps.{Passed}
-use Rattle.vio.proofs.CallLaws.{did_given, did_hold, did_keep, did_touch}
+use Rattle.vio.proofs.CallLaws.{did_given, did_hold, did_keep}
 use Rattle.vio.proofs.CallLemmas.{did_apart, handles_created, on_names}
 use Rattle.vio.proofs.ReadLemmas.{told_read}
 use Rattle.vio.proofs.StepLemmas.{passed_one}
-use Rattle.vio.proofs.TouchLemmas.{only_one}
+use Rattle.vio.proofs.TouchLemmas.{did_touch, only_one}
 use Rattle.one_run.specs.Promise.{Says}
 use Rattle.tool_words.specs.declared.job.Job.{Job}
 use Rattle.tool_words.specs.declared.job.QueryText.{QueryText}

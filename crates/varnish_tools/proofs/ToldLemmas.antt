@@ -9,9 +9,9 @@ use Rattle.vio.specs.World.{Gains, HasStreams, Seen, Writing}
 use Rattle.vio.specs.Touches.{IsOneOf}
 use Rattle.vio.specs.Calls.{Call, Did, Open, SomeFailed, none_failed, written_by}
 use Rattle.vio.specs.Steps.{Passed, Stopped}
-use Rattle.vio.proofs.CallLaws.{did_keep, did_touch}
+use Rattle.vio.proofs.CallLaws.{did_keep}
 use Rattle.vio.proofs.CallLemmas.{did_apart, did_then, none_or_some, on_append, some_behind, written_append}
-use Rattle.vio.proofs.TouchLemmas.{only_one}
+use Rattle.vio.proofs.TouchLemmas.{did_touch, only_one}
 use Rattle.vsl_record.specs.Unit.{Log}
 use Rattle.vsl_file.specs.File.{FileEnding, IsFile, Whole, is_whole}
 use Rattle.one_run.specs.Promise.{Says, Works}

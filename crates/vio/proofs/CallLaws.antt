@@ -1,17 +1,16 @@
 -- What calls come to in the world: what was told of handles and files before them tells it of after them.
-use Rattle.std.proofs.Common.{◌≡◌, ℕ, ◌+◌, ◌<◌, Bool, true, false, List, [], ◌∷◌, ◌++◌, Some, refl, sym, ap, subst, ◌∙◌, inl, inr, eqb, arith, ◌&&◌, ◌||◌}
-use Rattle.std.proofs.lemmas.Bool.{eqb-true, eqb-false}
+use Rattle.std.proofs.Common.{◌≡◌, ℕ, ◌<◌, Bool, true, false, List, [], ◌∷◌, ◌++◌, Some, refl, sym, ap, subst, ◌∙◌, inl, inr, eqb, arith, ◌&&◌, ◌||◌}
+use Rattle.std.proofs.lemmas.Bool.{cases_Bool, eqb-true, eqb-false}
 use Rattle.std.proofs.lemmas.List.{append-nil}
 use Rattle.log_model.specs.Faults.{HasNewFault}
 use Rattle.vio.specs.World.{Seen, CallKind, Reading, Writing, Gains, Loses, Wrote, Read, NoCountFalls, IsAtEnd}
 use Rattle.vio.specs.declared.world.TheConstants.{ERRORS}
-use Rattle.vio.specs.Touches.{IsOneOf, Touches}
+use Rattle.vio.specs.Touches.{IsOneOf, IsNewHandle}
 use Rattle.vio.specs.Named.{GivesAtMost}
 use Rattle.vio.proofs.WholeLemmas.{Gains-then, Loses-then}
-use Rattle.vio.proofs.TouchLemmas.{touches_none, touches_counts, touches_reads, touches_wrote, touches_opened, touches_created, touches_in, touches_then, touches_over, new_sink, IsNewSink}
-use Rattle.vio.proofs.NamedLemmas.{gives_then, gives_wider, gives_none, gives_one}
+use Rattle.vio.proofs.TouchLemmas.{did_touch, new_handle, one_of_left, one_of_right, touch_own}
 use Rattle.vio.proofs.CallLemmas.{did_counts}
-use Rattle.vio.specs.Calls.{Mark, Call, Take, Write, Open, Create, Refuse, Lack, Marks, Does, Did, AreOn, AreWithin, OnlyOpen, count_given, written_by, taken_by, of_handle, has_read, is_end, IsFailed}
+use Rattle.vio.specs.Calls.{Mark, Call, Take, Write, Open, Create, Refuse, Lack, Marks, Does, Did, AreOn, OnlyOpen, opened_in, created_in, handles_given, count_given, written_by, taken_by, of_handle, has_read, is_end, IsFailed}
 
 -- ---- what is written
 
@@ -36,12 +35,7 @@ did_gain h (Lack ∷ calls) s t did = Gains-then _ _ _ [] _ (gains_none s did.0 
 
 pub did_given : (h : ℕ) (calls : List Call) (s t : Seen) → Did calls s t → s.given h ≡ true → t.given h ≡ true
 did_given h [] s t did given = ap (λ (x : Seen). x.given h) did ∙ given
-did_given h (Take k bytes mark ∷ calls) s t did given = did_given h calls did.0 t did.2 ((did.1.0).given h ∙ given)
-did_given h (Write k bytes mark ∷ calls) s t did given = did_given h calls did.0 t did.2 ((did.1.0).given h ∙ given)
-did_given h (Open name k ∷ calls) s t did given = did_given h calls did.0 t did.2 ((touches_opened name k s did.0 did.1).given h given)
-did_given h (Create append name k empty ∷ calls) s t did given = did_given h calls did.0 t did.2 ((touches_created append name k empty s did.0 did.1).given h given)
-did_given h (Refuse kind name ∷ calls) s t did given = did_given h calls did.0 t did.2 ((did.1.0).given h ∙ given)
-did_given h (Lack ∷ calls) s t did given = did_given h calls did.0 t did.2 ((did.1).given h ∙ given)
+did_given h (call ∷ calls) s t did given = did_given h calls did.0 t did.2 ((touch_own call s did.0 did.1).given h given)
 
 -- ---- what is taken
 
@@ -56,62 +50,34 @@ took_by false k h bytes s t e r = loses_none s t h (r.other_left h (λ same. eqb
 pub did_lose : (h : ℕ) (calls : List Call) (s t : Seen) → s.given h ≡ true → Did calls s t → Loses (s.left h) (t.left h) (taken_by h calls)
 did_lose h [] s t given did = loses_none s t h (ap (λ (x : Seen). x.left h) did)
 did_lose h (Take k bytes mark ∷ calls) s t given did = Loses-then _ _ _ (of_handle (eqb k h) bytes) _ (took_by (eqb k h) k h bytes s did.0 refl did.1.0) (did_lose h calls did.0 t ((did.1.0).given h ∙ given) did.2)
-did_lose h (Write k bytes mark ∷ calls) s t given did = Loses-then _ _ _ [] _ (loses_none s did.0 h ((did.1.0).left h)) (did_lose h calls did.0 t ((did.1.0).given h ∙ given) did.2)
-did_lose h (Open name k ∷ calls) s t given did =
-    let q = touches_opened name k s did.0 did.1 in Loses-then _ _ _ [] _ (loses_none s did.0 h (q.left h given (λ is. is))) (did_lose h calls did.0 t (q.given h given) did.2)
-did_lose h (Create append name k empty ∷ calls) s t given did =
-    let q = touches_created append name k empty s did.0 did.1 in Loses-then _ _ _ [] _ (loses_none s did.0 h (q.left h given (λ is. is))) (did_lose h calls did.0 t (q.given h given) did.2)
-did_lose h (Refuse kind name ∷ calls) s t given did = Loses-then _ _ _ [] _ (loses_none s did.0 h ((did.1.0).left h)) (did_lose h calls did.0 t ((did.1.0).given h ∙ given) did.2)
-did_lose h (Lack ∷ calls) s t given did = Loses-then _ _ _ [] _ (loses_none s did.0 h ((did.1).left h)) (did_lose h calls did.0 t ((did.1).given h ∙ given) did.2)
+did_lose h (call ∷ calls) s t given did =
+    let q = touch_own call s did.0 did.1 in Loses-then _ _ _ [] _ (loses_none s did.0 h (q.left h given (λ is. is))) (did_lose h calls did.0 t (q.given h given) did.2)
 
 -- ---- what is touched
-
-one_in : {A : Type 0} (x : A) (xs : List A) → IsOneOf x xs → (y : A) → IsOneOf y (x ∷ []) → IsOneOf y xs
-one_in x xs is y (inl e) = subst (λ z. IsOneOf z xs) (sym e) is
-one_in x xs is y (inr none) = absurd none
-
--- calls touch no more than what they are within
-pub did_touch : (reads writes : List ℕ) (opened created : List (List ℕ)) (calls : List Call) (s t : Seen) → AreWithin reads writes opened created calls → Did calls s t → Touches reads writes opened created s t
-did_touch reads writes opened created [] s t is did = subst (λ (x : Seen). Touches reads writes opened created s x) (sym did) (touches_none reads writes opened created s)
-did_touch reads writes opened created (Take h bytes mark ∷ calls) s t is did = touches_then
-    (touches_in (h ∷ []) reads [] writes [] opened [] created s did.0 (one_in h reads is.0) (λ i o. absurd o) (λ n o. absurd o) (λ n o. absurd o) (touches_reads h bytes s did.0 did.1.0))
-    (did_touch reads writes opened created calls did.0 t is.1 did.2)
-did_touch reads writes opened created (Write h bytes mark ∷ calls) s t is did = touches_then
-    (touches_in [] reads (h ∷ []) writes [] opened [] created s did.0 (λ i o. absurd o) (one_in h writes is.0) (λ n o. absurd o) (λ n o. absurd o) (touches_wrote [] h bytes s did.0 did.1.0))
-    (did_touch reads writes opened created calls did.0 t is.1 did.2)
-did_touch reads writes opened created (Open name h ∷ calls) s t is did = touches_over reads (h ∷ reads) writes writes opened created s did.0 t
-    (touches_in [] reads [] writes (name ∷ []) opened [] created s did.0 (λ i o. absurd o) (λ i o. absurd o) (one_in name opened is.0) (λ n o. absurd o) (touches_opened name h s did.0 did.1))
-    (did_touch (h ∷ reads) writes opened created calls did.0 t is.1 did.2)
-    (λ i o. elim o [ inl e ↦ inl (subst (λ (j : ℕ). s.given j ≡ false) (sym e) (did.1).fresh) | inr known ↦ inr known ])
-    (λ k o. inr o)
-did_touch reads writes opened created (Create append name h empty ∷ calls) s t is did = touches_over reads reads writes (h ∷ writes) opened created s did.0 t
-    (touches_in [] reads [] writes [] opened (name ∷ []) created s did.0 (λ i o. absurd o) (λ i o. absurd o) (λ n o. absurd o) (one_in name created is.0) (touches_created append name h empty s did.0 did.1))
-    (did_touch reads (h ∷ writes) opened created calls did.0 t is.1 did.2)
-    (λ i o. inr o)
-    (λ k o. elim o [ inl e ↦ inl (subst (λ (j : ℕ). IsNewSink created j s did.0) (sym e) (new_sink created append name h empty s did.0 is.0 did.1)) | inr known ↦ inr known ])
-did_touch reads writes opened created (Refuse kind name ∷ calls) s t is did = touches_then
-    (touches_in [] reads [] writes [] opened [] created s did.0 (λ i o. absurd o) (λ i o. absurd o) (λ n o. absurd o) (λ n o. absurd o) (touches_counts s did.0 did.1.0))
-    (did_touch reads writes opened created calls did.0 t is did.2)
-did_touch reads writes opened created (Lack ∷ calls) s t is did = touches_then
-    (touches_in [] reads [] writes [] opened [] created s did.0 (λ i o. absurd o) (λ i o. absurd o) (λ n o. absurd o) (λ n o. absurd o) (touches_counts s did.0 did.1))
-    (did_touch reads writes opened created calls did.0 t is did.2)
 
 -- the files hold what they held, where calls only open and read
 pub did_keep : (names : List (List ℕ)) (calls : List Call) (s t : Seen) (name bytes : List ℕ) → OnlyOpen names calls → Did calls s t → s.held name ≡ Some bytes → t.held name ≡ Some bytes
 did_keep names calls s t name bytes only did told = (did_touch [] [] names [] calls s t only.0 did).held name bytes told (λ one. one) (λ h one. absurd one)
 
-gives_behind : (n : ℕ) (s t u : Seen) → GivesAtMost 0 s t → GivesAtMost n t u → GivesAtMost n s u
-gives_behind n s t u p q = gives_wider (0 + n) n s u (omega arith) (gives_then {m = 0} {n = n} s t u p q)
+none_new : (h : ℕ) (now : Seen) → IsNewHandle [] [] h now → ⊥
+none_new h now (inl new) = new.1
+none_new h now (inr new) = new.1
+
+new_one : (call : Call) (s t : Seen) (h : ℕ) → Does call s t → s.given h ≡ false → t.given h ≡ true → IsOneOf h (opened_in call ++ created_in call)
+new_one (Open name k) s t h p none new = inl (new_handle s t k h p.other_given none new)
+new_one (Create append name k empty) s t h p none new = inl (new_handle s t k h p.other_given none new)
+new_one call s t h p none new = absurd (none_new h t ((touch_own call s t p).fresh h none new))
+
+new_of : (calls : List Call) (s t : Seen) (h : ℕ) → Did calls s t → s.given h ≡ false → t.given h ≡ true → IsOneOf h (handles_given calls)
+new_of [] s t h did none new = let same = ap (λ (x : Seen). x.given h) did in absurd cc
+new_of (call ∷ calls) s t h did none new = elim (cases_Bool (did.0.given h)) [
+  | inl e ↦ one_of_left h (opened_in call ++ created_in call) (handles_given calls) (new_one call s did.0 h did.1 none e)
+  | inr e ↦ one_of_right h (opened_in call ++ created_in call) (handles_given calls) (new_of calls did.0 t h did.2 e new)
+]
 
 -- they give no more handles than they count
 pub did_give : (calls : List Call) (s t : Seen) → Did calls s t → GivesAtMost (count_given calls) s t
-did_give [] s t did = subst (λ (x : Seen). GivesAtMost 0 s x) (sym did) (gives_none s s (touches_none [] [] [] [] s))
-did_give (Take h bytes mark ∷ calls) s t did = gives_behind (count_given calls) s did.0 t (gives_none s did.0 (touches_reads h bytes s did.0 did.1.0)) (did_give calls did.0 t did.2)
-did_give (Write h bytes mark ∷ calls) s t did = gives_behind (count_given calls) s did.0 t (gives_none s did.0 (touches_wrote [] h bytes s did.0 did.1.0)) (did_give calls did.0 t did.2)
-did_give (Open name h ∷ calls) s t did = gives_then {m = 1} {n = count_given calls} s did.0 t (gives_one h s did.0 (did.1).other_given) (did_give calls did.0 t did.2)
-did_give (Create append name h empty ∷ calls) s t did = gives_then {m = 1} {n = count_given calls} s did.0 t (gives_one h s did.0 (did.1).other_given) (did_give calls did.0 t did.2)
-did_give (Refuse kind name ∷ calls) s t did = gives_behind (count_given calls) s did.0 t (gives_none s did.0 (touches_counts s did.0 did.1.0)) (did_give calls did.0 t did.2)
-did_give (Lack ∷ calls) s t did = gives_behind (count_given calls) s did.0 t (gives_none s did.0 (touches_counts s did.0 did.1)) (did_give calls did.0 t did.2)
+did_give calls s t did = (handles_given calls, omega arith, λ h none new. new_of calls s t h did none new)
 
 -- ---- what failed
 
@@ -124,10 +90,8 @@ fault_later kind name s t u counts rose = omega (arith, counts.each kind name, r
 one_failed : (kind : CallKind) (name : List ℕ) (call : Call) (s t : Seen) → IsFailed kind name call → Does call s t → HasNewFault (s.faults kind name) (t.faults kind name)
 one_failed kind name (Take h bytes mark) s t p does = subst (λ (k : CallKind). HasNewFault (s.faults k name) (t.faults k name)) (sym p.0) (subst (λ (m : Mark). Marks Reading h m s t) p.1 does.1)
 one_failed kind name (Write h bytes mark) s t p does = subst (λ (k : CallKind). HasNewFault (s.faults k name) (t.faults k name)) (sym p.0) (subst (λ (m : Mark). Marks Writing h m s t) p.1 does.1)
-one_failed kind name (Open file h) s t p does = absurd p
-one_failed kind name (Create append file h empty) s t p does = absurd p
 one_failed kind name (Refuse why file) s t p does = subst (λ (k : CallKind). HasNewFault (s.faults k name) (t.faults k name)) (sym p.0) (subst (λ (n : List ℕ). HasNewFault (s.faults why n) (t.faults why n)) (sym p.1) does.1)
-one_failed kind name Lack s t p does = absurd p
+one_failed kind name call s t p does = absurd p
 
 -- where one of the calls failed under a name, the count of these faults rose
 pub did_fail : (kind : CallKind) (name : List ℕ) (call : Call) (calls : List Call) (s t : Seen) → IsOneOf call calls → IsFailed kind name call → Did calls s t → HasNewFault (s.faults kind name) (t.faults kind name)
@@ -135,16 +99,7 @@ did_fail kind name call [] s t is failed did = absurd is
 did_fail kind name call (c ∷ calls) s t (inl e) failed did =
     fault_first kind name s did.0 t (one_failed kind name c s did.0 (subst (λ (x : Call). IsFailed kind name x) e failed) did.1) (did_counts calls did.0 t did.2)
 did_fail kind name call (c ∷ calls) s t (inr is) failed did =
-    fault_later kind name s did.0 t (did_counts (c ∷ []) s did.0 (did.0, did.1, refl)) (did_fail kind name call calls did.0 t is failed did.2)
-
--- a handle that was given keeps its names
-keeps_name : (k : CallKind) (h : ℕ) (name : List ℕ) (call : Call) (s t : Seen) → s.given h ≡ true → s.names k h name ≡ true → Does call s t → (t.given h ≡ true) × (t.names k h name ≡ true)
-keeps_name k h name (Take i bytes mark) s t given named does = ((does.0).given h ∙ given, (does.0).names k h name ∙ named)
-keeps_name k h name (Write i bytes mark) s t given named does = ((does.0).given h ∙ given, (does.0).names k h name ∙ named)
-keeps_name k h name (Open file i) s t given named does = let q = touches_opened file i s t does in (q.given h given, q.names k h name given ∙ named)
-keeps_name k h name (Create append file i empty) s t given named does = let q = touches_created append file i empty s t does in (q.given h given, q.names k h name given ∙ named)
-keeps_name k h name (Refuse kind file) s t given named does = ((does.0).given h ∙ given, (does.0).names k h name ∙ named)
-keeps_name k h name Lack s t given named does = (does.given h ∙ given, does.names k h name ∙ named)
+    fault_later kind name s did.0 t (touch_own c s did.0 did.1).counts (did_fail kind name call calls did.0 t is failed did.2)
 
 each_failed : (h : ℕ) (part name : List ℕ) (s t : Seen) → s.names Reading h name ≡ true → Does (Take h part Mark.FailedEach) s t → HasNewFault (s.faults Reading name) (t.faults Reading name)
 each_failed h part name s t named does = (does.1).each name named
@@ -155,8 +110,8 @@ did_fail_each h part name [] s t given named is did = absurd is
 did_fail_each h part name (c ∷ calls) s t given named (inl e) did =
     fault_first Reading name s did.0 t (each_failed h part name s did.0 named (subst (λ (x : Call). Does x s did.0) (sym e) did.1)) (did_counts calls did.0 t did.2)
 did_fail_each h part name (c ∷ calls) s t given named (inr is) did =
-    let kept = keeps_name Reading h name c s did.0 given named did.1 in
-    fault_later Reading name s did.0 t (did_counts (c ∷ []) s did.0 (did.0, did.1, refl)) (did_fail_each h part name calls did.0 t kept.0 kept.1 is did.2)
+    let q = touch_own c s did.0 did.1 in
+    fault_later Reading name s did.0 t q.counts (did_fail_each h part name calls did.0 t (q.given h given) (q.names Reading h name given ∙ named) is did.2)
 
 -- ---- what a file holds
 
@@ -174,18 +129,13 @@ did_hold reads k n (Take i bytes mark ∷ calls) s t on beyond named apart did =
     let same = (did.1.0).names Writing in Gains-then _ _ _ [] _ (λ a told. (did.1.0).held n ∙ told ∙ ap Some (sym (append-nil a))) (did_hold reads k n calls did.0 t on.1 beyond (same k n ∙ named) (same ERRORS n ∙ apart) did.2)
 did_hold reads k n (Write i bytes mark ∷ calls) s t on beyond named apart did =
     let same = (did.1.0).names Writing in Gains-then _ _ _ (of_handle (eqb i k) bytes) _ (held_by (eqb i k) i k n bytes s did.0 refl on.0 beyond named apart did.1.0) (did_hold reads k n calls did.0 t on.1 beyond (same k n ∙ named) (same ERRORS n ∙ apart) did.2)
-did_hold reads k n (Open name i ∷ calls) s t on beyond named apart did = absurd on.0
-did_hold reads k n (Create append name i empty ∷ calls) s t on beyond named apart did = absurd on.0
-did_hold reads k n (Refuse kind name ∷ calls) s t on beyond named apart did = absurd on.0
-did_hold reads k n (Lack ∷ calls) s t on beyond named apart did = absurd on.0
+did_hold reads k n (call ∷ calls) s t on beyond named apart did = absurd on.0
 
 -- ---- what was left, where a read met the end
 
 end_marked : (k : ℕ) (mark : Mark) (s t : Seen) → is_end mark ≡ true → Marks Reading k mark s t → IsAtEnd k t
-end_marked k Mark.Went s t e m = absurd cc
 end_marked k Mark.MetEnd s t e m = m
-end_marked k (Mark.Failed name) s t e m = absurd cc
-end_marked k Mark.FailedEach s t e m = absurd cc
+end_marked k mark s t e m = absurd cc
 
 first_nil : (xs ys : List ℕ) → [] ≡ xs ++ ys → [] ≡ xs
 first_nil [] ys e = refl
@@ -206,8 +156,4 @@ pub did_end : (h : ℕ) (calls : List Call) (s t : Seen) (a : List ℕ) → s.gi
 did_end h [] s t a given did is told = absurd cc
 did_end h (Take k bytes mark ∷ calls) s t a given did is told =
     take_end (eqb k h) (is_end mark) h k bytes mark calls s did.0 t a refl refl given did.1.0 did.1.1 did.2 (λ x more left. did_end h calls did.0 t x ((did.1.0).given h ∙ given) did.2 more left) is told
-did_end h (Write k bytes mark ∷ calls) s t a given did is told = did_end h calls did.0 t a ((did.1.0).given h ∙ given) did.2 is ((did.1.0).left h ∙ told)
-did_end h (Open name k ∷ calls) s t a given did is told = let q = touches_opened name k s did.0 did.1 in did_end h calls did.0 t a (q.given h given) did.2 is (q.left h given (λ o. o) ∙ told)
-did_end h (Create append name k empty ∷ calls) s t a given did is told = let q = touches_created append name k empty s did.0 did.1 in did_end h calls did.0 t a (q.given h given) did.2 is (q.left h given (λ o. o) ∙ told)
-did_end h (Refuse kind name ∷ calls) s t a given did is told = did_end h calls did.0 t a ((did.1.0).given h ∙ given) did.2 is ((did.1.0).left h ∙ told)
-did_end h (Lack ∷ calls) s t a given did is told = did_end h calls did.0 t a ((did.1).given h ∙ given) did.2 is ((did.1).left h ∙ told)
+did_end h (call ∷ calls) s t a given did is told = let q = touch_own call s did.0 did.1 in did_end h calls did.0 t a (q.given h given) did.2 is (q.left h given (λ o. o) ∙ told)

@@ -2,7 +2,6 @@ pub mod WholeLemmas
 mod FileLemmas
 mod MemoryLemmas
 pub mod TouchLemmas
-pub mod NamedLemmas
 pub mod ReadLemmas
 pub mod CallLemmas
 pub mod CallLaws

@@ -36,12 +36,12 @@ pub read_opens : (limit : ℕ) (name bytes : List ℕ) (calls : List Call) → I
 read_opens limit name bytes calls p = subst (λ (c : List Call). OnlyOpen (name ∷ []) c) (sym p.1) ((inl refl, (inl refl, tt)), omega arith)
 
 pub refused_opens : (limit : ℕ) (name : List ℕ) (fault : NamedFault) (calls : List Call) → IsRefusedBy limit name fault calls → OnlyOpen (name ∷ []) calls
-refused_opens limit name NoOpen calls p = subst (λ (c : List Call). OnlyOpen (name ∷ []) c) (sym p) (tt, omega arith)
+refused_opens limit name NoOpen calls p = subst (λ (c : List Call). OnlyOpen (name ∷ []) c) (sym p) ((tt, tt), omega arith)
 refused_opens limit name Failed calls p = subst (λ (c : List Call). OnlyOpen (name ∷ []) c) (sym p.2) ((inl refl, (inl refl, tt)), omega arith)
 refused_opens limit name TooLarge calls p = subst (λ (c : List Call). OnlyOpen (name ∷ []) c) (sym p.2) ((inl refl, (inl refl, tt)), omega arith)
 
 pub lacked_opens : (name : List ℕ) (calls : List Call) → IsLackedBy name calls → OnlyOpen (name ∷ []) calls
-lacked_opens name calls (inl p) = subst (λ (c : List Call). OnlyOpen (name ∷ []) c) (sym p) (tt, omega arith)
+lacked_opens name calls (inl p) = subst (λ (c : List Call). OnlyOpen (name ∷ []) c) (sym p) ((tt, tt), omega arith)
 lacked_opens name calls (inr p) = subst (λ (c : List Call). OnlyOpen (name ∷ []) c) (sym p.2) ((inl refl, (inl refl, tt)), omega arith)
 
 -- ---- which of them failed

@@ -1,9 +1,10 @@
 -- What several calls touch.
-use Rattle.std.proofs.Common.{◌≡◌, ◌⊎◌, ℕ, Bool, true, false, List, [], ◌∷◌, ◌++◌, Some, refl, sym, subst, ◌∙◌, inl, inr, ⊎_elim}
-use Rattle.std.proofs.lemmas.Bool.{cases_eq}
-use Rattle.vio.specs.World.{Seen, Reading, Writing, Read, Wrote, OnlyCounts, Opened, FileCreated}
-use Rattle.vio.proofs.WholeLemmas.{NoCountFalls-none, NoCountFalls-then}
-use Rattle.vio.specs.Touches.{IsOneOf, IsNewHandle, Touches}
+use Rattle.std.proofs.Common.{◌≡◌, ◌⊎◌, ℕ, true, false, List, [], ◌∷◌, ◌++◌, Some, refl, sym, ap, subst, ◌∙◌, inl, inr, ⊎_elim}
+use Rattle.std.proofs.lemmas.Bool.{cases_Bool, cases_eq}
+use Rattle.vio.specs.World.{Seen, CallKind, Reading, Writing, OnlyCounts, NoCountFalls}
+use Rattle.vio.proofs.WholeLemmas.{NoCountFalls-then, OnlyCounts-none}
+use Rattle.vio.specs.Touches.{IsOneOf, IsNewHandle, IsOtherSink, Touches}
+use Rattle.vio.specs.Calls.{Call, Take, Write, Open, Create, Refuse, Lack, Does, Did, IsWithin, AreWithin, opened_in, created_in}
 
 pub only_one : {A : Type 0} (x y : A) → IsOneOf x (y ∷ []) → x ≡ y
 only_one x y o = ⊎_elim (λ (e : x ≡ y). e) (λ (none : ⊥). absurd none) o
@@ -18,57 +19,13 @@ pub one_of_right : {A : Type 0} (x : A) (xs ys : List A) → IsOneOf x ys → Is
 one_of_right x [] ys p = p
 one_of_right x (y ∷ xs) ys p = inr (one_of_right x xs ys p)
 
--- what one call touches
+-- one of two lists is one of the first or of the second
+pub one_of_either : {A : Type 0} (x : A) (xs ys : List A) → IsOneOf x (xs ++ ys) → IsOneOf x xs ⊎ IsOneOf x ys
+one_of_either x [] ys is = inr is
+one_of_either x (y ∷ xs) ys (inl e) = inl (inl e)
+one_of_either x (y ∷ xs) ys (inr is) = elim (one_of_either x xs ys is) [ inl first ↦ inl (inr first) | inr last ↦ inr last ]
 
--- where nothing was called, nothing was touched
-pub touches_none : (r w : List ℕ) (o c : List (List ℕ)) (s : Seen) → Touches r w o c s s
-touches_none r w o c s = record {
-  counts = NoCountFalls-none s;
-  written = λ h given other. refl;
-  left = λ h given other. refl;
-  names = λ k h name given. refl;
-  given = λ h given. given;
-  fresh = λ h none given. absurd cc;
-  held = λ n bytes told other sinks. told;
-  lacks = λ n other. refl;
-}
-
--- a refused call touches nothing
-pub touches_counts : (s t : Seen) → OnlyCounts s t → Touches [] [] [] [] s t
-touches_counts s t p = record {
-  counts = p.counts;
-  written = λ h given other. p.written h;
-  left = λ h given other. p.left h;
-  names = λ k h name given. p.names k h name;
-  given = λ h given. p.given h ∙ given;
-  fresh = λ h none given. let same = p.given h in absurd cc;
-  held = λ n bytes told other sinks. p.held n ∙ told;
-  lacks = λ n other. p.lacks n;
-}
-
-pub touches_reads : (h : ℕ) (bytes : List ℕ) (s t : Seen) → Read h bytes s t → Touches (h ∷ []) [] [] [] s t
-touches_reads h bytes s t p = record {
-  counts = p.counts;
-  written = λ i given other. p.written i;
-  left = λ i given other. p.other_left i (λ e. other (inl e));
-  names = λ k i name given. p.names k i name;
-  given = λ i given. p.given i ∙ given;
-  fresh = λ i none given. let same = p.given i in absurd cc;
-  held = λ n bytes told other sinks. p.held n ∙ told;
-  lacks = λ n other. p.lacks n;
-}
-
-pub touches_wrote : (reads : List ℕ) (h : ℕ) (bytes : List ℕ) (s t : Seen) → Wrote h bytes s t → Touches reads (h ∷ []) [] [] s t
-touches_wrote reads h bytes s t p = record {
-  counts = p.counts;
-  written = λ i given other. p.other_written i (λ e. other (inl e));
-  left = λ i given other. p.left i;
-  names = λ k i name given. p.names k i name;
-  given = λ i given. p.given i ∙ given;
-  fresh = λ i none given. let same = p.given i in absurd cc;
-  held = λ n bytes told other sinks. p.other_held n bytes (sinks h (inl refl)).1 told;
-  lacks = λ n other. p.lacks n;
-}
+-- ---- one call
 
 -- a handle that was given is another than a new one
 other_handle : (s : Seen) (h i : ℕ) → s.given h ≡ false → s.given i ≡ true → ¬ (i ≡ h)
@@ -81,61 +38,84 @@ new_handle s t h i others none given = elim (cases_eq i h) [
   | inr other ↦ let same = others i other in absurd cc
 ]
 
-pub touches_opened : (name : List ℕ) (h : ℕ) (s t : Seen) → Opened name h s t → Touches [] [] (name ∷ []) [] s t
-touches_opened name h s t p = record {
-  counts = p.counts;
-  written = λ i given other. p.written i;
-  left = λ i given other. p.other_left i (other_handle s h i p.fresh given);
-  names = λ k i n given. p.other_names k i n (other_handle s h i p.fresh given);
-  given = λ i given. p.other_given i (other_handle s h i p.fresh given) ∙ given;
-  fresh = λ i none given. inl (name, inl refl, rw (new_handle s t h i p.other_given none given) p.is_named);
-  held = λ n bytes told other sinks. p.held n ∙ told;
-  lacks = λ n other. p.lacks n;
-}
+module _ (r w : List ℕ) (o c : List (List ℕ)) (s t : Seen) where
+  -- a call that gives no handle and leaves all names
+  still : NoCountFalls s t → ((i : ℕ) → ¬ (IsOneOf i w) → t.written i ≡ s.written i) → ((i : ℕ) → ¬ (IsOneOf i r) → t.left i ≡ s.left i) → ((k : CallKind) (i : ℕ) (n : List ℕ) → t.names k i n ≡ s.names k i n)
+      → ((i : ℕ) → t.given i ≡ s.given i) → ((n bytes : List ℕ) → s.held n ≡ Some bytes → ((h : ℕ) → IsOneOf h w → IsOtherSink h n s) → t.held n ≡ Some bytes) → ((n : List ℕ) → t.lacks n ≡ s.lacks n) → Touches r w o c s t
+  still counts written left names given held lacks = record {
+    counts = counts;
+    written = λ i was. written i;
+    left = λ i was. left i;
+    names = λ k i n was. names k i n;
+    given = λ i was. given i ∙ was;
+    fresh = λ i none new. let same = given i in absurd cc;
+    held = λ n bytes told other. held n bytes told;
+    lacks = λ n other. lacks n;
+  }
 
-pub touches_created : (append : Bool) (name : List ℕ) (h : ℕ) (empty : Bool) (s t : Seen) → FileCreated append name h empty s t → Touches [] [] [] (name ∷ []) s t
-touches_created append name h empty s t p = record {
-  counts = p.counts;
-  written = λ i given other. p.written i;
-  left = λ i given other. p.left i;
-  names = λ k i n given. p.other_names k i n (other_handle s h i p.fresh given);
-  given = λ i given. p.other_given i (other_handle s h i p.fresh given) ∙ given;
-  fresh = λ i none given. inr (name, inl refl, rw (new_handle s t h i p.other_given none given) p.is_named);
-  held = λ n bytes told other sinks. p.other_held n (λ e. other (inl e)) ∙ told;
-  lacks = λ n other. p.other_lacks n (λ e. other (inl e));
-}
+  touch_counts : OnlyCounts s t → Touches r w o c s t
+  touch_counts p = still p.counts (λ i other. p.written i) (λ i other. p.left i) p.names p.given (λ n bytes told sinks. p.held n ∙ told) p.lacks
 
--- what several calls touch, one after the other
+  -- a call within these touches no more
+  pub touch_one : (call : Call) → IsWithin r w o c call → Does call s t → Touches r w o c s t
+  touch_one (Take h bytes mark) is d =
+      let p = d.0 in still p.counts (λ i other. p.written i) (λ i other. p.other_left i (λ e. other (subst (λ (j : ℕ). IsOneOf j r) (sym e) is))) p.names p.given (λ n held told sinks. p.held n ∙ told) p.lacks
+  touch_one (Write h bytes mark) is d =
+      let p = d.0 in still p.counts (λ i other. p.other_written i (λ e. other (subst (λ (j : ℕ). IsOneOf j w) (sym e) is))) (λ i other. p.left i) p.names p.given (λ n held told sinks. p.other_held n held (sinks h is).1 told) p.lacks
+  touch_one (Open name h) is p = record {
+    counts = p.counts;
+    written = λ i was other. p.written i;
+    left = λ i was other. p.other_left i (other_handle s h i p.fresh was);
+    names = λ k i n was. p.other_names k i n (other_handle s h i p.fresh was);
+    given = λ i was. p.other_given i (other_handle s h i p.fresh was) ∙ was;
+    fresh = λ i none new. inl (name, is, rw (new_handle s t h i p.other_given none new) p.is_named);
+    held = λ n bytes told other sinks. p.held n ∙ told;
+    lacks = λ n other. p.lacks n;
+  }
+  touch_one (Create append name h empty) is p = record {
+    counts = p.counts;
+    written = λ i was other. p.written i;
+    left = λ i was other. p.left i;
+    names = λ k i n was. p.other_names k i n (other_handle s h i p.fresh was);
+    given = λ i was. p.other_given i (other_handle s h i p.fresh was) ∙ was;
+    fresh = λ i none new. inr (name, is, rw (new_handle s t h i p.other_given none new) p.is_named);
+    held = λ n bytes told other sinks. p.other_held n (λ e. other (subst (λ (m : List ℕ). IsOneOf m c) (sym e) is)) ∙ told;
+    lacks = λ n other. p.other_lacks n (λ e. other (subst (λ (m : List ℕ). IsOneOf m c) (sym e) is));
+  }
+  touch_one (Refuse kind name) is d = touch_counts d.0
+  touch_one Lack is p = touch_counts p
 
-new_in : (o o2 c c2 : List (List ℕ)) (h : ℕ) (now : Seen) → ((name : List ℕ) → IsOneOf name o → IsOneOf name o2) → ((name : List ℕ) → IsOneOf name c → IsOneOf name c2)
-    → IsNewHandle o c h now → IsNewHandle o2 c2 h now
-new_in o o2 c c2 h now opens creates (inl new) = inl (new.0, opens new.0 new.1, new.2)
-new_in o o2 c c2 h now opens creates (inr new) = inr (new.0, creates new.0 new.1, new.2)
+-- what a call reads, writes, opens and creates
+abbrev pub read_in : Call → List ℕ
+read_in (Take h bytes mark) = h ∷ []
+read_in call = []
 
--- what touches few touches more
-pub touches_in : (r r2 w w2 : List ℕ) (o o2 c c2 : List (List ℕ)) (s t : Seen) → ((h : ℕ) → IsOneOf h r → IsOneOf h r2) → ((h : ℕ) → IsOneOf h w → IsOneOf h w2)
-    → ((name : List ℕ) → IsOneOf name o → IsOneOf name o2) → ((name : List ℕ) → IsOneOf name c → IsOneOf name c2) → Touches r w o c s t → Touches r2 w2 o2 c2 s t
-touches_in r r2 w w2 o o2 c c2 s t reads writes opens creates p = record {
-  counts = p.counts;
-  written = λ h given other. p.written h given (λ is. other (writes h is));
-  left = λ h given other. p.left h given (λ is. other (reads h is));
-  names = p.names;
-  given = p.given;
-  fresh = λ h none given. new_in o o2 c c2 h t opens creates (p.fresh h none given);
-  held = λ n bytes told other sinks. p.held n bytes told (λ is. other (creates n is)) (λ h is. sinks h (writes h is));
-  lacks = λ n other. p.lacks n (λ is. other (creates n is));
-}
+abbrev sunk_in : Call → List ℕ
+sunk_in (Write h bytes mark) = h ∷ []
+sunk_in call = []
+
+abbrev pub named_in : Call → List (List ℕ)
+named_in (Open name h) = name ∷ []
+named_in (Create append name h empty) = name ∷ []
+named_in call = []
+
+-- a call touches no more than that
+pub touch_own : (call : Call) (s t : Seen) → Does call s t → Touches (read_in call) (sunk_in call) (named_in call) (named_in call) s t
+touch_own call s t does = touch_one (read_in call) (sunk_in call) (named_in call) (named_in call) s t call (own call) does
+  where
+    own : (call : Call) → IsWithin (read_in call) (sunk_in call) (named_in call) (named_in call) call
+    own (Take h bytes mark) = inl refl
+    own (Write h bytes mark) = inl refl
+    own (Open name h) = inl refl
+    own (Create append name h empty) = inl refl
+    own call = tt
+
+-- ---- several calls, one after the other
 
 -- a handle that is new after the first part stays so in the second
 new_still : (r w : List ℕ) (o c : List (List ℕ)) (h : ℕ) (t u : Seen) → Touches r w o c t u → t.given h ≡ true → IsNewHandle o c h t → IsNewHandle o c h u
 new_still r w o c h t u q given (inl new) = inl (new.0, new.1, q.names Reading h new.0 given ∙ new.2)
 new_still r w o c h t u q given (inr new) = inr (new.0, new.1, q.names Writing h new.0 given ∙ new.2)
-
--- a handle that is new after both parts
-fresh_then : (r r2 w w2 : List ℕ) (o c : List (List ℕ)) (h : ℕ) (s t u : Seen) → Touches r w o c s t → Touches r2 w2 o c t u → s.given h ≡ false → u.given h ≡ true → (b : Bool) → t.given h ≡ b
-    → IsNewHandle o c h u
-fresh_then r r2 w w2 o c h s t u p q none given true e = new_still r2 w2 o c h t u q e (p.fresh h none e)
-fresh_then r r2 w w2 o c h s t u p q none given false e = q.fresh h e given
 
 -- a handle that wasn't given writes, now that it is, no told file but those that were created
 pub record IsNewSink (created : List (List ℕ)) (k : ℕ) (before now : Seen) : Type 0 where
@@ -143,12 +123,19 @@ pub record IsNewSink (created : List (List ℕ)) (k : ℕ) (before now : Seen) :
   pub given : now.given k ≡ true
   pub alone : (n bytes : List ℕ) → now.held n ≡ Some bytes → ¬ (IsOneOf n created) → now.names Writing k n ≡ false
 
-pub new_sink : (created : List (List ℕ)) (append : Bool) (name : List ℕ) (k : ℕ) (empty : Bool) (s t : Seen) → IsOneOf name created → FileCreated append name k empty s t → IsNewSink created k s t
-new_sink created append name k empty s t is p = record {
+new_source : (reads : List ℕ) (call : Call) (s t : Seen) → Does call s t → (h : ℕ) → IsOneOf h (opened_in call ++ reads) → (s.given h ≡ false) ⊎ IsOneOf h reads
+new_source reads (Open name i) s t p h (inl e) = inl (ap s.given e ∙ p.fresh)
+new_source reads (Open name i) s t p h (inr is) = inr is
+new_source reads call s t p h is = inr is
+
+new_sink : (created : List (List ℕ)) (writes reads : List ℕ) (opened : List (List ℕ)) (call : Call) (s t : Seen) → IsWithin reads writes opened created call → Does call s t → (k : ℕ) → IsOneOf k (created_in call ++ writes) → IsNewSink created k s t ⊎ IsOneOf k writes
+new_sink created writes reads opened (Create append name i empty) s t is p k (inl e) = inl (subst (λ (j : ℕ). IsNewSink created j s t) (sym e) (record {
   fresh = p.fresh;
   given = p.given;
-  alone = λ n bytes told other. p.alone n bytes told (λ e. other (subst (λ (m : List ℕ). IsOneOf m created) (sym e) is));
-}
+  alone = λ n bytes told other. p.alone n bytes told (λ same. other (subst (λ (m : List ℕ). IsOneOf m created) (sym same) is));
+}))
+new_sink created writes reads opened (Create append name i empty) s t is p k (inr known) = inr known
+new_sink created writes reads opened call s t is p k known = inr known
 
 -- the second part may also read handles that the first gave, and write to those that it gave for files that it created
 pub touches_over : (r r2 w w2 : List ℕ) (o c : List (List ℕ)) (s t u : Seen) → Touches r w o c s t → Touches r2 w2 o c t u
@@ -165,7 +152,7 @@ touches_over r r2 w w2 o c s t u p q sources sinks = record {
   ]) ∙ p.left h given other;
   names = λ k h name given. q.names k h name (p.given h given) ∙ p.names k h name given;
   given = λ h given. q.given h (p.given h given);
-  fresh = λ h none given. fresh_then r r2 w w2 o c h s t u p q none given (t.given h) refl;
+  fresh = λ h none given. elim (cases_Bool (t.given h)) [ inl e ↦ new_still r2 w2 o c h t u q e (p.fresh h none e) | inr e ↦ q.fresh h e given ];
   held = λ n bytes told other known.
       let still = p.held n bytes told other known in
       q.held n bytes still other (λ k is. elim (sinks k is) [
@@ -175,5 +162,8 @@ touches_over r r2 w w2 o c s t u p q sources sinks = record {
   lacks = λ n other. q.lacks n other ∙ p.lacks n other;
 }
 
-pub touches_then : {r w : List ℕ} {o c : List (List ℕ)} {s t u : Seen} → Touches r w o c s t → Touches r w o c t u → Touches r w o c s u
-touches_then {r = r} {w = w} {o = o} {c = c} {s = s} {t = t} {u = u} p q = touches_over r r w w o c s t u p q (λ h is. inr is) (λ k is. inr is)
+-- calls touch no more than what they are within
+pub did_touch : (reads writes : List ℕ) (opened created : List (List ℕ)) (calls : List Call) (s t : Seen) → AreWithin reads writes opened created calls → Did calls s t → Touches reads writes opened created s t
+did_touch r w o c [] s t is did = subst (λ (x : Seen). Touches r w o c s x) (sym did) (touch_counts r w o c s s (OnlyCounts-none s))
+did_touch r w o c (call ∷ calls) s t is did = touches_over r (opened_in call ++ r) w (created_in call ++ w) o c s did.0 t (touch_one r w o c s did.0 call is.0 did.1)
+    (did_touch (opened_in call ++ r) (created_in call ++ w) o c calls did.0 t is.1 did.2) (new_source r call s did.0 did.1) (new_sink c w r o call s did.0 is.0 did.1)

@@ -25,6 +25,10 @@ OnErr-both (Err e) f p q = f p q
 pub NoCountFalls-none : (s : Seen) → NoCountFalls s s
 NoCountFalls-none s = record { each = λ k name. omega arith }
 
+-- and nothing changed
+pub OnlyCounts-none : (s : Seen) → OnlyCounts s s
+OnlyCounts-none s = record { counts = NoCountFalls-none s; held = λ n. refl; lacks = λ n. refl; left = λ i. refl; written = λ i. refl; names = λ k i n. refl; given = λ i. refl }
+
 -- no count fell in two calls, one after the other
 pub NoCountFalls-then : {s t u : Seen} → NoCountFalls s t → NoCountFalls t u → NoCountFalls s u
 NoCountFalls-then p q = record { each = λ k name. omega (arith, p.each k name, q.each k name) }
@@ -38,19 +42,23 @@ FaultsRose-later k h s t u p names q =
 
 -- writes
 
+-- a call that changes counts alone writes no bytes
+Wrote-counts : (h : ℕ) (s t : Seen) → OnlyCounts s t → Wrote h [] s t
+Wrote-counts h s t p = record {
+  counts = p.counts;
+  gains = λ a told. p.written h ∙ rw append-nil told;
+  file = λ n no_stream named a told. p.held n ∙ rw append-nil told;
+  other_held = λ n bytes other told. p.held n ∙ told;
+  lacks = p.lacks;
+  left = p.left;
+  other_written = λ i other. p.written i;
+  names = p.names;
+  given = p.given;
+}
+
 -- where nothing was called, no bytes were written
 pub Wrote-none : (h : ℕ) (s : Seen) → Wrote h [] s s
-Wrote-none h s = record {
-  counts = NoCountFalls-none s;
-  gains = λ a told. rw append-nil told;
-  file = λ n no_stream named a told. rw append-nil told;
-  other_held = λ n bytes other told. told;
-  lacks = λ n. refl;
-  left = λ i. refl;
-  other_written = λ i other. refl;
-  names = λ k i n. refl;
-  given = λ i. refl;
-}
+Wrote-none h s = Wrote-counts h s s (OnlyCounts-none s)
 
 -- what was gained in two steps, one after the other
 pub Gains-then : (x y z : _) (a b : List ℕ) → Gains x y a → Gains y z b → Gains x z (a ++ b)
@@ -72,17 +80,7 @@ Wrote-then a b p q = record {
 
 -- a refused call after a write adds nothing to it
 pub Wrote-fault : {h : ℕ} {bytes : List ℕ} {s t u : Seen} → Wrote h bytes s t → OnlyCounts t u → Wrote h bytes s u
-Wrote-fault p q = record {
-  counts = NoCountFalls-then p.counts q.counts;
-  gains = λ prefix told. q.written _ ∙ p.gains prefix told;
-  file = λ n no_stream named prefix told. q.held n ∙ p.file n no_stream named prefix told;
-  other_held = λ n bytes other told. q.held n ∙ p.other_held n bytes other told;
-  lacks = λ n. q.lacks n ∙ p.lacks n;
-  left = λ i. q.left i ∙ p.left i;
-  other_written = λ i other. q.written i ∙ p.other_written i other;
-  names = λ k i n. q.names k i n ∙ p.names k i n;
-  given = λ i. q.given i ∙ p.given i;
-}
+Wrote-fault {h = h} {bytes = bytes} {s = s} {t = t} {u = u} p q = subst (λ (ys : List ℕ). Wrote h ys s u) (append-nil bytes) (Wrote-then bytes [] p (Wrote-counts h t u q))
 
 -- a prefix of the piece was written, and the rest was not
 pub record IsPartlyWritten (h : ℕ) (piece rest : List ℕ) (before now : Seen) : Type 0 where
@@ -109,18 +107,22 @@ IsPartlyWritten-then n rest p q = record {
 
 -- reads
 
+-- a call that changes counts alone reads no bytes
+Read-counts : (h : ℕ) (s t : Seen) → OnlyCounts s t → Read h [] s t
+Read-counts h s t p = record {
+  counts = p.counts;
+  loses = λ a told. (a, refl, p.left h ∙ told);
+  held = p.held;
+  lacks = p.lacks;
+  written = p.written;
+  other_left = λ i other. p.left i;
+  names = p.names;
+  given = p.given;
+}
+
 -- where nothing was called, no bytes were read
 pub Read-none : (h : ℕ) (s : Seen) → Read h [] s s
-Read-none h s = record {
-  counts = NoCountFalls-none s;
-  loses = λ a told. (a, refl, told);
-  held = λ n. refl;
-  lacks = λ n. refl;
-  written = λ i. refl;
-  other_left = λ i other. refl;
-  names = λ k i n. refl;
-  given = λ i. refl;
-}
+Read-none h s = Read-counts h s s (OnlyCounts-none s)
 
 -- what was lost in two steps, one after the other
 pub Loses-then : (x y z : _) (a b : List ℕ) → Loses x y a → Loses y z b → Loses x z (a ++ b)
@@ -152,18 +154,4 @@ ReadSome-then a b p q = record { bytes = a ++ b; read = Read-then a b p q }
 
 -- a refused call after a read adds nothing to it
 pub Read-fault : {h : ℕ} {s t u : Seen} (bytes : List ℕ) → Read h bytes s t → OnlyCounts t u → ReadSome h s u
-Read-fault bytes p q = record {
-  bytes = bytes;
-  read = record {
-    counts = NoCountFalls-then p.counts q.counts;
-    loses = λ a told. let lost = p.loses a told in (lost.0, lost.1, q.left _ ∙ lost.2);
-    held = λ n. q.held n ∙ p.held n;
-    lacks = λ n. q.lacks n ∙ p.lacks n;
-    written = λ i. q.written i ∙ p.written i;
-    other_left = λ i other. q.left i ∙ p.other_left i other;
-    names = λ k i n. q.names k i n ∙ p.names k i n;
-    given = λ i. q.given i ∙ p.given i;
-  };
-}
-
--- what a handle gained
+Read-fault {h = h} {t = t} {u = u} bytes p q = record { bytes = bytes; read = Read-nothing bytes p (Read-counts h t u q) }

@@ -1,6 +1,7 @@
 -- The calls that were made of a world, in order: what each did, and what they come to (this project's choice). What several calls did is said of their list, so two parts, one
 -- after the other, are `xs ++ ys`.
-use Rattle.std.specs.Prelude.{◌≡◌, ℕ, ◌≤◌, ◌==◌, ◌&&◌, ◌||◌, not, if◌then◌else◌, Bool, true, false, List, [], ◌∷◌, ◌++◌, ◌+◌, length}
+use Rattle.std.specs.Prelude.{◌≡◌, ℕ, ◌≤◌, ◌==◌, ◌&&◌, not, if◌then◌else◌, Bool, true, false, List, [], ◌∷◌, ◌++◌, length}
+use Rattle.std.specs.List.{flat_map, list_all, list_any}
 use Rattle.log_model.specs.Faults.{HasNewFault}
 use Rattle.vio.specs.World.{Seen, CallKind, Reading, Writing, Opened, FileCreated, Read, Wrote, OnlyCounts, IsAtEnd, FaultsRose}
 use Rattle.vio.specs.Touches.{IsOneOf}
@@ -63,49 +64,43 @@ pub record Called (IsSo : List Call → Type 0) (before now : Seen) : Type 0 whe
 abbrev pub of_handle : Bool → List ℕ → List ℕ
 of_handle b bytes = if b then bytes else []
 
+-- what a call wrote to a handle
+abbrev pub written_in : ℕ → Call → List ℕ
+written_in h (Write k bytes mark) = of_handle (k == h) bytes
+written_in h call = []
+
+-- what a call took from a handle
+abbrev pub taken_in : ℕ → Call → List ℕ
+taken_in h (Take k bytes mark) = of_handle (k == h) bytes
+taken_in h call = []
+
 -- what was written to a handle
 abbrev pub written_by : ℕ → List Call → List ℕ
-written_by h [] = []
-written_by h (Write k bytes mark ∷ calls) = of_handle (k == h) bytes ++ written_by h calls
-written_by h (Take k bytes mark ∷ calls) = written_by h calls
-written_by h (Open name k ∷ calls) = written_by h calls
-written_by h (Create append name k empty ∷ calls) = written_by h calls
-written_by h (Refuse kind name ∷ calls) = written_by h calls
-written_by h (Lack ∷ calls) = written_by h calls
+written_by h calls = flat_map (written_in h) calls
 
 -- what was taken from a handle
 abbrev pub taken_by : ℕ → List Call → List ℕ
-taken_by h [] = []
-taken_by h (Take k bytes mark ∷ calls) = of_handle (k == h) bytes ++ taken_by h calls
-taken_by h (Write k bytes mark ∷ calls) = taken_by h calls
-taken_by h (Open name k ∷ calls) = taken_by h calls
-taken_by h (Create append name k empty ∷ calls) = taken_by h calls
-taken_by h (Refuse kind name ∷ calls) = taken_by h calls
-taken_by h (Lack ∷ calls) = taken_by h calls
+taken_by h calls = flat_map (taken_in h) calls
 
 -- whether a mark is that of a read that met the end
 abbrev pub is_end : Mark → Bool
-is_end Went = false
 is_end MetEnd = true
-is_end (Failed name) = false
-is_end FailedEach = false
+is_end mark = false
 
 -- whether a mark is that of a call that failed
 abbrev pub is_failed : Mark → Bool
-is_failed Went = false
-is_failed MetEnd = false
 is_failed (Failed name) = true
 is_failed FailedEach = true
+is_failed mark = false
+
+-- whether a call is a read of a handle that is marked so
+abbrev pub is_read : (Mark → Bool) → ℕ → Call → Bool
+is_read is_so h (Take k bytes mark) = (k == h) && is_so mark
+is_read is_so h call = false
 
 -- whether a read of a handle is marked so
 abbrev pub has_read : (Mark → Bool) → ℕ → List Call → Bool
-has_read is_so h [] = false
-has_read is_so h (Take k bytes mark ∷ calls) = ((k == h) && is_so mark) || has_read is_so h calls
-has_read is_so h (Write k bytes mark ∷ calls) = has_read is_so h calls
-has_read is_so h (Open name k ∷ calls) = has_read is_so h calls
-has_read is_so h (Create append name k empty ∷ calls) = has_read is_so h calls
-has_read is_so h (Refuse kind name ∷ calls) = has_read is_so h calls
-has_read is_so h (Lack ∷ calls) = has_read is_so h calls
+has_read is_so h calls = list_any (is_read is_so h) calls
 
 -- ---- what failed
 
@@ -113,15 +108,12 @@ has_read is_so h (Lack ∷ calls) = has_read is_so h calls
 abbrev pub has_failed : Call → Bool
 has_failed (Take h bytes mark) = is_failed mark
 has_failed (Write h bytes mark) = is_failed mark
-has_failed (Open name h) = false
-has_failed (Create append name h empty) = false
 has_failed (Refuse kind name) = true
-has_failed Lack = false
+has_failed call = false
 
 -- whether none of the calls failed
 abbrev pub none_failed : List Call → Bool
-none_failed [] = true
-none_failed (call ∷ calls) = not (has_failed call) && none_failed calls
+none_failed calls = list_all (λ call. not (has_failed call)) calls
 
 -- whether none of the calls failed but perhaps the last
 abbrev pub last_failed : List Call → Bool
@@ -141,10 +133,8 @@ SomeFailed calls = (call : Call) × IsOneOf call calls × (has_failed call ≡ t
 abbrev pub IsFailed : CallKind → List ℕ → Call → Type 0
 IsFailed kind name (Take h bytes mark) = (kind ≡ Reading) × (mark ≡ Failed name)
 IsFailed kind name (Write h bytes mark) = (kind ≡ Writing) × (mark ≡ Failed name)
-IsFailed kind name (Open file h) = ⊥
-IsFailed kind name (Create append file h empty) = ⊥
 IsFailed kind name (Refuse why file) = (kind ≡ why) × (name ≡ file)
-IsFailed kind name Lack = ⊥
+IsFailed kind name call = ⊥
 
 -- ---- what was touched
 
@@ -152,35 +142,44 @@ IsFailed kind name Lack = ⊥
 abbrev pub IsOn : List ℕ → List ℕ → Call → Type 0
 IsOn reads writes (Take h bytes mark) = IsOneOf h reads
 IsOn reads writes (Write h bytes mark) = IsOneOf h writes
-IsOn reads writes (Open name h) = ⊥
-IsOn reads writes (Create append name h empty) = ⊥
-IsOn reads writes (Refuse kind name) = ⊥
-IsOn reads writes Lack = ⊥
+IsOn reads writes call = ⊥
 
 -- each call is so
 abbrev pub AreOn : List ℕ → List ℕ → List Call → Type 0
 AreOn reads writes [] = Unit {0}
 AreOn reads writes (call ∷ calls) = IsOn reads writes call × AreOn reads writes calls
 
+-- a call reads one of these handles, writes one of these, or opens or creates a file under one of these names
+abbrev pub IsWithin : List ℕ → List ℕ → List (List ℕ) → List (List ℕ) → Call → Type 0
+IsWithin reads writes opened created (Take h bytes mark) = IsOneOf h reads
+IsWithin reads writes opened created (Write h bytes mark) = IsOneOf h writes
+IsWithin reads writes opened created (Open name h) = IsOneOf name opened
+IsWithin reads writes opened created (Create append name h empty) = IsOneOf name created
+IsWithin reads writes opened created call = Unit {0}
+
+-- the handle that a call opens
+abbrev pub opened_in : Call → List ℕ
+opened_in (Open name h) = h ∷ []
+opened_in call = []
+
+-- the handle that a call creates
+abbrev pub created_in : Call → List ℕ
+created_in (Create append name h empty) = h ∷ []
+created_in call = []
+
 -- calls read these handles or ones that they opened, write these or ones that they created, and open and create files under these names
 abbrev pub AreWithin : List ℕ → List ℕ → List (List ℕ) → List (List ℕ) → List Call → Type 0
 AreWithin reads writes opened created [] = Unit {0}
-AreWithin reads writes opened created (Take h bytes mark ∷ calls) = IsOneOf h reads × AreWithin reads writes opened created calls
-AreWithin reads writes opened created (Write h bytes mark ∷ calls) = IsOneOf h writes × AreWithin reads writes opened created calls
-AreWithin reads writes opened created (Open name h ∷ calls) = IsOneOf name opened × AreWithin (h ∷ reads) writes opened created calls
-AreWithin reads writes opened created (Create append name h empty ∷ calls) = IsOneOf name created × AreWithin reads (h ∷ writes) opened created calls
-AreWithin reads writes opened created (Refuse kind name ∷ calls) = AreWithin reads writes opened created calls
-AreWithin reads writes opened created (Lack ∷ calls) = AreWithin reads writes opened created calls
+AreWithin reads writes opened created (call ∷ calls) =
+    IsWithin reads writes opened created call × AreWithin (opened_in call ++ reads) (created_in call ++ writes) opened created calls
+
+-- the handles that calls give
+abbrev pub handles_given : List Call → List ℕ
+handles_given calls = flat_map (λ call. opened_in call ++ created_in call) calls
 
 -- how many handles calls give
 abbrev pub count_given : List Call → ℕ
-count_given [] = 0
-count_given (Take h bytes mark ∷ calls) = count_given calls
-count_given (Write h bytes mark ∷ calls) = count_given calls
-count_given (Open name h ∷ calls) = 1 + count_given calls
-count_given (Create append name h empty ∷ calls) = 1 + count_given calls
-count_given (Refuse kind name ∷ calls) = count_given calls
-count_given (Lack ∷ calls) = count_given calls
+count_given calls = length (handles_given calls)
 
 -- calls open files of these names, no more than these are, and read them; they write and create nothing
 abbrev pub OnlyOpen : List (List ℕ) → List Call → Type 0
