@@ -165,11 +165,7 @@ named_same : (k : Kept) (t : Token) (x : State) → taken_after_unary (tested k 
 named_same k AndWord x e = e
 named_same k OrWord x e = e
 named_same k CloseMark x e = e
-named_same k (CriterionToken w) x e = absurd cc
-named_same k (OperatorToken w) x e = absurd cc
-named_same k (OperandToken w) x e = absurd cc
-named_same k NotWord x e = absurd cc
-named_same k OpenMark x e = absurd cc
+named_same k _ x e = absurd cc
 
 in_named : (k : Kept) (w : List ℕ) → begins AfterCriterion k w ≡ true → Alive AfterCriterion k w
 in_named k w b =

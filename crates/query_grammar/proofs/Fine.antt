@@ -112,11 +112,7 @@ named_fine is_tag is_decimal is_pattern most k [] b f all = λ from place. f pla
 named_fine is_tag is_decimal is_pattern most k (AndWord ∷ ts) b f all = (λ from place. f place, all.1)
 named_fine is_tag is_decimal is_pattern most k (OrWord ∷ ts) b f all = (λ from place. f place, all.1)
 named_fine is_tag is_decimal is_pattern most k (CloseMark ∷ ts) b f all = (λ from place. f place, all.1)
-named_fine is_tag is_decimal is_pattern most k (CriterionToken w ∷ ts) b f all = absurd cc
-named_fine is_tag is_decimal is_pattern most k (OperatorToken w ∷ ts) b f all = absurd cc
-named_fine is_tag is_decimal is_pattern most k (OperandToken w ∷ ts) b f all = absurd cc
-named_fine is_tag is_decimal is_pattern most k (NotWord ∷ ts) b f all = absurd cc
-named_fine is_tag is_decimal is_pattern most k (OpenMark ∷ ts) b f all = absurd cc
+named_fine is_tag is_decimal is_pattern most k _ b f all = absurd cc
 
 -- where one state follows
 pub then_fine : (rules : Rules) (y : State) (ts : List Token) → AllFine rules y.0 y.1 ts → (x : State) → Some y ≡ Some x → AllFine rules x.0 x.1 ts
@@ -198,12 +194,7 @@ or_fine : (is_tag is_decimal is_pattern : List ℕ → Bool) (most : ℕ) (ts : 
 or_fine is_tag is_decimal is_pattern most [] ws done c all = λ from place. refl
 or_fine is_tag is_decimal is_pattern most (OrWord ∷ ts) ws done c all = (λ from place. refl, all.1)
 or_fine is_tag is_decimal is_pattern most (CloseMark ∷ ts) ws done c all = (λ from place. refl, all.1)
-or_fine is_tag is_decimal is_pattern most (AndWord ∷ ts) ws done c all = absurd cc
-or_fine is_tag is_decimal is_pattern most (CriterionToken w ∷ ts) ws done c all = absurd cc
-or_fine is_tag is_decimal is_pattern most (OperatorToken w ∷ ts) ws done c all = absurd cc
-or_fine is_tag is_decimal is_pattern most (OperandToken w ∷ ts) ws done c all = absurd cc
-or_fine is_tag is_decimal is_pattern most (NotWord ∷ ts) ws done c all = absurd cc
-or_fine is_tag is_decimal is_pattern most (OpenMark ∷ ts) ws done c all = absurd cc
+or_fine is_tag is_decimal is_pattern most _ ws done c all = absurd cc
 
 fine_or : (is_tag is_decimal is_pattern : List ℕ → Bool) (most : ℕ) (p q : Written) → FineRuns is_tag is_decimal is_pattern most p → FineAnd is_tag is_decimal is_pattern most q → (ws : List Waiting) (done : List Step) (ts : List Token) → is_base ws ≡ true → is_closing ts ≡ true → IsFine is_tag is_decimal is_pattern most (open_count ws) (Or p q)
     → AllFine (checked is_tag is_decimal is_pattern most) AfterUnary (before (ws, done ++ steps_of (Or p q))) ts → AllFine (checked is_tag is_decimal is_pattern most) BeforeUnary (before (ws, done)) (tokens_of (Or p q) ++ ts)

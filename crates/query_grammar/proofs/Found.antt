@@ -168,15 +168,12 @@ behind_or ts out later fs q t e =
 -- a parenthesis closes the one that is open
 close_base : (fs : List Frame) (q : Written) (ts : List Token) (out : List Step) → Gives ts out → AreGood fs → is_base (waiting_in fs) ≡ true → is_grouped q ≡ true
     → and_then (closes (waiting_in fs, steps_in fs ++ steps_of q)) (λ x. taken_all x.0 x.1 ts) ≡ Some out → Found ((tokens_in fs ++ tokens_of q) ++ CloseMark ∷ ts) out
-close_base [] q ts out later good base g e = absurd cc
-close_base (InNot ∷ fs) q ts out later good base g e = absurd cc
-close_base (InAnd p ∷ fs) q ts out later good base g e = absurd cc
-close_base (InOr p ∷ fs) q ts out later good base g e = absurd cc
 close_base (InOpen ∷ fs) q ts out later good base g e =
     let h = unary_ended fs (Inside q) good refl refl g in
     let f = later.at_behind h.left h.made h.are (ap (λ (x : List Waiting × List Step). taken_all AfterUnary (before x) ts) (sym h.same) ∙ e) in
     found_as ((tokens_in h.left ++ tokens_of h.made) ++ ts) (((tokens_in fs ++ OpenMark ∷ []) ++ tokens_of q) ++ CloseMark ∷ ts) out
     ((simp append_assoc) ∙ ap (λ (x : List Token). x ++ ts) (sym h.tokens)) f
+close_base _ q ts out later good base g e = absurd cc
 
 behind_close : (ts : List Token) (out : List Step) → Gives ts out → Behind (CloseMark ∷ ts) out
 unfolding taken_all

@@ -12,13 +12,12 @@ use Rattle.query_grammar.specs.Lexical.{lex, lexed, lexed_from, may_end, is_stat
 
 pub same_bytes : (xs ys : List ℕ) → bytes_eq xs ys ≡ true → xs ≡ ys
 same_bytes [] [] e = refl
-same_bytes [] (y ∷ ys) e = absurd cc
-same_bytes (x ∷ xs) [] e = absurd cc
 same_bytes (x ∷ xs) (y ∷ ys) e =
     let both = and_parts (x == y) (bytes_eq xs ys) e in
     let head : x ≡ y = eqb-true x y both.0 in
     let rest : xs ≡ ys = same_bytes xs ys both.1 in
     cc
+same_bytes _ _ e = absurd cc
 
 -- a test on bytes that differs tells bytes apart
 pub other_bytes : (test : List ℕ → Bool) (w v : List ℕ) → test w ≡ true → test v ≡ false → bytes_eq w v ≡ false
@@ -152,19 +151,7 @@ ends_equal InPrefix e = refl
 ends_equal PrefixDone e = refl
 ends_equal Done e = refl
 ends_equal InValue e = refl
-ends_equal Begin e = absurd cc
-ends_equal LevelOpen e = absurd cc
-ends_equal Level e = absurd cc
-ends_equal LevelSign e = absurd cc
-ends_equal NameNext e = absurd cc
-ends_equal PrefixNext e = absurd cc
-ends_equal (InPrefixQuote q) e = absurd cc
-ends_equal (PrefixEscape q) e = absurd cc
-ends_equal FieldOpen e = absurd cc
-ends_equal Field e = absurd cc
-ends_equal ValueBegin e = absurd cc
-ends_equal (InQuote q) e = absurd cc
-ends_equal (Escape q) e = absurd cc
+ends_equal _ e = absurd cc
 
 ends_blank : (l : Lex) → may_end l ≡ true → lex l 32 ≡ None
 ends_blank InName e = refl
@@ -172,19 +159,7 @@ ends_blank InPrefix e = refl
 ends_blank PrefixDone e = refl
 ends_blank Done e = refl
 ends_blank InValue e = refl
-ends_blank Begin e = absurd cc
-ends_blank LevelOpen e = absurd cc
-ends_blank Level e = absurd cc
-ends_blank LevelSign e = absurd cc
-ends_blank NameNext e = absurd cc
-ends_blank PrefixNext e = absurd cc
-ends_blank (InPrefixQuote q) e = absurd cc
-ends_blank (PrefixEscape q) e = absurd cc
-ends_blank FieldOpen e = absurd cc
-ends_blank Field e = absurd cc
-ends_blank ValueBegin e = absurd cc
-ends_blank (InQuote q) e = absurd cc
-ends_blank (Escape q) e = absurd cc
+ends_blank _ e = absurd cc
 
 no_state : (c : ℕ) (o : Option Lex) → is_last o ≡ true → ((l : Lex) → may_end l ≡ true → lex l c ≡ None) → is_state (lexed_from (c ∷ []) o) ≡ false
 no_state c None e none = refl

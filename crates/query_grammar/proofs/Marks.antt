@@ -23,11 +23,7 @@ fits_after : (t : Token) (k : Kept) (x : State) (rest : List ℕ) → is_ended t
 fits_after AndWord k x rest over e = cond-true (ends_word rest) _ _ over
 fits_after OrWord k x rest over e = cond-true (ends_word rest) _ _ over
 fits_after CloseMark k x rest over e = refl
-fits_after (CriterionToken w) k x rest over e = absurd (some_none x e)
-fits_after (OperatorToken w) k x rest over e = absurd (some_none x e)
-fits_after (OperandToken w) k x rest over e = absurd (some_none x e)
-fits_after NotWord k x rest over e = absurd (some_none x e)
-fits_after OpenMark k x rest over e = absurd (some_none x e)
+fits_after _ _ x _ _ e = absurd (some_none x e)
 
 fits_criterion : (w rest : List ℕ) → whole_from Begin w ≡ true → is_ended (CriterionToken w) rest ≡ true → whole BeforeUnary w rest ≡ Some (CriterionToken w)
 fits_criterion w rest good over =
@@ -43,30 +39,15 @@ pub fits : (m : Mode) (t : Token) (k : Kept) (x : State) (rest : List ℕ) → i
 fits BeforeUnary (CriterionToken w) k x rest good over e = fits_criterion w rest good over
 fits BeforeUnary NotWord k x rest good over e = cond-true (ends_word rest) _ _ over
 fits BeforeUnary OpenMark k x rest good over e = refl
-fits BeforeUnary (OperatorToken w) k x rest good over e = absurd (some_none x e)
-fits BeforeUnary (OperandToken w) k x rest good over e = absurd (some_none x e)
-fits BeforeUnary AndWord k x rest good over e = absurd (some_none x e)
-fits BeforeUnary OrWord k x rest good over e = absurd (some_none x e)
-fits BeforeUnary CloseMark k x rest good over e = absurd (some_none x e)
 fits AfterCriterion (OperatorToken w) k x rest good over e =
     let parts = and_parts (is_over (begins_one_of operators) w rest) (not (is_one_of operator_words w) || ends_word rest) over in
     cond-true (is_one_of operators w && (not (is_one_of operator_words w) || ends_word rest)) _ _ (and_from _ _ good parts.1)
 fits AfterCriterion AndWord k x rest good over e = cond-true (ends_word rest) _ _ over
 fits AfterCriterion OrWord k x rest good over e = cond-true (ends_word rest) _ _ over
 fits AfterCriterion CloseMark k x rest good over e = refl
-fits AfterCriterion (CriterionToken w) k x rest good over e = absurd (some_none x e)
-fits AfterCriterion (OperandToken w) k x rest good over e = absurd (some_none x e)
-fits AfterCriterion NotWord k x rest good over e = absurd (some_none x e)
-fits AfterCriterion OpenMark k x rest good over e = absurd (some_none x e)
 fits BeforeOperand (OperandToken w) k x rest good over e = cond-true (whole_from ValueBegin w) _ _ good
-fits BeforeOperand (CriterionToken w) k x rest good over e = absurd (some_none x e)
-fits BeforeOperand (OperatorToken w) k x rest good over e = absurd (some_none x e)
-fits BeforeOperand NotWord k x rest good over e = absurd (some_none x e)
-fits BeforeOperand OpenMark k x rest good over e = absurd (some_none x e)
-fits BeforeOperand AndWord k x rest good over e = absurd (some_none x e)
-fits BeforeOperand OrWord k x rest good over e = absurd (some_none x e)
-fits BeforeOperand CloseMark k x rest good over e = absurd (some_none x e)
 fits AfterUnary t k x rest good over e = fits_after t k x rest over e
+fits _ _ _ x _ _ _ e = absurd (some_none x e)
 
 -- ---- a token's bytes go on
 
@@ -101,11 +82,7 @@ grows_after : (t : Token) (k : Kept) (x : State) (p : List ℕ) (c : ℕ) (q : L
 grows_after AndWord k x p c q e parts = grows_joining k (codes "and") p c q refl parts
 grows_after OrWord k x p c q e parts = grows_joining k (codes "or") p c q refl parts
 grows_after CloseMark k x p c q e parts = grows_close k p c q (closes_can k.waiting k.steps x e) parts
-grows_after (CriterionToken w) k x p c q e parts = absurd (some_none x e)
-grows_after (OperatorToken w) k x p c q e parts = absurd (some_none x e)
-grows_after (OperandToken w) k x p c q e parts = absurd (some_none x e)
-grows_after NotWord k x p c q e parts = absurd (some_none x e)
-grows_after OpenMark k x p c q e parts = absurd (some_none x e)
+grows_after _ _ x _ _ _ e _ = absurd (some_none x e)
 
 -- behind a criterion, the same as behind the test
 named_after : (k : Kept) (w : List ℕ) → begins_after_unary (tested k []).1 w ≡ true → begins AfterCriterion k w ≡ true
@@ -116,28 +93,13 @@ pub grows : (m : Mode) (t : Token) (k : Kept) (x : State) (p : List ℕ) (c : �
 grows BeforeUnary (CriterionToken w) k x p c q good e parts = or_right (bytes_eq (p ++ c ∷ []) (codes "(")) _ (whole_grows Begin w p c q good parts)
 grows BeforeUnary NotWord k x p c q good e parts = or_right (bytes_eq (p ++ c ∷ []) (codes "(")) _ (whole_grows Begin (codes "not") p c q refl parts)
 grows BeforeUnary OpenMark k x p c q good e parts = subst (λ (w : List ℕ). begins BeforeUnary k w ≡ true) (single 40 c p q parts) refl
-grows BeforeUnary (OperatorToken w) k x p c q good e parts = absurd (some_none x e)
-grows BeforeUnary (OperandToken w) k x p c q good e parts = absurd (some_none x e)
-grows BeforeUnary AndWord k x p c q good e parts = absurd (some_none x e)
-grows BeforeUnary OrWord k x p c q good e parts = absurd (some_none x e)
-grows BeforeUnary CloseMark k x p c q good e parts = absurd (some_none x e)
 grows AfterCriterion (OperatorToken w) k x p c q good e parts = or_left (begins_one_of operators (p ++ c ∷ [])) _ (begins_one operators w (p ++ c ∷ []) q good (parts ∙ sym (append_assoc p (c ∷ []) q)))
 grows AfterCriterion AndWord k x p c q good e parts = named_after k (p ++ c ∷ []) (grows_after AndWord (tested k []).1 x p c q e parts)
 grows AfterCriterion OrWord k x p c q good e parts = named_after k (p ++ c ∷ []) (grows_after OrWord (tested k []).1 x p c q e parts)
 grows AfterCriterion CloseMark k x p c q good e parts = named_after k (p ++ c ∷ []) (grows_after CloseMark (tested k []).1 x p c q e parts)
-grows AfterCriterion (CriterionToken w) k x p c q good e parts = absurd (some_none x e)
-grows AfterCriterion (OperandToken w) k x p c q good e parts = absurd (some_none x e)
-grows AfterCriterion NotWord k x p c q good e parts = absurd (some_none x e)
-grows AfterCriterion OpenMark k x p c q good e parts = absurd (some_none x e)
 grows BeforeOperand (OperandToken w) k x p c q good e parts = whole_grows ValueBegin w p c q good parts
-grows BeforeOperand (CriterionToken w) k x p c q good e parts = absurd (some_none x e)
-grows BeforeOperand (OperatorToken w) k x p c q good e parts = absurd (some_none x e)
-grows BeforeOperand NotWord k x p c q good e parts = absurd (some_none x e)
-grows BeforeOperand OpenMark k x p c q good e parts = absurd (some_none x e)
-grows BeforeOperand AndWord k x p c q good e parts = absurd (some_none x e)
-grows BeforeOperand OrWord k x p c q good e parts = absurd (some_none x e)
-grows BeforeOperand CloseMark k x p c q good e parts = absurd (some_none x e)
 grows AfterUnary t k x p c q good e parts = grows_after t k x p c q e parts
+grows _ _ _ x _ _ _ _ e _ = absurd (some_none x e)
 
 -- ---- a token that has ended goes on no more
 
@@ -169,37 +131,17 @@ over BeforeUnary (CriterionToken w) k x c rest good ended e =
     over_criterion k w c good (not-true _ parts.0)
 over BeforeUnary NotWord k x c rest good ended e = over_not k c ended
 over BeforeUnary OpenMark k x c rest good ended e = refl
-over BeforeUnary (OperatorToken w) k x c rest good ended e = absurd (some_none x e)
-over BeforeUnary (OperandToken w) k x c rest good ended e = absurd (some_none x e)
-over BeforeUnary AndWord k x c rest good ended e = absurd (some_none x e)
-over BeforeUnary OrWord k x c rest good ended e = absurd (some_none x e)
-over BeforeUnary CloseMark k x c rest good ended e = absurd (some_none x e)
 over AfterCriterion (OperatorToken w) k x c rest good ended e =
     let parts = and_parts (not (begins_one_of operators (w ++ c ∷ []))) (not (is_one_of operator_words w) || ends_word (c ∷ rest)) ended in
     or_from (begins_one_of operators (w ++ c ∷ [])) _ (not-true _ parts.0) (over_sign k w c good)
 over AfterCriterion AndWord k x c rest good ended e = refl
 over AfterCriterion OrWord k x c rest good ended e = refl
 over AfterCriterion CloseMark k x c rest good ended e = refl
-over AfterCriterion (CriterionToken w) k x c rest good ended e = absurd (some_none x e)
-over AfterCriterion (OperandToken w) k x c rest good ended e = absurd (some_none x e)
-over AfterCriterion NotWord k x c rest good ended e = absurd (some_none x e)
-over AfterCriterion OpenMark k x c rest good ended e = absurd (some_none x e)
 over BeforeOperand (OperandToken w) k x c rest good ended e = not-true _ ended
-over BeforeOperand (CriterionToken w) k x c rest good ended e = absurd (some_none x e)
-over BeforeOperand (OperatorToken w) k x c rest good ended e = absurd (some_none x e)
-over BeforeOperand NotWord k x c rest good ended e = absurd (some_none x e)
-over BeforeOperand OpenMark k x c rest good ended e = absurd (some_none x e)
-over BeforeOperand AndWord k x c rest good ended e = absurd (some_none x e)
-over BeforeOperand OrWord k x c rest good ended e = absurd (some_none x e)
-over BeforeOperand CloseMark k x c rest good ended e = absurd (some_none x e)
 over AfterUnary AndWord k x c rest good ended e = refl
 over AfterUnary OrWord k x c rest good ended e = refl
 over AfterUnary CloseMark k x c rest good ended e = refl
-over AfterUnary (CriterionToken w) k x c rest good ended e = absurd (some_none x e)
-over AfterUnary (OperatorToken w) k x c rest good ended e = absurd (some_none x e)
-over AfterUnary (OperandToken w) k x c rest good ended e = absurd (some_none x e)
-over AfterUnary NotWord k x c rest good ended e = absurd (some_none x e)
-over AfterUnary OpenMark k x c rest good ended e = absurd (some_none x e)
+over _ _ _ x _ _ _ _ e = absurd (some_none x e)
 
 -- ---- what is known as a token is one
 

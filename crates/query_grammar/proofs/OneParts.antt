@@ -63,8 +63,6 @@ no_quote_first q c w same e = no_quote q w (subst (λ (x : ℕ). is_inside false
 
 -- bytes between quotes end in one place, where they are closed
 cut_quote : (escaped : Bool) (q : Quote) (w v a b : List ℕ) → is_inside escaped q w ≡ true → is_inside escaped q v ≡ true → w ++ quote_byte q ∷ a ≡ v ++ quote_byte q ∷ b → (w ≡ v) × (a ≡ b)
-cut_quote true q [] v a b good_w good_v same = absurd cc
-cut_quote true q (c ∷ w) [] a b good_w good_v same = absurd cc
 cut_quote true q (c ∷ w) (d ∷ v) a b good_w good_v same =
     let first : c ≡ d = cc in
     let later : w ++ quote_byte q ∷ a ≡ v ++ quote_byte q ∷ b = cc in
@@ -87,6 +85,7 @@ cut_quote false q (c ∷ w) (d ∷ v) a b good_w good_v same =
     let rest = cut_quote (c == 92) q w v a b (inside_next q c w good_w) next_v later in
     let rest_same : w ≡ v = rest.0 in
     (cc, rest.1)
+cut_quote true q _ _ a b good_w good_v same = absurd cc
 
 -- ---- an operand
 
@@ -154,11 +153,10 @@ no_same_first c d w v other same =
 -- the bytes of a field have one field
 one_field : (f g : Option (List ℕ)) → is_field f ≡ true → is_field g ≡ true → field_text f ≡ field_text g → f ≡ g
 one_field None None good_f good_g same = refl
-one_field None (Some v) good_f good_g same = absurd cc
-one_field (Some w) None good_f good_g same = absurd cc
 one_field (Some w) (Some v) good_f good_g same =
     let later : w ++ 93 ∷ [] ≡ v ++ 93 ∷ [] = cc in
     ap Some (cut_some is_digit w v (93 ∷ []) (93 ∷ []) good_f good_g refl refl later).0
+one_field _ _ good_f good_g same = absurd cc
 
 -- a field doesn't begin with a byte of words
 field_ends : (f : Option (List ℕ)) → passes_no_first is_word_byte (field_text f) ≡ true

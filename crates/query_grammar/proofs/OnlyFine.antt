@@ -143,11 +143,7 @@ named_back is_tag is_decimal is_pattern most k [] b all = (λ place. all place p
 named_back is_tag is_decimal is_pattern most k (AndWord ∷ ts) b all = (λ place. all.0 place place, (λ from place. refl, all.1))
 named_back is_tag is_decimal is_pattern most k (OrWord ∷ ts) b all = (λ place. all.0 place place, (λ from place. refl, all.1))
 named_back is_tag is_decimal is_pattern most k (CloseMark ∷ ts) b all = (λ place. all.0 place place, (λ from place. refl, all.1))
-named_back is_tag is_decimal is_pattern most k (CriterionToken w ∷ ts) b all = absurd cc
-named_back is_tag is_decimal is_pattern most k (OperatorToken w ∷ ts) b all = absurd cc
-named_back is_tag is_decimal is_pattern most k (OperandToken w ∷ ts) b all = absurd cc
-named_back is_tag is_decimal is_pattern most k (NotWord ∷ ts) b all = absurd cc
-named_back is_tag is_decimal is_pattern most k (OpenMark ∷ ts) b all = absurd cc
+named_back is_tag is_decimal is_pattern most k _ b all = absurd cc
 
 -- neither of two faults is there
 or_else_none : (x y : Option Fault) → option_or x y ≡ None → (x ≡ None) × (y ≡ None)
@@ -247,12 +243,7 @@ or_back : (is_tag is_decimal is_pattern : List ℕ → Bool) (most : ℕ) (ts : 
 or_back is_tag is_decimal is_pattern most [] ws done c all = λ from place. refl
 or_back is_tag is_decimal is_pattern most (OrWord ∷ ts) ws done c all = (λ from place. refl, all.1)
 or_back is_tag is_decimal is_pattern most (CloseMark ∷ ts) ws done c all = (λ from place. refl, all.1)
-or_back is_tag is_decimal is_pattern most (AndWord ∷ ts) ws done c all = absurd cc
-or_back is_tag is_decimal is_pattern most (CriterionToken w ∷ ts) ws done c all = absurd cc
-or_back is_tag is_decimal is_pattern most (OperatorToken w ∷ ts) ws done c all = absurd cc
-or_back is_tag is_decimal is_pattern most (OperandToken w ∷ ts) ws done c all = absurd cc
-or_back is_tag is_decimal is_pattern most (NotWord ∷ ts) ws done c all = absurd cc
-or_back is_tag is_decimal is_pattern most (OpenMark ∷ ts) ws done c all = absurd cc
+or_back is_tag is_decimal is_pattern most _ ws done c all = absurd cc
 
 -- two queries joined by `or`
 back_or : (is_tag is_decimal is_pattern : List ℕ → Bool) (most : ℕ) (p q : Written) → FineBack is_tag is_decimal is_pattern most p → BackAnd is_tag is_decimal is_pattern most q → BackOr is_tag is_decimal is_pattern most (Or p q)

@@ -97,35 +97,20 @@ pub record ArePlaceless (rules : Rules) : Type 0 where
 unary_same : (is_tag is_decimal is_pattern : List ℕ → Bool) (most from from2 place place2 : ℕ) (k : Kept) (t : Token) → FollowsNone (test_fault is_tag is_decimal is_pattern most from place BeforeUnary k t) (test_fault is_tag is_decimal is_pattern most from2 place2 BeforeUnary k t)
 unary_same is_tag is_decimal is_pattern most from from2 place place2 k NotWord = open_same (nat_lt (open_count k.waiting) most) from from2
 unary_same is_tag is_decimal is_pattern most from from2 place place2 k OpenMark = open_same (nat_lt (open_count k.waiting) most) from from2
-unary_same is_tag is_decimal is_pattern most from from2 place place2 k (CriterionToken w) = none_same
-unary_same is_tag is_decimal is_pattern most from from2 place place2 k (OperatorToken w) = none_same
-unary_same is_tag is_decimal is_pattern most from from2 place place2 k (OperandToken w) = none_same
-unary_same is_tag is_decimal is_pattern most from from2 place place2 k AndWord = none_same
-unary_same is_tag is_decimal is_pattern most from from2 place place2 k OrWord = none_same
-unary_same is_tag is_decimal is_pattern most from from2 place place2 k CloseMark = none_same
+unary_same _ _ _ _ _ _ _ _ _ _ = none_same
 
 -- a token behind a criterion
 named_same : (is_tag is_decimal is_pattern : List ℕ → Bool) (most from from2 place place2 : ℕ) (k : Kept) (t : Token) → FollowsNone (test_fault is_tag is_decimal is_pattern most from place AfterCriterion k t) (test_fault is_tag is_decimal is_pattern most from2 place2 AfterCriterion k t)
 named_same is_tag is_decimal is_pattern most from from2 place place2 k AndWord = criterion_same is_tag place place2 k.criterion
 named_same is_tag is_decimal is_pattern most from from2 place place2 k OrWord = criterion_same is_tag place place2 k.criterion
 named_same is_tag is_decimal is_pattern most from from2 place place2 k CloseMark = criterion_same is_tag place place2 k.criterion
-named_same is_tag is_decimal is_pattern most from from2 place place2 k (CriterionToken w) = none_same
-named_same is_tag is_decimal is_pattern most from from2 place place2 k (OperatorToken w) = none_same
-named_same is_tag is_decimal is_pattern most from from2 place place2 k (OperandToken w) = none_same
-named_same is_tag is_decimal is_pattern most from from2 place place2 k NotWord = none_same
-named_same is_tag is_decimal is_pattern most from from2 place place2 k OpenMark = none_same
+named_same _ _ _ _ _ _ _ _ _ _ = none_same
 
 -- a token where an operand stands
 value_token_same : (is_tag is_decimal is_pattern : List ℕ → Bool) (most from from2 place place2 : ℕ) (k : Kept) (t : Token) → FollowsNone (test_fault is_tag is_decimal is_pattern most from place BeforeOperand k t) (test_fault is_tag is_decimal is_pattern most from2 place2 BeforeOperand k t)
 value_token_same is_tag is_decimal is_pattern most from from2 place place2 k (OperandToken w) =
     both_same (criterion_fault is_tag place k.criterion) _ (criterion_fault is_tag place2 k.criterion) _ (criterion_same is_tag place place2 k.criterion) (operand_same is_decimal is_pattern from from2 k.operator w)
-value_token_same is_tag is_decimal is_pattern most from from2 place place2 k (CriterionToken w) = none_same
-value_token_same is_tag is_decimal is_pattern most from from2 place place2 k (OperatorToken w) = none_same
-value_token_same is_tag is_decimal is_pattern most from from2 place place2 k NotWord = none_same
-value_token_same is_tag is_decimal is_pattern most from from2 place place2 k AndWord = none_same
-value_token_same is_tag is_decimal is_pattern most from from2 place place2 k OrWord = none_same
-value_token_same is_tag is_decimal is_pattern most from from2 place place2 k OpenMark = none_same
-value_token_same is_tag is_decimal is_pattern most from from2 place place2 k CloseMark = none_same
+value_token_same _ _ _ _ _ _ _ _ _ _ = none_same
 
 -- a token, wherever it stands
 token_same : (is_tag is_decimal is_pattern : List ℕ → Bool) (most from from2 place place2 : ℕ) (m : Mode) (k : Kept) (t : Token) → FollowsNone (test_fault is_tag is_decimal is_pattern most from place m k t) (test_fault is_tag is_decimal is_pattern most from2 place2 m k t)

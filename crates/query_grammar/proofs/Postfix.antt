@@ -12,13 +12,9 @@ use Rattle.query_grammar.specs.Tree.{Query, Single, Negated, Both, Either, tree_
 made : {A : Type 0} → StepOver A → List (Query A) → List (Query A)
 made (steps.Test t) all = Single t ∷ all
 made steps.Not (q ∷ all) = Negated q ∷ all
-made steps.Not [] = []
 made steps.And (q ∷ p ∷ all) = Both p q ∷ all
-made steps.And (q ∷ []) = []
-made steps.And [] = []
 made steps.Or (q ∷ p ∷ all) = Either p q ∷ all
-made steps.Or (q ∷ []) = []
-made steps.Or [] = []
+made _ _ = []
 
 made_by : {A : Type 0} → List (StepOver A) → List (Query A) → List (Query A)
 made_by [] all = all

@@ -17,39 +17,30 @@ before x = record { criterion = []; operator = []; waiting = x.0; steps = x.1 }
 
 -- what a unary leaves as it is, and what a query leaves as it is
 abbrev pub is_loose : List Waiting → Bool
-is_loose [] = true
-is_loose (waits.Open ∷ ws) = true
-is_loose (waits.Or ∷ ws) = true
 is_loose (waits.Not ∷ ws) = false
 is_loose (waits.And ∷ ws) = false
+is_loose _ = true
 
 abbrev pub is_base : List Waiting → Bool
 is_base [] = true
 is_base (waits.Open ∷ ws) = true
-is_base (waits.Or ∷ ws) = false
-is_base (waits.Not ∷ ws) = false
-is_base (waits.And ∷ ws) = false
+is_base _ = false
 
 pub loose_stays : (ws : List Waiting) (done : List Step) → is_loose ws ≡ true → tightened ws done ≡ (ws, done)
 loose_stays [] done e = refl
 loose_stays (waits.Open ∷ ws) done e = refl
 loose_stays (waits.Or ∷ ws) done e = refl
-loose_stays (waits.Not ∷ ws) done e = absurd cc
-loose_stays (waits.And ∷ ws) done e = absurd cc
+loose_stays _ done e = absurd cc
 
 pub base_stays : (ws : List Waiting) (done : List Step) → is_base ws ≡ true → loosened ws done ≡ (ws, done)
 base_stays [] done e = refl
 base_stays (waits.Open ∷ ws) done e = refl
-base_stays (waits.Or ∷ ws) done e = absurd cc
-base_stays (waits.Not ∷ ws) done e = absurd cc
-base_stays (waits.And ∷ ws) done e = absurd cc
+base_stays _ done e = absurd cc
 
 pub base_loose : (ws : List Waiting) → is_base ws ≡ true → is_loose ws ≡ true
 base_loose [] e = refl
 base_loose (waits.Open ∷ ws) e = refl
-base_loose (waits.Or ∷ ws) e = absurd cc
-base_loose (waits.Not ∷ ws) e = absurd cc
-base_loose (waits.And ∷ ws) e = absurd cc
+base_loose _ e = absurd cc
 
 -- what may stand behind a unary, and behind a query
 abbrev pub is_behind : List Token → Bool
@@ -57,33 +48,20 @@ is_behind [] = true
 is_behind (AndWord ∷ ts) = true
 is_behind (OrWord ∷ ts) = true
 is_behind (CloseMark ∷ ts) = true
-is_behind (CriterionToken w ∷ ts) = false
-is_behind (OperandToken w ∷ ts) = false
-is_behind (OperatorToken w ∷ ts) = false
-is_behind (NotWord ∷ ts) = false
-is_behind (OpenMark ∷ ts) = false
+is_behind _ = false
 
 abbrev pub is_closing : List Token → Bool
 is_closing [] = true
 is_closing (OrWord ∷ ts) = true
 is_closing (CloseMark ∷ ts) = true
-is_closing (AndWord ∷ ts) = false
-is_closing (CriterionToken w ∷ ts) = false
-is_closing (OperandToken w ∷ ts) = false
-is_closing (OperatorToken w ∷ ts) = false
-is_closing (NotWord ∷ ts) = false
-is_closing (OpenMark ∷ ts) = false
+is_closing _ = false
 
 pub closing_behind : (ts : List Token) → is_closing ts ≡ true → is_behind ts ≡ true
 closing_behind [] e = refl
 closing_behind (OrWord ∷ ts) e = refl
 closing_behind (CloseMark ∷ ts) e = refl
 closing_behind (AndWord ∷ ts) e = refl
-closing_behind (CriterionToken w ∷ ts) e = absurd cc
-closing_behind (OperandToken w ∷ ts) e = absurd cc
-closing_behind (OperatorToken w ∷ ts) e = absurd cc
-closing_behind (NotWord ∷ ts) e = absurd cc
-closing_behind (OpenMark ∷ ts) e = absurd cc
+closing_behind _ e = absurd cc
 
 -- behind a name without a comparison the test is whole
 named_behind : (ts : List Token) (k : Kept) → is_behind ts ≡ true → taken_all AfterCriterion k ts ≡ taken_all AfterUnary (tested k []).1 ts
@@ -92,11 +70,7 @@ named_behind [] k e = refl
 named_behind (AndWord ∷ ts) k e = refl
 named_behind (OrWord ∷ ts) k e = refl
 named_behind (CloseMark ∷ ts) k e = refl
-named_behind (CriterionToken w ∷ ts) k e = absurd cc
-named_behind (OperandToken w ∷ ts) k e = absurd cc
-named_behind (OperatorToken w ∷ ts) k e = absurd cc
-named_behind (NotWord ∷ ts) k e = absurd cc
-named_behind (OpenMark ∷ ts) k e = absurd cc
+named_behind _ k e = absurd cc
 
 -- an `or` ends where the query ends
 or_ends : (ts : List Token) (ws : List Waiting) (done : List Step) → is_closing ts ≡ true → taken_all AfterUnary (before (waits.Or ∷ ws, done)) ts ≡ taken_all AfterUnary (before (ws, done ++ steps.Or ∷ [])) ts
@@ -104,12 +78,7 @@ unfolding taken_all
 or_ends [] ws done e = refl
 or_ends (OrWord ∷ ts) ws done e = refl
 or_ends (CloseMark ∷ ts) ws done e = refl
-or_ends (AndWord ∷ ts) ws done e = absurd cc
-or_ends (CriterionToken w ∷ ts) ws done e = absurd cc
-or_ends (OperandToken w ∷ ts) ws done e = absurd cc
-or_ends (OperatorToken w ∷ ts) ws done e = absurd cc
-or_ends (NotWord ∷ ts) ws done e = absurd cc
-or_ends (OpenMark ∷ ts) ws done e = absurd cc
+or_ends _ ws done e = absurd cc
 
 -- how a query is read, by where it stands
 record Runs (q : Written) : Type 0 where

@@ -118,8 +118,7 @@ is_criterion p = is_level p.level && is_all is_name_byte p.name && is_tail p.tai
 -- the names in what stands behind a name, in order
 abbrev pub names_behind : Tail → List (List ℕ)
 names_behind (NameTail name tail) = name ∷ names_behind tail
-names_behind (PrefixTail prefix field) = []
-names_behind (FieldTail field) = []
+names_behind _ = []
 
 -- the prefix behind the last name
 abbrev pub prefix_behind : Tail → Option Text

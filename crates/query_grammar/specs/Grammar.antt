@@ -32,11 +32,7 @@ abbrev pub is_token : Token → Bool
 is_token (CriterionToken w) = whole_from Begin w
 is_token (OperatorToken w) = is_one_of operators w
 is_token (OperandToken w) = whole_from ValueBegin w
-is_token NotWord = true
-is_token AndWord = true
-is_token OrWord = true
-is_token OpenMark = true
-is_token CloseMark = true
+is_token _ = true
 
 -- what follows doesn't make it longer
 abbrev pub is_over : (List ℕ → Bool) → List ℕ → List ℕ → Bool
@@ -55,8 +51,7 @@ is_ended (OperandToken w) rest = is_over (begins_from ValueBegin) w rest
 is_ended NotWord rest = ends_word rest
 is_ended AndWord rest = ends_word rest
 is_ended OrWord rest = ends_word rest
-is_ended OpenMark rest = true
-is_ended CloseMark rest = true
+is_ended _ _ = true
 
 -- a text is these tokens, with blanks before, between and behind them
 pub data IsLaid : List Token → List ℕ → Type 0 where
@@ -88,19 +83,12 @@ tokens_of (Or p q) = tokens_of p ++ OrWord ∷ tokens_of q
 abbrev pub is_unary : Written → Bool
 is_unary (And p q) = false
 is_unary (Or p q) = false
-is_unary (Test criterion) = true
-is_unary (Compared criterion operator operand) = true
-is_unary (Not q) = true
-is_unary (Inside q) = true
+is_unary _ = true
 
 -- what may stand before `and` and behind `or`
 abbrev pub is_and : Written → Bool
 is_and (Or p q) = false
-is_and (And p q) = true
-is_and (Test criterion) = true
-is_and (Compared criterion operator operand) = true
-is_and (Not q) = true
-is_and (Inside q) = true
+is_and _ = true
 
 -- `not` holds tighter than `and`, and `and` than `or`; each groups from the left
 abbrev pub is_grouped : Written → Bool

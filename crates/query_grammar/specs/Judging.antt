@@ -44,9 +44,8 @@ level_fault at (c ∷ w) = if (c == 123) && nat_lt 9999 (number 0 w) then Some (
 
 -- the field, which begins where its bracket leads
 abbrev pub is_field_open : Option Lex → Bool
-is_field_open None = false
 is_field_open (Some FieldOpen) = true
-is_field_open (Some _) = false
+is_field_open _ = false
 
 -- a field is 1 to 9,999
 abbrev pub field_value : ℕ → List ℕ → Option Fault
@@ -55,9 +54,8 @@ field_value at (c ∷ w) = if (number 0 (c ∷ w) == 0) || nat_lt 9999 (number 0
 
 -- the fault of a criterion's field
 abbrev pub field_fault : ℕ → Option Lex → List ℕ → Option Fault
-field_fault at None w = None
-field_fault at (Some l) [] = None
 field_fault at (Some l) (c ∷ w) = if is_field_open (lex l c) then field_value (at + 1) w else field_fault (at + 1) (lex l c) w
+field_fault _ _ _ = None
 
 -- a criterion, also one that is cut off
 abbrev pub criterion_fault : (List ℕ → Bool) → ℕ → List ℕ → Option Fault

@@ -91,54 +91,34 @@ tested k operand = rested (tightened k.waiting (k.steps ++ test_step k.criterion
 -- behind a parenthesis that closes, where one is open
 abbrev pub closes : List Waiting × List Step → Option State
 closes ((waits.Open ∷ ws), done) = Some (rested (tightened ws done))
-closes ((waits.Not ∷ ws), done) = None
-closes ((waits.And ∷ ws), done) = None
-closes ((waits.Or ∷ ws), done) = None
-closes ([], done) = None
+closes _ = None
 
 -- a token, where it may stand
 abbrev pub taken_after_unary : Kept → Token → Option State
 taken_after_unary k AndWord = Some (waits_for waits.And (k.waiting, k.steps))
 taken_after_unary k OrWord = Some (waits_for waits.Or (loosened k.waiting k.steps))
 taken_after_unary k CloseMark = closes (loosened k.waiting k.steps)
-taken_after_unary k (CriterionToken w) = None
-taken_after_unary k (OperatorToken w) = None
-taken_after_unary k (OperandToken w) = None
-taken_after_unary k NotWord = None
-taken_after_unary k OpenMark = None
+taken_after_unary _ _ = None
 
 -- a token where a unary may stand
 abbrev pub taken_before_unary : Kept → Token → Option State
 taken_before_unary k (CriterionToken w) = Some (AfterCriterion, record k { criterion = w })
 taken_before_unary k NotWord = Some (waits_for waits.Not (k.waiting, k.steps))
 taken_before_unary k OpenMark = Some (waits_for waits.Open (k.waiting, k.steps))
-taken_before_unary k (OperatorToken w) = None
-taken_before_unary k (OperandToken w) = None
-taken_before_unary k AndWord = None
-taken_before_unary k OrWord = None
-taken_before_unary k CloseMark = None
+taken_before_unary _ _ = None
 
 -- a token behind a criterion
 abbrev pub taken_after_criterion : Kept → Token → Option State
 taken_after_criterion k (OperatorToken w) = Some (BeforeOperand, record k { operator = w })
-taken_after_criterion k (CriterionToken w) = None
-taken_after_criterion k (OperandToken w) = None
-taken_after_criterion k NotWord = None
-taken_after_criterion k OpenMark = None
 taken_after_criterion k AndWord = taken_after_unary (tested k []).1 AndWord
 taken_after_criterion k OrWord = taken_after_unary (tested k []).1 OrWord
 taken_after_criterion k CloseMark = taken_after_unary (tested k []).1 CloseMark
+taken_after_criterion _ _ = None
 
 -- a token where an operand stands
 abbrev pub taken_before_operand : Kept → Token → Option State
 taken_before_operand k (OperandToken w) = Some (tested k w)
-taken_before_operand k (OperatorToken w) = None
-taken_before_operand k (CriterionToken w) = None
-taken_before_operand k NotWord = None
-taken_before_operand k OpenMark = None
-taken_before_operand k AndWord = None
-taken_before_operand k OrWord = None
-taken_before_operand k CloseMark = None
+taken_before_operand _ _ = None
 
 -- where a token leads, if it may stand here
 abbrev pub taken : Mode → Kept → Token → Option State
@@ -156,8 +136,7 @@ all_closed ((w ∷ ws), done) = None
 abbrev pub last : Mode → Kept → Option (List Step)
 last AfterCriterion k = let x = (tested k []).1 in all_closed (loosened x.waiting x.steps)
 last AfterUnary k = all_closed (loosened k.waiting k.steps)
-last BeforeUnary k = None
-last BeforeOperand k = None
+last _ _ = None
 
 -- ---- bytes
 

@@ -39,13 +39,9 @@ is_true test (Either p q) = is_true test p || is_true test q
 abbrev pub truths_after : {A : Type 0} → (A → Bool) → StepOver A → List Bool → List Bool
 truths_after test (steps.Test t) all = test t ∷ all
 truths_after test steps.Not (b ∷ all) = not b ∷ all
-truths_after test steps.Not [] = []
 truths_after test steps.And (b ∷ a ∷ all) = (a && b) ∷ all
-truths_after test steps.And (b ∷ []) = []
-truths_after test steps.And [] = []
 truths_after test steps.Or (b ∷ a ∷ all) = (a || b) ∷ all
-truths_after test steps.Or (b ∷ []) = []
-truths_after test steps.Or [] = []
+truths_after _ _ _ = []
 
 -- the truths that steps leave
 unfoldable pub truths_of : {A : Type 0} → (A → Bool) → List (StepOver A) → List Bool → List Bool

@@ -18,24 +18,8 @@ use Rattle.query_parser.specs.inside.Pieces.{is_of, leading, bracket_from, brack
 
 -- a state that opens no field
 pub no_field_open : (l : Lex) → (l ≡ FieldOpen → ⊥) → is_field_open (Some l) ≡ false
-no_field_open Begin other = refl
-no_field_open LevelOpen other = refl
-no_field_open Level other = refl
-no_field_open LevelSign other = refl
-no_field_open NameNext other = refl
-no_field_open InName other = refl
-no_field_open PrefixNext other = refl
-no_field_open InPrefix other = refl
-no_field_open (InPrefixQuote q) other = refl
-no_field_open (PrefixEscape q) other = refl
-no_field_open PrefixDone other = refl
 no_field_open FieldOpen other = absurd (other refl)
-no_field_open Field other = refl
-no_field_open Done other = refl
-no_field_open ValueBegin other = refl
-no_field_open InValue other = refl
-no_field_open (InQuote q) other = refl
-no_field_open (Escape q) other = refl
+no_field_open _ _ = refl
 
 -- what is left begins with the next byte
 cut_at : (i : ℕ) (text : List ℕ) → i < length text → drop i text ≡ get_or text i 0 ∷ drop (i + 1) text

@@ -276,21 +276,7 @@ early_back : (l : Lex) (c : ℕ) → early (lex l c) ≡ true → early (Some l)
 early_back FieldOpen c e = absurd (never_early (is_digit c) Field refl e)
 early_back Field c e = absurd (never_early_two (is_digit c) (c == 93) e)
 early_back Done c e = absurd cc
-early_back Begin c e = refl
-early_back LevelOpen c e = refl
-early_back Level c e = refl
-early_back BehindLevel c e = refl
-early_back NameNext c e = refl
-early_back InName c e = refl
-early_back PrefixNext c e = refl
-early_back InPrefix c e = refl
-early_back (InPrefixQuote q) c e = refl
-early_back (PrefixEscape q) c e = refl
-early_back PrefixDone c e = refl
-early_back ValueBegin c e = refl
-early_back InValue c e = refl
-early_back (InQuote q) c e = refl
-early_back (Escape q) c e = refl
+early_back _ _ _ = refl
 
 -- no bytes lead back before the bracket
 early_from : (w : List ℕ) (o : Option Lex) → early (lexed_from w o) ≡ true → early o ≡ true
@@ -304,21 +290,7 @@ not_open None e = absurd cc
 not_open (Some FieldOpen) e = absurd cc
 not_open (Some Field) e = absurd cc
 not_open (Some Done) e = absurd cc
-not_open (Some Begin) e = refl
-not_open (Some LevelOpen) e = refl
-not_open (Some Level) e = refl
-not_open (Some BehindLevel) e = refl
-not_open (Some NameNext) e = refl
-not_open (Some InName) e = refl
-not_open (Some PrefixNext) e = refl
-not_open (Some InPrefix) e = refl
-not_open (Some (InPrefixQuote q)) e = refl
-not_open (Some (PrefixEscape q)) e = refl
-not_open (Some PrefixDone) e = refl
-not_open (Some ValueBegin) e = refl
-not_open (Some InValue) e = refl
-not_open (Some (InQuote q)) e = refl
-not_open (Some (Escape q)) e = refl
+not_open (Some _) e = refl
 
 -- a place behind no bytes
 behind_zero : (o : Option ℕ) → o ≡ behind 0 o
@@ -348,25 +320,10 @@ record Opens (o : Option Lex) : Type 0 where
 
 -- where a criterion may end, and go on with a field, its field begins
 opens_from : (o : Option Lex) → is_last o ≡ true → is_last (lexed_from (91 ∷ 49 ∷ 93 ∷ []) o) ≡ true → Opens o
-opens_from None e f = absurd cc
 opens_from (Some InName) e f = record { state = InName; is = refl; opens = refl; before = refl }
 opens_from (Some InPrefix) e f = record { state = InPrefix; is = refl; opens = refl; before = refl }
 opens_from (Some PrefixDone) e f = record { state = PrefixDone; is = refl; opens = refl; before = refl }
-opens_from (Some Done) e f = absurd cc
-opens_from (Some InValue) e f = absurd cc
-opens_from (Some Begin) e f = absurd cc
-opens_from (Some LevelOpen) e f = absurd cc
-opens_from (Some Level) e f = absurd cc
-opens_from (Some BehindLevel) e f = absurd cc
-opens_from (Some NameNext) e f = absurd cc
-opens_from (Some PrefixNext) e f = absurd cc
-opens_from (Some (InPrefixQuote q)) e f = absurd cc
-opens_from (Some (PrefixEscape q)) e f = absurd cc
-opens_from (Some FieldOpen) e f = absurd cc
-opens_from (Some Field) e f = absurd cc
-opens_from (Some ValueBegin) e f = absurd cc
-opens_from (Some (InQuote q)) e f = absurd cc
-opens_from (Some (Escape q)) e f = absurd cc
+opens_from _ e f = absurd cc
 
 -- whether level, names, prefix and field are as they are written
 abbrev are_good : Option written.Level → List (List ℕ) → Option Text → Option (List ℕ) → Bool

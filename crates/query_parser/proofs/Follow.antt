@@ -87,11 +87,7 @@ fine_anywhere at w e place = (criterion_same matches_any at place w).none e
 
 pub no_answer : (f : QueryFault) → IsAnswer f None → {A : Type 0} → (m : Result A Fault) → IsAnswer f (result_err m)
 no_answer faults.NoMemory h m = tt
-no_answer (faults.Syntax at) h m = absurd cc
-no_answer (faults.UnknownTag at) h m = absurd cc
-no_answer (faults.Number at) h m = absurd cc
-no_answer (faults.Pattern at) h m = absurd cc
-no_answer (faults.Deep at) h m = absurd cc
+no_answer _ h m = absurd cc
 
 -- the fault of a part is that of the whole
 pub answer_bind : {A B : Type 0} (f : QueryFault) (m : Result A Fault) (g : A → Result B Fault) → IsAnswer f (result_err m) → IsAnswer f (result_err (m >>= g))

@@ -31,9 +31,8 @@ without_first (c ∷ w) = w
 
 -- how many bytes stand before the bracket that opens a field, where there is one
 abbrev pub bracket_from : Option Lex → List ℕ → Option ℕ
-bracket_from None w = None
-bracket_from (Some l) [] = None
 bracket_from (Some l) (c ∷ w) = if is_field_open (lex l c) then Some 0 else option_map suc (bracket_from (lex l c) w)
+bracket_from _ _ = None
 
 -- how many bytes of a criterion stand before the bracket of its field
 abbrev pub bracket : List ℕ → Option ℕ

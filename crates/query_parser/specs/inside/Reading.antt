@@ -21,8 +21,7 @@ line_added caseless at before line =
 abbrev pub IfMeant : Bool → Option (List Step) → Option (Vec (StepOver Test)) → Type 0
 IfMeant caseless None None = Unit {0}
 IfMeant caseless (Some written) (Some v) = AreMeant caseless written v.items
-IfMeant caseless None (Some v) = ⊥
-IfMeant caseless (Some written) None = ⊥
+IfMeant _ _ _ = ⊥
 
 -- the steps so far are what was read, or the fault is that of the reading
 abbrev pub Adds : Bool → Result (Option (Vec (StepOver Test))) QueryFault → Result (Option (List Step)) Fault → Type 0
