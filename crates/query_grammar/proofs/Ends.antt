@@ -13,7 +13,7 @@ use Rattle.query_grammar.specs.declared.step.StepOver.TheVariants as steps
 use Rattle.query_grammar.specs.declared.lex.Lex.TheVariants.{Begin, ValueBegin}
 use Rattle.query_grammar.specs.Lexical.{begins_from, is_one_of, begins_one_of, operators, words}
 use Rattle.query_grammar.specs.Grammar.{Token, CriterionToken, OperatorToken, OperandToken, NotWord, AndWord, OrWord, OpenMark, CloseMark, token_text, is_token, is_ended}
-use Rattle.query_grammar.specs.Scanner.{Kept, State, can_close, closes, all_closed, tightened, loosened, rested, waits_for, tested, joining, begins, begins_after_unary, taken, taken_after_unary}
+use Rattle.query_grammar.specs.Scanner.{Kept, State, free, can_close, closes, all_closed, tightened, loosened, rested, waits_for, tested, joining, begins, begins_after_unary, taken, taken_after_unary}
 use Rattle.query_grammar.proofs.Lexing.{same_bytes, is_plain, plain_append, plain_parts, plain_word, completed, completed_plain, completed_one, over_equal, over_blank}
 use Rattle.query_grammar.proofs.Marks.{tightened_can}
 use Rattle.query_grammar.proofs.Scan.{Reads, token_read, blank_read, end_read}
@@ -24,11 +24,11 @@ use Rattle.query_grammar.proofs.Scan.{Reads, token_read, blank_read, end_read}
 pub record Alive (m : Mode) (k : Kept) (w : List ℕ) : Type 0 where
   pub more : List ℕ
   pub out : List Step
-  pub ends : Reads m k w more out
+  pub ends : Reads free m k w more out
   pub plain : is_plain more ≡ true
 
-by_token : (m : Mode) (k : Kept) (w more rest : List ℕ) (out : List Step) (t : Token) (x : State) → is_plain more ≡ true → is_plain rest ≡ true → token_text t ≡ w ++ more → is_token t ≡ true → is_ended t rest ≡ true → taken m k t ≡ Some x → Reads x.0 x.1 [] rest out → Alive m k w
-by_token m k w more rest out t x p q text good ended e h = record { more = more ++ rest; out = out; ends = token_read more m k t x w rest out text good ended e h; plain = plain_append more rest p q }
+by_token : (m : Mode) (k : Kept) (w more rest : List ℕ) (out : List Step) (t : Token) (x : State) → is_plain more ≡ true → is_plain rest ≡ true → token_text t ≡ w ++ more → is_token t ≡ true → is_ended t rest ≡ true → taken m k t ≡ Some x → Reads free x.0 x.1 [] rest out → Alive m k w
+by_token m k w more rest out t x p q text good ended e h = record { more = more ++ rest; out = out; ends = token_read free more m k t x w rest out (λ from place. refl) text good ended e h; plain = plain_append more rest p q }
 
 -- how many parentheses are open
 abbrev parens : List Waiting → ℕ
@@ -59,7 +59,7 @@ loosened_inner (waits.Or ∷ ws) done = loosened_inner ws (done ++ steps.Or ∷ 
 ends_now : (k : Kept) → (loosened k.waiting k.steps).0 ≡ [] → Alive AfterUnary k []
 ends_now k e =
     let x = loosened k.waiting k.steps in
-    record { more = []; out = x.1; ends = end_read AfterUnary k x.1 (ap (λ (ws : List Waiting). all_closed (ws, x.1)) e); plain = refl }
+    record { more = []; out = x.1; ends = end_read free AfterUnary k x.1 (λ from place. refl) (ap (λ (ws : List Waiting). all_closed (ws, x.1)) e); plain = refl }
 
 behind_by : (n : ℕ) (k : Kept) → parens k.waiting ≡ n → Alive AfterUnary k []
 behind_by zero k e =
@@ -82,21 +82,21 @@ behind k = behind_by (parens k.waiting) k refl
 
 -- the same, behind a blank
 behind_blank : (k : Kept) → Alive AfterUnary k []
-behind_blank k = let h = behind k in record { more = 32 ∷ h.more; out = h.out; ends = blank_read AfterUnary k 32 h.more h.out refl h.ends; plain = h.plain }
+behind_blank k = let h = behind k in record { more = 32 ∷ h.more; out = h.out; ends = blank_read free AfterUnary k 32 h.more h.out refl h.ends; plain = h.plain }
 
 in_value : (k : Kept) (w : List ℕ) → begins_from ValueBegin w ≡ true → Alive BeforeOperand k w
 in_value k w b =
     let c = completed ValueBegin w b in
     let h = behind (tested k (w ++ c.0)).1 in
     by_token BeforeOperand k w c.0 (32 ∷ h.more) h.out (OperandToken (w ++ c.0)) (tested k (w ++ c.0)) (completed_plain ValueBegin w b) h.plain refl c.1 (not_from_false _ (over_blank ValueBegin (w ++ c.0) c.1)) refl
-    (blank_read AfterUnary (tested k (w ++ c.0)).1 32 h.more h.out refl h.ends)
+    (blank_read free AfterUnary (tested k (w ++ c.0)).1 32 h.more h.out refl h.ends)
 
 before_value : (k : Kept) → Alive BeforeOperand k []
 before_value k = in_value k [] refl
 
 -- a blank and an operand behind an operator
-value_blank : (k : Kept) → (more : List ℕ) × (out : List Step) × Reads BeforeOperand k [] (32 ∷ more) out × (is_plain more ≡ true)
-value_blank k = let h = before_value k in (h.more, h.out, blank_read BeforeOperand k 32 h.more h.out refl h.ends, h.plain)
+value_blank : (k : Kept) → (more : List ℕ) × (out : List Step) × Reads free BeforeOperand k [] (32 ∷ more) out × (is_plain more ≡ true)
+value_blank k = let h = before_value k in (h.more, h.out, blank_read free BeforeOperand k 32 h.more h.out refl h.ends, h.plain)
 
 in_sign : (k : Kept) (w : List ℕ) → begins_one_of operators w ≡ true → Alive AfterCriterion k w
 in_sign k w b =
@@ -110,14 +110,14 @@ in_criterion k w b =
     let v : List ℕ = w ++ c.0 in
     let named : Kept = record k { criterion = w ++ c.0 } in
     let h = value_blank (record named { operator = codes "==" }) in
-    let equals = token_read (codes "==") AfterCriterion named (OperatorToken (codes "==")) (BeforeOperand, record named { operator = codes "==" }) [] (32 ∷ h.0) h.1 refl refl refl refl h.2 in
+    let equals = token_read free (codes "==") AfterCriterion named (OperatorToken (codes "==")) (BeforeOperand, record named { operator = codes "==" }) [] (32 ∷ h.0) h.1 (λ from place. refl) refl refl refl refl h.2 in
     by_token BeforeUnary k w c.0 (61 ∷ 61 ∷ 32 ∷ h.0) h.1 (CriterionToken (w ++ c.0)) (AfterCriterion, named) (completed_plain Begin w b) h.3 refl c.1 (and_from _ _ (not_from_false _ (over_equal Begin (w ++ c.0) c.1)) (not_from_false _ (and_right (is_one_of words (w ++ c.0)) false refl))) refl equals
 
 before_operand : (k : Kept) → Alive BeforeUnary k []
 before_operand k = in_criterion k [] refl
 
-operand_blank : (k : Kept) → (more : List ℕ) × (out : List Step) × Reads BeforeUnary k [] (32 ∷ more) out × (is_plain more ≡ true)
-operand_blank k = let h = before_operand k in (h.more, h.out, blank_read BeforeUnary k 32 h.more h.out refl h.ends, h.plain)
+operand_blank : (k : Kept) → (more : List ℕ) × (out : List Step) × Reads free BeforeUnary k [] (32 ∷ more) out × (is_plain more ≡ true)
+operand_blank k = let h = before_operand k in (h.more, h.out, blank_read free BeforeUnary k 32 h.more h.out refl h.ends, h.plain)
 
 in_operand : (k : Kept) (w : List ℕ) → begins BeforeUnary k w ≡ true → Alive BeforeUnary k w
 in_operand k w b =
@@ -158,7 +158,7 @@ joined m k k2 w same can b =
           let c = can_closes k2.waiting k2.steps (sym can ∙ both.1) in
           let h = behind c.0.1 in
           let mode : c.0.0 ≡ AfterUnary = c.2 in
-          by_token m k w [] h.more h.out CloseMark c.0 refl h.plain (sym (same_bytes w (codes ")") both.0) ∙ sym (append-nil w)) refl refl (same CloseMark c.0 c.1) (subst (λ (n : Mode). Reads n c.0.1 [] h.more h.out) (sym mode) h.ends)
+          by_token m k w [] h.more h.out CloseMark c.0 refl h.plain (sym (same_bytes w (codes ")") both.0) ∙ sym (append-nil w)) refl refl (same CloseMark c.0 c.1) (subst (λ (n : Mode). Reads free n c.0.1 [] h.more h.out) (sym mode) h.ends)
     ]
 
 named_same : (k : Kept) (t : Token) (x : State) → taken_after_unary (tested k []).1 t ≡ Some x → taken AfterCriterion k t ≡ Some x

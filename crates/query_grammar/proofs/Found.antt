@@ -10,7 +10,7 @@ use Rattle.query_grammar.specs.declared.step.StepOver.TheVariants as steps
 use Rattle.query_grammar.specs.Grammar.{Token, CriterionToken, OperatorToken, OperandToken, NotWord, AndWord, OrWord, OpenMark, CloseMark, Written, Test, Compared, Not, Inside, And, Or, tokens_of, is_unary, is_and, is_grouped}
 use Rattle.query_grammar.specs.Steps.{steps_of}
 use Rattle.query_grammar.specs.Scanner.{Kept, tightened, loosened, waits_for, tested, start, closes, all_closed}
-use Rattle.query_grammar.proofs.Tokens.{taken_all, and_then}
+use Rattle.query_grammar.proofs.Tokens.{lenient, taken_all, and_then}
 use Rattle.query_grammar.proofs.Trees.{before, is_loose, is_base, loose_stays, base_stays}
 
 -- what stands before a unary, the last first
@@ -129,13 +129,13 @@ behind_at fs q = before (waiting_in fs, steps_in fs ++ steps_of q)
 
 -- what tokens from here on give, by what stands before them
 record Gives (ts : List Token) (out : List Step) : Type 0 where
-  at_operand : (fs : List Frame) → AreGood fs → taken_all BeforeUnary (operand_at fs) ts ≡ Some out → Found (tokens_in fs ++ ts) out
-  at_named : (fs : List Frame) (w : List ℕ) → AreGood fs → taken_all AfterCriterion (record (operand_at fs) { criterion = w }) ts ≡ Some out → Found (tokens_in fs ++ CriterionToken w ∷ ts) out
-  at_value : (fs : List Frame) (w operator : List ℕ) → AreGood fs → taken_all BeforeOperand (record (operand_at fs) { criterion = w; operator = operator }) ts ≡ Some out → Found (tokens_in fs ++ CriterionToken w ∷ OperatorToken operator ∷ ts) out
-  at_behind : (fs : List Frame) (q : Written) → Tight fs q → taken_all AfterUnary (behind_at fs q) ts ≡ Some out → Found ((tokens_in fs ++ tokens_of q) ++ ts) out
+  at_operand : (fs : List Frame) → AreGood fs → taken_all lenient BeforeUnary (operand_at fs) ts ≡ Some out → Found (tokens_in fs ++ ts) out
+  at_named : (fs : List Frame) (w : List ℕ) → AreGood fs → taken_all lenient AfterCriterion (record (operand_at fs) { criterion = w }) ts ≡ Some out → Found (tokens_in fs ++ CriterionToken w ∷ ts) out
+  at_value : (fs : List Frame) (w operator : List ℕ) → AreGood fs → taken_all lenient BeforeOperand (record (operand_at fs) { criterion = w; operator = operator }) ts ≡ Some out → Found (tokens_in fs ++ CriterionToken w ∷ OperatorToken operator ∷ ts) out
+  at_behind : (fs : List Frame) (q : Written) → Tight fs q → taken_all lenient AfterUnary (behind_at fs q) ts ≡ Some out → Found ((tokens_in fs ++ tokens_of q) ++ ts) out
 
 abbrev Behind : List Token → List Step → Type 0
-Behind ts out = (fs : List Frame) (q : Written) → Tight fs q → taken_all AfterUnary (behind_at fs q) ts ≡ Some out → Found ((tokens_in fs ++ tokens_of q) ++ ts) out
+Behind ts out = (fs : List Frame) (q : Written) → Tight fs q → taken_all lenient AfterUnary (behind_at fs q) ts ≡ Some out → Found ((tokens_in fs ++ tokens_of q) ++ ts) out
 
 -- the end, where nothing is open
 base_end : (fs : List Frame) (q : Written) (done out : List Step) → is_base (waiting_in fs) ≡ true → is_grouped q ≡ true → all_closed (waiting_in fs, done) ≡ Some out → done ≡ steps_in fs ++ steps_of q → Found (tokens_in fs ++ tokens_of q) out
@@ -162,15 +162,15 @@ behind_or : (ts : List Token) (out : List Step) → Gives ts out → Behind (OrW
 unfolding taken_all
 behind_or ts out later fs q t e =
     let h = query_ended fs q t in
-    let f = later.at_operand (InOr h.made ∷ h.left) (h.good, h.base, h.grouped) (ap (λ (x : List Waiting × List Step). taken_all BeforeUnary (waits_for waits.Or x).1 ts) (sym h.same) ∙ e) in
+    let f = later.at_operand (InOr h.made ∷ h.left) (h.good, h.base, h.grouped) (ap (λ (x : List Waiting × List Step). taken_all lenient BeforeUnary (waits_for waits.Or x).1 ts) (sym h.same) ∙ e) in
     found_as (tokens_in (InOr h.made ∷ h.left) ++ ts) ((tokens_in fs ++ tokens_of q) ++ OrWord ∷ ts) out (sym (append_assoc (tokens_in fs ++ tokens_of q) (OrWord ∷ []) ts) ∙ ap (λ (x : List Token). (x ++ OrWord ∷ []) ++ ts) (sym h.tokens)) f
 
 -- a parenthesis closes the one that is open
 close_base : (fs : List Frame) (q : Written) (ts : List Token) (out : List Step) → Gives ts out → AreGood fs → is_base (waiting_in fs) ≡ true → is_grouped q ≡ true
-    → and_then (closes (waiting_in fs, steps_in fs ++ steps_of q)) (λ x. taken_all x.0 x.1 ts) ≡ Some out → Found ((tokens_in fs ++ tokens_of q) ++ CloseMark ∷ ts) out
+    → and_then (closes (waiting_in fs, steps_in fs ++ steps_of q)) (λ x. taken_all lenient x.0 x.1 ts) ≡ Some out → Found ((tokens_in fs ++ tokens_of q) ++ CloseMark ∷ ts) out
 close_base (InOpen ∷ fs) q ts out later good base g e =
     let h = unary_ended fs (Inside q) good refl refl g in
-    let f = later.at_behind h.left h.made h.are (ap (λ (x : List Waiting × List Step). taken_all AfterUnary (before x) ts) (sym h.same) ∙ e) in
+    let f = later.at_behind h.left h.made h.are (ap (λ (x : List Waiting × List Step). taken_all lenient AfterUnary (before x) ts) (sym h.same) ∙ e) in
     found_as ((tokens_in h.left ++ tokens_of h.made) ++ ts) (((tokens_in fs ++ OpenMark ∷ []) ++ tokens_of q) ++ CloseMark ∷ ts) out
     ((simp append_assoc) ∙ ap (λ (x : List Token). x ++ ts) (sym h.tokens)) f
 close_base _ q ts out later good base g e = absurd cc
@@ -179,21 +179,21 @@ behind_close : (ts : List Token) (out : List Step) → Gives ts out → Behind (
 unfolding taken_all
 behind_close ts out later fs q t e =
     let h = query_ended fs q t in
-    let f = close_base h.left h.made ts out later h.good h.base h.grouped (ap (λ (x : List Waiting × List Step). and_then (closes x) (λ y. taken_all y.0 y.1 ts)) (sym h.same) ∙ e) in
+    let f = close_base h.left h.made ts out later h.good h.base h.grouped (ap (λ (x : List Waiting × List Step). and_then (closes x) (λ y. taken_all lenient y.0 y.1 ts)) (sym h.same) ∙ e) in
     found_as ((tokens_in h.left ++ tokens_of h.made) ++ CloseMark ∷ ts) ((tokens_in fs ++ tokens_of q) ++ CloseMark ∷ ts) out (ap (λ (x : List Token). x ++ CloseMark ∷ ts) (sym h.tokens)) f
 
 -- behind a name without a comparison
-named_test : (ts : List Token) (out : List Step) → Behind ts out → (fs : List Frame) (w : List ℕ) → AreGood fs → taken_all AfterUnary (tested (record (operand_at fs) { criterion = w }) []).1 ts ≡ Some out → Found (tokens_in fs ++ CriterionToken w ∷ ts) out
+named_test : (ts : List Token) (out : List Step) → Behind ts out → (fs : List Frame) (w : List ℕ) → AreGood fs → taken_all lenient AfterUnary (tested (record (operand_at fs) { criterion = w }) []).1 ts ≡ Some out → Found (tokens_in fs ++ CriterionToken w ∷ ts) out
 named_test ts out b fs w good e =
     let h = unary_ended fs (Test w) good refl refl refl in
-    let f = b h.left h.made h.are (ap (λ (x : List Waiting × List Step). taken_all AfterUnary (before x) ts) (sym h.same) ∙ e) in
+    let f = b h.left h.made h.are (ap (λ (x : List Waiting × List Step). taken_all lenient AfterUnary (before x) ts) (sym h.same) ∙ e) in
     found_as ((tokens_in h.left ++ tokens_of h.made) ++ ts) (tokens_in fs ++ CriterionToken w ∷ ts) out (sym (append_assoc (tokens_in fs) (CriterionToken w ∷ []) ts) ∙ ap (λ (x : List Token). x ++ ts) (sym h.tokens)) f
 
-value_test : (ts : List Token) (out : List Step) (digits : List ℕ) → Gives ts out → (fs : List Frame) (w operator : List ℕ) → AreGood fs → taken_all BeforeOperand (record (operand_at fs) { criterion = w; operator = operator }) (OperandToken digits ∷ ts) ≡ Some out → Found (tokens_in fs ++ CriterionToken w ∷ OperatorToken operator ∷ OperandToken digits ∷ ts) out
+value_test : (ts : List Token) (out : List Step) (digits : List ℕ) → Gives ts out → (fs : List Frame) (w operator : List ℕ) → AreGood fs → taken_all lenient BeforeOperand (record (operand_at fs) { criterion = w; operator = operator }) (OperandToken digits ∷ ts) ≡ Some out → Found (tokens_in fs ++ CriterionToken w ∷ OperatorToken operator ∷ OperandToken digits ∷ ts) out
 unfolding taken_all
 value_test ts out digits later fs w operator good e =
     let h = unary_ended fs (Compared w operator digits) good refl refl refl in
-    let f = later.at_behind h.left h.made h.are (ap (λ (x : List Waiting × List Step). taken_all AfterUnary (before x) ts) (sym h.same) ∙ e) in
+    let f = later.at_behind h.left h.made h.are (ap (λ (x : List Waiting × List Step). taken_all lenient AfterUnary (before x) ts) (sym h.same) ∙ e) in
     found_as ((tokens_in h.left ++ tokens_of h.made) ++ ts) (tokens_in fs ++ CriterionToken w ∷ OperatorToken operator ∷ OperandToken digits ∷ ts) out
     (sym (append_assoc (tokens_in fs) (CriterionToken w ∷ OperatorToken operator ∷ OperandToken digits ∷ []) ts) ∙ ap (λ (x : List Token). x ++ ts) (sym h.tokens)) f
 
@@ -259,5 +259,5 @@ gives (OpenMark ∷ ts) out = record {
 }
 
 -- tokens that are read are a query's
-pub found : (ts : List Token) (out : List Step) → taken_all BeforeUnary start ts ≡ Some out → Found ts out
+pub found : (ts : List Token) (out : List Step) → taken_all lenient BeforeUnary start ts ≡ Some out → Found ts out
 found ts out e = (gives ts out).at_operand [] tt e

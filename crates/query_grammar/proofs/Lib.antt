@@ -14,9 +14,6 @@ pub mod Criterion
 pub mod FaultExamples
 pub mod Levels
 pub mod Fine
-pub mod Places
-pub mod OnlyFine
-pub mod FineLines
 pub mod Rulings
 pub mod Lengths
 pub mod Lines

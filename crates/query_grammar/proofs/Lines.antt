@@ -1,6 +1,7 @@
 -- What is read of several lines is their queries, joined by `or`.
 use Rattle.std.proofs.Common.{◌≡◌, ℕ, ◌+◌, Bool, true, false, cond, List, [], ◌∷◌, length, Option, Some, None, Result, Ok, Err, refl, sym, ap, subst, ◌∙◌}
 use Rattle.std.specs.Bool.{MatchBool}
+use Rattle.std.proofs.lemmas.Bool.{cond-true}
 use Rattle.query_grammar.specs.declared.mode.Mode.TheVariants.{BeforeUnary}
 use Rattle.query_grammar.specs.Step.{Step}
 use Rattle.query_grammar.specs.Grammar.{Written, tokens_of, IsLaid, IsQuery}
@@ -8,7 +9,8 @@ use Rattle.query_grammar.specs.Steps.{steps_of}
 use Rattle.query_grammar.specs.Scanner.{Fault, ◌>>=◌, Rules, free, run, begin, start}
 use Rattle.query_grammar.specs.Lines.{is_passed, joined, AreQueries, joined_steps, ended_lines, read_lines}
 use Rattle.query_grammar.proofs.Scan.{ok_is, no_out, laid_read, explains}
-use Rattle.query_grammar.proofs.Trees.{tokens_read}
+use Rattle.query_grammar.proofs.Tokens.{Judge, Judges, lenient, free_judges, taken_all, freed, if_some}
+use Rattle.query_grammar.proofs.Trees.{is_fine, lenient_fine, tokens_read}
 use Rattle.query_grammar.proofs.Found.{found}
 
 -- the steps of a query, where one was read
@@ -21,22 +23,32 @@ joined_is : (before : Option Written) (q : Written) → joined_steps (steps_in b
 joined_is None q = refl
 joined_is (Some p) q = refl
 
--- what is read of a line is a query
-pub record LineRead (line : List ℕ) (out : List Step) : Type 0 where
+-- what is read of a line is a query that the judge lets pass
+pub record LineRead (j : Judge) (line : List ℕ) (out : List Step) : Type 0 where
   pub query : Written
   pub whole : IsQuery line query
+  pub fine : is_fine j 0 query ≡ true
   pub steps : steps_of query ≡ out
 
 -- what is read of a line, from whatever place on, is a query
-pub line_read : (at : ℕ) (line : List ℕ) (out : List Step) → run free at begin line ≡ Ok out → LineRead line out
-line_read at line out e =
-    let w = explains line out at begin e in
-    let f = found w.ts out w.read in
-    record { query = f.query; whole = record { grouped = f.grouped; laid = subst (λ ts. IsLaid ts line) (sym f.tokens) w.laid }; steps = f.steps }
+pub judged_found : (rules : Rules) (j : Judge) → Judges rules j → (at : ℕ) (line : List ℕ) (out : List Step) → run rules at begin line ≡ Ok out → LineRead j line out
+judged_found rules j h at line out e =
+    let w = explains rules j h line out at begin e in
+    let f = found w.ts out (freed j w.ts BeforeUnary start out w.read) in
+    let read : cond (is_fine j 0 f.query) (Some (steps_of f.query)) None ≡ Some out = sym (tokens_read j f.query f.grouped) ∙ ap (λ ts. taken_all j BeforeUnary start ts) f.tokens ∙ w.read in
+    record { query = f.query; whole = record { grouped = f.grouped; laid = subst (λ ts. IsLaid ts line) (sym f.tokens) w.laid }; fine = (if_some (is_fine j 0 f.query) (Some (steps_of f.query)) out read).0; steps = f.steps }
 
--- a query is read, from whatever place on
-query_read : (at : ℕ) (line : List ℕ) (q : Written) → IsQuery line q → run free at begin line ≡ Ok (steps_of q)
-query_read at line q is = (laid_read (tokens_of q) line is.laid BeforeUnary start (steps_of q) (tokens_read q is.grouped)).reads at 0
+-- a query that passes is read, from whatever place on
+pub judged_read : (rules : Rules) (j : Judge) → Judges rules j → (at : ℕ) (line : List ℕ) (q : Written) → IsQuery line q → is_fine j 0 q ≡ true → run rules at begin line ≡ Ok (steps_of q)
+judged_read rules j h at line q is fine =
+    (laid_read rules j h (tokens_of q) line is.laid BeforeUnary start (steps_of q) (tokens_read j q is.grouped ∙ cond-true (is_fine j 0 q) _ _ fine)).reads at 0
+
+-- the same by the grammar alone
+pub line_read : (at : ℕ) (line : List ℕ) (out : List Step) → run free at begin line ≡ Ok out → LineRead lenient line out
+line_read at line out e = judged_found free lenient free_judges at line out e
+
+pub query_read : (at : ℕ) (line : List ℕ) (q : Written) → IsQuery line q → run free at begin line ≡ Ok (steps_of q)
+query_read at line q is = judged_read free lenient free_judges at line q is (lenient_fine q 0)
 
 -- the lines that are queries of a kind are read
 pub record AreRead (rules : Rules) (Is : List ℕ → Written → Type 0) : Type 0 where

@@ -8,10 +8,9 @@ use Rattle.query_grammar.specs.Grammar.{Token, Written, tokens_of, IsLaid, IsQue
 use Rattle.query_grammar.specs.Steps.{steps_of}
 use Rattle.query_grammar.specs.Scanner.{Fault, Syntax, ◌>>=◌, State, free, Spot, begins, whole, taken, last, token_taken, token_done, fresh, step_in, step, last_done, finish_in, run, start, begin}
 use Rattle.query_grammar.proofs.Lexing.{is_plain}
-use Rattle.query_grammar.proofs.Scan.{no_out, laid_read, explains}
+use Rattle.query_grammar.proofs.Scan.{no_out}
 use Rattle.query_grammar.proofs.Ends.{IsBegun, alive}
-use Rattle.query_grammar.proofs.Trees.{tokens_read}
-use Rattle.query_grammar.proofs.Found.{found}
+use Rattle.query_grammar.proofs.Lines.{line_read, query_read}
 
 abbrev wrong : {A : Type 0} → Fault → Result A Fault
 wrong f = Err f
@@ -151,31 +150,15 @@ stops (c ∷ text) a s at b e = stops_step c a s text at (step free a s c) b ref
 
 -- ---- in the words of the grammar
 
--- what is read is a query
-pub record IsRead (line : List ℕ) (out : List Step) : Type 0 where
-  pub query : Written
-  pub whole : IsQuery line query
-  pub steps : steps_of query ≡ out
-
-pub is_read : (line : List ℕ) (out : List Step) → run free 0 begin line ≡ Ok out → IsRead line out
-is_read line out e =
-    let w = explains line out 0 begin e in
-    let f = found w.ts out w.read in
-    record { query = f.query; whole = record { grouped = f.grouped; laid = subst (λ (ts : List Token). IsLaid ts line) (sym f.tokens) w.laid }; steps = f.steps }
-
--- a query is read
-pub query_read : (line : List ℕ) (q : Written) → IsQuery line q → run free 0 begin line ≡ Ok (steps_of q)
-query_read line q is = (laid_read (tokens_of q) line is.laid BeforeUnary start (steps_of q) (tokens_read q is.grouped)).reads 0 0
-
 dead_back : (prefix back : List ℕ) → NoWay 0 begin prefix back → IsDead IsQuery prefix back
-dead_back prefix [] h = λ q is. h (steps_of q) (query_read prefix q is)
-dead_back prefix (c ∷ back) h = λ more q is. h more (steps_of q) (query_read (prefix ++ c ∷ more) q is)
+dead_back prefix [] h = λ q is. h (steps_of q) (query_read 0 prefix q is)
+dead_back prefix (c ∷ back) h = λ more q is. h more (steps_of q) (query_read 0 (prefix ++ c ∷ more) q is)
 
 -- where reading stops no query goes on
 pub stops_at : (line : List ℕ) (at : ℕ) → run free 0 begin line ≡ Err (Syntax at) → StopsAt IsQuery line at
 stops_at line at e =
     let s = stops line 0 begin at tt e in
-    let r = is_read (s.prefix ++ s.more) s.out s.ends in
+    let r = line_read 0 (s.prefix ++ s.more) s.out s.ends in
     record {
       prefix = s.prefix;
       back = s.back;

@@ -97,12 +97,12 @@ not_passed : (line : List ℕ) (a : ℕ) (out : List Step) → run free a begin 
 not_passed line a out e = not_passed_by (is_passed line) line a out refl e
 
 -- the first byte of `blank_goes`
-blank_byte : (b : Bool) (c : ℕ) (x y text : List ℕ) (out : List Step) → is_blank c ≡ b → cond b (is_passed x) (c == 35) ≡ true → cond b (is_passed y) (c == 35) ≡ false → (is_passed x ≡ true → is_passed y ≡ false → Reads BeforeUnary start [] text out) → Reads BeforeUnary start [] (c ∷ text) out
-blank_byte true c x y text out b p q h = blank_read BeforeUnary start c text out b (h p q)
+blank_byte : (b : Bool) (c : ℕ) (x y text : List ℕ) (out : List Step) → is_blank c ≡ b → cond b (is_passed x) (c == 35) ≡ true → cond b (is_passed y) (c == 35) ≡ false → (is_passed x ≡ true → is_passed y ≡ false → Reads free BeforeUnary start [] text out) → Reads free BeforeUnary start [] (c ∷ text) out
+blank_byte true c x y text out b p q h = blank_read free BeforeUnary start c text out b (h p q)
 blank_byte false c x y text out b p q h = absurd cc
 
 -- what begins both lines that are passed over and lines that aren't is blank, and a query may follow it
-blank_goes : (prefix : List ℕ) (c : ℕ) (x y more : List ℕ) (out : List Step) → Reads BeforeUnary start [] more out → is_passed (prefix ++ c ∷ x) ≡ true → is_passed (prefix ++ c ∷ y) ≡ false → Reads BeforeUnary start [] (prefix ++ c ∷ more) out
+blank_goes : (prefix : List ℕ) (c : ℕ) (x y more : List ℕ) (out : List Step) → Reads free BeforeUnary start [] more out → is_passed (prefix ++ c ∷ x) ≡ true → is_passed (prefix ++ c ∷ y) ≡ false → Reads free BeforeUnary start [] (prefix ++ c ∷ more) out
 blank_goes [] c x y more out h p q = blank_byte (is_blank c) c x y more out refl p q (λ p2 q2. h)
 blank_goes (d ∷ prefix) c x y more out h p q = blank_byte (is_blank d) d (prefix ++ c ∷ x) (prefix ++ c ∷ y) (prefix ++ c ∷ more) out refl p q (λ p2 q2. blank_goes prefix c x y more out h p2 q2)
 

@@ -11,7 +11,7 @@ use Rattle.query_grammar.specs.Step.{Step}
 use Rattle.query_grammar.specs.Grammar.{CloseMark}
 use Rattle.query_grammar.specs.Scanner.{Fault, Kept, State, Spot, ◌>>=◌, tightened, loosened, rested, tested, closes, all_closed, unless_fault, token_done, token_taken, last_done, finish_in}
 use Rattle.query_grammar.specs.Judging.{criterion_fault}
-use Rattle.query_grammar.proofs.Places.{criterion_same}
+use Rattle.query_grammar.proofs.Rulings.{criterion_anywhere}
 use Rattle.query_parser.specs.declared.fault.QueryFault.{QueryFault}
 use Rattle.query_parser.specs.declared.fault.QueryFault.TheVariants as faults
 use Rattle.query_parser.specs.declared.test.Test.{Test}
@@ -83,7 +83,7 @@ closed_none ((w ∷ ws), done) mark rest e = refl
 -- ---- faults
 
 pub fine_anywhere : (at : ℕ) (w : List ℕ) → criterion_fault matches_any at w ≡ None → (place : ℕ) → criterion_fault matches_any place w ≡ None
-fine_anywhere at w e place = (criterion_same matches_any at place w).none e
+fine_anywhere at w e place = criterion_anywhere matches_any at place w e
 
 pub no_answer : (f : QueryFault) → IsAnswer f None → {A : Type 0} → (m : Result A Fault) → IsAnswer f (result_err m)
 no_answer faults.NoMemory h m = tt

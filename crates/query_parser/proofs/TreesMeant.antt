@@ -15,7 +15,7 @@ use Rattle.query_grammar.specs.Fine.{IsFineQuery}
 use Rattle.query_grammar.specs.Lines.{lines_of, read_lines}
 use Rattle.query_grammar.specs.Scanner.{Fault, Syntax}
 use Rattle.query_grammar.proofs.Lines.{lines_found}
-use Rattle.query_grammar.proofs.FineLines.{fine_lines_found}
+use Rattle.query_grammar.proofs.Fine.{fine_lines_found}
 use Rattle.query_grammar.proofs.Postfix.{steps_are}
 use Rattle.query_grammar.proofs.TextFaults.{fault_is}
 use Rattle.query_parser.specs.declared.fault.QueryFault.{QueryFault}

@@ -4,7 +4,7 @@ use Rattle.query_grammar.specs.Judging.{rules_of}
 use Rattle.query_grammar.specs.Lines.{lines_of}
 use Rattle.query_grammar.specs.Fine.{IsFineQuery}
 use Rattle.query_grammar.proofs.Lines.{lines_read, lines_found}
-use Rattle.query_grammar.proofs.FineLines.{fine_lines_read, fine_lines_found}
+use Rattle.query_grammar.proofs.Fine.{fine_lines_read, fine_lines_found}
 use Rattle.query_grammar.proofs.Looser.{lines_looser}
 use Rattle.query_grammar.proofs.Rulings.{are_rules}
 use Rattle.query_grammar.proofs.TextStops.{text_stops_at}

@@ -4,7 +4,7 @@ use Rattle.query_grammar.proofs.Postfix.{one_tree}
 use Rattle.query_grammar.proofs.Scan.{ok_is}
 use Rattle.query_grammar.specs.Lines.{lines_of}
 use Rattle.query_grammar.proofs.Lines.{lines_read, lines_found, queries_read, queries_found}
-use Rattle.query_grammar.proofs.FineLines.{fine_lines_read, fine_lines_found}
+use Rattle.query_grammar.proofs.Fine.{fine_lines_read, fine_lines_found}
 use Rattle.query_grammar.specs.Judging.{rules_of}
 use Rattle.query_grammar.specs.Fine.{IsFineQuery}
 use Rattle.query_grammar.proofs.Looser.{lines_looser}
