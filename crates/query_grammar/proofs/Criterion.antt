@@ -2,16 +2,19 @@
 use Rattle.std.proofs.Common.{◌≡◌, ℕ, ◌==◌, Bool, true, false, cond, List, [], ◌∷◌, ◌++◌, length, Option, Some, None, refl, sym, ap, ◌∙◌, append_assoc, arith}
 use Rattle.std.specs.Prelude.{nat_lt}
 use Rattle.std.specs.List.{list_all}
+use Rattle.std.proofs.lemmas.List.{append-nil}
 use Rattle.std.proofs.lemmas.Bool.{and_parts, and_from, cond_both, cond-true, cond-false, eqb-true, lt-ltb}
 use Rattle.query_grammar.specs.declared.lex.Quote.{Quote}
 use Rattle.query_grammar.specs.declared.lex.Quote.TheVariants.{Double, Single}
 use Rattle.query_grammar.specs.declared.lex.Lex.{Lex}
-use Rattle.query_grammar.specs.declared.lex.Lex.TheVariants.{NameNext, InName, PrefixNext, InPrefix, InPrefixQuote, PrefixEscape, PrefixDone, FieldOpen, Field, Done, ValueBegin, InValue, InQuote, Escape}
-use Rattle.query_grammar.specs.Lexical.{is_digit, is_name_byte, is_word_byte, quote_byte, lex, lexed, lexed_from, may_end, is_last, whole_from}
+use Rattle.query_grammar.specs.declared.lex.Part.{Part}
+use Rattle.query_grammar.specs.declared.lex.Part.TheVariants.{Prefix, Operand}
+use Rattle.query_grammar.specs.declared.lex.Lex.TheVariants.{NameNext, InName, TextNext, InWord, InQuote, Escape, TextDone, FieldOpen, Field, Done}
+use Rattle.query_grammar.specs.Lexical.{is_digit, is_name_byte, is_word_byte, quote_byte, operand_begin, behind_text, lex, lexed, lexed_from, may_end, is_last, whole_from}
 use Rattle.query_grammar.specs.Criterion.{is_all, Text, Plain, Quoted, text_of, is_inside, is_text, Tail, NameTail, PrefixTail, FieldTail, field_text, tail_text, is_field, is_tail}
 use Rattle.query_grammar.proofs.Lexing.{lexed-append}
 
--- ---- an operand: its parts are taken
+-- ---- a word or a text in quotes: its parts are taken
 
 -- bytes that stay in one state
 pub stays : (l : Lex) (test : ℕ → Bool) (w : List ℕ) → ((c : ℕ) → test c ≡ true → lex l c ≡ Some l) → list_all test w ≡ true → lexed l w ≡ Some l
@@ -21,120 +24,140 @@ stays l test (c ∷ w) same all =
     ap (lexed_from w) (same c both.0) ∙ stays l test w same both.1
 
 -- the state between quotes
-abbrev quote_at : Bool → Quote → Lex
-quote_at true q = Escape q
-quote_at false q = InQuote q
+abbrev quote_at : Bool → Part → Quote → Lex
+quote_at true p q = Escape p q
+quote_at false p q = InQuote p q
 
-quotes_taken : (escaped : Bool) (q : Quote) (w : List ℕ) → is_inside escaped q w ≡ true → lexed (quote_at escaped q) (w ++ quote_byte q ∷ []) ≡ Some Done
-quotes_taken true q [] e = absurd cc
-quotes_taken false Double [] e = refl
-quotes_taken false Single [] e = refl
-quotes_taken true q (c ∷ w) e = quotes_taken false q w e
-quotes_taken false q (c ∷ w) e =
-    let P : Bool → Type 0 = λ b. b ≡ true → lexed_from (w ++ quote_byte q ∷ []) (lex (InQuote q) c) ≡ Some Done in
+quotes_taken : (escaped : Bool) (p : Part) (q : Quote) (w : List ℕ) → is_inside escaped q w ≡ true → lexed (quote_at escaped p q) (w ++ quote_byte q ∷ []) ≡ Some (TextDone p)
+quotes_taken true p q [] e = absurd cc
+quotes_taken false p Double [] e = refl
+quotes_taken false p Single [] e = refl
+quotes_taken true p q (c ∷ w) e = quotes_taken false p q w e
+quotes_taken false p q (c ∷ w) e =
+    let P : Bool → Type 0 = λ b. b ≡ true → lexed_from (w ++ quote_byte q ∷ []) (lex (InQuote p q) c) ≡ Some (TextDone p) in
     cond_both (c == 92) (is_inside true q w) (cond (c == quote_byte q) false (is_inside false q w)) P
-    (λ back inside. ap (lexed_from (w ++ quote_byte q ∷ [])) (cond-true (c == 92) _ _ back) ∙ quotes_taken true q w inside)
+    (λ back inside. ap (lexed_from (w ++ quote_byte q ∷ [])) (cond-true (c == 92) _ _ back) ∙ quotes_taken true p q w inside)
     (λ back. cond_both (c == quote_byte q) false (is_inside false q w) P
     (λ close inside. absurd cc)
-    (λ close inside. ap (lexed_from (w ++ quote_byte q ∷ [])) (cond-false (c == 92) _ _ back ∙ cond-false (c == quote_byte q) _ _ close) ∙ quotes_taken false q w inside)) e
+    (λ close inside. ap (lexed_from (w ++ quote_byte q ∷ [])) (cond-false (c == 92) _ _ back ∙ cond-false (c == quote_byte q) _ _ close) ∙ quotes_taken false p q w inside)) e
 
-begins_quote : (q : Quote) → lex ValueBegin (quote_byte q) ≡ Some (InQuote q)
-begins_quote Double = refl
-begins_quote Single = refl
+begins_quote : (p : Part) (q : Quote) → lex (TextNext p) (quote_byte q) ≡ Some (InQuote p q)
+begins_quote p Double = refl
+begins_quote p Single = refl
 
-pub text_taken : (t : Text) → is_text t ≡ true → whole_from ValueBegin (text_of t) ≡ true
-text_taken (Plain []) e = absurd cc
-text_taken (Plain (c ∷ w)) e =
+-- where a text may end, and what may follow it does
+record Ends (p : Part) (o : Option Lex) : Type 0 where
+  state : Lex
+  is : o ≡ Some state
+  last : may_end state ≡ true
+  behind : lex state 91 ≡ behind_text p 91
+
+text_ends : (p : Part) (t : Text) → is_text t ≡ true → Ends p (lexed (TextNext p) (text_of t))
+text_ends p (Plain []) e = absurd cc
+text_ends p (Plain (c ∷ w)) e =
     let all = and_parts (is_word_byte c) (list_all is_word_byte w) (and_parts (nat_lt 0 (length (c ∷ w))) (list_all is_word_byte (c ∷ w)) e).1 in
-    let first : lex ValueBegin c ≡ Some InValue = cond-true (is_word_byte c) _ _ all.0 in
-    ap is_last (ap (lexed_from w) first ∙ stays InValue is_word_byte w (λ d h. cond-true (is_word_byte d) _ _ h) all.1)
-text_taken (Quoted q w) e = ap is_last (ap (lexed_from (w ++ quote_byte q ∷ [])) (begins_quote q) ∙ quotes_taken false q w e)
+    let first : lex (TextNext p) c ≡ Some (InWord p) = cond-true (is_word_byte c) _ _ all.0 in
+    record { state = InWord p; is = ap (lexed_from w) first ∙ stays (InWord p) is_word_byte w (λ d h. cond-true (is_word_byte d) _ _ h) all.1; last = refl; behind = refl }
+text_ends p (Quoted q w) e = record { state = TextDone p; is = ap (lexed_from (w ++ quote_byte q ∷ [])) (begins_quote p q) ∙ quotes_taken false p q w e; last = refl; behind = refl }
 
--- ---- an operand: what is taken has these parts
+pub text_taken : (t : Text) → is_text t ≡ true → whole_from operand_begin (text_of t) ≡ true
+text_taken t e = let h = text_ends Operand t e in ap is_last h.is ∙ h.last
 
-record Inside (escaped : Bool) (q : Quote) (w : List ℕ) : Type 0 where
-  inner : List ℕ
-  parts : w ≡ inner ++ quote_byte q ∷ []
-  good : is_inside escaped q inner ≡ true
-
--- nothing stands behind the quote
-done_nil : (w : List ℕ) → is_last (lexed Done w) ≡ true → w ≡ []
-done_nil [] e = refl
-done_nil (c ∷ []) e = absurd cc
-done_nil (c ∷ d ∷ w) e = absurd cc
-
-inside_from : (escaped : Bool) (q : Quote) (w : List ℕ) → is_last (lexed (quote_at escaped q) w) ≡ true → Inside escaped q w
-inside_from true q [] e = absurd cc
-inside_from false q [] e = absurd cc
-inside_from true q (c ∷ w) e =
-    let h = inside_from false q w e in
-    record { inner = c ∷ h.inner; parts = ap (λ (v : List ℕ). c ∷ v) h.parts; good = h.good }
-inside_from false q (c ∷ w) e =
-    let P : Option Lex → Type 0 = λ o. is_last (lexed_from w o) ≡ true → Inside false q (c ∷ w) in
-    cond_both (c == 92) (Some (Escape q)) (cond (c == quote_byte q) (Some Done) (Some (InQuote q))) P
-    (λ back g.
-    let h = inside_from true q w g in
-    record { inner = c ∷ h.inner; parts = ap (λ (v : List ℕ). c ∷ v) h.parts; good = cond-true (c == 92) _ _ back ∙ h.good })
-    (λ back. cond_both (c == quote_byte q) (Some Done) (Some (InQuote q)) P
-    (λ close g.
-    let head : c ≡ quote_byte q = eqb-true c (quote_byte q) close in
-    let rest : w ≡ [] = done_nil w g in
-    record { inner = []; parts = ap (λ (d : ℕ). d ∷ w) head ∙ ap (λ (v : List ℕ). quote_byte q ∷ v) rest; good = refl })
-    (λ close g.
-    let h = inside_from false q w g in
-    record { inner = c ∷ h.inner; parts = ap (λ (v : List ℕ). c ∷ v) h.parts; good = cond-false (c == 92) _ _ back ∙ cond-false (c == quote_byte q) _ _ close ∙ h.good })) e
+-- ---- a word or a text in quotes: what is taken has these parts
 
 pub never : (w : List ℕ) → is_last (lexed_from w None) ≡ true → ⊥
 never [] e = absurd cc
 never (c ∷ w) e = absurd cc
 
--- the bytes of a word
-word_from : (w : List ℕ) → is_last (lexed InValue w) ≡ true → list_all is_word_byte w ≡ true
-word_from [] e = refl
-word_from (c ∷ w) e =
-    cond_both (is_word_byte c) (Some InValue) None (λ o. is_last (lexed_from w o) ≡ true → list_all is_word_byte (c ∷ w) ≡ true)
-    (λ t g. and_from (is_word_byte c) (list_all is_word_byte w) t (word_from w g))
-    (λ t g. absurd (never w g)) e
+-- a text, and bytes that may stand behind it
+record TextAnd (p : Part) (w : List ℕ) : Type 0 where
+  text : Text
+  rest : List ℕ
+  good : is_text text ≡ true
+  same : text_of text ++ rest ≡ w
+  behind : is_last (lexed (TextDone p) rest) ≡ true
+
+-- the bytes of a word, and what may stand behind it
+record WordAnd (p : Part) (w : List ℕ) : Type 0 where
+  word : List ℕ
+  rest : List ℕ
+  good : list_all is_word_byte word ≡ true
+  same : word ++ rest ≡ w
+  behind : is_last (lexed (TextDone p) rest) ≡ true
+
+word_and : (p : Part) (w : List ℕ) → is_last (lexed (InWord p) w) ≡ true → WordAnd p w
+word_and p [] e = record { word = []; rest = []; good = refl; same = refl; behind = refl }
+word_and p (c ∷ w) e =
+    cond_both (is_word_byte c) (Some (InWord p)) (behind_text p c) (λ o. is_last (lexed_from w o) ≡ true → WordAnd p (c ∷ w))
+    (λ t g. let h = word_and p w g in record { word = c ∷ h.word; rest = h.rest; good = and_from (is_word_byte c) (list_all is_word_byte h.word) t h.good; same = ap (λ (v : List ℕ). c ∷ v) h.same; behind = h.behind })
+    (λ t g. record { word = []; rest = c ∷ w; good = refl; same = refl; behind = g }) e
+
+-- bytes up to the quote that closes, and what may stand behind it
+record QuoteAnd (escaped : Bool) (p : Part) (q : Quote) (w : List ℕ) : Type 0 where
+  inner : List ℕ
+  rest : List ℕ
+  good : is_inside escaped q inner ≡ true
+  same : inner ++ quote_byte q ∷ rest ≡ w
+  behind : is_last (lexed (TextDone p) rest) ≡ true
+
+quote_and : (escaped : Bool) (p : Part) (q : Quote) (w : List ℕ) → is_last (lexed (quote_at escaped p q) w) ≡ true → QuoteAnd escaped p q w
+quote_and true p q [] e = absurd cc
+quote_and false p q [] e = absurd cc
+quote_and true p q (c ∷ w) e =
+    let h = quote_and false p q w e in
+    record { inner = c ∷ h.inner; rest = h.rest; good = h.good; same = ap (λ (v : List ℕ). c ∷ v) h.same; behind = h.behind }
+quote_and false p q (c ∷ w) e =
+    let P : Option Lex → Type 0 = λ o. is_last (lexed_from w o) ≡ true → QuoteAnd false p q (c ∷ w) in
+    cond_both (c == 92) (Some (Escape p q)) (cond (c == quote_byte q) (Some (TextDone p)) (Some (InQuote p q))) P
+    (λ back g.
+    let h = quote_and true p q w g in
+    record { inner = c ∷ h.inner; rest = h.rest; good = cond-true (c == 92) _ _ back ∙ h.good; same = ap (λ (v : List ℕ). c ∷ v) h.same; behind = h.behind })
+    (λ back. cond_both (c == quote_byte q) (Some (TextDone p)) (Some (InQuote p q)) P
+    (λ close g. record { inner = []; rest = w; good = refl; same = ap (λ (x : ℕ). x ∷ w) (sym (eqb-true c (quote_byte q) close)); behind = g })
+    (λ close g.
+    let h = quote_and false p q w g in
+    record { inner = c ∷ h.inner; rest = h.rest; good = cond-false (c == 92) _ _ back ∙ cond-false (c == quote_byte q) _ _ close ∙ h.good; same = ap (λ (v : List ℕ). c ∷ v) h.same; behind = h.behind })) e
+
+quoted_and : (p : Part) (c : ℕ) (q : Quote) (w : List ℕ) → c ≡ quote_byte q → QuoteAnd false p q w → TextAnd p (c ∷ w)
+quoted_and p c q w head h = record {
+  text = Quoted q h.inner;
+  rest = h.rest;
+  good = h.good;
+  same = ap (λ (v : List ℕ). quote_byte q ∷ v) (append_assoc h.inner (quote_byte q ∷ []) h.rest ∙ h.same) ∙ ap (λ (x : ℕ). x ∷ w) (sym head);
+  behind = h.behind;
+}
+
+text_and : (p : Part) (w : List ℕ) → is_last (lexed (TextNext p) w) ≡ true → TextAnd p w
+text_and p [] e = absurd cc
+text_and p (c ∷ w) e =
+    let P : Option Lex → Type 0 = λ o. is_last (lexed_from w o) ≡ true → TextAnd p (c ∷ w) in
+    cond_both (is_word_byte c) (Some (InWord p)) (cond (c == 34) (Some (InQuote p Double)) (cond (c == 39) (Some (InQuote p Single)) None)) P
+    (λ t g.
+    let h = word_and p w g in
+    record { text = Plain (c ∷ h.word); rest = h.rest; good = and_from _ _ (lt-ltb 0 (length (c ∷ h.word)) (omega arith)) (and_from (is_word_byte c) (list_all is_word_byte h.word) t h.good); same = ap (λ (v : List ℕ). c ∷ v) h.same; behind = h.behind })
+    (λ t. cond_both (c == 34) (Some (InQuote p Double)) (cond (c == 39) (Some (InQuote p Single)) None) P
+    (λ double g. quoted_and p c Double w (eqb-true c 34 double) (quote_and false p Double w g))
+    (λ double. cond_both (c == 39) (Some (InQuote p Single)) None P
+    (λ single g. quoted_and p c Single w (eqb-true c 39 single) (quote_and false p Single w g))
+    (λ single g. absurd (never w g)))) e
+
+-- nothing stands behind an operand
+operand_done : (w : List ℕ) → is_last (lexed (TextDone Operand) w) ≡ true → w ≡ []
+operand_done [] e = refl
+operand_done (c ∷ w) e = absurd (never w e)
 
 pub record IsTextOf (w : List ℕ) : Type 0 where
   pub text : Text
   pub good : is_text text ≡ true
   pub same : text_of text ≡ w
 
-quoted : (c : ℕ) (q : Quote) (w : List ℕ) → c ≡ quote_byte q → Inside false q w → IsTextOf (c ∷ w)
-quoted c q w head h = record { text = Quoted q h.inner; good = h.good; same = ap (λ (v : List ℕ). quote_byte q ∷ v) (sym h.parts) ∙ ap (λ (d : ℕ). d ∷ w) (sym head) }
-
-pub text_from : (w : List ℕ) → whole_from ValueBegin w ≡ true → IsTextOf w
-text_from [] e = absurd cc
-text_from (c ∷ w) e =
-    let P : Option Lex → Type 0 = λ o. is_last (lexed_from w o) ≡ true → IsTextOf (c ∷ w) in
-    cond_both (is_word_byte c) (Some InValue) (cond (c == 34) (Some (InQuote Double)) (cond (c == 39) (Some (InQuote Single)) None)) P
-    (λ t g. record { text = Plain (c ∷ w); good = and_from _ _ (lt-ltb 0 (length (c ∷ w)) (omega arith)) (and_from (is_word_byte c) (list_all is_word_byte w) t (word_from w g)); same = refl })
-    (λ t. cond_both (c == 34) (Some (InQuote Double)) (cond (c == 39) (Some (InQuote Single)) None) P
-    (λ double g. quoted c Double w (eqb-true c 34 double) (inside_from false Double w g))
-    (λ double. cond_both (c == 39) (Some (InQuote Single)) None P
-    (λ single g. quoted c Single w (eqb-true c 39 single) (inside_from false Single w g))
-    (λ single g. absurd (never w g)))) e
+pub text_from : (w : List ℕ) → whole_from operand_begin w ≡ true → IsTextOf w
+text_from w e =
+    let h = text_and Operand w e in
+    let none : text_of h.text ++ h.rest ≡ text_of h.text = ap (λ (v : List ℕ). text_of h.text ++ v) (operand_done h.rest h.behind) ∙ append-nil (text_of h.text) in
+    record { text = h.text; good = h.good; same = sym none ∙ h.same }
 
 -- ---- what stands behind a name: its parts are taken
-
--- the state between a prefix's quotes
-abbrev prefix_at : Bool → Quote → Lex
-prefix_at true q = PrefixEscape q
-prefix_at false q = InPrefixQuote q
-
-prefix_taken : (escaped : Bool) (q : Quote) (w : List ℕ) → is_inside escaped q w ≡ true → lexed (prefix_at escaped q) (w ++ quote_byte q ∷ []) ≡ Some PrefixDone
-prefix_taken true q [] e = absurd cc
-prefix_taken false Double [] e = refl
-prefix_taken false Single [] e = refl
-prefix_taken true q (c ∷ w) e = prefix_taken false q w e
-prefix_taken false q (c ∷ w) e =
-    let P : Bool → Type 0 = λ b. b ≡ true → lexed_from (w ++ quote_byte q ∷ []) (lex (InPrefixQuote q) c) ≡ Some PrefixDone in
-    cond_both (c == 92) (is_inside true q w) (cond (c == quote_byte q) false (is_inside false q w)) P
-    (λ back inside. ap (lexed_from (w ++ quote_byte q ∷ [])) (cond-true (c == 92) _ _ back) ∙ prefix_taken true q w inside)
-    (λ back. cond_both (c == quote_byte q) false (is_inside false q w) P
-    (λ close inside. absurd cc)
-    (λ close inside. ap (lexed_from (w ++ quote_byte q ∷ [])) (cond-false (c == 92) _ _ back ∙ cond-false (c == quote_byte q) _ _ close) ∙ prefix_taken false q w inside)) e
 
 -- a field behind what may have one
 digits_end : (digits : List ℕ) → is_all is_digit digits ≡ true → lexed FieldOpen (digits ++ 93 ∷ []) ≡ Some Done
@@ -149,21 +172,10 @@ field_taken : (l : Lex) (field : Option (List ℕ)) → may_end l ≡ true → l
 field_taken l None last opens e = last
 field_taken l (Some digits) last opens e = ap is_last (ap (lexed_from (digits ++ 93 ∷ [])) opens ∙ digits_end digits e)
 
-begins_prefix : (q : Quote) → lex PrefixNext (quote_byte q) ≡ Some (InPrefixQuote q)
-begins_prefix Double = refl
-begins_prefix Single = refl
-
-prefix_field : (t : Text) (field : Option (List ℕ)) → is_text t ≡ true → is_field field ≡ true → is_last (lexed PrefixNext (text_of t ++ field_text field)) ≡ true
-prefix_field (Plain []) field e f = absurd cc
-prefix_field (Plain (c ∷ w)) field e f =
-    let all = and_parts (is_word_byte c) (list_all is_word_byte w) (and_parts (nat_lt 0 (length (c ∷ w))) (list_all is_word_byte (c ∷ w)) e).1 in
-    let first : lex PrefixNext c ≡ Some InPrefix = cond-true (is_word_byte c) _ _ all.0 in
-    ap is_last (ap (lexed_from (w ++ field_text field)) first ∙ lexed-append w (field_text field) (Some InPrefix) ∙ ap (lexed_from (field_text field)) (stays InPrefix is_word_byte w (λ d h. cond-true (is_word_byte d) _ _ h) all.1))
-    ∙ field_taken InPrefix field refl refl f
-prefix_field (Quoted q w) field e f =
-    let regrouped : (w ++ quote_byte q ∷ []) ++ field_text field ≡ w ++ quote_byte q ∷ field_text field = append_assoc w (quote_byte q ∷ []) (field_text field) in
-    ap is_last (ap (lexed_from ((w ++ quote_byte q ∷ []) ++ field_text field)) (begins_prefix q) ∙ lexed-append (w ++ quote_byte q ∷ []) (field_text field) (Some (InPrefixQuote q)) ∙ ap (lexed_from (field_text field)) (prefix_taken false q w e))
-    ∙ field_taken PrefixDone field refl refl f
+prefix_field : (t : Text) (field : Option (List ℕ)) → is_text t ≡ true → is_field field ≡ true → is_last (lexed (TextNext Prefix) (text_of t ++ field_text field)) ≡ true
+prefix_field t field e f =
+    let h = text_ends Prefix t e in
+    ap is_last (lexed-append (text_of t) (field_text field) (Some (TextNext Prefix)) ∙ ap (lexed_from (field_text field)) h.is) ∙ field_taken h.state field h.last h.behind f
 
 pub name_taken : (name rest : List ℕ) → is_all is_name_byte name ≡ true → lexed NameNext (name ++ rest) ≡ lexed InName rest
 name_taken [] rest e = absurd cc
@@ -181,6 +193,11 @@ tail_taken (PrefixTail t field) e =
 tail_taken (FieldTail field) e = field_taken InName field refl refl e
 
 -- ---- what stands behind a name: what is taken has these parts
+
+-- nothing stands behind a field
+done_nil : (w : List ℕ) → is_last (lexed Done w) ≡ true → w ≡ []
+done_nil [] e = refl
+done_nil (c ∷ w) e = absurd (never w e)
 
 record FieldOf (w : List ℕ) : Type 0 where
   field : Option (List ℕ)
@@ -222,54 +239,9 @@ bracket c w b e =
 no_field : FieldOf []
 no_field = record { field = None; good = refl; same = refl }
 
-prefix_done : (w : List ℕ) → is_last (lexed PrefixDone w) ≡ true → FieldOf w
+prefix_done : (w : List ℕ) → is_last (lexed (TextDone Prefix) w) ≡ true → FieldOf w
 prefix_done [] e = no_field
 prefix_done (c ∷ w) e = cond_both (c == 91) (Some FieldOpen) None (λ o. is_last (lexed_from w o) ≡ true → FieldOf (c ∷ w)) (λ b g. bracket c w b g) (λ b g. absurd (never w g)) e
-
--- bytes of one kind, and a field
-record RunOf (test : ℕ → Bool) (w : List ℕ) : Type 0 where
-  prefix : List ℕ
-  field : Option (List ℕ)
-  good : list_all test prefix ≡ true
-  good_field : is_field field ≡ true
-  same : prefix ++ field_text field ≡ w
-
-in_prefix : (w : List ℕ) → is_last (lexed InPrefix w) ≡ true → RunOf is_word_byte w
-in_prefix [] e = record { prefix = []; field = None; good = refl; good_field = refl; same = refl }
-in_prefix (c ∷ w) e =
-    let P : Option Lex → Type 0 = λ o. is_last (lexed_from w o) ≡ true → RunOf is_word_byte (c ∷ w) in
-    cond_both (is_word_byte c) (Some InPrefix) (cond (c == 91) (Some FieldOpen) None) P
-    (λ t g. let h = in_prefix w g in record { prefix = c ∷ h.prefix; field = h.field; good = and_from (is_word_byte c) (list_all is_word_byte h.prefix) t h.good; good_field = h.good_field; same = ap (λ (v : List ℕ). c ∷ v) h.same })
-    (λ t. cond_both (c == 91) (Some FieldOpen) None P
-    (λ b g. let h = bracket c w b g in record { prefix = []; field = h.field; good = refl; good_field = h.good; same = h.same })
-    (λ b g. absurd (never w g))) e
-
-record QuotedOf (escaped : Bool) (q : Quote) (w : List ℕ) : Type 0 where
-  inner : List ℕ
-  field : Option (List ℕ)
-  good : is_inside escaped q inner ≡ true
-  good_field : is_field field ≡ true
-  same : inner ++ quote_byte q ∷ field_text field ≡ w
-
-in_prefix_quote : (escaped : Bool) (q : Quote) (w : List ℕ) → is_last (lexed (prefix_at escaped q) w) ≡ true → QuotedOf escaped q w
-in_prefix_quote true q [] e = absurd cc
-in_prefix_quote false q [] e = absurd cc
-in_prefix_quote true q (c ∷ w) e =
-    let h = in_prefix_quote false q w e in
-    record { inner = c ∷ h.inner; field = h.field; good = h.good; good_field = h.good_field; same = ap (λ (v : List ℕ). c ∷ v) h.same }
-in_prefix_quote false q (c ∷ w) e =
-    let P : Option Lex → Type 0 = λ o. is_last (lexed_from w o) ≡ true → QuotedOf false q (c ∷ w) in
-    cond_both (c == 92) (Some (PrefixEscape q)) (cond (c == quote_byte q) (Some PrefixDone) (Some (InPrefixQuote q))) P
-    (λ back g.
-    let h = in_prefix_quote true q w g in
-    record { inner = c ∷ h.inner; field = h.field; good = cond-true (c == 92) _ _ back ∙ h.good; good_field = h.good_field; same = ap (λ (v : List ℕ). c ∷ v) h.same })
-    (λ back. cond_both (c == quote_byte q) (Some PrefixDone) (Some (InPrefixQuote q)) P
-    (λ close g.
-    let h = prefix_done w g in
-    record { inner = []; field = h.field; good = refl; good_field = h.good; same = ap (λ (v : List ℕ). quote_byte q ∷ v) h.same ∙ ap (λ (x : ℕ). x ∷ w) (sym (eqb-true c (quote_byte q) close)) })
-    (λ close g.
-    let h = in_prefix_quote false q w g in
-    record { inner = c ∷ h.inner; field = h.field; good = cond-false (c == 92) _ _ back ∙ cond-false (c == quote_byte q) _ _ close ∙ h.good; good_field = h.good_field; same = ap (λ (v : List ℕ). c ∷ v) h.same })) e
 
 record PrefixOf (w : List ℕ) : Type 0 where
   prefix : Text
@@ -278,28 +250,11 @@ record PrefixOf (w : List ℕ) : Type 0 where
   good_field : is_field field ≡ true
   same : text_of prefix ++ field_text field ≡ w
 
-prefix_quoted : (c : ℕ) (q : Quote) (w : List ℕ) → c ≡ quote_byte q → QuotedOf false q w → PrefixOf (c ∷ w)
-prefix_quoted c q w head h = record {
-  prefix = Quoted q h.inner;
-  field = h.field;
-  good = h.good;
-  good_field = h.good_field;
-  same = ap (λ (v : List ℕ). quote_byte q ∷ v) (append_assoc h.inner (quote_byte q ∷ []) (field_text h.field) ∙ h.same) ∙ ap (λ (x : ℕ). x ∷ w) (sym head);
-}
-
-prefix_next : (w : List ℕ) → is_last (lexed PrefixNext w) ≡ true → PrefixOf w
-prefix_next [] e = absurd cc
-prefix_next (c ∷ w) e =
-    let P : Option Lex → Type 0 = λ o. is_last (lexed_from w o) ≡ true → PrefixOf (c ∷ w) in
-    cond_both (is_word_byte c) (Some InPrefix) (cond (c == 34) (Some (InPrefixQuote Double)) (cond (c == 39) (Some (InPrefixQuote Single)) None)) P
-    (λ t g.
-    let h = in_prefix w g in
-    record { prefix = Plain (c ∷ h.prefix); field = h.field; good = and_from _ _ (lt-ltb 0 (length (c ∷ h.prefix)) (omega arith)) (and_from (is_word_byte c) (list_all is_word_byte h.prefix) t h.good); good_field = h.good_field; same = ap (λ (v : List ℕ). c ∷ v) h.same })
-    (λ t. cond_both (c == 34) (Some (InPrefixQuote Double)) (cond (c == 39) (Some (InPrefixQuote Single)) None) P
-    (λ double g. prefix_quoted c Double w (eqb-true c 34 double) (in_prefix_quote false Double w g))
-    (λ double. cond_both (c == 39) (Some (InPrefixQuote Single)) None P
-    (λ single g. prefix_quoted c Single w (eqb-true c 39 single) (in_prefix_quote false Single w g))
-    (λ single g. absurd (never w g)))) e
+prefix_next : (w : List ℕ) → is_last (lexed (TextNext Prefix) w) ≡ true → PrefixOf w
+prefix_next w e =
+    let h = text_and Prefix w e in
+    let f = prefix_done h.rest h.behind in
+    record { prefix = h.text; field = f.field; good = h.good; good_field = f.good; same = ap (λ (v : List ℕ). text_of h.text ++ v) f.same ∙ h.same }
 
 -- bytes of a name and what stands behind it
 pub record NameOf (w : List ℕ) : Type 0 where
@@ -328,13 +283,13 @@ field_tail w h = record { prefix = []; tail = FieldTail h.field; good = refl; go
 names_go_on : (c : ℕ) (w : List ℕ) → Names w → is_last (lexed InName (c ∷ w)) ≡ true → NameOf (c ∷ w)
 names_go_on c w later e =
     let P : Option Lex → Type 0 = λ o. is_last (lexed_from w o) ≡ true → NameOf (c ∷ w) in
-    cond_both (is_name_byte c) (Some InName) (cond (c == 44) (Some NameNext) (cond (c == 58) (Some PrefixNext) (cond (c == 91) (Some FieldOpen) None))) P
+    cond_both (is_name_byte c) (Some InName) (cond (c == 44) (Some NameNext) (cond (c == 58) (Some (TextNext Prefix)) (cond (c == 91) (Some FieldOpen) None))) P
     (λ t g. let h = later.goes_on g in record { prefix = c ∷ h.prefix; tail = h.tail; good = and_from (is_name_byte c) (list_all is_name_byte h.prefix) t h.good; good_tail = h.good_tail; same = ap (λ (v : List ℕ). c ∷ v) h.same })
-    (λ t. cond_both (c == 44) (Some NameNext) (cond (c == 58) (Some PrefixNext) (cond (c == 91) (Some FieldOpen) None)) P
+    (λ t. cond_both (c == 44) (Some NameNext) (cond (c == 58) (Some (TextNext Prefix)) (cond (c == 91) (Some FieldOpen) None)) P
     (λ comma g.
     let h = later.is_next g in
     record { prefix = []; tail = NameTail h.name h.tail; good = refl; good_tail = and_from _ _ h.good h.good_tail; same = ap (λ (v : List ℕ). 44 ∷ v) h.same ∙ ap (λ (x : ℕ). x ∷ w) (sym (eqb-true c 44 comma)) })
-    (λ comma. cond_both (c == 58) (Some PrefixNext) (cond (c == 91) (Some FieldOpen) None) P
+    (λ comma. cond_both (c == 58) (Some (TextNext Prefix)) (cond (c == 91) (Some FieldOpen) None) P
     (λ colon g.
     let h = prefix_next w g in
     record { prefix = []; tail = PrefixTail h.prefix h.field; good = refl; good_tail = and_from _ _ h.good h.good_field; same = ap (λ (v : List ℕ). 58 ∷ v) h.same ∙ ap (λ (x : ℕ). x ∷ w) (sym (eqb-true c 58 colon)) })

@@ -10,11 +10,11 @@ use Rattle.query_grammar.specs.declared.mode.Waiting.{Waiting}
 use Rattle.query_grammar.specs.declared.mode.Waiting.TheVariants as waits
 use Rattle.query_grammar.specs.Step.{Step}
 use Rattle.query_grammar.specs.declared.step.StepOver.TheVariants as steps
-use Rattle.query_grammar.specs.declared.lex.Lex.TheVariants.{Begin, ValueBegin}
-use Rattle.query_grammar.specs.Lexical.{begins_from, is_one_of, begins_one_of, operators, words}
+use Rattle.query_grammar.specs.declared.lex.Lex.TheVariants.{Begin}
+use Rattle.query_grammar.specs.Lexical.{operand_begin, begins_from, is_one_of, begins_one_of, operators, words}
 use Rattle.query_grammar.specs.Grammar.{Token, CriterionToken, OperatorToken, OperandToken, NotWord, AndWord, OrWord, OpenMark, CloseMark, token_text, is_token, is_ended}
 use Rattle.query_grammar.specs.Scanner.{Kept, State, free, can_close, closes, all_closed, tightened, loosened, rested, waits_for, tested, joining, begins, begins_after_unary, taken, taken_after_unary}
-use Rattle.query_grammar.proofs.Lexing.{same_bytes, is_plain, plain_append, plain_parts, plain_word, completed, completed_plain, completed_one, over_equal, over_blank}
+use Rattle.query_grammar.proofs.Lexing.{same_bytes, is_plain, plain_append, plain_parts, plain_word, completed, completed_one, over_equal, over_blank}
 use Rattle.query_grammar.proofs.Marks.{tightened_can}
 use Rattle.query_grammar.proofs.Scan.{Reads, token_read, blank_read, end_read}
 
@@ -84,11 +84,11 @@ behind k = behind_by (parens k.waiting) k refl
 behind_blank : (k : Kept) → Alive AfterUnary k []
 behind_blank k = let h = behind k in record { more = 32 ∷ h.more; out = h.out; ends = blank_read free AfterUnary k 32 h.more h.out refl h.ends; plain = h.plain }
 
-in_value : (k : Kept) (w : List ℕ) → begins_from ValueBegin w ≡ true → Alive BeforeOperand k w
+in_value : (k : Kept) (w : List ℕ) → begins_from operand_begin w ≡ true → Alive BeforeOperand k w
 in_value k w b =
-    let c = completed ValueBegin w b in
+    let c = completed operand_begin w b in
     let h = behind (tested k (w ++ c.0)).1 in
-    by_token BeforeOperand k w c.0 (32 ∷ h.more) h.out (OperandToken (w ++ c.0)) (tested k (w ++ c.0)) (completed_plain ValueBegin w b) h.plain refl c.1 (not_from_false _ (over_blank ValueBegin (w ++ c.0) c.1)) refl
+    by_token BeforeOperand k w c.0 (32 ∷ h.more) h.out (OperandToken (w ++ c.0)) (tested k (w ++ c.0)) c.2 h.plain refl c.1 (not_from_false _ (over_blank operand_begin (w ++ c.0) c.1)) refl
     (blank_read free AfterUnary (tested k (w ++ c.0)).1 32 h.more h.out refl h.ends)
 
 before_value : (k : Kept) → Alive BeforeOperand k []
@@ -111,7 +111,7 @@ in_criterion k w b =
     let named : Kept = record k { criterion = w ++ c.0 } in
     let h = value_blank (record named { operator = codes "==" }) in
     let equals = token_read free (codes "==") AfterCriterion named (OperatorToken (codes "==")) (BeforeOperand, record named { operator = codes "==" }) [] (32 ∷ h.0) h.1 (λ from place. refl) refl refl refl refl h.2 in
-    by_token BeforeUnary k w c.0 (61 ∷ 61 ∷ 32 ∷ h.0) h.1 (CriterionToken (w ++ c.0)) (AfterCriterion, named) (completed_plain Begin w b) h.3 refl c.1 (and_from _ _ (not_from_false _ (over_equal Begin (w ++ c.0) c.1)) (not_from_false _ (and_right (is_one_of words (w ++ c.0)) false refl))) refl equals
+    by_token BeforeUnary k w c.0 (61 ∷ 61 ∷ 32 ∷ h.0) h.1 (CriterionToken (w ++ c.0)) (AfterCriterion, named) c.2 h.3 refl c.1 (and_from _ _ (not_from_false _ (over_equal Begin (w ++ c.0) c.1)) (not_from_false _ (and_right (is_one_of words (w ++ c.0)) false refl))) refl equals
 
 before_operand : (k : Kept) → Alive BeforeUnary k []
 before_operand k = in_criterion k [] refl

@@ -3,8 +3,8 @@ use Rattle.std.proofs.Common.{◌≡◌, ℕ, ◌==◌, ◌&&◌, ◌||◌, Bool
 use Rattle.std.specs.Str.{bytes_eq}
 use Rattle.query_grammar.specs.declared.mode.Mode.TheVariants.{BeforeUnary, BeforeOperand}
 use Rattle.query_grammar.specs.declared.lex.Lex.{Lex}
-use Rattle.query_grammar.specs.declared.lex.Lex.TheVariants.{Begin, ValueBegin}
-use Rattle.query_grammar.specs.Lexical.{lex, lexed, lexed_from, lex_along, is_state, begins_from}
+use Rattle.query_grammar.specs.declared.lex.Lex.TheVariants.{Begin}
+use Rattle.query_grammar.specs.Lexical.{operand_begin, lex, lexed, lexed_from, lex_along, is_state, begins_from}
 use Rattle.query_grammar.specs.Scanner.{Kept, begins}
 use Rattle.query_grammar.specs.Munches.{Munches, ends, stops, more}
 use Rattle.query_grammar.proofs.Lexing.{lexed-append}
@@ -14,22 +14,22 @@ one_more : (from l : Lex) (w : List ℕ) (c : ℕ) → lexed from w ≡ Some l �
 one_more from l w c e = lexed-append w (c ∷ []) (Some from) ∙ ap (lexed_from (c ∷ [])) e
 
 -- what a byte gives, where the others are known
-value_step : (c : ℕ) (text : List ℕ) (l : Lex) (w : List ℕ) (k : Kept) (o : Option Lex) → lex l c ≡ o → lexed ValueBegin w ≡ Some l
-    → ((next : Lex) → lexed ValueBegin (w ++ c ∷ []) ≡ Some next → Munches BeforeOperand k (w ++ c ∷ []) (take (lex_along next text).0 text) (drop (lex_along next text).0 text))
+value_step : (c : ℕ) (text : List ℕ) (l : Lex) (w : List ℕ) (k : Kept) (o : Option Lex) → lex l c ≡ o → lexed operand_begin w ≡ Some l
+    → ((next : Lex) → lexed operand_begin (w ++ c ∷ []) ≡ Some next → Munches BeforeOperand k (w ++ c ∷ []) (take (lex_along next text).0 text) (drop (lex_along next text).0 text))
     → Munches BeforeOperand k w (take (lex_along l (c ∷ text)).0 (c ∷ text)) (drop (lex_along l (c ∷ text)).0 (c ∷ text))
 value_step c text l w k None o e later =
-    subst (λ (x : ℕ × Lex). Munches BeforeOperand k w (take x.0 (c ∷ text)) (drop x.0 (c ∷ text))) (sym (along_cons l c text None o)) (stops w c text (ap is_state (one_more ValueBegin l w c e ∙ o)))
+    subst (λ (x : ℕ × Lex). Munches BeforeOperand k w (take x.0 (c ∷ text)) (drop x.0 (c ∷ text))) (sym (along_cons l c text None o)) (stops w c text (ap is_state (one_more operand_begin l w c e ∙ o)))
 value_step c text l w k (Some next) o e later =
-    let here : lexed ValueBegin (w ++ c ∷ []) ≡ Some next = one_more ValueBegin l w c e ∙ o in
+    let here : lexed operand_begin (w ++ c ∷ []) ≡ Some next = one_more operand_begin l w c e ∙ o in
     subst (λ (x : ℕ × Lex). Munches BeforeOperand k w (take x.0 (c ∷ text)) (drop x.0 (c ∷ text))) (sym (along_cons l c text (Some next) o)) (more c (ap is_state here) (later next here))
 
-value_munches : (text : List ℕ) (l : Lex) (w : List ℕ) (k : Kept) → lexed ValueBegin w ≡ Some l → Munches BeforeOperand k w (take (lex_along l text).0 text) (drop (lex_along l text).0 text)
+value_munches : (text : List ℕ) (l : Lex) (w : List ℕ) (k : Kept) → lexed operand_begin w ≡ Some l → Munches BeforeOperand k w (take (lex_along l text).0 text) (drop (lex_along l text).0 text)
 unfolding lex_along
 value_munches [] l w k e = ends w
 value_munches (c ∷ text) l w k e = value_step c text l w k (lex l c) refl e (λ next here. value_munches text next (w ++ c ∷ []) k here)
 
-pub value_length : (text : List ℕ) (k : Kept) → Munches BeforeOperand k [] (take (lex_along ValueBegin text).0 text) (drop (lex_along ValueBegin text).0 text)
-value_length text k = value_munches text ValueBegin [] k refl
+pub value_length : (text : List ℕ) (k : Kept) → Munches BeforeOperand k [] (take (lex_along operand_begin text).0 text) (drop (lex_along operand_begin text).0 text)
+value_length text k = value_munches text operand_begin [] k refl
 
 -- ---- a unary: a parenthesis, or a criterion
 

@@ -7,7 +7,8 @@ use Rattle.std.proofs.lemmas.List.Folds.{list_all-append}
 use Rattle.std.proofs.lemmas.Bool.{and_parts, and_from, or_cases, or_left, or_right, eqb-true, eq-eqb, false_from_ne_true}
 use Rattle.query_grammar.specs.declared.lex.Quote.TheVariants.{Double, Single}
 use Rattle.query_grammar.specs.declared.lex.Lex.{Lex}
-use Rattle.query_grammar.specs.declared.lex.Lex.TheVariants.{Begin, LevelOpen, Level, LevelSign, NameNext, InName, PrefixNext, InPrefix, InPrefixQuote, PrefixEscape, PrefixDone, FieldOpen, Field, Done, ValueBegin, InValue, InQuote, Escape}
+use Rattle.query_grammar.specs.declared.lex.Part.TheVariants.{Prefix, Operand}
+use Rattle.query_grammar.specs.declared.lex.Lex.TheVariants.{Begin, LevelOpen, Level, LevelSign, NameNext, InName, TextNext, InWord, InQuote, Escape, TextDone, FieldOpen, Field, Done}
 use Rattle.query_grammar.specs.Lexical.{lex, lexed, lexed_from, may_end, is_state, is_last, begins_from, whole_from, is_prefix, is_one_of, begins_one_of}
 
 pub same_bytes : (xs ys : List ℕ) → bytes_eq xs ys ≡ true → xs ≡ ys
@@ -73,92 +74,49 @@ whole_grows l w p c q e parts =
     let longer : w ≡ (p ++ c ∷ []) ++ q = parts ∙ sym (append_assoc p (c ∷ []) q) in
     begins_front l (p ++ c ∷ []) q (subst (λ (x : List ℕ). begins_from l x ≡ true) longer (whole_begins l w e))
 
--- each state can be completed
-pub completion : (l : Lex) → (more : List ℕ) × (whole_from l more ≡ true)
-completion Begin = (97 ∷ [], refl)
-completion LevelOpen = (48 ∷ 125 ∷ 97 ∷ [], refl)
-completion Level = (125 ∷ 97 ∷ [], refl)
-completion LevelSign = (125 ∷ 97 ∷ [], refl)
-completion NameNext = (97 ∷ [], refl)
-completion InName = ([], refl)
-completion PrefixNext = (97 ∷ [], refl)
-completion InPrefix = ([], refl)
-completion (InPrefixQuote Double) = (34 ∷ [], refl)
-completion (InPrefixQuote Single) = (39 ∷ [], refl)
-completion (PrefixEscape Double) = (97 ∷ 34 ∷ [], refl)
-completion (PrefixEscape Single) = (97 ∷ 39 ∷ [], refl)
-completion PrefixDone = ([], refl)
-completion FieldOpen = (49 ∷ 93 ∷ [], refl)
-completion Field = (93 ∷ [], refl)
-completion Done = ([], refl)
-completion ValueBegin = (97 ∷ [], refl)
-completion InValue = ([], refl)
-completion (InQuote Double) = (34 ∷ [], refl)
-completion (InQuote Single) = (39 ∷ [], refl)
-completion (Escape Double) = (97 ∷ 34 ∷ [], refl)
-completion (Escape Single) = (97 ∷ 39 ∷ [], refl)
+-- each state can be completed, without a line feed
+completion : (l : Lex) → (more : List ℕ) × (whole_from l more ≡ true) × (is_plain more ≡ true)
+completion LevelOpen = (48 ∷ 125 ∷ 97 ∷ [], refl, refl)
+completion Level = (125 ∷ 97 ∷ [], refl, refl)
+completion LevelSign = (125 ∷ 97 ∷ [], refl, refl)
+completion (InQuote p Double) = (34 ∷ [], refl, refl)
+completion (InQuote p Single) = (39 ∷ [], refl, refl)
+completion (Escape p Double) = (97 ∷ 34 ∷ [], refl, refl)
+completion (Escape p Single) = (97 ∷ 39 ∷ [], refl, refl)
+completion FieldOpen = (49 ∷ 93 ∷ [], refl, refl)
+completion Field = (93 ∷ [], refl, refl)
+completion Begin = (97 ∷ [], refl, refl)
+completion NameNext = (97 ∷ [], refl, refl)
+completion (TextNext p) = (97 ∷ [], refl, refl)
+completion _ = ([], refl, refl)
 
-complete_option : (o : Option Lex) → is_state o ≡ true → (more : List ℕ) × (is_last (lexed_from more o) ≡ true)
+complete_option : (o : Option Lex) → is_state o ≡ true → (more : List ℕ) × (is_last (lexed_from more o) ≡ true) × (is_plain more ≡ true)
 complete_option None e = absurd cc
 complete_option (Some l) e = completion l
 
--- no completion has a line feed
-completion_plain : (l : Lex) → is_plain (completion l).0 ≡ true
-unfolding completion
-completion_plain Begin = refl
-completion_plain LevelOpen = refl
-completion_plain Level = refl
-completion_plain LevelSign = refl
-completion_plain NameNext = refl
-completion_plain InName = refl
-completion_plain PrefixNext = refl
-completion_plain InPrefix = refl
-completion_plain (InPrefixQuote Double) = refl
-completion_plain (InPrefixQuote Single) = refl
-completion_plain (PrefixEscape Double) = refl
-completion_plain (PrefixEscape Single) = refl
-completion_plain PrefixDone = refl
-completion_plain FieldOpen = refl
-completion_plain Field = refl
-completion_plain Done = refl
-completion_plain ValueBegin = refl
-completion_plain InValue = refl
-completion_plain (InQuote Double) = refl
-completion_plain (InQuote Single) = refl
-completion_plain (Escape Double) = refl
-completion_plain (Escape Single) = refl
-
--- no completion of a state has a line feed
-complete_plain : (o : Option Lex) → (e : is_state o ≡ true) → is_plain (complete_option o e).0 ≡ true
-unfolding complete_option
-complete_plain None e = absurd cc
-complete_plain (Some l) e = completion_plain l
-
-pub completed : (l : Lex) (w : List ℕ) → begins_from l w ≡ true → (more : List ℕ) × (whole_from l (w ++ more) ≡ true)
+-- what has begun can be completed, without a line feed
+pub completed : (l : Lex) (w : List ℕ) → begins_from l w ≡ true → (more : List ℕ) × (whole_from l (w ++ more) ≡ true) × (is_plain more ≡ true)
 completed l w e =
     let m = complete_option (lexed l w) e in
-    (m.0, ap is_last (lexed-append w m.0 (Some l)) ∙ m.1)
-
--- what completes a token has no line feed
-pub completed_plain : (l : Lex) (w : List ℕ) (e : begins_from l w ≡ true) → is_plain (completed l w e).0 ≡ true
-unfolding completed
-completed_plain l w e = complete_plain (lexed l w) e
+    (m.0, ap is_last (lexed-append w m.0 (Some l)) ∙ m.1, m.2)
 
 -- neither `=` nor a blank goes on with what may end
 ends_equal : (l : Lex) → may_end l ≡ true → lex l 61 ≡ None
 ends_equal InName e = refl
-ends_equal InPrefix e = refl
-ends_equal PrefixDone e = refl
+ends_equal (InWord Prefix) e = refl
+ends_equal (InWord Operand) e = refl
+ends_equal (TextDone Prefix) e = refl
+ends_equal (TextDone Operand) e = refl
 ends_equal Done e = refl
-ends_equal InValue e = refl
 ends_equal _ e = absurd cc
 
 ends_blank : (l : Lex) → may_end l ≡ true → lex l 32 ≡ None
 ends_blank InName e = refl
-ends_blank InPrefix e = refl
-ends_blank PrefixDone e = refl
+ends_blank (InWord Prefix) e = refl
+ends_blank (InWord Operand) e = refl
+ends_blank (TextDone Prefix) e = refl
+ends_blank (TextDone Operand) e = refl
 ends_blank Done e = refl
-ends_blank InValue e = refl
 ends_blank _ e = absurd cc
 
 no_state : (c : ℕ) (o : Option Lex) → is_last o ≡ true → ((l : Lex) → may_end l ≡ true → lex l c ≡ None) → is_state (lexed_from (c ∷ []) o) ≡ false

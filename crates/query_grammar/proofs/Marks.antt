@@ -10,8 +10,8 @@ use Rattle.query_grammar.specs.declared.mode.Waiting.{Waiting}
 use Rattle.query_grammar.specs.declared.mode.Waiting.TheVariants as waits
 use Rattle.query_grammar.specs.Step.{Step}
 use Rattle.query_grammar.specs.declared.step.StepOver.TheVariants as steps
-use Rattle.query_grammar.specs.declared.lex.Lex.TheVariants.{Begin, InName, ValueBegin}
-use Rattle.query_grammar.specs.Lexical.{is_blank, is_name_byte, lex, begins_from, whole_from, is_one_of, begins_one_of, operators, words, ends_word}
+use Rattle.query_grammar.specs.declared.lex.Lex.TheVariants.{Begin, InName}
+use Rattle.query_grammar.specs.Lexical.{operand_begin, is_blank, is_name_byte, lex, begins_from, whole_from, is_one_of, begins_one_of, operators, words, ends_word}
 use Rattle.query_grammar.specs.Grammar.{Token, CriterionToken, OperatorToken, OperandToken, NotWord, AndWord, OrWord, OpenMark, CloseMark, token_text, is_token, is_over, is_ended, operator_words}
 use Rattle.query_grammar.specs.Scanner.{Kept, State, can_close, closes, tightened, loosened, tested, taken, taken_after_unary, joining, begins, begins_after_unary, whole, whole_after_unary}
 use Rattle.query_grammar.proofs.Tokens.{some_is, some_none}
@@ -45,7 +45,7 @@ fits AfterCriterion (OperatorToken w) k x rest good over e =
 fits AfterCriterion AndWord k x rest good over e = cond-true (ends_word rest) _ _ over
 fits AfterCriterion OrWord k x rest good over e = cond-true (ends_word rest) _ _ over
 fits AfterCriterion CloseMark k x rest good over e = refl
-fits BeforeOperand (OperandToken w) k x rest good over e = cond-true (whole_from ValueBegin w) _ _ good
+fits BeforeOperand (OperandToken w) k x rest good over e = cond-true (whole_from operand_begin w) _ _ good
 fits AfterUnary t k x rest good over e = fits_after t k x rest over e
 fits _ _ _ x _ _ _ e = absurd (some_none x e)
 
@@ -97,7 +97,7 @@ grows AfterCriterion (OperatorToken w) k x p c q good e parts = or_left (begins_
 grows AfterCriterion AndWord k x p c q good e parts = named_after k (p ++ c ∷ []) (grows_after AndWord (tested k []).1 x p c q e parts)
 grows AfterCriterion OrWord k x p c q good e parts = named_after k (p ++ c ∷ []) (grows_after OrWord (tested k []).1 x p c q e parts)
 grows AfterCriterion CloseMark k x p c q good e parts = named_after k (p ++ c ∷ []) (grows_after CloseMark (tested k []).1 x p c q e parts)
-grows BeforeOperand (OperandToken w) k x p c q good e parts = whole_grows ValueBegin w p c q good parts
+grows BeforeOperand (OperandToken w) k x p c q good e parts = whole_grows operand_begin w p c q good parts
 grows AfterUnary t k x p c q good e parts = grows_after t k x p c q e parts
 grows _ _ _ x _ _ _ _ e _ = absurd (some_none x e)
 
@@ -196,8 +196,8 @@ known_named k w rest t none =
 known_value : (k : Kept) (w rest : List ℕ) (t : Token) → NoMore BeforeOperand k w rest → whole BeforeOperand w rest ≡ Some t → Known t w rest
 known_value k w rest t none =
     let P : Option Token → Type 0 = λ o. o ≡ Some t → Known t w rest in
-    cond_both (whole_from ValueBegin w) _ _ P
-    (λ g e. known (OperandToken w) w rest refl g (over_from (begins_from ValueBegin) BeforeOperand k w rest none (λ v h. h)) t e)
+    cond_both (whole_from operand_begin w) _ _ P
+    (λ g e. known (OperandToken w) w rest refl g (over_from (begins_from operand_begin) BeforeOperand k w rest none (λ v h. h)) t e)
     (λ g e. absurd (some_none t e))
 
 pub is_known : (m : Mode) (k : Kept) (w rest : List ℕ) (t : Token) → NoMore m k w rest → whole m w rest ≡ Some t → Known t w rest

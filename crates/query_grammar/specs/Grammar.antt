@@ -1,7 +1,7 @@
 -- What a query is: how it is grouped, which tokens it has, and how they lie in a line.
 use Rattle.std.specs.Prelude.{◌≡◌, ℕ, Bool, true, false, ◌&&◌, ◌||◌, not, List, [], ◌∷◌, ◌++◌, length, codes}
-use Rattle.query_grammar.specs.declared.lex.Lex.TheVariants.{Begin, ValueBegin}
-use Rattle.query_grammar.specs.Lexical.{is_blank, begins_from, whole_from, is_one_of, begins_one_of, operators, words, ends_word}
+use Rattle.query_grammar.specs.declared.lex.Lex.TheVariants.{Begin}
+use Rattle.query_grammar.specs.Lexical.{operand_begin, is_blank, begins_from, whole_from, is_one_of, begins_one_of, operators, words, ends_word}
 
 -- ---- tokens
 
@@ -31,7 +31,7 @@ token_text CloseMark = codes ")"
 abbrev pub is_token : Token → Bool
 is_token (CriterionToken w) = whole_from Begin w
 is_token (OperatorToken w) = is_one_of operators w
-is_token (OperandToken w) = whole_from ValueBegin w
+is_token (OperandToken w) = whole_from operand_begin w
 is_token _ = true
 
 -- what follows doesn't make it longer
@@ -47,7 +47,7 @@ operator_words = codes "eq" ∷ codes "ne" ∷ []
 abbrev pub is_ended : Token → List ℕ → Bool
 is_ended (CriterionToken w) rest = is_over (begins_from Begin) w rest && not (is_one_of words w && ends_word rest)
 is_ended (OperatorToken w) rest = is_over (begins_one_of operators) w rest && (not (is_one_of operator_words w) || ends_word rest)
-is_ended (OperandToken w) rest = is_over (begins_from ValueBegin) w rest
+is_ended (OperandToken w) rest = is_over (begins_from operand_begin) w rest
 is_ended NotWord rest = ends_word rest
 is_ended AndWord rest = ends_word rest
 is_ended OrWord rest = ends_word rest

@@ -4,8 +4,10 @@ use Rattle.std.specs.List.{list_any}
 use Rattle.std.specs.Str.{bytes_eq}
 use Rattle.query_grammar.specs.declared.lex.Quote.{Quote}
 use Rattle.query_grammar.specs.declared.lex.Quote.TheVariants.{Double, Single}
+use Rattle.query_grammar.specs.declared.lex.Part.{Part}
+use Rattle.query_grammar.specs.declared.lex.Part.TheVariants.{Prefix, Operand}
 use Rattle.query_grammar.specs.declared.lex.Lex.{Lex}
-use Rattle.query_grammar.specs.declared.lex.Lex.TheVariants.{Begin, LevelOpen, Level, LevelSign, NameNext, InName, PrefixNext, InPrefix, InPrefixQuote, PrefixEscape, PrefixDone, FieldOpen, Field, Done, ValueBegin, InValue, InQuote, Escape}
+use Rattle.query_grammar.specs.declared.lex.Lex.TheVariants.{Begin, LevelOpen, Level, LevelSign, NameNext, InName, TextNext, InWord, InQuote, Escape, TextDone, FieldOpen, Field, Done}
 
 -- space, tab, carriage return
 abbrev pub is_blank : ℕ → Bool
@@ -23,43 +25,70 @@ is_name_byte c = (nat_le 97 c && nat_le c 122) || (nat_le 65 c && nat_le c 90) |
 abbrev pub is_word_byte : ℕ → Bool
 is_word_byte c = is_name_byte c || (c == 43) || (c == 45) || (c == 46)
 
+-- the bytes between the parts of a criterion
+abbrev pub open_brace : ℕ
+open_brace = 123
+abbrev pub close_brace : ℕ
+close_brace = 125
+abbrev pub plus : ℕ
+plus = 43
+abbrev pub minus : ℕ
+minus = 45
+abbrev pub comma : ℕ
+comma = 44
+abbrev pub colon : ℕ
+colon = 58
+abbrev pub open_bracket : ℕ
+open_bracket = 91
+abbrev pub close_bracket : ℕ
+close_bracket = 93
+
+-- the bytes of a text in quotes
+abbrev pub double_quote : ℕ
+double_quote = 34
+abbrev pub single_quote : ℕ
+single_quote = 39
+abbrev pub backslash : ℕ
+backslash = 92
+
 -- a byte that opens or closes a text in quotes
 abbrev pub is_quote : ℕ → Bool
-is_quote c = (c == 34) || (c == 39)
+is_quote c = (c == double_quote) || (c == single_quote)
 
 -- the byte of a kind of quote
 abbrev pub quote_byte : Quote → ℕ
-quote_byte Double = 34
-quote_byte Single = 39
+quote_byte Double = double_quote
+quote_byte Single = single_quote
 
 -- a state where a test holds, or what comes else
 abbrev pub lex_if : Bool → Lex → Option Lex → Option Lex
 lex_if test next other = if test then Some next else other
 
--- one byte more between quotes: a backslash, the quote that closes, or any other byte
-abbrev pub in_quote : (Quote → Lex) → (Quote → Lex) → Lex → Quote → ℕ → Option Lex
-in_quote inside escape done q c = if c == 92 then Some (escape q) else (if c == quote_byte q then Some done else Some (inside q))
+-- one byte more behind a word or a text in quotes: behind a prefix a field may begin, and behind an operand nothing
+abbrev pub behind_text : Part → ℕ → Option Lex
+behind_text Prefix c = lex_if (c == open_bracket) FieldOpen None
+behind_text Operand c = None
 
 -- one byte more
 abbrev pub lex : Lex → ℕ → Option Lex
-lex Begin c = lex_if (c == 123) LevelOpen (lex_if (is_name_byte c) InName None)
+lex Begin c = lex_if (c == open_brace) LevelOpen (lex_if (is_name_byte c) InName None)
 lex LevelOpen c = lex_if (is_digit c) Level None
-lex Level c = lex_if (is_digit c) Level (lex_if ((c == 43) || (c == 45)) LevelSign (lex_if (c == 125) NameNext None))
-lex LevelSign c = lex_if (c == 125) NameNext None
+lex Level c = lex_if (is_digit c) Level (lex_if ((c == plus) || (c == minus)) LevelSign (lex_if (c == close_brace) NameNext None))
+lex LevelSign c = lex_if (c == close_brace) NameNext None
 lex NameNext c = lex_if (is_name_byte c) InName None
-lex InName c = lex_if (is_name_byte c) InName (lex_if (c == 44) NameNext (lex_if (c == 58) PrefixNext (lex_if (c == 91) FieldOpen None)))
-lex PrefixNext c = lex_if (is_word_byte c) InPrefix (lex_if (c == 34) (InPrefixQuote Double) (lex_if (c == 39) (InPrefixQuote Single) None))
-lex InPrefix c = lex_if (is_word_byte c) InPrefix (lex_if (c == 91) FieldOpen None)
-lex (InPrefixQuote q) c = in_quote InPrefixQuote PrefixEscape PrefixDone q c
-lex (PrefixEscape q) c = Some (InPrefixQuote q)
-lex PrefixDone c = lex_if (c == 91) FieldOpen None
+lex InName c = lex_if (is_name_byte c) InName (lex_if (c == comma) NameNext (lex_if (c == colon) (TextNext Prefix) (lex_if (c == open_bracket) FieldOpen None)))
+lex (TextNext p) c = lex_if (is_word_byte c) (InWord p) (lex_if (c == double_quote) (InQuote p Double) (lex_if (c == single_quote) (InQuote p Single) None))
+lex (InWord p) c = lex_if (is_word_byte c) (InWord p) (behind_text p c)
+lex (InQuote p q) c = lex_if (c == backslash) (Escape p q) (lex_if (c == quote_byte q) (TextDone p) (Some (InQuote p q)))
+lex (Escape p q) c = Some (InQuote p q)
+lex (TextDone p) c = behind_text p c
 lex FieldOpen c = lex_if (is_digit c) Field None
-lex Field c = lex_if (is_digit c) Field (lex_if (c == 93) Done None)
+lex Field c = lex_if (is_digit c) Field (lex_if (c == close_bracket) Done None)
 lex Done c = None
-lex ValueBegin c = lex_if (is_word_byte c) InValue (lex_if (c == 34) (InQuote Double) (lex_if (c == 39) (InQuote Single) None))
-lex InValue c = lex_if (is_word_byte c) InValue None
-lex (InQuote q) c = in_quote InQuote Escape Done q c
-lex (Escape q) c = Some (InQuote q)
+
+-- where an operand begins
+abbrev pub operand_begin : Lex
+operand_begin = TextNext Operand
 
 -- where the bytes lead from a state, or from none
 abbrev pub lexed_from : List ℕ → Option Lex → Option Lex
@@ -74,10 +103,9 @@ lexed l w = lexed_from w (Some l)
 -- whether the token may end here
 abbrev pub may_end : Lex → Bool
 may_end InName = true
-may_end InPrefix = true
-may_end PrefixDone = true
+may_end (InWord p) = true
+may_end (TextDone p) = true
 may_end Done = true
-may_end InValue = true
 may_end _ = false
 
 -- bytes lead somewhere

@@ -8,8 +8,8 @@ use Rattle.query_grammar.specs.declared.mode.Waiting.TheVariants as waits
 use Rattle.query_grammar.specs.declared.step.StepOver.{StepOver}
 use Rattle.query_grammar.specs.Step.{Step}
 use Rattle.query_grammar.specs.declared.step.StepOver.TheVariants as steps
-use Rattle.query_grammar.specs.declared.lex.Lex.TheVariants.{Begin, ValueBegin}
-use Rattle.query_grammar.specs.Lexical.{is_blank, begins_from, whole_from, is_one_of, begins_one_of, operators, words, ends_word}
+use Rattle.query_grammar.specs.declared.lex.Lex.TheVariants.{Begin}
+use Rattle.query_grammar.specs.Lexical.{operand_begin, is_blank, begins_from, whole_from, is_one_of, begins_one_of, operators, words, ends_word}
 use Rattle.query_grammar.specs.Grammar.{Token, CriterionToken, OperatorToken, OperandToken, NotWord, AndWord, OrWord, OpenMark, CloseMark, operator_words}
 use Rattle.query_grammar.specs.Steps.{test_step}
 
@@ -152,7 +152,7 @@ begins_after_unary k w = begins_one_of joining w || (bytes_eq w (codes ")") && c
 abbrev pub begins : Mode → Kept → List ℕ → Bool
 begins BeforeUnary k w = bytes_eq w (codes "(") || begins_from Begin w
 begins AfterCriterion k w = begins_one_of operators w || begins_after_unary k w
-begins BeforeOperand k w = begins_from ValueBegin w
+begins BeforeOperand k w = begins_from operand_begin w
 begins AfterUnary k w = begins_after_unary k w
 
 -- the token that bytes are behind a unary
@@ -170,7 +170,7 @@ whole BeforeUnary w rest =
     if is_one_of words w && ends_word rest then None else (
     if whole_from Begin w then Some (CriterionToken w) else None)))
 whole AfterCriterion w rest = if is_one_of operators w && (not (is_one_of operator_words w) || ends_word rest) then Some (OperatorToken w) else whole_after_unary w rest
-whole BeforeOperand w rest = if whole_from ValueBegin w then Some (OperandToken w) else None
+whole BeforeOperand w rest = if whole_from operand_begin w then Some (OperandToken w) else None
 whole AfterUnary w rest = whole_after_unary w rest
 
 -- faults beside those of syntax: of a token that begins at a place, in a test that begins at a place, and of a test that is cut off

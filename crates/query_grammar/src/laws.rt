@@ -4,8 +4,8 @@ ghost use Rattle.std.specs.Prelude.{◌≡◌, ◌∷◌, ◌++◌, ◌&&◌, []
 ghost use Rattle.std.specs.Str.{IsUtf8};
 ghost use Rattle.std.specs.List.{list_all};
 ghost use Rattle.query_grammar.specs.Step.{Step, TestParts};
-ghost use Rattle.query_grammar.specs.declared.lex.Lex.TheVariants.{Begin, ValueBegin};
-ghost use Rattle.query_grammar.specs.Lexical.{whole_from, is_name_byte};
+ghost use Rattle.query_grammar.specs.declared.lex.Lex.TheVariants.{Begin};
+ghost use Rattle.query_grammar.specs.Lexical.{operand_begin, whole_from, is_name_byte};
 ghost use Rattle.query_grammar.specs.Criterion.{is_all, Level, is_level, is_some_text, is_field, Parts, criterion_text, is_criterion, level_text, names_of, joined_names, prefix_of, prefix_text, field_of, field_text, Text, text_of, is_text, meant_by, operand_meaning};
 ghost use Rattle.query_grammar.specs.Grammar.{Written, IsQuery, StopsAt};
 ghost use Rattle.query_grammar.specs.Judging.{rules_of};
@@ -35,8 +35,8 @@ pub fn reading()
 pub fn token_bytes()
     ensures criterion { (p : Parts) → is_criterion p ≡ true → whole_from Begin (criterion_text p) ≡ true }
     ensures criterion_only { (w : List ℕ) → whole_from Begin w ≡ true → (p : Parts) × (is_criterion p ≡ true) × (criterion_text p ≡ w) }
-    ensures operand { (t : Text) → is_text t ≡ true → whole_from ValueBegin (text_of t) ≡ true }
-    ensures operand_only { (w : List ℕ) → whole_from ValueBegin w ≡ true → (t : Text) × (is_text t ≡ true) × (text_of t ≡ w) }
+    ensures operand { (t : Text) → is_text t ≡ true → whole_from operand_begin (text_of t) ≡ true }
+    ensures operand_only { (w : List ℕ) → whole_from operand_begin w ≡ true → (t : Text) × (is_text t ≡ true) × (text_of t ≡ w) }
     ensures parts { (p : Parts) → criterion_text p ≡ level_text p.level ++ joined_names (names_of p) ++ prefix_text (prefix_of p) ++ field_text (field_of p) }
     ensures parts_good { (p : Parts) → is_criterion p ≡ (is_level p.level && list_all (is_all is_name_byte) (names_of p) && is_some_text (prefix_of p) && is_field (field_of p)) }
     ensures parts_any { (level : Option Level) (name : List ℕ) (names : List (List ℕ)) (prefix : Option Text) (field : Option (List ℕ)) → (p : Parts) × (p.level ≡ level) × (names_of p ≡ name ∷ names) × (prefix_of p ≡ prefix) × (field_of p ≡ field) }

@@ -1,7 +1,7 @@
 //! The bytes of a criterion and of an operand.
 
 ghost use Rattle.std.specs.Prelude.{◌≡◌};
-ghost use Rattle.query_grammar.specs.Lexical.{is_digit, is_name_byte, is_word_byte, lex, lex_along, quote_byte};
+ghost use Rattle.query_grammar.specs.Lexical.{is_name_byte, is_word_byte, lex, lex_along, quote_byte};
 
 /// A kind of quote.
 #[derive(Clone, Copy, Debug, PartialEq, Eq)]
@@ -10,6 +10,15 @@ pub enum Quote {
     Double,
     /// `'`
     Single,
+}
+
+/// What a word or a text between quotes is.
+#[derive(Clone, Copy, Debug, PartialEq, Eq)]
+pub enum Part {
+    /// What stands before a colon in the payload.
+    Prefix,
+    /// What a subject is compared with.
+    Operand,
 }
 
 /// Where in a criterion or an operand its bytes lead.
@@ -27,55 +36,36 @@ pub enum Lex {
     NameNext,
     /// In a name.
     InName,
-    /// Behind the colon.
-    PrefixNext,
-    /// In a prefix that is a word.
-    InPrefix,
-    /// In a prefix between quotes.
-    InPrefixQuote(Quote),
-    /// Behind a backslash in such a prefix.
-    PrefixEscape(Quote),
-    /// Behind a prefix between quotes.
-    PrefixDone,
+    /// Where a prefix or an operand begins.
+    TextNext(Part),
+    /// In one that is a word.
+    InWord(Part),
+    /// In one between quotes.
+    InQuote(Part, Quote),
+    /// Behind a backslash in it.
+    Escape(Part, Quote),
+    /// Behind one between quotes.
+    TextDone(Part),
     /// Behind the bracket that opens a field.
     FieldOpen,
     /// In the digits of a field.
     Field,
-    /// Where nothing can follow.
+    /// Behind a field, where nothing can follow.
     Done,
-    /// Where an operand begins.
-    ValueBegin,
-    /// In an operand that is a word.
-    InValue,
-    /// In an operand between quotes.
-    InQuote(Quote),
-    /// Behind a backslash in such an operand.
-    Escape(Quote),
-}
-
-/// Whether a byte is a decimal digit.
-fn is_digit_byte(c: u8) -> bool
-    ensures { result ≡ is_digit c }
-{
-    b'0' <= c && c <= b'9'
 }
 
 /// Whether a byte may stand in a name.
 fn is_name(c: u8) -> bool
     ensures { result ≡ is_name_byte c }
 {
-    (b'a' <= c && c <= b'z')
-        || (b'A' <= c && c <= b'Z')
-        || is_digit_byte(c)
-        || c == b'_'
-        || c == b'*'
+    matches!(c, b'a'..=b'z' | b'A'..=b'Z' | b'0'..=b'9' | b'_' | b'*')
 }
 
 /// Whether a byte may stand in a word.
 fn is_word(c: u8) -> bool
     ensures { result ≡ is_word_byte c }
 {
-    is_name(c) || c == b'+' || c == b'-' || c == b'.'
+    is_name(c) || matches!(c, b'+' | b'-' | b'.')
 }
 
 impl Lex {
@@ -83,127 +73,28 @@ impl Lex {
     pub fn next(self, c: u8) -> Option<Lex>
         ensures { result ≡ lex self c }
     {
-        match self {
-            Lex::Begin => {
-                if c == b'{' {
-                    return Some(Lex::LevelOpen);
-                }
-                if is_name(c) { Some(Lex::InName) } else { None }
+        match (self, c) {
+            (Lex::Begin, b'{') => Some(Lex::LevelOpen),
+            (Lex::LevelOpen | Lex::Level, b'0'..=b'9') => Some(Lex::Level),
+            (Lex::Level, b'+' | b'-') => Some(Lex::LevelSign),
+            (Lex::Level | Lex::LevelSign, b'}') => Some(Lex::NameNext),
+            (Lex::Begin | Lex::NameNext | Lex::InName, _) if is_name(c) => Some(Lex::InName),
+            (Lex::InName, b',') => Some(Lex::NameNext),
+            (Lex::InName, b':') => Some(Lex::TextNext(Part::Prefix)),
+            (Lex::TextNext(part) | Lex::InWord(part), _) if is_word(c) => Some(Lex::InWord(part)),
+            (Lex::TextNext(part), b'"') => Some(Lex::InQuote(part, Quote::Double)),
+            (Lex::TextNext(part), b'\'') => Some(Lex::InQuote(part, Quote::Single)),
+            (Lex::InQuote(part, quote), b'\\') => Some(Lex::Escape(part, quote)),
+            (Lex::InQuote(part, quote), _) if c == quote.byte() => Some(Lex::TextDone(part)),
+            (Lex::InQuote(part, quote) | Lex::Escape(part, quote), _) => {
+                Some(Lex::InQuote(part, quote))
             }
-            Lex::LevelOpen => {
-                if is_digit_byte(c) {
-                    Some(Lex::Level)
-                } else {
-                    None
-                }
+            (Lex::InName | Lex::InWord(Part::Prefix) | Lex::TextDone(Part::Prefix), b'[') => {
+                Some(Lex::FieldOpen)
             }
-            Lex::Level => {
-                if is_digit_byte(c) {
-                    return Some(Lex::Level);
-                }
-                if c == b'+' || c == b'-' {
-                    return Some(Lex::LevelSign);
-                }
-                if c == b'}' { Some(Lex::NameNext) } else { None }
-            }
-            Lex::LevelSign => { if c == b'}' { Some(Lex::NameNext) } else { None } }
-            Lex::NameNext => { if is_name(c) { Some(Lex::InName) } else { None } }
-            Lex::InName => {
-                if is_name(c) {
-                    return Some(Lex::InName);
-                }
-                if c == b',' {
-                    return Some(Lex::NameNext);
-                }
-                if c == b':' {
-                    return Some(Lex::PrefixNext);
-                }
-                if c == b'[' {
-                    Some(Lex::FieldOpen)
-                } else {
-                    None
-                }
-            }
-            Lex::PrefixNext => {
-                if is_word(c) {
-                    return Some(Lex::InPrefix);
-                }
-                if c == b'"' {
-                    return Some(Lex::InPrefixQuote(Quote::Double));
-                }
-                if c == b'\'' {
-                    Some(Lex::InPrefixQuote(Quote::Single))
-                } else {
-                    None
-                }
-            }
-            Lex::InPrefix => {
-                if is_word(c) {
-                    return Some(Lex::InPrefix);
-                }
-                if c == b'[' {
-                    Some(Lex::FieldOpen)
-                } else {
-                    None
-                }
-            }
-            Lex::InPrefixQuote(quote) => {
-                if c == b'\\' {
-                    return Some(Lex::PrefixEscape(quote));
-                }
-                if c == quote.byte() {
-                    Some(Lex::PrefixDone)
-                } else {
-                    Some(Lex::InPrefixQuote(quote))
-                }
-            }
-            Lex::PrefixEscape(quote) => Some(Lex::InPrefixQuote(quote)),
-            Lex::PrefixDone => {
-                if c == b'[' {
-                    Some(Lex::FieldOpen)
-                } else {
-                    None
-                }
-            }
-            Lex::FieldOpen => {
-                if is_digit_byte(c) {
-                    Some(Lex::Field)
-                } else {
-                    None
-                }
-            }
-            Lex::Field => {
-                if is_digit_byte(c) {
-                    return Some(Lex::Field);
-                }
-                if c == b']' { Some(Lex::Done) } else { None }
-            }
-            Lex::Done => None,
-            Lex::ValueBegin => {
-                if is_word(c) {
-                    return Some(Lex::InValue);
-                }
-                if c == b'"' {
-                    return Some(Lex::InQuote(Quote::Double));
-                }
-                if c == b'\'' {
-                    Some(Lex::InQuote(Quote::Single))
-                } else {
-                    None
-                }
-            }
-            Lex::InValue => { if is_word(c) { Some(Lex::InValue) } else { None } }
-            Lex::InQuote(quote) => {
-                if c == b'\\' {
-                    return Some(Lex::Escape(quote));
-                }
-                if c == quote.byte() {
-                    Some(Lex::Done)
-                } else {
-                    Some(Lex::InQuote(quote))
-                }
-            }
-            Lex::Escape(quote) => Some(Lex::InQuote(quote)),
+            (Lex::FieldOpen | Lex::Field, b'0'..=b'9') => Some(Lex::Field),
+            (Lex::Field, b']') => Some(Lex::Done),
+            _ => None,
         }
     }
 

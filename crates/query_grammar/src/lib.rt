@@ -15,6 +15,6 @@ mod mode;
 mod step;
 
 pub use laws::{reading, steps_of_trees, text_faults, text_reading, token_bytes};
-pub use lex::{Lex, Quote};
+pub use lex::{Lex, Part, Quote};
 pub use mode::{Mode, Waiting};
 pub use step::StepOver;

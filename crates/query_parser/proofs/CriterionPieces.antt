@@ -13,7 +13,8 @@ use Rattle.std.proofs.lemmas.Bool.Decides.{nat_tests}
 use Rattle.vsl_tags.specs.TagSet.{elements, matches_any, element_fault, first_fault, first_fault_from}
 use Rattle.vsl_tags.specs.declared.tag_set.TagFault.{TagFault}
 use Rattle.query_grammar.specs.declared.lex.Lex.{Lex}
-use Rattle.query_grammar.specs.declared.lex.Lex.TheVariants.{Begin, LevelOpen, Level, LevelSign as BehindLevel, NameNext, InName, PrefixNext, InPrefix, InPrefixQuote, PrefixEscape, PrefixDone, FieldOpen, Field, Done, ValueBegin, InValue, InQuote, Escape}
+use Rattle.query_grammar.specs.declared.lex.Part.TheVariants.{Prefix}
+use Rattle.query_grammar.specs.declared.lex.Lex.TheVariants.{Begin, InName, InWord, TextDone, FieldOpen, Field, Done}
 use Rattle.query_grammar.specs.Lexical.{is_digit, is_name_byte, lex, lex_if, lexed, lexed_from, is_last, whole_from}
 use Rattle.query_grammar.specs.Criterion as written
 use Rattle.query_grammar.specs.Criterion.{is_all, LevelSign, OrMore, OrLess, sign_text, level_text, is_level, Text, Parts, criterion_text, is_criterion, names_behind, names_of, joined_names, prefix_of, prefix_text, is_some_text, field_of, field_text, is_field, meant_by}
@@ -321,8 +322,8 @@ record Opens (o : Option Lex) : Type 0 where
 -- where a criterion may end, and go on with a field, its field begins
 opens_from : (o : Option Lex) → is_last o ≡ true → is_last (lexed_from (91 ∷ 49 ∷ 93 ∷ []) o) ≡ true → Opens o
 opens_from (Some InName) e f = record { state = InName; is = refl; opens = refl; before = refl }
-opens_from (Some InPrefix) e f = record { state = InPrefix; is = refl; opens = refl; before = refl }
-opens_from (Some PrefixDone) e f = record { state = PrefixDone; is = refl; opens = refl; before = refl }
+opens_from (Some (InWord Prefix)) e f = record { state = InWord Prefix; is = refl; opens = refl; before = refl }
+opens_from (Some (TextDone Prefix)) e f = record { state = TextDone Prefix; is = refl; opens = refl; before = refl }
 opens_from _ e f = absurd cc
 
 -- whether level, names, prefix and field are as they are written

@@ -6,10 +6,9 @@ use Rattle.query_grammar.specs.declared.mode.Mode.{Mode}
 use Rattle.query_grammar.specs.declared.mode.Mode.TheVariants.{AfterCriterion, BeforeOperand}
 use Rattle.query_grammar.specs.declared.mode.Waiting.{Waiting}
 use Rattle.query_grammar.specs.declared.step.StepOver.{StepOver}
-use Rattle.query_grammar.specs.declared.lex.Lex.TheVariants.{ValueBegin}
 use Rattle.query_grammar.specs.Step.{Step}
 use Rattle.query_grammar.specs.Steps.{test_step}
-use Rattle.query_grammar.specs.Lexical.{whole_from}
+use Rattle.query_grammar.specs.Lexical.{operand_begin, whole_from}
 use Rattle.query_grammar.specs.Grammar.{Token, CloseMark, OperatorToken, OperandToken}
 use Rattle.query_grammar.specs.Scanner.{Fault, Syntax, Kept, State, Spot, ◌>>=◌, tightened, loosened, rested, closes, last, unless_fault, token_done, token_taken, whole, whole_after_unary, last_done, finish_in}
 use Rattle.query_grammar.specs.Judging.{criterion_fault, operand_fault}
@@ -78,10 +77,10 @@ cut_by caseless end d written w criterion operator false f (Some g) e h = rw e h
 pub operand_cut : (caseless : Bool) (end : ℕ) (d : Draft) (written : List Step) (w : List ℕ) (criterion : Bor (List ℕ)) (operator : Operator) (f : QueryFault) → d.stage ≡ stages.Operand criterion operator
     → IsAnswer f (criterion_fault matches_any d.place criterion.now) → IsAnswer f (result_err (token_done (rules caseless) end (spot_of d written w) (whole BeforeOperand w [])))
 operand_cut caseless end d written w criterion operator f stage h =
-    rw stage (cut_by caseless end d written w criterion.now (operator_text operator) (whole_from ValueBegin w) f _ refl h)
+    rw stage (cut_by caseless end d written w criterion.now (operator_text operator) (whole_from operand_begin w) f _ refl h)
 
 pub operand_taken : (caseless : Bool) (end : ℕ) (d : Draft) (written : List Step) (w : List ℕ) (criterion : Bor (List ℕ)) (operator : Operator) → d.stage ≡ stages.Operand criterion operator
-    → criterion_fault matches_any d.place criterion.now ≡ None → operand_fault is_decimal (is_good_pattern caseless) (end - length w) (operator_text operator) w ≡ None → whole_from ValueBegin w ≡ true
+    → criterion_fault matches_any d.place criterion.now ≡ None → operand_fault is_decimal (is_good_pattern caseless) (end - length w) (operator_text operator) w ≡ None → whole_from operand_begin w ≡ true
     → token_done (rules caseless) end (spot_of d written w) (whole BeforeOperand w []) ≡ Ok (at_spot (rested (tightened d.waiting (written ++ test_step criterion.now (operator_text operator) w ∷ []))) d.place)
 operand_taken caseless end d written w criterion operator stage fine good all = rw (stage, all, fine, good) refl
 

@@ -3,8 +3,8 @@ use Rattle.std.proofs.Common.{◌≡◌, ℕ, suc, ◌<◌, ◌≤◌, get_or, �
 use Rattle.std.proofs.lemmas.Bool.Decides.{nat_tests}
 use Rattle.query_grammar.specs.declared.mode.Mode.TheVariants.{BeforeUnary, BeforeOperand}
 use Rattle.query_grammar.specs.declared.lex.Lex.{Lex}
-use Rattle.query_grammar.specs.declared.lex.Lex.TheVariants.{Begin, ValueBegin}
-use Rattle.query_grammar.specs.Lexical.{lex, lexed_from, lex_along, is_last, may_end, whole_from}
+use Rattle.query_grammar.specs.declared.lex.Lex.TheVariants.{Begin}
+use Rattle.query_grammar.specs.Lexical.{operand_begin, lex, lexed_from, lex_along, is_last, may_end, whole_from}
 use Rattle.query_grammar.specs.Scanner.{Kept}
 use Rattle.query_grammar.specs.Munches.{Munches, ends}
 use Rattle.query_grammar.proofs.Along.{along_cons}
@@ -70,5 +70,5 @@ unfolding lex_along
 along_within l [] = omega arith
 along_within l (c ∷ w) = step_within l c w (lex l c) refl (λ next. along_within next w)
 
-pub value_long : (text : List ℕ) (k : Kept) (n : ℕ) → n ≡ (lex_along ValueBegin text).0 → Munches BeforeOperand k [] (take n text) (drop n text)
+pub value_long : (text : List ℕ) (k : Kept) (n : ℕ) → n ≡ (lex_along operand_begin text).0 → Munches BeforeOperand k [] (take n text) (drop n text)
 value_long text k n e = subst (λ (m : ℕ). Munches BeforeOperand k [] (take m text) (drop m text)) (sym e) (value_length text k)

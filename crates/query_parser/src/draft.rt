@@ -30,7 +30,7 @@ use crate::token::{
     Join, Unary, is_blank_byte, is_over, is_whole, is_word, join_of, mark_len, operand_len,
     unary_len, unary_of,
 };
-use query_grammar::{Lex, StepOver, Waiting};
+use query_grammar::{Lex, Part, StepOver, Waiting};
 use std::alloc::{AllocError, Global};
 
 /// How many parentheses and `not`s may be open at once.
@@ -276,7 +276,7 @@ impl<'a> Draft<'a> {
         ensures whole { IfOk result (λ d. HasWhole d.stage) }
     {
         judge_criterion(self.place, criterion)?;
-        if !is_whole(Lex::ValueBegin, word) {
+        if !is_whole(Lex::TextNext(Part::Operand), word) {
             return Err(QueryFault::Syntax { at: end as u64 });
         }
         let check = read_check(alloc, caseless, operator, end - word.len(), word)?;

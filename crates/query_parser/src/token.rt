@@ -9,7 +9,7 @@ ghost use Rattle.query_grammar.specs.Scanner.{Kept, begins, begins_after_unary, 
 ghost use Rattle.query_grammar.specs.Munches.{Munches};
 ghost use Rattle.query_parser.specs.inside.Stages.{mark_mode, join_token, unary_token};
 
-use query_grammar::Lex;
+use query_grammar::{Lex, Part};
 
 /// What stands behind a unary.
 #[derive(Clone, Copy)]
@@ -129,7 +129,7 @@ pub(crate) fn operand_len(text: &[u8]) -> usize
     ensures munches { (k : Kept) → Munches BeforeOperand k [] (take result text.now) (drop result text.now) }
     ensures within { result ≤ length text.now }
 {
-    lex_len(Lex::ValueBegin, text)
+    lex_len(Lex::TextNext(Part::Operand), text)
 }
 
 /// How many bytes go on from a state.
@@ -145,10 +145,7 @@ fn lex_len(from: Lex, text: &[u8]) -> usize
 fn is_last_state(state: Lex) -> bool
     ensures { result ≡ may_end state }
 {
-    matches!(
-        state,
-        Lex::InName | Lex::InPrefix | Lex::PrefixDone | Lex::Done | Lex::InValue
-    )
+    matches!(state, Lex::InName | Lex::InWord(_) | Lex::TextDone(_) | Lex::Done)
 }
 
 /// Whether the bytes are all of a criterion, or of an operand.
