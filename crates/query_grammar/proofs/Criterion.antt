@@ -10,8 +10,9 @@ use Rattle.query_grammar.specs.declared.lex.Lex.{Lex}
 use Rattle.query_grammar.specs.declared.lex.Part.{Part}
 use Rattle.query_grammar.specs.declared.lex.Part.TheVariants.{Prefix, Operand}
 use Rattle.query_grammar.specs.declared.lex.Lex.TheVariants.{NameNext, InName, TextNext, InWord, InQuote, Escape, TextDone, FieldOpen, Field, Done}
-use Rattle.query_grammar.specs.Lexical.{is_digit, is_name_byte, is_word_byte, quote_byte, operand_begin, behind_text, lex, lexed, lexed_from, may_end, is_last, whole_from}
-use Rattle.query_grammar.specs.Criterion.{is_all, Text, Plain, Quoted, text_of, is_inside, is_text, Tail, NameTail, PrefixTail, FieldTail, field_text, tail_text, is_field, is_tail}
+use Rattle.query_grammar.specs.Bytes.{is_digit, is_name_byte, is_word_byte, quote_byte}
+use Rattle.query_grammar.specs.Lexical.{operand_begin, behind_text, lex, lexed, lexed_from, may_end, is_last, whole_from}
+use Rattle.query_grammar.specs.Criterion.{is_all, Text, Plain, Quoted, text_of, is_inside, is_text, is_some_text, prefix_text, joined_names, field_text, is_field}
 use Rattle.query_grammar.proofs.Lexing.{lexed-append}
 
 -- ---- a word or a text in quotes: its parts are taken
@@ -183,14 +184,22 @@ name_taken (c ∷ w) rest e =
     let all = and_parts (is_name_byte c) (list_all is_name_byte w) (and_parts (nat_lt 0 (length (c ∷ w))) (list_all is_name_byte (c ∷ w)) e).1 in
     ap (lexed_from (w ++ rest)) (cond-true (is_name_byte c) _ _ all.0) ∙ lexed-append w rest (Some InName) ∙ ap (lexed_from rest) (stays InName is_name_byte w (λ d h. cond-true (is_name_byte d) _ _ h) all.1)
 
-pub tail_taken : (tail : Tail) → is_tail tail ≡ true → is_last (lexed InName (tail_text tail)) ≡ true
-tail_taken (NameTail name tail) e =
-    let both = and_parts (is_all is_name_byte name) (is_tail tail) e in
-    ap is_last (name_taken name (tail_text tail) both.0) ∙ tail_taken tail both.1
-tail_taken (PrefixTail t field) e =
-    let both = and_parts (is_text t) (is_field field) e in
-    prefix_field t field both.0 both.1
-tail_taken (FieldTail field) e = field_taken InName field refl refl e
+-- a prefix and a field behind a name
+end_taken : (prefix : Option Text) (field : Option (List ℕ)) → is_some_text prefix ≡ true → is_field field ≡ true → is_last (lexed InName (prefix_text prefix ++ field_text field)) ≡ true
+end_taken None field e f = field_taken InName field refl refl f
+end_taken (Some t) field e f = prefix_field t field e f
+
+-- names, a prefix and a field
+pub names_taken : (name : List ℕ) (names : List (List ℕ)) (prefix : Option Text) (field : Option (List ℕ)) → list_all (is_all is_name_byte) (name ∷ names) ≡ true → is_some_text prefix ≡ true → is_field field ≡ true
+    → is_last (lexed NameNext (joined_names (name ∷ names) ++ (prefix_text prefix ++ field_text field))) ≡ true
+names_taken name [] prefix field e f g =
+    let both = and_parts (is_all is_name_byte name) true e in
+    ap is_last (name_taken name (prefix_text prefix ++ field_text field) both.0) ∙ end_taken prefix field f g
+names_taken name (other ∷ names) prefix field e f g =
+    let both = and_parts (is_all is_name_byte name) (list_all (is_all is_name_byte) (other ∷ names)) e in
+    let end = prefix_text prefix ++ field_text field in
+    let rest = joined_names (other ∷ names) in
+    ap (λ (v : List ℕ). is_last (lexed NameNext v)) (append_assoc name (44 ∷ rest) end) ∙ ap is_last (name_taken name (44 ∷ (rest ++ end)) both.0) ∙ names_taken other names prefix field both.1 f g
 
 -- ---- what stands behind a name: what is taken has these parts
 
@@ -256,54 +265,86 @@ prefix_next w e =
     let f = prefix_done h.rest h.behind in
     record { prefix = h.text; field = f.field; good = h.good; good_field = f.good; same = ap (λ (v : List ℕ). text_of h.text ++ v) f.same ∙ h.same }
 
--- bytes of a name and what stands behind it
-pub record NameOf (w : List ℕ) : Type 0 where
-  pub prefix : List ℕ
-  pub tail : Tail
-  pub good : list_all is_name_byte prefix ≡ true
-  pub good_tail : is_tail tail ≡ true
-  pub same : prefix ++ tail_text tail ≡ w
-
--- the same where a name has a byte
-pub record NextOf (w : List ℕ) : Type 0 where
+-- the bytes of names, of which the first passes, and what stands behind them
+pub record NamesOf (test : List ℕ → Bool) (w : List ℕ) : Type 0 where
   pub name : List ℕ
-  pub tail : Tail
-  pub good : is_all is_name_byte name ≡ true
-  pub good_tail : is_tail tail ≡ true
-  pub same : name ++ tail_text tail ≡ w
+  pub names : List (List ℕ)
+  pub prefix : Option Text
+  pub field : Option (List ℕ)
+  pub good : test name ≡ true
+  pub good_names : list_all (is_all is_name_byte) names ≡ true
+  pub good_prefix : is_some_text prefix ≡ true
+  pub good_field : is_field field ≡ true
+  pub same : joined_names (name ∷ names) ++ (prefix_text prefix ++ field_text field) ≡ w
+
+-- the first name has begun, or is next
+abbrev pub NameOf : List ℕ → Type 0
+NameOf w = NamesOf (list_all is_name_byte) w
+
+abbrev pub NextOf : List ℕ → Type 0
+NextOf w = NamesOf (is_all is_name_byte) w
 
 -- a name goes on, or a name is next
 pub record Names (w : List ℕ) : Type 0 where
   pub goes_on : is_last (lexed InName w) ≡ true → NameOf w
   pub is_next : is_last (lexed NameNext w) ≡ true → NextOf w
 
-field_tail : (w : List ℕ) → FieldOf w → NameOf w
-field_tail w h = record { prefix = []; tail = FieldTail h.field; good = refl; good_tail = h.good; same = h.same }
+field_behind : (w : List ℕ) → FieldOf w → NameOf w
+field_behind w h = record { name = []; names = []; prefix = None; field = h.field; good = refl; good_names = refl; good_prefix = refl; good_field = h.good; same = h.same }
+
+-- a byte before names is one of the first
+pub joined_first : (c : ℕ) (name : List ℕ) (names : List (List ℕ)) (v : List ℕ) → joined_names ((c ∷ name) ∷ names) ++ v ≡ c ∷ (joined_names (name ∷ names) ++ v)
+joined_first c name [] v = refl
+joined_first c name (other ∷ names) v = refl
+
+-- a byte more of the first name
+pub name_more : (c : ℕ) (w : List ℕ) → is_name_byte c ≡ true → NameOf w → NextOf (c ∷ w)
+name_more c w t h = record {
+  name = c ∷ h.name;
+  names = h.names;
+  prefix = h.prefix;
+  field = h.field;
+  good = and_from _ _ (lt-ltb 0 (length (c ∷ h.name)) (omega arith)) (and_from (is_name_byte c) (list_all is_name_byte h.name) t h.good);
+  good_names = h.good_names;
+  good_prefix = h.good_prefix;
+  good_field = h.good_field;
+  same = joined_first c h.name h.names (prefix_text h.prefix ++ field_text h.field) ∙ ap (λ (v : List ℕ). c ∷ v) h.same;
+}
+
+-- a name is one that has begun
+next_name : (w : List ℕ) → NextOf w → NameOf w
+next_name w h = record {
+  name = h.name;
+  names = h.names;
+  prefix = h.prefix;
+  field = h.field;
+  good = (and_parts (nat_lt 0 (length h.name)) (list_all is_name_byte h.name) h.good).1;
+  good_names = h.good_names;
+  good_prefix = h.good_prefix;
+  good_field = h.good_field;
+  same = h.same;
+}
 
 names_go_on : (c : ℕ) (w : List ℕ) → Names w → is_last (lexed InName (c ∷ w)) ≡ true → NameOf (c ∷ w)
 names_go_on c w later e =
     let P : Option Lex → Type 0 = λ o. is_last (lexed_from w o) ≡ true → NameOf (c ∷ w) in
     cond_both (is_name_byte c) (Some InName) (cond (c == 44) (Some NameNext) (cond (c == 58) (Some (TextNext Prefix)) (cond (c == 91) (Some FieldOpen) None))) P
-    (λ t g. let h = later.goes_on g in record { prefix = c ∷ h.prefix; tail = h.tail; good = and_from (is_name_byte c) (list_all is_name_byte h.prefix) t h.good; good_tail = h.good_tail; same = ap (λ (v : List ℕ). c ∷ v) h.same })
+    (λ t g. next_name (c ∷ w) (name_more c w t (later.goes_on g)))
     (λ t. cond_both (c == 44) (Some NameNext) (cond (c == 58) (Some (TextNext Prefix)) (cond (c == 91) (Some FieldOpen) None)) P
     (λ comma g.
     let h = later.is_next g in
-    record { prefix = []; tail = NameTail h.name h.tail; good = refl; good_tail = and_from _ _ h.good h.good_tail; same = ap (λ (v : List ℕ). 44 ∷ v) h.same ∙ ap (λ (x : ℕ). x ∷ w) (sym (eqb-true c 44 comma)) })
+    record { name = []; names = h.name ∷ h.names; prefix = h.prefix; field = h.field; good = refl; good_names = and_from _ _ h.good h.good_names; good_prefix = h.good_prefix; good_field = h.good_field; same = ap (λ (v : List ℕ). 44 ∷ v) h.same ∙ ap (λ (x : ℕ). x ∷ w) (sym (eqb-true c 44 comma)) })
     (λ comma. cond_both (c == 58) (Some (TextNext Prefix)) (cond (c == 91) (Some FieldOpen) None) P
     (λ colon g.
     let h = prefix_next w g in
-    record { prefix = []; tail = PrefixTail h.prefix h.field; good = refl; good_tail = and_from _ _ h.good h.good_field; same = ap (λ (v : List ℕ). 58 ∷ v) h.same ∙ ap (λ (x : ℕ). x ∷ w) (sym (eqb-true c 58 colon)) })
+    record { name = []; names = []; prefix = Some h.prefix; field = h.field; good = refl; good_names = refl; good_prefix = h.good; good_field = h.good_field; same = ap (λ (v : List ℕ). 58 ∷ v) h.same ∙ ap (λ (x : ℕ). x ∷ w) (sym (eqb-true c 58 colon)) })
     (λ colon. cond_both (c == 91) (Some FieldOpen) None P
-    (λ b g. field_tail (c ∷ w) (bracket c w b g))
+    (λ b g. field_behind (c ∷ w) (bracket c w b g))
     (λ b g. absurd (never w g))))) e
 
 pub names : (w : List ℕ) → Names w
-names [] = record { goes_on = λ e. field_tail [] no_field; is_next = λ e. absurd cc }
+names [] = record { goes_on = λ e. field_behind [] no_field; is_next = λ e. absurd cc }
 names (c ∷ w) = record {
   goes_on = names_go_on c w (names w);
-  is_next = λ e. cond_both (is_name_byte c) (Some InName) None (λ o. is_last (lexed_from w o) ≡ true → NextOf (c ∷ w))
-      (λ t g.
-      let h = (names w).goes_on g in
-      record { name = c ∷ h.prefix; tail = h.tail; good = and_from _ _ (lt-ltb 0 (length (c ∷ h.prefix)) (omega arith)) (and_from (is_name_byte c) (list_all is_name_byte h.prefix) t h.good); good_tail = h.good_tail; same = ap (λ (v : List ℕ). c ∷ v) h.same })
-      (λ t g. absurd (never w g)) e;
+  is_next = λ e. cond_both (is_name_byte c) (Some InName) None (λ o. is_last (lexed_from w o) ≡ true → NextOf (c ∷ w)) (λ t g. name_more c w t ((names w).goes_on g)) (λ t g. absurd (never w g)) e;
 }

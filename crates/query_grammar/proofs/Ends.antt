@@ -13,7 +13,8 @@ use Rattle.query_grammar.specs.declared.step.StepOver.TheVariants as steps
 use Rattle.query_grammar.specs.declared.lex.Lex.TheVariants.{Begin}
 use Rattle.query_grammar.specs.Lexical.{operand_begin, begins_from, is_one_of, begins_one_of, operators, words}
 use Rattle.query_grammar.specs.Grammar.{Token, CriterionToken, OperatorToken, OperandToken, NotWord, AndWord, OrWord, OpenMark, CloseMark, token_text, is_token, is_ended}
-use Rattle.query_grammar.specs.Scanner.{Kept, State, free, can_close, closes, all_closed, tightened, loosened, rested, waits_for, tested, joining, begins, begins_after_unary, taken, taken_after_unary}
+use Rattle.query_grammar.specs.Moves.{Kept, State, can_close, closes, all_closed, tightened, loosened, rested, waits_for, tested, taken, taken_after_unary}
+use Rattle.query_grammar.specs.Scanner.{free, joining, begins, begins_after_unary}
 use Rattle.query_grammar.proofs.Lexing.{same_bytes, is_plain, plain_append, plain_parts, plain_word, completed, completed_one, over_equal, over_blank}
 use Rattle.query_grammar.proofs.Marks.{tightened_can}
 use Rattle.query_grammar.proofs.Scan.{Reads, token_read, blank_read, end_read}

@@ -4,7 +4,8 @@ use Rattle.std.specs.Prelude.{codes, not, replicate}
 use Rattle.std.specs.Str.{bytes_eq}
 use Rattle.query_grammar.specs.declared.step.StepOver.TheVariants as steps
 use Rattle.query_grammar.specs.Steps.{test_step}
-use Rattle.query_grammar.specs.Lexical.{is_digit, is_one_of}
+use Rattle.query_grammar.specs.Bytes.{is_digit}
+use Rattle.query_grammar.specs.Lexical.{is_one_of}
 use Rattle.query_grammar.specs.Criterion.{is_all}
 use Rattle.query_grammar.specs.Scanner.{Syntax, UnknownTag, Number, Pattern, Deep, Rules, run, begin}
 use Rattle.std.specs.Prelude.{None}

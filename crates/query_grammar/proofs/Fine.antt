@@ -12,7 +12,7 @@ use Rattle.query_grammar.proofs.Rulings.{judge, rules_judge, criterion_anywhere,
 use Rattle.query_grammar.proofs.Lines.{judged_read, judged_found, AreRead, AreFound}
 
 -- neither of two faults is there
-or_else_none : (x y : Option Fault) → option_or x y ≡ None → (x ≡ None) × (y ≡ None)
+pub or_else_none : (x y : Option Fault) → option_or x y ≡ None → (x ≡ None) × (y ≡ None)
 or_else_none None y e = (refl, e)
 or_else_none (Some f) y e = absurd cc
 

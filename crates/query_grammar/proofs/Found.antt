@@ -9,7 +9,7 @@ use Rattle.query_grammar.specs.Step.{Step}
 use Rattle.query_grammar.specs.declared.step.StepOver.TheVariants as steps
 use Rattle.query_grammar.specs.Grammar.{Token, CriterionToken, OperatorToken, OperandToken, NotWord, AndWord, OrWord, OpenMark, CloseMark, Written, Test, Compared, Not, Inside, And, Or, tokens_of, is_unary, is_and, is_grouped}
 use Rattle.query_grammar.specs.Steps.{steps_of}
-use Rattle.query_grammar.specs.Scanner.{Kept, tightened, loosened, waits_for, tested, start, closes, all_closed}
+use Rattle.query_grammar.specs.Moves.{Kept, tightened, loosened, waits_for, tested, start, closes, all_closed}
 use Rattle.query_grammar.proofs.Tokens.{lenient, taken_all, and_then}
 use Rattle.query_grammar.proofs.Trees.{before, is_loose, is_base, loose_stays, base_stays}
 

@@ -5,7 +5,8 @@ use Rattle.query_grammar.specs.declared.mode.Mode.TheVariants.{BeforeUnary, Befo
 use Rattle.query_grammar.specs.declared.lex.Lex.{Lex}
 use Rattle.query_grammar.specs.declared.lex.Lex.TheVariants.{Begin}
 use Rattle.query_grammar.specs.Lexical.{operand_begin, lex, lexed, lexed_from, lex_along, is_state, begins_from}
-use Rattle.query_grammar.specs.Scanner.{Kept, begins}
+use Rattle.query_grammar.specs.Moves.{Kept}
+use Rattle.query_grammar.specs.Scanner.{begins}
 use Rattle.query_grammar.specs.Munches.{Munches, ends, stops, more}
 use Rattle.query_grammar.proofs.Lexing.{lexed-append}
 use Rattle.query_grammar.proofs.Along.{along_cons}

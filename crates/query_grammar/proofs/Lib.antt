@@ -21,6 +21,5 @@ pub mod TextStops
 pub mod Prefixes
 pub mod Postfix
 pub mod OneParts
-pub mod SeenParts
 pub mod TextFaults
 pub mod Meanings

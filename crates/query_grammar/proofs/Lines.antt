@@ -6,7 +6,8 @@ use Rattle.query_grammar.specs.declared.mode.Mode.TheVariants.{BeforeUnary}
 use Rattle.query_grammar.specs.Step.{Step}
 use Rattle.query_grammar.specs.Grammar.{Written, tokens_of, IsLaid, IsQuery}
 use Rattle.query_grammar.specs.Steps.{steps_of}
-use Rattle.query_grammar.specs.Scanner.{Fault, ◌>>=◌, Rules, free, run, begin, start}
+use Rattle.query_grammar.specs.Moves.{start}
+use Rattle.query_grammar.specs.Scanner.{Fault, ◌>>=◌, Rules, free, run, begin}
 use Rattle.query_grammar.specs.Lines.{is_passed, joined, AreQueries, joined_steps, ended_lines, read_lines}
 use Rattle.query_grammar.proofs.Scan.{ok_is, no_out, laid_read, explains}
 use Rattle.query_grammar.proofs.Tokens.{Judge, Judges, lenient, free_judges, taken_all, freed, if_some}

@@ -1,9 +1,10 @@
 -- Reading with rules gives what reading by the grammar alone gives, but for the faults of the rules.
 use Rattle.std.proofs.Common.{◌≡◌, ℕ, ◌+◌, ◌-◌, Bool, true, false, cond, List, [], ◌∷◌, ◌++◌, length, Result, Ok, Err, Option, Some, None, refl, ap}
 use Rattle.query_grammar.specs.Step.{Step}
-use Rattle.query_grammar.specs.Lexical.{is_blank}
+use Rattle.query_grammar.specs.Bytes.{is_blank}
 use Rattle.query_grammar.specs.Grammar.{Token, CloseMark}
-use Rattle.query_grammar.specs.Scanner.{Fault, Syntax, ◌>>=◌, State, Rules, AreRules, free, Spot, begins, whole, taken, last, or_syntax, unless_fault, refused, token_taken, token_done, fresh, step_in, step, last_done, finish_in, run, begin}
+use Rattle.query_grammar.specs.Moves.{State, taken, last}
+use Rattle.query_grammar.specs.Scanner.{Fault, Syntax, ◌>>=◌, Rules, AreRules, free, Spot, begins, whole, or_syntax, unless_fault, refused, token_taken, token_done, fresh, step_in, step, last_done, finish_in, run, begin}
 use Rattle.query_grammar.specs.Lines.{is_passed, joined_steps, read_lines}
 
 pub record IsLooser (A : Type 0) (strict loose : Result A Fault) : Type 0 where

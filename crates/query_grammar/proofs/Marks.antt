@@ -11,9 +11,11 @@ use Rattle.query_grammar.specs.declared.mode.Waiting.TheVariants as waits
 use Rattle.query_grammar.specs.Step.{Step}
 use Rattle.query_grammar.specs.declared.step.StepOver.TheVariants as steps
 use Rattle.query_grammar.specs.declared.lex.Lex.TheVariants.{Begin, InName}
-use Rattle.query_grammar.specs.Lexical.{operand_begin, is_blank, is_name_byte, lex, begins_from, whole_from, is_one_of, begins_one_of, operators, words, ends_word}
+use Rattle.query_grammar.specs.Bytes.{is_blank, is_name_byte}
+use Rattle.query_grammar.specs.Lexical.{operand_begin, lex, begins_from, whole_from, is_one_of, begins_one_of, operators, words, ends_word}
 use Rattle.query_grammar.specs.Grammar.{Token, CriterionToken, OperatorToken, OperandToken, NotWord, AndWord, OrWord, OpenMark, CloseMark, token_text, is_token, is_over, is_ended, operator_words}
-use Rattle.query_grammar.specs.Scanner.{Kept, State, can_close, closes, tightened, loosened, tested, taken, taken_after_unary, joining, begins, begins_after_unary, whole, whole_after_unary}
+use Rattle.query_grammar.specs.Moves.{Kept, State, can_close, closes, tightened, loosened, tested, taken, taken_after_unary}
+use Rattle.query_grammar.specs.Scanner.{joining, begins, begins_after_unary, whole, whole_after_unary}
 use Rattle.query_grammar.proofs.Tokens.{some_is, some_none}
 use Rattle.query_grammar.proofs.Lexing.{same_bytes, other_bytes, whole_grows, one_of, begins_one}
 

@@ -8,7 +8,7 @@ use Rattle.std.proofs.lemmas.Bool.{and_parts, cond-true, cond-false}
 use Rattle.std.proofs.lemmas.Bool.Decides.{nat_tests}
 use Rattle.query_grammar.specs.declared.lex.Quote.{Quote}
 use Rattle.query_grammar.specs.declared.lex.Quote.TheVariants.{Double, Single}
-use Rattle.query_grammar.specs.Lexical.{is_word_byte, is_quote, quote_byte}
+use Rattle.query_grammar.specs.Bytes.{is_word_byte, is_quote, quote_byte}
 use Rattle.query_grammar.specs.Criterion.{Text, Plain, Quoted, text_of, is_text, unescaped, meant_by, operand_meaning}
 
 -- a byte of words is no quote

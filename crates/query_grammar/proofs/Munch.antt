@@ -4,7 +4,8 @@ use Rattle.std.proofs.lemmas.Bool.{cond-true, cond-false}
 use Rattle.std.proofs.lemmas.List.{append-nil}
 use Rattle.query_grammar.specs.declared.mode.Mode.{Mode}
 use Rattle.query_grammar.specs.Grammar.{Token}
-use Rattle.query_grammar.specs.Scanner.{Fault, ◌>>=◌, Kept, State, Rules, Spot, begins, whole, taken, last, token_taken, token_done, fresh, last_done, run, unless_fault, place_after}
+use Rattle.query_grammar.specs.Moves.{Kept, State, taken, last}
+use Rattle.query_grammar.specs.Scanner.{Fault, ◌>>=◌, Rules, Spot, begins, whole, token_taken, token_done, fresh, last_done, run, unless_fault, place_after}
 use Rattle.query_grammar.specs.Munches.{Munches, ends, stops, more}
 use Rattle.query_grammar.proofs.Marks.{NoMore}
 use Rattle.query_grammar.proofs.Scan.{at_spot, bind_assoc, whole_first}

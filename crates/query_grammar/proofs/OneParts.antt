@@ -7,26 +7,27 @@ use Rattle.std.proofs.lemmas.Bool.{and_parts, cond_both, eq-eqb}
 use Rattle.std.proofs.lemmas.Bool.Decides.{nat_tests}
 use Rattle.query_grammar.specs.declared.lex.Quote.{Quote}
 use Rattle.query_grammar.specs.declared.lex.Quote.TheVariants.{Double, Single}
-use Rattle.query_grammar.specs.Lexical.{is_digit, is_name_byte, is_word_byte, quote_byte}
-use Rattle.query_grammar.specs.Criterion.{is_all, Text, Plain, Quoted, text_of, is_inside, is_text, Tail, NameTail, PrefixTail, FieldTail, field_text, tail_text, is_field, is_tail, LevelSign, OrMore, OrLess, Level, sign_text, level_text, is_level, Parts, criterion_text, is_criterion}
+use Rattle.query_grammar.specs.Bytes.{is_digit, is_name_byte, is_word_byte, quote_byte}
+use Rattle.query_grammar.specs.Criterion.{is_all, Text, Plain, Quoted, text_of, is_inside, is_text, is_some_text, prefix_text, joined_names, field_text, is_field, LevelSign, OrMore, OrLess, Level, sign_text, level_text, is_level, Parts, names_of, criterion_text, is_criterion}
+use Rattle.query_grammar.proofs.Levels.{begins_there, name_begins, regroup, is_good}
 
 -- ---- where bytes of one kind end
 
 -- bytes that don't begin with a byte that passes
-abbrev passes_no_first : (ℕ → Bool) → List ℕ → Bool
-passes_no_first test [] = true
-passes_no_first test (c ∷ w) = not (test c)
+abbrev pub ends_there : (ℕ → Bool) → List ℕ → Bool
+ends_there test [] = true
+ends_there test (c ∷ w) = not (test c)
 
 -- bytes that pass end in one place, where no byte that passes comes next
-cut_all : (test : ℕ → Bool) (w v a b : List ℕ) → list_all test w ≡ true → list_all test v ≡ true → passes_no_first test a ≡ true → passes_no_first test b ≡ true → w ++ a ≡ v ++ b → (w ≡ v) × (a ≡ b)
+cut_all : (test : ℕ → Bool) (w v a b : List ℕ) → list_all test w ≡ true → list_all test v ≡ true → ends_there test a ≡ true → ends_there test b ≡ true → w ++ a ≡ v ++ b → (w ≡ v) × (a ≡ b)
 cut_all test [] [] a b all_w all_v end_a end_b same = (refl, same)
 cut_all test [] (d ∷ v) a b all_w all_v end_a end_b same =
     let passes = (and_parts (test d) (list_all test v) all_v).0 in
-    let fails : not (test d) ≡ true = sym (ap (passes_no_first test) same) ∙ end_a in
+    let fails : not (test d) ≡ true = sym (ap (ends_there test) same) ∙ end_a in
     absurd cc
 cut_all test (c ∷ w) [] a b all_w all_v end_a end_b same =
     let passes = (and_parts (test c) (list_all test w) all_w).0 in
-    let fails : not (test c) ≡ true = ap (passes_no_first test) same ∙ end_b in
+    let fails : not (test c) ≡ true = ap (ends_there test) same ∙ end_b in
     absurd cc
 cut_all test (c ∷ w) (d ∷ v) a b all_w all_v end_a end_b same =
     let first : c ≡ d = cc in
@@ -36,7 +37,7 @@ cut_all test (c ∷ w) (d ∷ v) a b all_w all_v end_a end_b same =
     (cc, rest.1)
 
 -- one byte or more that pass end in one place
-cut_some : (test : ℕ → Bool) (w v a b : List ℕ) → is_all test w ≡ true → is_all test v ≡ true → passes_no_first test a ≡ true → passes_no_first test b ≡ true → w ++ a ≡ v ++ b → (w ≡ v) × (a ≡ b)
+cut_some : (test : ℕ → Bool) (w v a b : List ℕ) → is_all test w ≡ true → is_all test v ≡ true → ends_there test a ≡ true → ends_there test b ≡ true → w ++ a ≡ v ++ b → (w ≡ v) × (a ≡ b)
 cut_some test w v a b all_w all_v end_a end_b same =
     cut_all test w v a b (and_parts (nat_lt 0 (length w)) (list_all test w) all_w).1 (and_parts (nat_lt 0 (length v)) (list_all test v) all_v).1 end_a end_b same
 
@@ -122,7 +123,7 @@ cut_quoted p q w v a b good_w good_v quotes same =
     (cc, rest.1)
 
 -- a text ends in one place, where no byte of words comes next
-cut_text : (t u : Text) (a b : List ℕ) → is_text t ≡ true → is_text u ≡ true → passes_no_first is_word_byte a ≡ true → passes_no_first is_word_byte b ≡ true → text_of t ++ a ≡ text_of u ++ b → (t ≡ u) × (a ≡ b)
+cut_text : (t u : Text) (a b : List ℕ) → is_text t ≡ true → is_text u ≡ true → ends_there is_word_byte a ≡ true → ends_there is_word_byte b ≡ true → text_of t ++ a ≡ text_of u ++ b → (t ≡ u) × (a ≡ b)
 cut_text (Plain w) (Plain v) a b good_t good_u end_a end_b same =
     let rest = cut_some is_word_byte w v a b good_t good_u end_a end_b same in
     (ap Plain rest.0, rest.1)
@@ -159,16 +160,20 @@ one_field (Some w) (Some v) good_f good_g same =
 one_field _ _ good_f good_g same = absurd cc
 
 -- a field doesn't begin with a byte of words
-field_ends : (f : Option (List ℕ)) → passes_no_first is_word_byte (field_text f) ≡ true
+field_ends : (f : Option (List ℕ)) → ends_there is_word_byte (field_text f) ≡ true
 field_ends None = refl
 field_ends (Some w) = refl
 
--- what stands behind a name doesn't begin with a byte of names
-tail_ends : (tail : Tail) → passes_no_first is_name_byte (tail_text tail) ≡ true
-tail_ends (NameTail name tail) = refl
-tail_ends (PrefixTail prefix field) = refl
-tail_ends (FieldTail None) = refl
-tail_ends (FieldTail (Some digits)) = refl
+-- a prefix and a field don't begin with a byte of names, and with no comma
+end_ends : (prefix : Option Text) (field : Option (List ℕ)) → ends_there is_name_byte (prefix_text prefix ++ field_text field) ≡ true
+end_ends None None = refl
+end_ends None (Some digits) = refl
+end_ends (Some t) field = refl
+
+no_comma : (prefix : Option Text) (field : Option (List ℕ)) (v : List ℕ) → prefix_text prefix ++ field_text field ≡ 44 ∷ v → ⊥
+no_comma None None v same = absurd cc
+no_comma None (Some digits) v same = no_same_first 91 44 (digits ++ 93 ∷ []) v refl same
+no_comma (Some t) field v same = no_same_first 58 44 (text_of t ++ field_text field) v refl same
 
 -- a field doesn't begin with another mark
 no_field_mark : (c : ℕ) (w : List ℕ) (f : Option (List ℕ)) → (c == 91) ≡ false → c ∷ w ≡ field_text f → ⊥
@@ -176,39 +181,53 @@ no_field_mark c w None other same = absurd cc
 no_field_mark c w (Some digits) other same = no_same_first c 91 w (digits ++ 93 ∷ []) other same
 
 -- the bytes of a prefix and a field have one prefix and one field
-one_prefix : (t u : Text) (f g : Option (List ℕ)) → is_tail (PrefixTail t f) ≡ true → is_tail (PrefixTail u g) ≡ true → tail_text (PrefixTail t f) ≡ tail_text (PrefixTail u g) → PrefixTail t f ≡ PrefixTail u g
-one_prefix t u f g good_t good_u same =
-    let both_t = and_parts (is_text t) (is_field f) good_t in
-    let both_u = and_parts (is_text u) (is_field g) good_u in
+cut_end : (t u : Option Text) (f g : Option (List ℕ)) → is_some_text t ≡ true → is_some_text u ≡ true → is_field f ≡ true → is_field g ≡ true → prefix_text t ++ field_text f ≡ prefix_text u ++ field_text g → (t ≡ u) × (f ≡ g)
+cut_end None None f g good_t good_u good_f good_g same = (refl, one_field f g good_f good_g same)
+cut_end None (Some u) f g good_t good_u good_f good_g same = absurd (no_field_mark 58 (text_of u ++ field_text g) f refl (sym same))
+cut_end (Some t) None f g good_t good_u good_f good_g same = absurd (no_field_mark 58 (text_of t ++ field_text f) g refl same)
+cut_end (Some t) (Some u) f g good_t good_u good_f good_g same =
     let later : text_of t ++ field_text f ≡ text_of u ++ field_text g = cc in
-    let rest = cut_text t u (field_text f) (field_text g) both_t.0 both_u.0 (field_ends f) (field_ends g) later in
-    let prefix_same : t ≡ u = rest.0 in
-    let field_same : f ≡ g = one_field f g both_t.1 both_u.1 rest.1 in
-    cc
+    let rest = cut_text t u (field_text f) (field_text g) good_t good_u (field_ends f) (field_ends g) later in
+    (ap Some rest.0, one_field f g good_f good_g rest.1)
 
--- the bytes behind a name have one list of parts
-one_tail : (t u : Tail) → is_tail t ≡ true → is_tail u ≡ true → tail_text t ≡ tail_text u → t ≡ u
-one_tail (NameTail name t) (NameTail other u) good_t good_u same =
-    let both_t = and_parts (is_all is_name_byte name) (is_tail t) good_t in
-    let both_u = and_parts (is_all is_name_byte other) (is_tail u) good_u in
-    let later : name ++ tail_text t ≡ other ++ tail_text u = cc in
-    let rest = cut_some is_name_byte name other (tail_text t) (tail_text u) both_t.0 both_u.0 (tail_ends t) (tail_ends u) later in
-    let name_same : name ≡ other = rest.0 in
-    let tail_same : t ≡ u = one_tail t u both_t.1 both_u.1 rest.1 in
-    cc
-one_tail (NameTail name t) (PrefixTail prefix field) good_t good_u same = absurd (no_same_first 44 58 (name ++ tail_text t) (text_of prefix ++ field_text field) refl same)
-one_tail (NameTail name t) (FieldTail field) good_t good_u same = absurd (no_field_mark 44 (name ++ tail_text t) field refl same)
-one_tail (PrefixTail prefix field) (NameTail name u) good_t good_u same = absurd (no_same_first 58 44 (text_of prefix ++ field_text field) (name ++ tail_text u) refl same)
-one_tail (PrefixTail prefix field) (PrefixTail other g) good_t good_u same = one_prefix prefix other field g good_t good_u same
-one_tail (PrefixTail prefix field) (FieldTail g) good_t good_u same = absurd (no_field_mark 58 (text_of prefix ++ field_text field) g refl same)
-one_tail (FieldTail field) (NameTail name u) good_t good_u same = absurd (no_field_mark 44 (name ++ tail_text u) field refl (sym same))
-one_tail (FieldTail field) (PrefixTail prefix g) good_t good_u same = absurd (no_field_mark 58 (text_of prefix ++ field_text g) field refl (sym same))
-one_tail (FieldTail field) (FieldTail g) good_t good_u same = ap FieldTail (one_field field g good_t good_u same)
+-- the names before a prefix and a field end in one place
+record SameNames (name other : List ℕ) (names others : List (List ℕ)) (a b : List ℕ) : Type 0 where
+  first : name ≡ other
+  later : names ≡ others
+  rest : a ≡ b
+
+cut_names : (name other : List ℕ) (names others : List (List ℕ)) (t u : Option Text) (f g : Option (List ℕ)) → list_all (is_all is_name_byte) (name ∷ names) ≡ true → list_all (is_all is_name_byte) (other ∷ others) ≡ true
+    → joined_names (name ∷ names) ++ (prefix_text t ++ field_text f) ≡ joined_names (other ∷ others) ++ (prefix_text u ++ field_text g) → SameNames name other names others (prefix_text t ++ field_text f) (prefix_text u ++ field_text g)
+cut_names name other [] [] t u f g good_n good_o same =
+    let rest = cut_some is_name_byte name other (prefix_text t ++ field_text f) (prefix_text u ++ field_text g) (and_parts (is_all is_name_byte name) true good_n).0 (and_parts (is_all is_name_byte other) true good_o).0 (end_ends t f) (end_ends u g) same in
+    record { first = rest.0; later = refl; rest = rest.1 }
+cut_names name other [] (second ∷ others) t u f g good_n good_o same =
+    let end = prefix_text u ++ field_text g in
+    let more = joined_names (second ∷ others) in
+    let rest = cut_some is_name_byte name other (prefix_text t ++ field_text f) (44 ∷ (more ++ end)) (and_parts (is_all is_name_byte name) true good_n).0 (and_parts (is_all is_name_byte other) _ good_o).0 (end_ends t f) refl (same ∙ append_assoc other (44 ∷ more) end) in
+    absurd (no_comma t f (more ++ end) rest.1)
+cut_names name other (second ∷ names) [] t u f g good_n good_o same =
+    let end = prefix_text t ++ field_text f in
+    let more = joined_names (second ∷ names) in
+    let rest = cut_some is_name_byte name other (44 ∷ (more ++ end)) (prefix_text u ++ field_text g) (and_parts (is_all is_name_byte name) _ good_n).0 (and_parts (is_all is_name_byte other) true good_o).0 refl (end_ends u g) (sym (append_assoc name (44 ∷ more) end) ∙ same) in
+    absurd (no_comma u g (more ++ end) (sym rest.1))
+cut_names name other (second ∷ names) (third ∷ others) t u f g good_n good_o same =
+    let a = prefix_text t ++ field_text f in
+    let b = prefix_text u ++ field_text g in
+    let x = joined_names (second ∷ names) in
+    let y = joined_names (third ∷ others) in
+    let both_n = and_parts (is_all is_name_byte name) (list_all (is_all is_name_byte) (second ∷ names)) good_n in
+    let both_o = and_parts (is_all is_name_byte other) (list_all (is_all is_name_byte) (third ∷ others)) good_o in
+    let rest = cut_some is_name_byte name other (44 ∷ (x ++ a)) (44 ∷ (y ++ b)) both_n.0 both_o.0 refl refl (sym (append_assoc name (44 ∷ x) a) ∙ same ∙ append_assoc other (44 ∷ y) b) in
+    let behind : 44 ∷ (x ++ a) ≡ 44 ∷ (y ++ b) = rest.1 in
+    let later : x ++ a ≡ y ++ b = cc in
+    let h = cut_names second third names others t u f g both_n.1 both_o.1 later in
+    record { first = rest.0; later = ap (λ (n : List ℕ). n ∷ names) h.first ∙ ap (λ (ns : List (List ℕ)). third ∷ ns) h.later; rest = h.rest }
 
 -- ---- a level
 
 -- behind a level's digits stands no digit
-sign_ends : (operator : Option LevelSign) (a : List ℕ) → passes_no_first is_digit (sign_text operator ++ 125 ∷ a) ≡ true
+pub sign_ends : (operator : Option LevelSign) (a : List ℕ) → ends_there is_digit (sign_text operator ++ 125 ∷ a) ≡ true
 sign_ends None a = refl
 sign_ends (Some OrMore) a = refl
 sign_ends (Some OrLess) a = refl
@@ -226,19 +245,17 @@ cut_sign (Some OrLess) (Some OrMore) a b same = absurd (no_same_first 45 43 (125
 cut_sign (Some OrLess) (Some OrLess) a b same = let later : a ≡ b = cc in (refl, later)
 
 -- bytes behind a level stand behind its last brace
-level_rest : (l : Level) (a : List ℕ) → level_text (Some l) ++ a ≡ 123 ∷ (l.digits ++ (sign_text l.operator ++ 125 ∷ a))
-level_rest l a = simp append_assoc
+pub level_bytes : (l : Level) (a : List ℕ) → level_text (Some l) ++ a ≡ 123 ∷ (l.digits ++ (sign_text l.operator ++ 125 ∷ a))
+level_bytes l a = simp append_assoc
 
 -- the brace is no byte of names
-no_name_brace : (c : ℕ) → is_name_byte c ≡ true → (c == 123) ≡ false
+pub no_name_brace : (c : ℕ) → is_name_byte c ≡ true → (c == 123) ≡ false
 no_name_brace c e = grind (arith, nat_tests)
 
--- a name doesn't begin as a level does
-no_level_name : (name a b : List ℕ) → is_all is_name_byte name ≡ true → name ++ a ≡ 123 ∷ b → ⊥
-no_level_name [] a b e same = absurd cc
-no_level_name (c ∷ w) a b e same =
-    let all = (and_parts (nat_lt 0 (length (c ∷ w))) (list_all is_name_byte (c ∷ w)) e).1 in
-    no_same_first c 123 (w ++ a) b (no_name_brace c (and_parts (is_name_byte c) (list_all is_name_byte w) all).0) same
+-- names don't begin as a level does
+no_level_name : (v b : List ℕ) → begins_there is_name_byte v ≡ true → v ≡ 123 ∷ b → ⊥
+no_level_name [] b e same = absurd cc
+no_level_name (c ∷ w) b e same = no_same_first c 123 w b (no_name_brace c e) same
 
 -- levels with the same digits and operator are the same
 same_level : (l m : Level) → l.digits ≡ m.digits → l.operator ≡ m.operator → l ≡ m
@@ -249,37 +266,38 @@ same_level l m digits operator =
 -- a level ends in one place
 cut_level : (l m : Level) (a b : List ℕ) → is_all is_digit l.digits ≡ true → is_all is_digit m.digits ≡ true → level_text (Some l) ++ a ≡ level_text (Some m) ++ b → (Some l ≡ Some m) × (a ≡ b)
 cut_level l m a b good_l good_m same =
-    let parts : 123 ∷ (l.digits ++ (sign_text l.operator ++ 125 ∷ a)) ≡ 123 ∷ (m.digits ++ (sign_text m.operator ++ 125 ∷ b)) = sym (level_rest l a) ∙ same ∙ level_rest m b in
+    let parts : 123 ∷ (l.digits ++ (sign_text l.operator ++ 125 ∷ a)) ≡ 123 ∷ (m.digits ++ (sign_text m.operator ++ 125 ∷ b)) = sym (level_bytes l a) ∙ same ∙ level_bytes m b in
     let later : l.digits ++ (sign_text l.operator ++ 125 ∷ a) ≡ m.digits ++ (sign_text m.operator ++ 125 ∷ b) = cc in
     let digits = cut_some is_digit l.digits m.digits (sign_text l.operator ++ 125 ∷ a) (sign_text m.operator ++ 125 ∷ b) good_l good_m (sign_ends l.operator a) (sign_ends m.operator b) later in
     let rest = cut_sign l.operator m.operator a b digits.1 in
     (ap Some (same_level l m digits.0 rest.0), rest.1)
 
 -- a level, or none, ends in one place, where a name comes next
-cut_levels : (l m : Option Level) (name other a b : List ℕ) → is_level l ≡ true → is_level m ≡ true → is_all is_name_byte name ≡ true → is_all is_name_byte other ≡ true → level_text l ++ (name ++ a) ≡ level_text m ++ (other ++ b) → (l ≡ m) × (name ++ a ≡ other ++ b)
-cut_levels None None name other a b good_l good_m e f same = (refl, same)
-cut_levels None (Some m) name other a b good_l good_m e f same = absurd (no_level_name name a (m.digits ++ (sign_text m.operator ++ 125 ∷ (other ++ b))) e (same ∙ level_rest m (other ++ b)))
-cut_levels (Some l) None name other a b good_l good_m e f same = absurd (no_level_name other b (l.digits ++ (sign_text l.operator ++ 125 ∷ (name ++ a))) f (sym same ∙ level_rest l (name ++ a)))
-cut_levels (Some l) (Some m) name other a b good_l good_m e f same = cut_level l m (name ++ a) (other ++ b) good_l good_m same
+cut_levels : (l m : Option Level) (a b : List ℕ) → is_level l ≡ true → is_level m ≡ true → begins_there is_name_byte a ≡ true → begins_there is_name_byte b ≡ true → level_text l ++ a ≡ level_text m ++ b → (l ≡ m) × (a ≡ b)
+cut_levels None None a b good_l good_m e f same = (refl, same)
+cut_levels None (Some m) a b good_l good_m e f same = absurd (no_level_name a (m.digits ++ (sign_text m.operator ++ 125 ∷ b)) e (same ∙ level_bytes m b))
+cut_levels (Some l) None a b good_l good_m e f same = absurd (no_level_name b (l.digits ++ (sign_text l.operator ++ 125 ∷ a)) f (sym same ∙ level_bytes l a))
+cut_levels (Some l) (Some m) a b good_l good_m e f same = cut_level l m a b good_l good_m same
 
 -- ---- a criterion
 
--- parts with the same level, name and tail are the same
-same_parts : (p q : Parts) → p.level ≡ q.level → p.name ≡ q.name → p.tail ≡ q.tail → p ≡ q
-same_parts p q level name tail =
-    ap (λ (l : Option Level). record { level = l; name = p.name; tail = p.tail }) level
-    ∙ ap (λ (w : List ℕ). record { level = q.level; name = w; tail = p.tail }) name
-    ∙ ap (λ (t : Tail). record { level = q.level; name = q.name; tail = t }) tail
+-- parts that are the same one by one are the same
+same_parts : (p q : Parts) → p.level ≡ q.level → p.name ≡ q.name → p.names ≡ q.names → p.prefix ≡ q.prefix → p.field ≡ q.field → p ≡ q
+same_parts p q level name names prefix field =
+    ap (λ (l : Option Level). record p { level = l }) level
+    ∙ ap (λ (w : List ℕ). record p { level = q.level; name = w }) name
+    ∙ ap (λ (ws : List (List ℕ)). record p { level = q.level; name = q.name; names = ws }) names
+    ∙ ap (λ (t : Option Text). record q { prefix = t; field = p.field }) prefix
+    ∙ ap (λ (f : Option (List ℕ)). record q { field = f }) field
 
 -- the bytes of a criterion have one list of parts
 pub one_parts : (p q : Parts) → is_criterion p ≡ true → is_criterion q ≡ true → criterion_text p ≡ criterion_text q → p ≡ q
 one_parts p q good_p good_q same =
-    let all_p = and_parts (is_level p.level && is_all is_name_byte p.name) (is_tail p.tail) good_p in
-    let all_q = and_parts (is_level q.level && is_all is_name_byte q.name) (is_tail q.tail) good_q in
-    let first_p = and_parts (is_level p.level) (is_all is_name_byte p.name) all_p.0 in
-    let first_q = and_parts (is_level q.level) (is_all is_name_byte q.name) all_q.0 in
-    let parts : level_text p.level ++ (p.name ++ tail_text p.tail) ≡ level_text q.level ++ (q.name ++ tail_text q.tail) =
-    sym (append_assoc (level_text p.level) p.name (tail_text p.tail)) ∙ same ∙ append_assoc (level_text q.level) q.name (tail_text q.tail) in
-    let levels = cut_levels p.level q.level p.name q.name (tail_text p.tail) (tail_text q.tail) first_p.0 first_q.0 first_p.1 first_q.1 parts in
-    let names = cut_some is_name_byte p.name q.name (tail_text p.tail) (tail_text q.tail) first_p.1 first_q.1 (tail_ends p.tail) (tail_ends q.tail) levels.1 in
-    same_parts p q levels.0 names.0 (one_tail p.tail q.tail all_p.1 all_q.1 names.1)
+    let g = is_good p good_p in
+    let h = is_good q good_q in
+    let parts = sym (regroup (level_text p.level) (joined_names (names_of p)) (prefix_text p.prefix) (field_text p.field)) ∙ same ∙ regroup (level_text q.level) (joined_names (names_of q)) (prefix_text q.prefix) (field_text q.field) in
+    let levels = cut_levels p.level q.level (joined_names (names_of p) ++ (prefix_text p.prefix ++ field_text p.field)) (joined_names (names_of q) ++ (prefix_text q.prefix ++ field_text q.field)) g.level h.level
+    (name_begins p.name p.names (prefix_text p.prefix ++ field_text p.field) g.names) (name_begins q.name q.names (prefix_text q.prefix ++ field_text q.field) h.names) parts in
+    let names = cut_names p.name q.name p.names q.names p.prefix q.prefix p.field q.field g.names h.names levels.1 in
+    let end = cut_end p.prefix q.prefix p.field q.field g.prefix h.prefix g.field h.field names.rest in
+    same_parts p q levels.0 names.first names.later end.0 end.1

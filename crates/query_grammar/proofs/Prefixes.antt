@@ -6,7 +6,8 @@ use Rattle.std.proofs.Math.Seq.{take-suc}
 use Rattle.std.proofs.lemmas.List.{append-nil}
 use Rattle.query_grammar.specs.declared.mode.Mode.{Mode}
 use Rattle.query_grammar.specs.Lexical.{is_prefix}
-use Rattle.query_grammar.specs.Scanner.{Kept, begins}
+use Rattle.query_grammar.specs.Moves.{Kept}
+use Rattle.query_grammar.specs.Scanner.{begins}
 use Rattle.query_grammar.specs.Munches.{Munches, ends, stops, more}
 
 pub prefix_is : (p w : List ℕ) → starts_with nat_eq w p ≡ is_prefix p w

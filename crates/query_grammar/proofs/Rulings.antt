@@ -6,9 +6,11 @@ use Rattle.query_grammar.specs.declared.mode.Mode.{Mode}
 use Rattle.query_grammar.specs.declared.mode.Mode.TheVariants.{BeforeUnary, AfterCriterion, BeforeOperand, AfterUnary}
 use Rattle.query_grammar.specs.declared.lex.Lex.{Lex}
 use Rattle.query_grammar.specs.declared.lex.Lex.TheVariants.{Begin}
-use Rattle.query_grammar.specs.Lexical.{is_name_byte, lex, is_one_of, words}
+use Rattle.query_grammar.specs.Bytes.{is_name_byte}
+use Rattle.query_grammar.specs.Lexical.{lex, is_one_of, words}
 use Rattle.query_grammar.specs.Grammar.{Token, OperandToken, NotWord, AndWord, OrWord, OpenMark, CloseMark}
-use Rattle.query_grammar.specs.Scanner.{Fault, Syntax, UnknownTag, Number, Pattern, Deep, Kept, AreRules, open_count}
+use Rattle.query_grammar.specs.Moves.{Kept, open_count}
+use Rattle.query_grammar.specs.Scanner.{Fault, Syntax, UnknownTag, Number, Pattern, Deep, AreRules}
 use Rattle.query_grammar.specs.Criterion.{operand_meaning}
 use Rattle.query_grammar.specs.Judging.{name_fault, names_fault, behind_level, tags_fault, number, level_fault, is_field_open, field_value, field_fault, criterion_fault, numeric_operators, pattern_operators, operand_fault, test_fault, cut_fault, rules_of}
 use Rattle.query_grammar.proofs.Tokens.{Judge, passes, Judges, none_is}

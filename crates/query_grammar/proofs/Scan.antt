@@ -6,9 +6,10 @@ use Rattle.std.proofs.lemmas.List.{append-nil}
 use Rattle.query_grammar.specs.declared.mode.Mode.{Mode}
 use Rattle.query_grammar.specs.declared.mode.Mode.TheVariants.{BeforeUnary, AfterCriterion, BeforeOperand, AfterUnary}
 use Rattle.query_grammar.specs.Step.{Step}
-use Rattle.query_grammar.specs.Lexical.{is_blank}
+use Rattle.query_grammar.specs.Bytes.{is_blank}
 use Rattle.query_grammar.specs.Grammar.{Token, CriterionToken, OperatorToken, OperandToken, NotWord, AndWord, OrWord, OpenMark, CloseMark, token_text, is_token, is_ended, IsLaid, nothing, blank, token}
-use Rattle.query_grammar.specs.Scanner.{Fault, ◌>>=◌, Kept, State, Rules, Spot, begins, whole, taken, last, unless_fault, place_after, token_taken, token_done, fresh, step_in, last_done, finish_in, run}
+use Rattle.query_grammar.specs.Moves.{Kept, State, taken, last}
+use Rattle.query_grammar.specs.Scanner.{Fault, ◌>>=◌, Rules, Spot, begins, whole, unless_fault, place_after, token_taken, token_done, fresh, step_in, last_done, finish_in, run}
 use Rattle.query_grammar.proofs.Tokens.{Judge, passes, Judges, taken_all, and_then, and_then_some, if_some, none_is}
 use Rattle.query_grammar.proofs.Marks.{fits, grows, over, no_blank, Known, NoMore, is_known}
 

@@ -3,10 +3,11 @@ use Rattle.std.proofs.Common.{◌≡◌, ℕ, ◌+◌, List, [], ◌∷◌, ◌+
 use Rattle.std.proofs.lemmas.Bool.{cond_both}
 use Rattle.query_grammar.specs.declared.mode.Mode.TheVariants.{BeforeUnary}
 use Rattle.query_grammar.specs.Step.{Step}
-use Rattle.query_grammar.specs.Lexical.{is_blank}
+use Rattle.query_grammar.specs.Bytes.{is_blank}
 use Rattle.query_grammar.specs.Grammar.{Token, Written, tokens_of, IsLaid, IsQuery, IsDead, StopsAt}
 use Rattle.query_grammar.specs.Steps.{steps_of}
-use Rattle.query_grammar.specs.Scanner.{Fault, Syntax, ◌>>=◌, State, free, Spot, begins, whole, taken, last, token_taken, token_done, fresh, step_in, step, last_done, finish_in, run, start, begin}
+use Rattle.query_grammar.specs.Moves.{State, taken, last, start}
+use Rattle.query_grammar.specs.Scanner.{Fault, Syntax, ◌>>=◌, free, Spot, begins, whole, token_taken, token_done, fresh, step_in, step, last_done, finish_in, run, begin}
 use Rattle.query_grammar.proofs.Lexing.{is_plain}
 use Rattle.query_grammar.proofs.Scan.{no_out}
 use Rattle.query_grammar.proofs.Ends.{IsBegun, alive}

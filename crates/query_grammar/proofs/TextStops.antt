@@ -7,10 +7,11 @@ use Rattle.std.proofs.lemmas.List.{append-nil}
 use Rattle.std.proofs.lemmas.List.Splits.{slice_split-cons_no}
 use Rattle.query_grammar.specs.declared.mode.Mode.TheVariants.{BeforeUnary}
 use Rattle.query_grammar.specs.Step.{Step}
-use Rattle.query_grammar.specs.Lexical.{is_blank}
+use Rattle.query_grammar.specs.Bytes.{is_blank}
 use Rattle.query_grammar.specs.Grammar.{IsDead, StopsAt}
 use Rattle.query_grammar.specs.Steps.{steps_of}
-use Rattle.query_grammar.specs.Scanner.{Fault, Syntax, ◌>>=◌, free, begins, run, start, begin}
+use Rattle.query_grammar.specs.Moves.{start}
+use Rattle.query_grammar.specs.Scanner.{Fault, Syntax, ◌>>=◌, free, begins, run, begin}
 use Rattle.query_grammar.specs.Lines.{is_passed, lines_of, IsText, joined_steps, ended_lines, read_lines}
 use Rattle.query_grammar.proofs.Lexing.{is_plain, plain_append, plain_parts}
 use Rattle.query_grammar.proofs.Marks.{no_blank}

@@ -6,7 +6,8 @@ use Rattle.query_grammar.specs.declared.mode.Mode.{Mode}
 use Rattle.query_grammar.specs.declared.mode.Mode.TheVariants.{BeforeUnary, AfterCriterion, BeforeOperand}
 use Rattle.query_grammar.specs.Step.{Step}
 use Rattle.query_grammar.specs.Grammar.{Token, OperandToken, NotWord, AndWord, OrWord, OpenMark, CloseMark}
-use Rattle.query_grammar.specs.Scanner.{Fault, Kept, Rules, State, free, open_count, taken, last}
+use Rattle.query_grammar.specs.Moves.{Kept, State, open_count, taken, last}
+use Rattle.query_grammar.specs.Scanner.{Fault, Rules, free}
 
 -- which criteria may stand alone, which comparisons may stand, and whether one more may be open where so many are
 pub record Judge : Type 0 where

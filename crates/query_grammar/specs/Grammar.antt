@@ -1,7 +1,8 @@
 -- What a query is: how it is grouped, which tokens it has, and how they lie in a line.
 use Rattle.std.specs.Prelude.{◌≡◌, ℕ, Bool, true, false, ◌&&◌, ◌||◌, not, List, [], ◌∷◌, ◌++◌, length, codes}
 use Rattle.query_grammar.specs.declared.lex.Lex.TheVariants.{Begin}
-use Rattle.query_grammar.specs.Lexical.{operand_begin, is_blank, begins_from, whole_from, is_one_of, begins_one_of, operators, words, ends_word}
+use Rattle.query_grammar.specs.Bytes.{is_blank}
+use Rattle.query_grammar.specs.Lexical.{operand_begin, begins_from, whole_from, is_one_of, begins_one_of, operators, words, ends_word}
 
 -- ---- tokens
 

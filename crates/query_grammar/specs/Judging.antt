@@ -5,10 +5,12 @@ use Rattle.query_grammar.specs.declared.mode.Mode.{Mode}
 use Rattle.query_grammar.specs.declared.mode.Mode.TheVariants.{BeforeUnary, AfterCriterion, BeforeOperand, AfterUnary}
 use Rattle.query_grammar.specs.declared.lex.Lex.{Lex}
 use Rattle.query_grammar.specs.declared.lex.Lex.TheVariants.{Begin, FieldOpen}
-use Rattle.query_grammar.specs.Lexical.{is_digit, is_name_byte, lex, is_one_of, words}
+use Rattle.query_grammar.specs.Bytes.{is_digit, is_name_byte}
+use Rattle.query_grammar.specs.Lexical.{lex, is_one_of, words}
 use Rattle.query_grammar.specs.Criterion.{operand_meaning}
 use Rattle.query_grammar.specs.Grammar.{Token, OperandToken, NotWord, AndWord, OrWord, OpenMark, CloseMark}
-use Rattle.query_grammar.specs.Scanner.{Fault, UnknownTag, Number, Pattern, Deep, Kept, Rules, open_count}
+use Rattle.query_grammar.specs.Moves.{Kept, open_count}
+use Rattle.query_grammar.specs.Scanner.{Fault, UnknownTag, Number, Pattern, Deep, Rules}
 
 -- a name and its place, where one is
 abbrev pub name_fault : (List ℕ → Bool) → ℕ → List ℕ → Option Fault

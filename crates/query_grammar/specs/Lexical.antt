@@ -1,64 +1,13 @@
 -- The tokens of a query, byte by byte.
-use Rattle.std.specs.Prelude.{ℕ, suc, Bool, true, false, ◌&&◌, ◌||◌, ◌==◌, nat_le, if◌then◌else◌, List, [], ◌∷◌, Option, Some, None, codes}
+use Rattle.std.specs.Prelude.{ℕ, suc, Bool, true, false, ◌&&◌, ◌||◌, ◌==◌, if◌then◌else◌, List, [], ◌∷◌, Option, Some, None, codes}
 use Rattle.std.specs.List.{list_any}
 use Rattle.std.specs.Str.{bytes_eq}
-use Rattle.query_grammar.specs.declared.lex.Quote.{Quote}
 use Rattle.query_grammar.specs.declared.lex.Quote.TheVariants.{Double, Single}
+use Rattle.query_grammar.specs.Bytes.{is_blank, is_digit, is_name_byte, is_word_byte, open_brace, close_brace, plus, minus, comma, colon, open_bracket, close_bracket, double_quote, single_quote, backslash, is_quote, quote_byte}
 use Rattle.query_grammar.specs.declared.lex.Part.{Part}
 use Rattle.query_grammar.specs.declared.lex.Part.TheVariants.{Prefix, Operand}
 use Rattle.query_grammar.specs.declared.lex.Lex.{Lex}
 use Rattle.query_grammar.specs.declared.lex.Lex.TheVariants.{Begin, LevelOpen, Level, LevelSign, NameNext, InName, TextNext, InWord, InQuote, Escape, TextDone, FieldOpen, Field, Done}
-
--- space, tab, carriage return
-abbrev pub is_blank : ℕ → Bool
-is_blank c = (c == 32) || (c == 9) || (c == 13)
-
--- a decimal digit
-abbrev pub is_digit : ℕ → Bool
-is_digit c = nat_le 48 c && nat_le c 57
-
--- letters, digits, `_` and `*`
-abbrev pub is_name_byte : ℕ → Bool
-is_name_byte c = (nat_le 97 c && nat_le c 122) || (nat_le 65 c && nat_le c 90) || is_digit c || (c == 95) || (c == 42)
-
--- and `+`, `-` and `.`
-abbrev pub is_word_byte : ℕ → Bool
-is_word_byte c = is_name_byte c || (c == 43) || (c == 45) || (c == 46)
-
--- the bytes between the parts of a criterion
-abbrev pub open_brace : ℕ
-open_brace = 123
-abbrev pub close_brace : ℕ
-close_brace = 125
-abbrev pub plus : ℕ
-plus = 43
-abbrev pub minus : ℕ
-minus = 45
-abbrev pub comma : ℕ
-comma = 44
-abbrev pub colon : ℕ
-colon = 58
-abbrev pub open_bracket : ℕ
-open_bracket = 91
-abbrev pub close_bracket : ℕ
-close_bracket = 93
-
--- the bytes of a text in quotes
-abbrev pub double_quote : ℕ
-double_quote = 34
-abbrev pub single_quote : ℕ
-single_quote = 39
-abbrev pub backslash : ℕ
-backslash = 92
-
--- a byte that opens or closes a text in quotes
-abbrev pub is_quote : ℕ → Bool
-is_quote c = (c == double_quote) || (c == single_quote)
-
--- the byte of a kind of quote
-abbrev pub quote_byte : Quote → ℕ
-quote_byte Double = double_quote
-quote_byte Single = single_quote
 
 -- a state where a test holds, or what comes else
 abbrev pub lex_if : Bool → Lex → Option Lex → Option Lex

@@ -1,7 +1,9 @@
+pub mod Bytes
 pub mod Lexical
 pub mod Criterion
 pub mod Grammar
 pub mod Steps
+pub mod Moves
 pub mod Scanner
 pub mod Judging
 pub mod Fine

@@ -4,7 +4,7 @@ use Rattle.std.specs.Bool.{MatchBool}
 use Rattle.std.specs.List.{slice_split}
 use Rattle.query_grammar.specs.Step.{Step}
 use Rattle.query_grammar.specs.declared.step.StepOver.TheVariants as steps
-use Rattle.query_grammar.specs.Lexical.{is_blank}
+use Rattle.query_grammar.specs.Bytes.{is_blank}
 use Rattle.query_grammar.specs.Grammar.{Written, Or, IsQuery}
 use Rattle.query_grammar.specs.Scanner.{Fault, Syntax, ◌>>=◌, Rules, run, begin}
 

@@ -1,7 +1,8 @@
 -- As many bytes as begin a token.
 use Rattle.std.specs.Prelude.{◌≡◌, ℕ, true, false, List, [], ◌∷◌, ◌++◌}
 use Rattle.query_grammar.specs.declared.mode.Mode.{Mode}
-use Rattle.query_grammar.specs.Scanner.{Kept, begins}
+use Rattle.query_grammar.specs.Moves.{Kept}
+use Rattle.query_grammar.specs.Scanner.{begins}
 
 -- bytes that go on from what has begun, and then one that doesn't, or the end
 pub data Munches (m : Mode) (k : Kept) : List ℕ → List ℕ → List ℕ → Type 0 where

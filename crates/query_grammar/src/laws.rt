@@ -5,8 +5,9 @@ ghost use Rattle.std.specs.Str.{IsUtf8};
 ghost use Rattle.std.specs.List.{list_all};
 ghost use Rattle.query_grammar.specs.Step.{Step, TestParts};
 ghost use Rattle.query_grammar.specs.declared.lex.Lex.TheVariants.{Begin};
-ghost use Rattle.query_grammar.specs.Lexical.{operand_begin, whole_from, is_name_byte};
-ghost use Rattle.query_grammar.specs.Criterion.{is_all, Level, is_level, is_some_text, is_field, Parts, criterion_text, is_criterion, level_text, names_of, joined_names, prefix_of, prefix_text, field_of, field_text, Text, text_of, is_text, meant_by, operand_meaning};
+ghost use Rattle.query_grammar.specs.Bytes.{is_name_byte};
+ghost use Rattle.query_grammar.specs.Lexical.{operand_begin, whole_from};
+ghost use Rattle.query_grammar.specs.Criterion.{is_all, Level, is_level, is_some_text, is_field, Parts, criterion_text, is_criterion, level_text, names_of, joined_names, prefix_text, field_text, Text, text_of, is_text, meant_by, operand_meaning};
 ghost use Rattle.query_grammar.specs.Grammar.{Written, IsQuery, StopsAt};
 ghost use Rattle.query_grammar.specs.Judging.{rules_of};
 ghost use Rattle.query_grammar.specs.Fine.{IsFine, IsFineText};
@@ -37,9 +38,9 @@ pub fn token_bytes()
     ensures criterion_only { (w : List ℕ) → whole_from Begin w ≡ true → (p : Parts) × (is_criterion p ≡ true) × (criterion_text p ≡ w) }
     ensures operand { (t : Text) → is_text t ≡ true → whole_from operand_begin (text_of t) ≡ true }
     ensures operand_only { (w : List ℕ) → whole_from operand_begin w ≡ true → (t : Text) × (is_text t ≡ true) × (text_of t ≡ w) }
-    ensures parts { (p : Parts) → criterion_text p ≡ level_text p.level ++ joined_names (names_of p) ++ prefix_text (prefix_of p) ++ field_text (field_of p) }
-    ensures parts_good { (p : Parts) → is_criterion p ≡ (is_level p.level && list_all (is_all is_name_byte) (names_of p) && is_some_text (prefix_of p) && is_field (field_of p)) }
-    ensures parts_any { (level : Option Level) (name : List ℕ) (names : List (List ℕ)) (prefix : Option Text) (field : Option (List ℕ)) → (p : Parts) × (p.level ≡ level) × (names_of p ≡ name ∷ names) × (prefix_of p ≡ prefix) × (field_of p ≡ field) }
+    ensures parts { (p : Parts) → criterion_text p ≡ level_text p.level ++ joined_names (names_of p) ++ prefix_text p.prefix ++ field_text p.field }
+    ensures parts_good { (p : Parts) → is_criterion p ≡ (is_level p.level && list_all (is_all is_name_byte) (names_of p) && is_some_text p.prefix && is_field p.field) }
+    ensures parts_any { (level : Option Level) (name : List ℕ) (names : List (List ℕ)) (prefix : Option Text) (field : Option (List ℕ)) → (p : Parts) × (p.level ≡ level) × (names_of p ≡ name ∷ names) × (p.prefix ≡ prefix) × (p.field ≡ field) }
     ensures one_criterion { (p q : Parts) → is_criterion p ≡ true → is_criterion q ≡ true → criterion_text p ≡ criterion_text q → p ≡ q }
     ensures one_operand { (t u : Text) → is_text t ≡ true → is_text u ≡ true → text_of t ≡ text_of u → t ≡ u }
     ensures meaning { (t : Text) → is_text t ≡ true → operand_meaning (text_of t) ≡ meant_by t }

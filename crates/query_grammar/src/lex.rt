@@ -1,7 +1,8 @@
 //! The bytes of a criterion and of an operand.
 
 ghost use Rattle.std.specs.Prelude.{◌≡◌};
-ghost use Rattle.query_grammar.specs.Lexical.{is_name_byte, is_word_byte, lex, lex_along, quote_byte};
+ghost use Rattle.query_grammar.specs.Bytes.{is_name_byte, is_word_byte, quote_byte};
+ghost use Rattle.query_grammar.specs.Lexical.{lex, lex_along};
 
 /// A kind of quote.
 #[derive(Clone, Copy, Debug, PartialEq, Eq)]

@@ -7,7 +7,8 @@ use Rattle.std.proofs.lemmas.List.{append-nil}
 use Rattle.std.proofs.lemmas.Bool.{and_from, cond_both, cond-true, cond-false}
 use Rattle.query_grammar.specs.declared.lex.Lex.{Lex}
 use Rattle.query_grammar.specs.declared.lex.Lex.TheVariants.{Begin, FieldOpen}
-use Rattle.query_grammar.specs.Lexical.{is_name_byte, lex}
+use Rattle.query_grammar.specs.Bytes.{is_name_byte}
+use Rattle.query_grammar.specs.Lexical.{lex}
 use Rattle.query_grammar.specs.Scanner.{Fault}
 use Rattle.query_grammar.specs.Judging.{name_fault, names_fault, behind_level, is_field_open, field_fault, field_value}
 use Rattle.query_parser.specs.declared.criterion.Kind.TheVariants.{InLevel}

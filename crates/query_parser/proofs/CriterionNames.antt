@@ -13,7 +13,7 @@ use Rattle.vsl_tags.specs.TagSet.{comma, elements, matches_any, first_fault, fir
 use Rattle.vsl_tags.specs.declared.tag_set.TagSet.{TagSet}
 use Rattle.vsl_tags.specs.declared.tag_set.TagFault.{TagFault}
 use Rattle.vsl_tags.specs.declared.tag_set.TagFault.TheVariants.{Unknown}
-use Rattle.query_grammar.specs.Lexical.{is_name_byte}
+use Rattle.query_grammar.specs.Bytes.{is_name_byte}
 use Rattle.query_parser.specs.declared.criterion.Kind.TheVariants.{Names}
 use Rattle.query_parser.specs.inside.Pieces.{is_of}
 

@@ -8,22 +8,24 @@ use Rattle.std.specs.Str.Parse.{digits_value, digits_value_after}
 use Rattle.std.proofs.Math.Seq.{take-append_seam, drop-append_seam, drop-append-add}
 use Rattle.std.proofs.lemmas.List.{append-nil}
 use Rattle.std.proofs.lemmas.List.Folds.{list_all-append}
-use Rattle.std.proofs.lemmas.Bool.{and_parts, and_from, cond_both, cond-true, cond-false}
+use Rattle.std.proofs.lemmas.Bool.{and_parts, and_from, cond_both, cond-true, cond-false, not-true}
 use Rattle.std.proofs.lemmas.Bool.Decides.{nat_tests}
 use Rattle.vsl_tags.specs.TagSet.{elements, matches_any, element_fault, first_fault, first_fault_from}
 use Rattle.vsl_tags.specs.declared.tag_set.TagFault.{TagFault}
 use Rattle.query_grammar.specs.declared.lex.Lex.{Lex}
 use Rattle.query_grammar.specs.declared.lex.Part.TheVariants.{Prefix}
 use Rattle.query_grammar.specs.declared.lex.Lex.TheVariants.{Begin, InName, InWord, TextDone, FieldOpen, Field, Done}
-use Rattle.query_grammar.specs.Lexical.{is_digit, is_name_byte, lex, lex_if, lexed, lexed_from, is_last, whole_from}
+use Rattle.query_grammar.specs.Bytes.{is_digit, is_name_byte}
+use Rattle.query_grammar.specs.Lexical.{lex, lex_if, lexed, lexed_from, is_last, whole_from}
 use Rattle.query_grammar.specs.Criterion as written
-use Rattle.query_grammar.specs.Criterion.{is_all, LevelSign, OrMore, OrLess, sign_text, level_text, is_level, Text, Parts, criterion_text, is_criterion, names_behind, names_of, joined_names, prefix_of, prefix_text, is_some_text, field_of, field_text, is_field, meant_by}
+use Rattle.query_grammar.specs.Criterion.{is_all, LevelSign, OrMore, OrLess, sign_text, level_text, is_level, Text, Parts, criterion_text, is_criterion, names_of, joined_names, prefix_text, is_some_text, field_text, is_field, meant_by}
 use Rattle.query_grammar.specs.Scanner.{Fault, UnknownTag, Number}
 use Rattle.query_grammar.specs.Judging.{number, name_fault, names_fault, behind_level, tags_fault, level_fault, is_field_open, field_value, field_fault, criterion_fault}
 use Rattle.query_grammar.proofs.Lexing.{lexed-append}
-use Rattle.query_grammar.proofs.Levels.{criterion_taken, criterion_from}
+use Rattle.query_grammar.proofs.Levels.{begins_there, name_begins, regroup, is_good, criterion_taken, criterion_from}
+use Rattle.query_grammar.proofs.OneParts.{ends_there, no_name_brace, sign_ends, level_bytes}
+use Rattle.query_grammar.proofs.Fine.{or_else_none}
 use Rattle.query_grammar.proofs.Meanings.{meaning_is}
-use Rattle.query_grammar.proofs.SeenParts.{criterion_seen, criterion_good, any_parts}
 use Rattle.query_parser.specs.declared.criterion.Kind.TheVariants.{Names, InLevel}
 use Rattle.query_parser.specs.declared.test.Bound.{Bound}
 use Rattle.query_parser.specs.Meant.{bound_of, level_meant, field_meant}
@@ -33,20 +35,10 @@ use Rattle.query_parser.proofs.CriterionNames.{name_in_names, one_element, first
 
 -- ---- bytes of a kind
 
--- bytes don't begin with one that passes
-abbrev pub ends_there : (ℕ → Bool) → List ℕ → Bool
-ends_there test [] = true
-ends_there test (c ∷ w) = not (test c)
-
--- what is not true is false
-not_true : (b : Bool) → not b ≡ true → b ≡ false
-not_true true e = absurd cc
-not_true false e = refl
-
 -- none of the first bytes pass where the first does not
 leading_none : (test : ℕ → Bool) (v : List ℕ) → ends_there test v ≡ true → leading test v ≡ 0
 leading_none test [] e = refl
-leading_none test (c ∷ v) e = cond-false (test c) _ _ (not_true (test c) e)
+leading_none test (c ∷ v) e = cond-false (test c) _ _ (not-true (test c) e)
 
 -- bytes that pass, and then one that doesn't
 leading_is : (test : ℕ → Bool) (w v : List ℕ) → list_all test w ≡ true → ends_there test v ≡ true → leading test (w ++ v) ≡ length w
@@ -72,7 +64,7 @@ digit_is n c e = grind (arith, nat_tests)
 -- a number ends where no digit follows
 number_none : (n : ℕ) (v : List ℕ) → ends_there is_digit v ≡ true → number n v ≡ n
 number_none n [] e = refl
-number_none n (c ∷ v) e = cond-false (is_digit c) _ _ (not_true (is_digit c) e)
+number_none n (c ∷ v) e = cond-false (is_digit c) _ _ (not-true (is_digit c) e)
 
 -- the same behind digits that were read
 number_from : (n : ℕ) (w v : List ℕ) → list_all is_digit w ≡ true → ends_there is_digit v ≡ true → number n (w ++ v) ≤ 9999 → number n (w ++ v) ≡ digits_value_after 10 n w
@@ -98,15 +90,6 @@ number_is w v all ends most = number_from 0 w v all ends most
 
 -- ---- a level
 
--- bytes begin with one that passes
-abbrev pub begins_there : (ℕ → Bool) → List ℕ → Bool
-begins_there test [] = false
-begins_there test (c ∷ w) = test c
-
--- a byte of a name is no brace
-no_brace : (c : ℕ) → is_name_byte c ≡ true → (c == 123) ≡ false
-no_brace c e = grind (arith, nat_tests)
-
 -- a digit does not close a level
 digit_open : (c : ℕ) → is_digit c ≡ true → is_of InLevel c ≡ true
 digit_open c e = grind (arith, nat_tests)
@@ -124,21 +107,11 @@ sign_open None = refl
 sign_open (Some OrMore) = refl
 sign_open (Some OrLess) = refl
 
--- behind the digits of a level stands no digit
-sign_ends : (s : Option LevelSign) (a : List ℕ) → ends_there is_digit (sign_text s ++ 125 ∷ a) ≡ true
-sign_ends None a = refl
-sign_ends (Some OrMore) a = refl
-sign_ends (Some OrLess) a = refl
-
 -- what stands behind the digits says the bound
 sign_bound : (s : Option LevelSign) (a : List ℕ) → bound_at (sign_text s ++ 125 ∷ a) ≡ bound_of s
 sign_bound None a = refl
 sign_bound (Some OrMore) a = refl
 sign_bound (Some OrLess) a = refl
-
--- the bytes of a level, and what stands behind them
-level_bytes : (l : written.Level) (a : List ℕ) → level_text (Some l) ++ a ≡ 123 ∷ (l.digits ++ (sign_text l.operator ++ 125 ∷ a))
-level_bytes l a = simp append_assoc
 
 -- there is no fault only where the test fails
 none_else : (b : Bool) (f : Fault) → cond b (Some f) None ≡ None → b ≡ false
@@ -174,19 +147,19 @@ brace_cut l a good =
 -- the level is read where it is no greater than it may be
 level_is : (level : Option written.Level) (a b : List ℕ) → is_level level ≡ true → begins_there is_name_byte a ≡ true → level_fault 0 (level_text level ++ b) ≡ None → first_level (level_text level ++ a) ≡ level_meant level
 level_is None [] b good begins fine = absurd cc
-level_is None (c ∷ a) b good begins fine = cond-false (c == 123) _ _ (no_brace c begins)
+level_is None (c ∷ a) b good begins fine = cond-false (c == 123) _ _ (no_name_brace c begins)
 level_is (Some l) a b good begins fine = level_some l a b good fine
 
 -- the names stand behind the level
 rest_is : (level : Option written.Level) (a : List ℕ) → is_level level ≡ true → begins_there is_name_byte a ≡ true → level_rest (level_text level ++ a) ≡ a
 rest_is None [] good begins = absurd cc
-rest_is None (c ∷ a) good begins = cond-false (c == 123) _ _ (no_brace c begins)
+rest_is None (c ∷ a) good begins = cond-false (c == 123) _ _ (no_name_brace c begins)
 rest_is (Some l) a good begins = ap level_rest (level_bytes l a) ∙ ap without_first (brace_cut l a good)
 
 -- names without a fault stand behind the level
 tags_behind : (is_tag : List ℕ → Bool) (level : Option written.Level) (a : List ℕ) → is_level level ≡ true → begins_there is_name_byte a ≡ true → tags_fault is_tag 0 (level_text level ++ a) ≡ None → (at : ℕ) × (names_fault is_tag at at [] a ≡ None)
 tags_behind is_tag None [] good begins fine = absurd cc
-tags_behind is_tag None (c ∷ a) good begins fine = (0, sym (cond-false (c == 123) _ _ (no_brace c begins)) ∙ fine)
+tags_behind is_tag None (c ∷ a) good begins fine = (0, sym (cond-false (c == 123) _ _ (no_name_brace c begins)) ∙ fine)
 tags_behind is_tag (Some l) a good begins fine =
     let w = l.digits ++ (sign_text l.operator ++ 125 ∷ a) in
     let found : behind_level is_tag (0 + 1) w ≡ None = ap (tags_fault is_tag 0) (sym (level_bytes l a)) ∙ fine in
@@ -206,11 +179,6 @@ joined_all (name ∷ other ∷ names) e =
     let good = and_parts (nat_lt 0 (length name)) (list_all is_name_byte name) both.0 in
     list_all-append (is_of Names) name (44 ∷ joined_names (other ∷ names)) ∙ and_from _ _ (name_in_names name good.1) (joined_all (other ∷ names) both.1)
 
--- there is no first fault only where there is none of the two
-or_nones : (o p : Option Fault) → option_or o p ≡ None → (o ≡ None) × (p ≡ None)
-or_nones None p e = (refl, e)
-or_nones (Some f) p e = absurd cc
-
 -- there is no fault only where the test passes
 tag_passes : (b : Bool) (f : Fault) → cond b None (Some f) ≡ None → b ≡ true
 tag_passes true f e = refl
@@ -225,7 +193,7 @@ element_fine at k (c ∷ name) good fine = cond-true (matches_any (c ∷ name)) 
 first_fine : (at : ℕ) (name v : List ℕ) → is_all is_name_byte name ≡ true → ends_there is_name_byte v ≡ true → names_fault matches_any at at [] (name ++ v) ≡ None → (name_fault matches_any at name ≡ None) × (behind_comma matches_any (at + length name) v ≡ None)
 first_fine at name v good ends fine =
     let all = (and_parts (nat_lt 0 (length name)) (list_all is_name_byte name) good).1 in
-    let both = or_nones _ _ (sym (names_is matches_any at (name ++ v)) ∙ fine) in (
+    let both = or_else_none _ _ (sym (names_is matches_any at (name ++ v)) ∙ fine) in (
       ap (name_fault matches_any at) (sym (take_leading is_name_byte name v all ends)) ∙ both.0,
       ap (λ (w : List ℕ). behind_comma matches_any (at + length name) w) (sym (drop_leading is_name_byte name v all ends))
           ∙ ap (λ (m : ℕ). behind_comma matches_any (at + m) (drop (leading is_name_byte (name ++ v)) (name ++ v))) (sym (leading_is is_name_byte name v all ends))
@@ -326,31 +294,13 @@ opens_from (Some (InWord Prefix)) e f = record { state = InWord Prefix; is = ref
 opens_from (Some (TextDone Prefix)) e f = record { state = TextDone Prefix; is = refl; opens = refl; before = refl }
 opens_from _ e f = absurd cc
 
--- whether level, names, prefix and field are as they are written
-abbrev are_good : Option written.Level → List (List ℕ) → Option Text → Option (List ℕ) → Bool
-are_good level names prefix field = is_level level && list_all (is_all is_name_byte) names && is_some_text prefix && is_field field
-
--- level, names, prefix and field, one behind the other
-abbrev one_behind : Option written.Level → List (List ℕ) → Option Text → Option (List ℕ) → List ℕ
-one_behind level names prefix field = level_text level ++ joined_names names ++ prefix_text prefix ++ field_text field
-
 -- what stands before the field
 abbrev pub front_of : Parts → List ℕ
-front_of p = level_text p.level ++ joined_names (names_of p) ++ prefix_text (prefix_of p)
-
--- equal arguments give equal values
-same_four : {A B C D E : Type 0} (f : A → B → C → D → E) (a a2 : A) (b b2 : B) (c c2 : C) (d d2 : D) → a ≡ a2 → b ≡ b2 → c ≡ c2 → d ≡ d2 → f a b c d ≡ f a2 b2 c2 d2
-same_four {A} {B} {C} {D} f a a2 b b2 c c2 d d2 e g h i = ap (λ (x : A). f x b c d) e ∙ ap (λ (x : B). f a2 x c d) g ∙ ap (λ (x : C). f a2 b2 x d) h ∙ ap (λ (x : D). f a2 b2 c2 x) i
+front_of p = level_text p.level ++ joined_names (names_of p) ++ prefix_text p.prefix
 
 -- any field may stand behind the front
 any_field : (p : Parts) (field : Option (List ℕ)) → is_criterion p ≡ true → is_field field ≡ true → is_last (lexed Begin (front_of p ++ field_text field)) ≡ true
-any_field p field good good_field =
-    let h = any_parts p.level p.name (names_behind p.tail) (prefix_of p) field in
-    let front_good = (and_parts (is_level p.level && list_all (is_all is_name_byte) (names_of p) && is_some_text (prefix_of p)) (is_field (field_of p)) (sym (criterion_good p) ∙ good)).0 in
-    let whole : are_good p.level (names_of p) (prefix_of p) field ≡ true = and_from _ _ front_good good_field in
-    let good_too : is_criterion h.0 ≡ true = criterion_good h.0 ∙ same_four are_good h.0.level p.level (names_of h.0) (names_of p) (prefix_of h.0) (prefix_of p) (field_of h.0) field h.1 h.2 h.3 h.4 ∙ whole in
-    let text : criterion_text h.0 ≡ front_of p ++ field_text field = criterion_seen h.0 ∙ same_four one_behind h.0.level p.level (names_of h.0) (names_of p) (prefix_of h.0) (prefix_of p) (field_of h.0) field h.1 h.2 h.3 h.4 in
-    ap (whole_from Begin) (sym text) ∙ criterion_taken h.0 good_too
+any_field p field good good_field = criterion_taken (record p { field = field }) (and_from _ _ (and_parts _ _ good).0 good_field)
 
 -- behind the front a field may begin
 front_opens : (p : Parts) → is_criterion p ≡ true → Opens (lexed Begin (front_of p))
@@ -415,12 +365,12 @@ field_number_is p (Some digits) good good_field fine =
 -- what is cut from a criterion's text is what its parts mean
 pub record IsCut (p : Parts) (text : List ℕ) : Type 0 where
   pub front : before_field (bracket text) text ≡ front_of p
-  pub field : field_number (bracket text) text ≡ field_meant (field_of p)
+  pub field : field_number (bracket text) text ≡ field_meant p.field
   pub level : first_level (front_of p) ≡ level_meant p.level
-  pub rest : level_rest (front_of p) ≡ joined_names (names_of p) ++ prefix_text (prefix_of p)
-  pub names : take (leading (is_of Names) (joined_names (names_of p) ++ prefix_text (prefix_of p))) (joined_names (names_of p) ++ prefix_text (prefix_of p)) ≡ joined_names (names_of p)
-  pub prefix : drop (leading (is_of Names) (joined_names (names_of p) ++ prefix_text (prefix_of p))) (joined_names (names_of p) ++ prefix_text (prefix_of p)) ≡ prefix_text (prefix_of p)
-  pub meant : prefix_at (prefix_text (prefix_of p)) ≡ option_map meant_by (prefix_of p)
+  pub rest : level_rest (front_of p) ≡ joined_names (names_of p) ++ prefix_text p.prefix
+  pub names : take (leading (is_of Names) (joined_names (names_of p) ++ prefix_text p.prefix)) (joined_names (names_of p) ++ prefix_text p.prefix) ≡ joined_names (names_of p)
+  pub prefix : drop (leading (is_of Names) (joined_names (names_of p) ++ prefix_text p.prefix)) (joined_names (names_of p) ++ prefix_text p.prefix) ≡ prefix_text p.prefix
+  pub meant : prefix_at (prefix_text p.prefix) ≡ option_map meant_by p.prefix
   pub all : list_all (is_of Names) (joined_names (names_of p)) ≡ true
   pub fine : first_fault (joined_names (names_of p)) ≡ None
 
@@ -440,48 +390,33 @@ behind_ends None None = refl
 behind_ends None (Some digits) = refl
 behind_ends (Some t) field = refl
 
--- a criterion without its level begins with a byte of a name
-name_begins : (name : List ℕ) (more : List (List ℕ)) (v : List ℕ) → is_all is_name_byte name ≡ true → begins_there is_name_byte (joined_names (name ∷ more) ++ v) ≡ true
-name_begins [] more v good = absurd cc
-name_begins (c ∷ name) [] v good = (and_parts (is_name_byte c) (list_all is_name_byte name) (and_parts (nat_lt 0 (length (c ∷ name))) (list_all is_name_byte (c ∷ name)) good).1).0
-name_begins (c ∷ name) (other ∷ more) v good = (and_parts (is_name_byte c) (list_all is_name_byte name) (and_parts (nat_lt 0 (length (c ∷ name))) (list_all is_name_byte (c ∷ name)) good).1).0
-
--- four lists, one behind the other
-regroup : (a b c d : List ℕ) → a ++ b ++ c ++ d ≡ a ++ (b ++ (c ++ d))
-regroup a b c d = simp append_assoc
-
 -- the text of a criterion without a fault is cut into what its parts mean
-criterion_cut : (p : Parts) → is_criterion p ≡ true → criterion_fault matches_any 0 (front_of p ++ field_text (field_of p)) ≡ None → IsCut p (front_of p ++ field_text (field_of p))
+criterion_cut : (p : Parts) → is_criterion p ≡ true → criterion_fault matches_any 0 (front_of p ++ field_text p.field) ≡ None → IsCut p (front_of p ++ field_text p.field)
 criterion_cut p good fine =
     let names = joined_names (names_of p) in
-    let prefix = prefix_text (prefix_of p) in
-    let field = field_text (field_of p) in
+    let prefix = prefix_text p.prefix in
+    let field = field_text p.field in
     let level = level_text p.level in
-    let whole : (is_level p.level && list_all (is_all is_name_byte) (names_of p) && is_some_text (prefix_of p) && is_field (field_of p)) ≡ true = sym (criterion_good p) ∙ good in
-    let parts = and_parts _ _ whole in
-    let more = and_parts _ _ parts.0 in
-    let most = and_parts _ _ more.0 in
-    let faults = or_nones (tags_fault matches_any 0 (front_of p ++ field)) (option_or (level_fault 0 (front_of p ++ field)) (field_fault 0 (Some Begin) (front_of p ++ field))) fine in
-    let numbers = or_nones (level_fault 0 (front_of p ++ field)) (field_fault 0 (Some Begin) (front_of p ++ field)) faults.1 in
+    let is = is_good p good in
+    let faults = or_else_none (tags_fault matches_any 0 (front_of p ++ field)) (option_or (level_fault 0 (front_of p ++ field)) (field_fault 0 (Some Begin) (front_of p ++ field))) fine in
+    let numbers = or_else_none (level_fault 0 (front_of p ++ field)) (field_fault 0 (Some Begin) (front_of p ++ field)) faults.1 in
     let all : front_of p ++ field ≡ level ++ (names ++ (prefix ++ field)) = regroup level names prefix field in
-    let name_good = (and_parts (is_all is_name_byte p.name) (list_all (is_all is_name_byte) (names_behind p.tail)) most.1).0 in
-    let first : is_all is_name_byte p.name ≡ true = name_good in
-    let begins : begins_there is_name_byte (names ++ prefix) ≡ true = name_begins p.name (names_behind p.tail) prefix first in
-    let begins_all : begins_there is_name_byte (names ++ (prefix ++ field)) ≡ true = name_begins p.name (names_behind p.tail) (prefix ++ field) first in
+    let begins : begins_there is_name_byte (names ++ prefix) ≡ true = name_begins p.name p.names prefix is.names in
+    let begins_all : begins_there is_name_byte (names ++ (prefix ++ field)) ≡ true = name_begins p.name p.names (prefix ++ field) is.names in
     let level_none : level_fault 0 (level ++ (names ++ (prefix ++ field))) ≡ None = ap (level_fault 0) (sym all) ∙ numbers.0 in
     let tags_none : tags_fault matches_any 0 (level ++ (names ++ (prefix ++ field))) ≡ None = ap (tags_fault matches_any 0) (sym all) ∙ faults.0 in
-    let behind_it = tags_behind matches_any p.level (names ++ (prefix ++ field)) most.0 begins_all tags_none in
-    let names_all = joined_all (names_of p) most.1 in
+    let behind_it = tags_behind matches_any p.level (names ++ (prefix ++ field)) is.level begins_all tags_none in
+    let names_all = joined_all (names_of p) is.names in
     record {
-      front = before_is p (field_of p) good;
-      field = field_number_is p (field_of p) good parts.1 numbers.1;
-      level = ap first_level (append_assoc level names prefix) ∙ level_is p.level (names ++ prefix) (names ++ (prefix ++ field)) most.0 begins level_none;
-      rest = ap level_rest (append_assoc level names prefix) ∙ rest_is p.level (names ++ prefix) most.0 begins;
-      names = take_leading (is_of Names) names prefix names_all (prefix_ends (prefix_of p));
-      prefix = drop_leading (is_of Names) names prefix names_all (prefix_ends (prefix_of p));
-      meant = prefix_meant (prefix_of p) more.1;
+      front = before_is p p.field good;
+      field = field_number_is p p.field good is.field numbers.1;
+      level = ap first_level (append_assoc level names prefix) ∙ level_is p.level (names ++ prefix) (names ++ (prefix ++ field)) is.level begins level_none;
+      rest = ap level_rest (append_assoc level names prefix) ∙ rest_is p.level (names ++ prefix) is.level begins;
+      names = take_leading (is_of Names) names prefix names_all (prefix_ends p.prefix);
+      prefix = drop_leading (is_of Names) names prefix names_all (prefix_ends p.prefix);
+      meant = prefix_meant p.prefix is.prefix;
       all = names_all;
-      fine = names_fine behind_it.0 0 p.name (names_behind p.tail) (prefix ++ field) most.1 (behind_ends (prefix_of p) (field_of p)) behind_it.1;
+      fine = names_fine behind_it.0 0 p.name p.names (prefix ++ field) is.names (behind_ends p.prefix p.field) behind_it.1;
     }
 
 -- the parts of a whole criterion without a fault
@@ -495,21 +430,21 @@ pub record CutOf (text : List ℕ) : Type 0 where
 pub cut_of : (text : List ℕ) → whole_from Begin text ≡ true → criterion_fault matches_any 0 text ≡ None → CutOf text
 cut_of text whole fine =
     let h = criterion_from text whole in
-    let seen : front_of h.parts ++ field_text (field_of h.parts) ≡ text = sym (criterion_seen h.parts) ∙ h.same in
-    let found : criterion_fault matches_any 0 (front_of h.parts ++ field_text (field_of h.parts)) ≡ None = ap (criterion_fault matches_any 0) seen ∙ fine in
+    let seen : front_of h.parts ++ field_text h.parts.field ≡ text = h.same in
+    let found : criterion_fault matches_any 0 (front_of h.parts ++ field_text h.parts.field) ≡ None = ap (criterion_fault matches_any 0) seen ∙ fine in
     record { parts = h.parts; good = h.good; same = h.same; cut = subst (λ (w : List ℕ). IsCut h.parts w) seen (criterion_cut h.parts h.good found) }
 
 -- what was cut are the front, the names and the prefix
 pub record AreCut (p : Parts) (front names prefix : List ℕ) : Type 0 where
   pub front_is : front ≡ front_of p
   pub names_are : names ≡ joined_names (names_of p)
-  pub prefix_is : prefix ≡ prefix_text (prefix_of p)
+  pub prefix_is : prefix ≡ prefix_text p.prefix
 
 -- what was cut by the steps of a reading
 pub are_cut : (p : Parts) (text front rest names prefix : List ℕ) (n : ℕ) → IsCut p text → front ≡ before_field (bracket text) text → rest ≡ level_rest front → n ≡ leading (is_of Names) rest → names ≡ take n rest → prefix ≡ drop n rest → AreCut p front names prefix
 are_cut p text front rest names prefix n cut front_is rest_is count names_are prefix_is =
     let front_same : front ≡ front_of p = front_is ∙ cut.front in
-    let rest_same : rest ≡ joined_names (names_of p) ++ prefix_text (prefix_of p) = rest_is ∙ ap level_rest front_same ∙ cut.rest in
+    let rest_same : rest ≡ joined_names (names_of p) ++ prefix_text p.prefix = rest_is ∙ ap level_rest front_same ∙ cut.rest in
     let taken : take n rest ≡ take (leading (is_of Names) rest) rest = ap (λ (m : ℕ). take m rest) count in
     let dropped : drop n rest ≡ drop (leading (is_of Names) rest) rest = ap (λ (m : ℕ). drop m rest) count in
     record {

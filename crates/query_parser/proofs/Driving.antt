@@ -9,9 +9,10 @@ use Rattle.query_grammar.specs.declared.mode.Mode.{Mode}
 use Rattle.query_grammar.specs.declared.mode.Mode.TheVariants.{BeforeUnary, AfterCriterion, BeforeOperand, AfterUnary}
 use Rattle.query_grammar.specs.declared.step.StepOver.{StepOver}
 use Rattle.query_grammar.specs.Step.{Step}
-use Rattle.query_grammar.specs.Lexical.{is_blank}
+use Rattle.query_grammar.specs.Bytes.{is_blank}
 use Rattle.query_grammar.specs.Grammar.{Token}
-use Rattle.query_grammar.specs.Scanner.{Fault, Kept, Rules, Spot, ◌>>=◌, begins, whole, token_done, finish_in, run, begin}
+use Rattle.query_grammar.specs.Moves.{Kept}
+use Rattle.query_grammar.specs.Scanner.{Fault, Rules, Spot, ◌>>=◌, begins, whole, token_done, finish_in, run, begin}
 use Rattle.query_grammar.specs.Munches.{Munches, ends, stops, more}
 use Rattle.query_grammar.proofs.Marks.{NoMore, no_blank}
 use Rattle.query_grammar.proofs.Scan.{at_spot}

@@ -9,7 +9,8 @@ use Rattle.query_grammar.specs.declared.step.StepOver.{StepOver}
 use Rattle.query_grammar.specs.declared.step.StepOver.TheVariants as steps
 use Rattle.query_grammar.specs.Step.{Step}
 use Rattle.query_grammar.specs.Grammar.{CloseMark}
-use Rattle.query_grammar.specs.Scanner.{Fault, Kept, State, Spot, ◌>>=◌, tightened, loosened, rested, tested, closes, all_closed, unless_fault, token_done, token_taken, last_done, finish_in}
+use Rattle.query_grammar.specs.Moves.{Kept, State, tightened, loosened, rested, tested, closes, all_closed}
+use Rattle.query_grammar.specs.Scanner.{Fault, Spot, ◌>>=◌, unless_fault, token_done, token_taken, last_done, finish_in}
 use Rattle.query_grammar.specs.Judging.{criterion_fault}
 use Rattle.query_grammar.proofs.Rulings.{criterion_anywhere}
 use Rattle.query_parser.specs.declared.fault.QueryFault.{QueryFault}

@@ -10,7 +10,8 @@ use Rattle.query_grammar.specs.Step.{Step}
 use Rattle.query_grammar.specs.Steps.{test_step}
 use Rattle.query_grammar.specs.Lexical.{operand_begin, whole_from}
 use Rattle.query_grammar.specs.Grammar.{Token, CloseMark, OperatorToken, OperandToken}
-use Rattle.query_grammar.specs.Scanner.{Fault, Syntax, Kept, State, Spot, ◌>>=◌, tightened, loosened, rested, closes, last, unless_fault, token_done, token_taken, whole, whole_after_unary, last_done, finish_in}
+use Rattle.query_grammar.specs.Moves.{Kept, State, tightened, loosened, rested, closes, last}
+use Rattle.query_grammar.specs.Scanner.{Fault, Syntax, Spot, ◌>>=◌, unless_fault, token_done, token_taken, whole, whole_after_unary, last_done, finish_in}
 use Rattle.query_grammar.specs.Judging.{criterion_fault, operand_fault}
 use Rattle.query_parser.specs.declared.fault.QueryFault.{QueryFault}
 use Rattle.query_parser.specs.declared.operator.Operator.{Operator}

@@ -6,7 +6,7 @@ use Rattle.std.proofs.lemmas.List.{reverse-append}
 use Rattle.std.proofs.lemmas.List.Recursion.{is_count_by}
 use Rattle.query_grammar.specs.declared.mode.Waiting.{Waiting}
 use Rattle.query_grammar.specs.declared.mode.Waiting.TheVariants as waits
-use Rattle.query_grammar.specs.Scanner.{is_open, open_count, can_close}
+use Rattle.query_grammar.specs.Moves.{is_open, open_count, can_close}
 use Rattle.query_parser.specs.inside.Stages.{is_mark}
 
 open_count-append : (xs ys : List Waiting) → open_count (xs ++ ys) ≡ open_count xs + open_count ys

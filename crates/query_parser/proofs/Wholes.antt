@@ -5,7 +5,7 @@ use Rattle.query_grammar.specs.declared.mode.Mode.TheVariants.{BeforeUnary, Befo
 use Rattle.query_grammar.specs.declared.lex.Lex.{Lex}
 use Rattle.query_grammar.specs.declared.lex.Lex.TheVariants.{Begin}
 use Rattle.query_grammar.specs.Lexical.{operand_begin, lex, lexed_from, lex_along, is_last, may_end, whole_from}
-use Rattle.query_grammar.specs.Scanner.{Kept}
+use Rattle.query_grammar.specs.Moves.{Kept}
 use Rattle.query_grammar.specs.Munches.{Munches, ends}
 use Rattle.query_grammar.proofs.Along.{along_cons}
 use Rattle.query_grammar.proofs.Lengths.{unary_length, value_length, mark_length}

@@ -6,7 +6,7 @@ use Rattle.vsl_tags.specs.Tags.{IsTag}
 use Rattle.vsl_tags.specs.TagSet.{HasTag, IsSelected}
 use Rattle.vsl_decimal.specs.Decimal.{Spells, period}
 use Rattle.query_grammar.specs.Criterion as written
-use Rattle.query_grammar.specs.Criterion.{Parts, LevelSign, OrMore, OrLess, is_criterion, criterion_text, names_of, joined_names, prefix_of, field_of, meant_by, operand_meaning}
+use Rattle.query_grammar.specs.Criterion.{Parts, LevelSign, OrMore, OrLess, is_criterion, criterion_text, names_of, joined_names, meant_by, operand_meaning}
 use Rattle.query_grammar.specs.Step.{TestParts}
 use Rattle.query_parser.specs.declared.operator.Operator.TheVariants as operators
 use Rattle.query_parser.specs.declared.test.Bound.{Bound}
@@ -37,8 +37,8 @@ field_meant field = option_map (λ digits. digits_value 10 digits) field
 pub record AreParts (p : Parts) (c : Criterion) : Type 0 where
   pub level : c.level ≡ level_meant p.level
   pub tags : (tag : ℕ) → IsTag tag → HasTag c.tags tag ↔ IsSelected (joined_names (names_of p)) tag
-  pub prefix : c.prefix ≡ option_map meant_by (prefix_of p)
-  pub field : c.field ≡ field_meant (field_of p)
+  pub prefix : c.prefix ≡ option_map meant_by p.prefix
+  pub field : c.field ≡ field_meant p.field
 
 -- a criterion is what these bytes mean
 abbrev pub IsCriterion : List ℕ → Criterion → Type 0

@@ -7,7 +7,8 @@ ghost use Rattle.query_grammar.specs.declared.step.StepOver.TheVariants as kinds
 ghost use Rattle.query_grammar.specs.declared.mode.Mode.TheVariants.{BeforeUnary, AfterCriterion, BeforeOperand};
 ghost use Rattle.query_grammar.specs.Step.{Step, TestParts};
 ghost use Rattle.query_grammar.specs.Lexical.{whole_from, is_one_of, words};
-ghost use Rattle.query_grammar.specs.Scanner.{Deep, run, begin, whole, whole_after_unary, or_syntax, token_done, token_taken, unless_fault, tightened, loosened, rested, waits_for, closes, last, finish_in, open_count};
+ghost use Rattle.query_grammar.specs.Moves.{tightened, loosened, rested, waits_for, closes, last, open_count};
+ghost use Rattle.query_grammar.specs.Scanner.{Deep, run, begin, whole, whole_after_unary, or_syntax, token_done, token_taken, unless_fault, finish_in};
 ghost use Rattle.query_grammar.specs.Judging.{criterion_fault};
 ghost use Rattle.query_grammar.specs.Grammar.{OperatorToken, CloseMark};
 ghost use Rattle.query_grammar.specs.Steps.{test_step};

@@ -2,7 +2,7 @@
 
 ghost use Rattle.std.specs.Prelude.{◌≡◌, ◌∷◌, [], OnOk, MatchOption, IfOk};
 ghost use Rattle.std.specs.List.{count_by, list_any};
-ghost use Rattle.query_grammar.specs.Scanner.{is_open, open_count, can_close, tightened, loosened};
+ghost use Rattle.query_grammar.specs.Moves.{is_open, open_count, can_close, tightened, loosened};
 ghost use Rattle.query_parser.specs.inside.Stages.{is_mark, both_of};
 
 use crate::test::Test;

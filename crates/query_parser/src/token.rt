@@ -3,9 +3,11 @@
 ghost use Rattle.std.specs.Prelude.{◌≡◌, ◌||◌, ◌≤◌, not, length, true, [], take, drop, Some};
 ghost use Rattle.query_grammar.specs.declared.lex.Lex.TheVariants.{Begin};
 ghost use Rattle.query_grammar.specs.declared.mode.Mode.TheVariants.{BeforeUnary, BeforeOperand};
-ghost use Rattle.query_grammar.specs.Lexical.{is_blank, is_prefix, is_one_of, begins_one_of, operators, words, ends_word, whole_from, may_end, lex_along};
+ghost use Rattle.query_grammar.specs.Bytes.{is_blank};
+ghost use Rattle.query_grammar.specs.Lexical.{is_prefix, is_one_of, begins_one_of, operators, words, ends_word, whole_from, may_end, lex_along};
 ghost use Rattle.query_grammar.specs.Grammar.{operator_words};
-ghost use Rattle.query_grammar.specs.Scanner.{Kept, begins, begins_after_unary, can_close, whole_after_unary, whole};
+ghost use Rattle.query_grammar.specs.Moves.{Kept, can_close};
+ghost use Rattle.query_grammar.specs.Scanner.{begins, begins_after_unary, whole_after_unary, whole};
 ghost use Rattle.query_grammar.specs.Munches.{Munches};
 ghost use Rattle.query_parser.specs.inside.Stages.{mark_mode, join_token, unary_token};
 

@@ -2,7 +2,8 @@
 use Rattle.std.specs.Prelude.{ℕ, suc, ◌+◌, Bool, false, ◌||◌, not, ◌==◌, if◌then◌else◌, List, [], ◌∷◌, take, drop, Option, Some, None, option_map}
 use Rattle.query_grammar.specs.declared.lex.Lex.{Lex}
 use Rattle.query_grammar.specs.declared.lex.Lex.TheVariants.{Begin}
-use Rattle.query_grammar.specs.Lexical.{is_digit, is_name_byte, lex}
+use Rattle.query_grammar.specs.Bytes.{is_digit, is_name_byte}
+use Rattle.query_grammar.specs.Lexical.{lex}
 use Rattle.query_grammar.specs.Criterion.{operand_meaning}
 use Rattle.query_grammar.specs.Scanner.{Fault}
 use Rattle.query_grammar.specs.Judging.{number, names_fault, is_field_open}

@@ -10,7 +10,8 @@ use Rattle.query_grammar.specs.declared.lex.Lex.TheVariants.{Begin}
 use Rattle.query_grammar.specs.Step.{Step}
 use Rattle.query_grammar.specs.Lexical.{whole_from}
 use Rattle.query_grammar.specs.Grammar.{Token, CriterionToken, NotWord, AndWord, OrWord, OpenMark, CloseMark}
-use Rattle.query_grammar.specs.Scanner.{Kept, State, Spot}
+use Rattle.query_grammar.specs.Moves.{Kept, State}
+use Rattle.query_grammar.specs.Scanner.{Spot}
 use Rattle.query_parser.specs.declared.test.Test.{Test}
 use Rattle.query_parser.specs.declared.draft.Stage.{Stage}
 use Rattle.query_parser.specs.declared.draft.Stage.TheVariants as stages

@@ -1,7 +1,7 @@
+use Rattle.std.proofs.Common.{refl}
 use Rattle.query_grammar.proofs.Criterion.{text_taken, text_from}
 use Rattle.query_grammar.proofs.Levels.{criterion_taken, criterion_from}
 use Rattle.query_grammar.proofs.OneParts.{one_text, one_parts}
-use Rattle.query_grammar.proofs.SeenParts.{criterion_seen, criterion_good, any_parts}
 use Rattle.query_grammar.proofs.Meanings.{meaning_is}
 use Rattle.query_grammar.proofs.laws.token_bytes.Goals as goal
 
@@ -24,13 +24,13 @@ pub returns-clause-one_criterion : goal.returns-clause-one_criterion
 returns-clause-one_criterion c = one_parts
 
 pub returns-clause-parts : goal.returns-clause-parts
-returns-clause-parts c = criterion_seen
+returns-clause-parts c = λ p. refl
 
 pub returns-clause-parts_good : goal.returns-clause-parts_good
-returns-clause-parts_good c = criterion_good
+returns-clause-parts_good c = λ p. refl
 
 pub returns-clause-parts_any : goal.returns-clause-parts_any
-returns-clause-parts_any c = any_parts
+returns-clause-parts_any c = λ level name names prefix field. (record { level = level; name = name; names = names; prefix = prefix; field = field }, refl, refl, refl, refl)
 
 pub returns-clause-meaning : goal.returns-clause-meaning
 returns-clause-meaning c = meaning_is

@@ -1,6 +1,6 @@
 use Rattle.std.proofs.Common.{◌≡◌, take, None, sym, ap, ◌∙◌, arith}
 use Rattle.vsl_tags.specs.TagSet.{matches_any}
-use Rattle.query_grammar.specs.Lexical.{is_name_byte}
+use Rattle.query_grammar.specs.Bytes.{is_name_byte}
 use Rattle.query_grammar.specs.Judging.{name_fault}
 use Rattle.query_parser.specs.Answers.{IsAnswer}
 use Rattle.query_parser.proofs.CriterionFaults.{leading_all, name_answer, last_name, more_names, err_answer}

@@ -1,5 +1,5 @@
 use Rattle.std.proofs.Common.{◌≡◌, length}
-use Rattle.query_grammar.specs.Scanner.{tightened}
+use Rattle.query_grammar.specs.Moves.{tightened}
 use Rattle.query_parser.proofs.stack.tighten.Given as goal
 
 abbrev pub invariant-loop-mark : goal.invariant-loop-mark

@@ -1,6 +1,6 @@
 -- what goes on from the bytes so far goes on from the beginning
 use Rattle.std.proofs.Common.{◌≡◌, ◌-◌, ◌≤◌, length}
-use Rattle.query_grammar.specs.Scanner.{Kept, can_close}
+use Rattle.query_grammar.specs.Moves.{Kept, can_close}
 use Rattle.query_grammar.proofs.Prefixes.{Behind}
 use Rattle.query_parser.specs.inside.Stages.{mark_mode}
 use Rattle.query_parser.proofs.token.mark_len.Given as goal

@@ -1,5 +1,5 @@
 use Rattle.std.proofs.Common.{refl, sym, ◌∙◌}
-use Rattle.query_grammar.specs.Scanner.{loosened}
+use Rattle.query_grammar.specs.Moves.{loosened}
 use Rattle.query_parser.proofs.Follow.{loosen_both, tighten_both}
 use Rattle.query_parser.proofs.Moves.{close_refused, close_taken}
 use Rattle.query_parser.proofs.draft.Draft.close.Goals as goal

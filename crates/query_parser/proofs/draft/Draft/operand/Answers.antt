@@ -1,7 +1,7 @@
 use Rattle.std.proofs.Common.{◌-◌, ◌++◌, ◌∷◌, [], length, sym, ◌∙◌}
 use Rattle.std.proofs.lemmas.Result.{err_from_is_err_and}
 use Rattle.query_grammar.specs.Steps.{test_step}
-use Rattle.query_grammar.specs.Scanner.{rested, tightened}
+use Rattle.query_grammar.specs.Moves.{rested, tightened}
 use Rattle.query_parser.specs.Operators.{operator_text}
 use Rattle.query_parser.specs.inside.Stages.{at_spot}
 use Rattle.query_parser.proofs.Follow.{fine_anywhere}

@@ -2,7 +2,7 @@ use Rattle.std.proofs.Common.{List, subst}
 use Rattle.std.specs.Prelude.{IfOk}
 use Rattle.query_grammar.specs.declared.mode.Waiting.{Waiting}
 use Rattle.query_grammar.specs.declared.mode.Waiting.TheVariants as waits
-use Rattle.query_grammar.specs.Scanner.{loosened, waits_for}
+use Rattle.query_grammar.specs.Moves.{loosened, waits_for}
 use Rattle.query_parser.specs.inside.Stages.{at_spot}
 use Rattle.query_parser.specs.inside.Follows.{Follows}
 use Rattle.query_parser.proofs.Follow.{loosen_both}

@@ -1,6 +1,6 @@
 use Rattle.std.proofs.Common.{◌++◌, ◌∷◌, [], refl}
 use Rattle.query_grammar.specs.Steps.{test_step}
-use Rattle.query_grammar.specs.Scanner.{rested, tightened}
+use Rattle.query_grammar.specs.Moves.{rested, tightened}
 use Rattle.query_parser.proofs.Follow.{fine_anywhere}
 use Rattle.query_parser.proofs.Moves.{test_taken}
 use Rattle.query_parser.proofs.draft.Draft.selected.Goals as goal

@@ -1,5 +1,5 @@
 use Rattle.std.proofs.Common.{◌++◌, ◌∷◌, [], refl, ap, ◌∙◌}
-use Rattle.query_grammar.specs.Scanner.{tightened}
+use Rattle.query_grammar.specs.Moves.{tightened}
 use Rattle.query_grammar.specs.declared.step.StepOver.TheVariants as kinds
 use Rattle.query_parser.proofs.Follow.{meant_then, tighten_both}
 use Rattle.query_parser.proofs.draft.Draft.tested.Goals as goal

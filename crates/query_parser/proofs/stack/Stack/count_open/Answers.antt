@@ -1,6 +1,6 @@
 use Rattle.std.proofs.Common.{ap, ◌∙◌}
 use Rattle.std.specs.List.{count_by}
-use Rattle.query_grammar.specs.Scanner.{is_open, open_count}
+use Rattle.query_grammar.specs.Moves.{is_open, open_count}
 use Rattle.query_parser.proofs.Stacks.{count_is}
 use Rattle.query_parser.proofs.stack.Stack.count_open.Goals as goal
 
