@@ -58,15 +58,6 @@ pub one_truth : {A : Type 0} (test : A → Bool) (q : Query A) → truths_of tes
 unfolding truths_of
 one_truth test q = ap (λ (s : List (StepOver _)). truths_of test s []) (sym (append-nil (tree_steps q))) ∙ leaves test q [] []
 
--- the steps of a query as it is written are those of its tree
-pub steps_are : (q : Written) → tree_steps (tree_of q) ≡ steps_of q
-steps_are (Test criterion) = refl
-steps_are (Compared criterion operator operand) = refl
-steps_are (Not q) = ap (λ (s : List Step). s ++ steps.Not ∷ []) (steps_are q)
-steps_are (Inside q) = steps_are q
-steps_are (And p q) = ap₂ (λ (a b : List Step). a ++ b ++ steps.And ∷ []) (steps_are p) (steps_are q)
-steps_are (Or p q) = ap₂ (λ (a b : List Step). a ++ b ++ steps.Or ∷ []) (steps_are p) (steps_are q)
-
 -- queries with the same steps have one tree
 pub one_tree : (p q : Written) → steps_of p ≡ steps_of q → tree_of p ≡ tree_of q
-one_tree p q e = same_tree (tree_of p) (tree_of q) (steps_are p ∙ e ∙ sym (steps_are q))
+one_tree p q e = same_tree (tree_of p) (tree_of q) e

@@ -1,4 +1,4 @@
--- A criterion and an operand as they are written: their parts, and their text.
+-- A criterion and an operand as they are written (vsl-query(7), "Record selection criteria"): their parts, and their text.
 use Rattle.std.specs.Prelude.{ℕ, Bool, true, false, ◌&&◌, not, ◌==◌, nat_lt, if◌then◌else◌, List, [], ◌∷◌, ◌++◌, length, Option, Some, None, take, ◌-◌}
 use Rattle.std.specs.List.{list_all}
 use Rattle.query_grammar.specs.declared.lex.Quote.{Quote}

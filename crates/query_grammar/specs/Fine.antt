@@ -1,4 +1,4 @@
--- Queries without a fault beside those of syntax.
+-- Queries without a fault beside those of syntax (vsl-query(7); the ranges of numbers are this project's choice).
 use Rattle.std.specs.Prelude.{◌≡◌, ℕ, ◌+◌, ◌<◌, Bool, List, Some, None}
 use Rattle.query_grammar.specs.Grammar.{Written, Test, Compared, Not, Inside, And, Or, IsQuery}
 use Rattle.query_grammar.specs.Judging.{criterion_fault, operand_fault}

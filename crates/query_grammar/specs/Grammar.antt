@@ -1,4 +1,5 @@
--- What a query is: how it is grouped, which tokens it has, and how they lie in a line.
+-- What a query is (vsl-query(7), "Query Expressions"; how a word ends is this project's choice). How it is grouped, which
+-- tokens it has, and how they lie in a line.
 use Rattle.std.specs.Prelude.{◌≡◌, ℕ, Bool, true, false, ◌&&◌, ◌||◌, not, List, [], ◌∷◌, ◌++◌, length, codes}
 use Rattle.query_grammar.specs.declared.lex.Lex.TheVariants.{Begin}
 use Rattle.query_grammar.specs.Bytes.{is_blank}

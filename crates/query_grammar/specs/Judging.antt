@@ -1,4 +1,4 @@
--- The faults of a test beside those of syntax: its names first, and then its numbers by their places.
+-- The faults of a test beside those of syntax (this project's choice): its names first, and then its numbers by their places.
 use Rattle.std.specs.Prelude.{ℕ, ◌+◌, ◌-◌, ◌*◌, Bool, true, false, ◌&&◌, ◌||◌, not, ◌==◌, nat_lt, if◌then◌else◌, List, [], ◌∷◌, ◌++◌, length, Option, Some, None, codes}
 use Rattle.std.specs.Option.{option_or}
 use Rattle.query_grammar.specs.declared.mode.Mode.{Mode}

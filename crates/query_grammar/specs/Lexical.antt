@@ -1,4 +1,4 @@
--- The tokens of a query, byte by byte.
+-- The tokens of a query, byte by byte (vsl-query(7), "Record selection criteria", "Operator" and "Operand").
 use Rattle.std.specs.Prelude.{ℕ, suc, Bool, true, false, ◌&&◌, ◌||◌, ◌==◌, if◌then◌else◌, List, [], ◌∷◌, Option, Some, None, codes}
 use Rattle.std.specs.List.{list_any}
 use Rattle.std.specs.Str.{bytes_eq}

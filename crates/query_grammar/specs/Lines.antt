@@ -1,4 +1,5 @@
--- A text of several lines: each line that isn't passed over is a query, and they are joined by `or`.
+-- A text of several lines (vsl-query(7), "Query Expressions"): each line that isn't passed over is a query, and they are
+-- joined by `or`.
 use Rattle.std.specs.Prelude.{◌≡◌, ℕ, ◌+◌, ◌-◌, Bool, true, ◌==◌, if◌then◌else◌, List, [], ◌∷◌, ◌++◌, length, Option, Some, None, Result, Ok, Err}
 use Rattle.std.specs.Bool.{MatchBool}
 use Rattle.std.specs.List.{slice_split}

@@ -1,4 +1,4 @@
--- Where each token of a line leads, and what is kept of those that were read.
+-- Where each token of a line leads, and what is kept of those that were read (vsl-query(7), "Query Expressions").
 use Rattle.std.specs.Prelude.{ℕ, ◌+◌, ◌-◌, Bool, true, false, not, if◌then◌else◌, List, [], ◌∷◌, ◌++◌, Option, Some, None}
 use Rattle.query_grammar.specs.declared.mode.Mode.{Mode}
 use Rattle.query_grammar.specs.declared.mode.Mode.TheVariants.{BeforeUnary, AfterCriterion, BeforeOperand, AfterUnary}

@@ -1,4 +1,4 @@
--- As many bytes as begin a token.
+-- As many bytes as begin a token (this project's choice).
 use Rattle.std.specs.Prelude.{◌≡◌, ℕ, true, false, List, [], ◌∷◌, ◌++◌}
 use Rattle.query_grammar.specs.declared.mode.Mode.{Mode}
 use Rattle.query_grammar.specs.Moves.{Kept}

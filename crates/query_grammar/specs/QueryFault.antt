@@ -1,4 +1,4 @@
--- The first fault of a query's text. That a text is tested to be UTF-8 before all else is this project's choice.
+-- The first fault of a query's text (this project's choice, as is that a text is tested to be UTF-8 before all else).
 use Rattle.std.specs.Prelude.{ℕ, Bool, if◌then◌else◌, List, Option, Some, None}
 use Rattle.std.specs.Result.{result_err}
 use Rattle.std.specs.Str.{is_utf8}

@@ -1,4 +1,5 @@
--- Reading a line token by token, with the first fault. What a query is stands in `Grammar`; this is the tool of its proof.
+-- Reading a line token by token, with the first fault (where it stands is this project's choice). What a query is stands in
+-- `Grammar`; this is the tool of its proof.
 use Rattle.std.specs.Prelude.{◌≡◌, ℕ, ◌+◌, ◌-◌, Bool, ◌&&◌, ◌||◌, not, if◌then◌else◌, List, [], ◌∷◌, ◌++◌, length, Result, Ok, Err, Option, Some, None, codes}
 use Rattle.std.specs.Str.{bytes_eq}
 use Rattle.query_grammar.specs.declared.mode.Mode.{Mode}

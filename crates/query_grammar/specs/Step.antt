@@ -1,4 +1,4 @@
--- The steps of a query as it is written: its tests and operators, each operator behind its operands.
+-- A step of a query as it is written (vsl-query(7), "Query Expressions"): a test, or an operator behind its operands.
 use Rattle.std.specs.Prelude.{ℕ, List}
 use Rattle.query_grammar.specs.declared.step.StepOver.{StepOver}
 

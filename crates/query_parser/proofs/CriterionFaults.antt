@@ -1,21 +1,21 @@
 -- Going along the bytes of a criterion: its bracket, its names, and the first of its faults.
-use Rattle.std.proofs.Common.{◌≡◌, ℕ, suc, ◌+◌, ◌<◌, ◌==◌, Bool, true, false, cond, List, [], ◌∷◌, ◌++◌, length, get_or, take, drop, Option, Some, None, option_map, refl, sym, ap, ◌∙◌, drop-cons, append_assoc, arith}
+use Rattle.std.proofs.Common.{◌≡◌, ℕ, suc, ◌+◌, ◌<◌, ◌==◌, Bool, true, false, cond, List, [], ◌∷◌, ◌++◌, ◌-◌, length, get_or, take, drop, Option, Some, None, option_map, refl, sym, ap, ◌∙◌, drop-cons, append_assoc, arith}
 use Rattle.std.specs.Prelude.{Result, Ok, Err, IfErr, IsErrAnd}
 use Rattle.std.specs.List.{list_all}
 use Rattle.std.specs.Option.{option_or}
-use Rattle.std.proofs.lemmas.List.{append-nil}
+use Rattle.std.proofs.lemmas.List.{append-nil, length-drop}
 use Rattle.std.proofs.lemmas.Bool.{and_from, cond_both, cond-true, cond-false}
 use Rattle.query_grammar.specs.declared.lex.Lex.{Lex}
 use Rattle.query_grammar.specs.declared.lex.Lex.TheVariants.{Begin, FieldOpen}
 use Rattle.query_grammar.specs.Bytes.{is_name_byte}
 use Rattle.query_grammar.specs.Lexical.{lex}
 use Rattle.query_grammar.specs.Scanner.{Fault}
-use Rattle.query_grammar.specs.Judging.{name_fault, names_fault, behind_level, is_field_open, field_fault, field_value}
+use Rattle.query_grammar.specs.Judging.{name_fault, names_fault, behind_level, tags_fault, is_field_open, field_fault, field_value}
 use Rattle.query_parser.specs.declared.criterion.Kind.TheVariants.{InLevel}
 use Rattle.query_parser.specs.declared.fault.QueryFault.{QueryFault}
 use Rattle.query_parser.specs.declared.fault.QueryFault.TheVariants.{Syntax, UnknownTag, Number, Pattern, Deep, NoMemory}
 use Rattle.query_parser.specs.Answers.{IsAnswer}
-use Rattle.query_parser.specs.inside.Pieces.{is_of, leading, bracket_from, bracket, behind_brace, behind_comma, begins_with_comma}
+use Rattle.query_parser.specs.inside.Pieces.{is_of, leading, bracket_from, bracket, behind_brace, behind_comma, begins_with_comma, without_first, level_rest}
 
 -- a state that opens no field
 pub no_field_open : (l : Lex) → (l ≡ FieldOpen → ⊥) → is_field_open (Some l) ≡ false
@@ -135,6 +135,27 @@ pub brace_is : (is_tag : List ℕ → Bool) (w : List ℕ) (at : ℕ) → behind
 brace_is is_tag [] at = refl
 brace_is is_tag (c ∷ w) at = brace_step is_tag c w at (c == 125) refl (brace_is is_tag w (at + 1))
 
+-- the fault of names that begin at a place
+abbrev pub names_from_place : (List ℕ → Bool) → ℕ → List ℕ → Option Fault
+names_from_place is_tag at w = names_fault is_tag at at [] w
+
+-- what stands behind the first of some bytes, seen from its place
+brace_names : (is_tag : List ℕ → Bool) (at n : ℕ) (w v : List ℕ) → v ≡ drop n w → behind_brace is_tag (at + 1 + n) v ≡ names_from_place is_tag (at + (suc (length w) - length (without_first v))) (without_first v)
+brace_names is_tag at n w [] e = refl
+brace_names is_tag at n w (c ∷ v) e =
+    let left : suc (length v) ≡ length w - n = ap length e ∙ length-drop n w in
+    let place : at + 1 + n + 1 ≡ at + (suc (length w) - length v) = omega (arith, left) in
+    ap (λ (m : ℕ). names_from_place is_tag m v) place
+
+-- the names of a criterion stand behind its level
+pub tags_is : (is_tag : List ℕ → Bool) (at : ℕ) (w : List ℕ) → tags_fault is_tag at w ≡ names_from_place is_tag (at + (length w - length (level_rest w))) (level_rest w)
+tags_is is_tag at [] = refl
+tags_is is_tag at (c ∷ w) =
+    let n = leading (is_of InLevel) w in
+    cond_both (c == 123) (without_first (drop n w)) (c ∷ w) (λ (v : List ℕ). tags_fault is_tag at (c ∷ w) ≡ names_from_place is_tag (at + (length (c ∷ w) - length v)) v)
+    (λ e. cond-true (c == 123) _ _ e ∙ brace_is is_tag w (at + 1) ∙ brace_names is_tag at n w (drop n w) refl)
+    (λ e. let here : at ≡ at + (length (c ∷ w) - length (c ∷ w)) = omega arith in cond-false (c == 123) _ _ e ∙ ap (λ (m : ℕ). names_from_place is_tag m (c ∷ w)) here)
+
 -- ---- the first fault
 
 -- the answer to the first of two is the answer
@@ -168,15 +189,6 @@ pub more_names : (is_tag : List ℕ → Bool) (at n : ℕ) (w rest more : List �
 more_names is_tag at n w rest more same e cut comma =
     let place : at + n + 1 ≡ at + (n + 1) = omega arith in
     sym (names_behind_fine is_tag at n w same e ∙ ap (behind_comma is_tag (at + n)) (sym cut ∙ comma) ∙ ap (λ (m : ℕ). names_fault is_tag m m [] more) place)
-
--- behind a level's brace the names begin
-pub behind_level_none : (is_tag : List ℕ → Bool) (at n : ℕ) (w rest : List ℕ) → n ≡ leading (is_of InLevel) w → rest ≡ drop n w → length rest ≡ 0 → behind_level is_tag at w ≡ None
-behind_level_none is_tag at n w [] same cut none = brace_is is_tag w at ∙ ap (λ (m : ℕ). behind_brace is_tag (at + m) (drop m w)) (sym same) ∙ ap (behind_brace is_tag (at + n)) (sym cut)
-behind_level_none is_tag at n w (c ∷ rest) same cut none = absurd (omega (arith, none))
-
--- behind the brace the names begin
-pub behind_level_some : (is_tag : List ℕ → Bool) (at n : ℕ) (w rest : List ℕ) (c : ℕ) (names : List ℕ) → n ≡ leading (is_of InLevel) w → rest ≡ drop n w → rest ≡ c ∷ names → behind_level is_tag at w ≡ names_fault is_tag (at + n + 1) (at + n + 1) [] names
-behind_level_some is_tag at n w rest c names same cut first = brace_is is_tag w at ∙ ap (λ (m : ℕ). behind_brace is_tag (at + m) (drop m w)) (sym same) ∙ ap (behind_brace is_tag (at + n)) (sym cut ∙ first)
 
 -- the error of a `?` is answered as it was found
 pub err_answer : {T : Type 0} (r : Result T QueryFault) (f : QueryFault) (o : Option Fault) → IsErrAnd r (λ e. e ≡ f) → IsAnswer f o → IfErr r (λ e. IsAnswer e o)

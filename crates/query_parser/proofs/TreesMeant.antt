@@ -16,7 +16,6 @@ use Rattle.query_grammar.specs.Lines.{lines_of, read_lines}
 use Rattle.query_grammar.specs.Scanner.{Fault, Syntax}
 use Rattle.query_grammar.proofs.Lines.{lines_found}
 use Rattle.query_grammar.proofs.Fine.{fine_lines_found}
-use Rattle.query_grammar.proofs.Postfix.{steps_are}
 use Rattle.query_grammar.proofs.TextFaults.{fault_is}
 use Rattle.query_parser.specs.declared.fault.QueryFault.{QueryFault}
 use Rattle.query_parser.specs.declared.test.Test.{Test}
@@ -132,7 +131,7 @@ pub record TextMeans (caseless : Bool) (text : List ℕ) (all : List (StepOver T
 pub text_means : (caseless : Bool) (text : List ℕ) (all : List (StepOver Test)) → IsUtf8 text → AreRead caseless (read_lines (rules caseless) 0 None (lines_of text)) all → TextMeans caseless text all
 text_means caseless text all u r =
     let h = lines_found (rules caseless) (IsFineQuery matches_any is_decimal (is_good_pattern caseless) most_open) (fine_lines_found matches_any is_decimal (is_good_pattern caseless) most_open) (lines_of text) 0 None r.written r.read in
-    let t = tree_meant caseless (tree_of h.query) all (subst (λ (v : List Step). AreMeant caseless v all) (sym (steps_are h.query ∙ h.steps)) r.meant) in
+    let t = tree_meant caseless (tree_of h.query) all (subst (λ (v : List Step). AreMeant caseless v all) (sym h.steps) r.meant) in
     record { query = t.query; means = (h.query, (u, h.are), t.meant); whole = t.whole }
 
 -- the fault of the lines is that of the text

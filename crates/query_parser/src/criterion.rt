@@ -7,7 +7,7 @@ ghost use Rattle.vsl_tags.specs.TagSet.{HasTag, IsSelected, first_fault, matches
 ghost use Rattle.query_grammar.specs.declared.lex.Lex.TheVariants.{Begin};
 ghost use Rattle.query_grammar.specs.Bytes.{is_name_byte};
 ghost use Rattle.query_grammar.specs.Lexical.{whole_from};
-ghost use Rattle.query_grammar.specs.Judging.{behind_level, criterion_fault, field_fault, field_value, level_fault, name_fault, names_fault, tags_fault};
+ghost use Rattle.query_grammar.specs.Judging.{criterion_fault, field_fault, field_value, level_fault, name_fault, names_fault, tags_fault};
 ghost use Rattle.query_grammar.specs.Judging as judged;
 ghost use Rattle.query_parser.specs.declared.criterion.Kind.TheVariants as kinds;
 ghost use Rattle.query_parser.specs.Answers.{IsAnswer};
@@ -40,30 +40,15 @@ pub(crate) fn judge_criterion(place: usize, text: &[u8]) -> Result<(), QueryFaul
     judge_field(place, text)
 }
 
-/// The first fault of the names.
+/// The first fault of the names, which stand behind the level.
+#[tactic(auto, using(crate::proofs::CriterionFaults::tags_is))]
 fn judge_tags(place: usize, text: &[u8]) -> Result<(), QueryFault>
     requires { place + length text.now < 2 ^ 64 }
     ensures ok { OnOk result (tags_fault matches_any place text.now ≡ None) }
     ensures refused { IfErr result (λ f. IsAnswer f (tags_fault matches_any place text.now)) }
 {
-    match text {
-        [b'{', rest @ ..] => judge_behind_level(place + 1, rest),
-        _ => judge_names(place, text),
-    }
-}
-
-/// The first fault of the names behind the brace that closes a level.
-fn judge_behind_level(place: usize, text: &[u8]) -> Result<(), QueryFault>
-    requires { place + length text.now < 2 ^ 64 }
-    ensures ok { OnOk result (behind_level matches_any place text.now ≡ None) }
-    ensures refused { IfErr result (λ f. IsAnswer f (behind_level matches_any place text.now)) }
-{
-    let count = count_leading(Kind::InLevel, text);
-    let (_, brace) = text.split_at(count);
-    match brace.split_first() {
-        None => Ok(()),
-        Some((_, names)) => judge_names(place + count + 1, names),
-    }
+    let (_, names) = split_level(text);
+    judge_names(place + (text.len() - names.len()), names)
 }
 
 /// The first fault of names with commas between them.
@@ -205,6 +190,7 @@ fn split_field(text: &[u8]) -> (&[u8], Option<u32>)
 fn split_level(text: &[u8]) -> (Option<Level>, &[u8])
     ensures level { result.0 ≡ first_level text.now }
     ensures rest { result.1.now ≡ level_rest text.now }
+    ensures within { length result.1.now ≤ length text.now }
 {
     let [b'{', level @ ..] = text else {
         return (None, text);
@@ -237,7 +223,8 @@ fn read_bound(sign: &[u8]) -> Bound
 
 /// The bytes without the first.
 fn skip_first(text: &[u8]) -> &[u8]
-    ensures { result.now ≡ without_first text.now }
+    ensures rest { result.now ≡ without_first text.now }
+    ensures within { length result.now ≤ length text.now }
 {
     match text {
         [] => text,
