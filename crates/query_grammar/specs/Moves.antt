@@ -1,5 +1,6 @@
 -- Where each token of a line leads, and what is kept of those that were read (vsl-query(7), "Query Expressions").
 use Rattle.std.specs.Prelude.{ℕ, ◌+◌, ◌-◌, Bool, true, false, not, if◌then◌else◌, List, [], ◌∷◌, ◌++◌, Option, Some, None}
+use Rattle.std.specs.List.{list_any}
 use Rattle.query_grammar.specs.declared.mode.Mode.{Mode}
 use Rattle.query_grammar.specs.declared.mode.Mode.TheVariants.{BeforeUnary, AfterCriterion, BeforeOperand, AfterUnary}
 use Rattle.query_grammar.specs.declared.mode.Waiting.{Waiting}
@@ -33,13 +34,14 @@ abbrev pub open_count : List Waiting → ℕ
 open_count [] = 0
 open_count (w ∷ ws) = if is_open w then 1 + open_count ws else open_count ws
 
+-- what waits is a parenthesis
+abbrev pub is_mark : Waiting → Bool
+is_mark waits.Open = true
+is_mark _ = false
+
 -- whether a parenthesis is open
 abbrev pub can_close : List Waiting → Bool
-can_close [] = false
-can_close (waits.Open ∷ ws) = true
-can_close (waits.Not ∷ ws) = can_close ws
-can_close (waits.And ∷ ws) = can_close ws
-can_close (waits.Or ∷ ws) = can_close ws
+can_close ws = list_any is_mark ws
 
 -- the `not`s and the `and` before a unary end with it
 abbrev pub tightened : {A : Type 0} → List Waiting → List (StepOver A) → List Waiting × List (StepOver A)

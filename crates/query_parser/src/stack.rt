@@ -2,8 +2,8 @@
 
 ghost use Rattle.std.specs.Prelude.{◌≡◌, ◌∷◌, [], OnOk, MatchOption, IfOk};
 ghost use Rattle.std.specs.List.{count_by, list_any};
-ghost use Rattle.query_grammar.specs.Moves.{is_open, open_count, can_close, tightened, loosened};
-ghost use Rattle.query_parser.specs.inside.Stages.{is_mark, both_of};
+ghost use Rattle.query_grammar.specs.Moves.{is_mark, is_open, open_count, can_close, tightened, loosened};
+ghost use Rattle.query_parser.specs.inside.Stages.{both_of};
 
 use crate::test::Test;
 use query_grammar::{StepOver, Waiting};

@@ -4,7 +4,6 @@ use Rattle.std.specs.Global.{Vec}
 use Rattle.query_grammar.specs.declared.mode.Mode.{Mode}
 use Rattle.query_grammar.specs.declared.mode.Mode.TheVariants.{BeforeUnary, AfterCriterion, BeforeOperand, AfterUnary}
 use Rattle.query_grammar.specs.declared.mode.Waiting.{Waiting}
-use Rattle.query_grammar.specs.declared.mode.Waiting.TheVariants as waits
 use Rattle.query_grammar.specs.declared.step.StepOver.{StepOver}
 use Rattle.query_grammar.specs.declared.lex.Lex.TheVariants.{Begin}
 use Rattle.query_grammar.specs.Step.{Step}
@@ -21,13 +20,6 @@ use Rattle.query_parser.specs.declared.token.Join.TheVariants as joins
 use Rattle.query_parser.specs.declared.token.Unary.{Unary}
 use Rattle.query_parser.specs.declared.token.Unary.TheVariants as unaries
 use Rattle.query_parser.specs.Operators.{operator_text}
-
--- what waits is a parenthesis
-abbrev pub is_mark : Waiting → Bool
-is_mark waits.Open = true
-is_mark waits.Not = false
-is_mark waits.And = false
-is_mark waits.Or = false
 
 -- what waits, and the steps
 abbrev pub both_of : List Waiting × Vec (StepOver Test) → List Waiting × List (StepOver Test)

@@ -1,7 +1,6 @@
 use Rattle.std.proofs.Common.{ap, ◌∙◌}
 use Rattle.std.specs.List.{list_any}
-use Rattle.query_grammar.specs.Moves.{can_close}
-use Rattle.query_parser.specs.inside.Stages.{is_mark}
+use Rattle.query_grammar.specs.Moves.{is_mark, can_close}
 use Rattle.query_parser.proofs.Stacks.{close_is}
 use Rattle.query_parser.proofs.stack.Stack.can_close.Goals as goal
 
