@@ -12,7 +12,7 @@ use Rattle.query_grammar.specs.Step.{Step}
 use Rattle.query_grammar.specs.declared.step.StepOver.TheVariants as steps
 use Rattle.query_grammar.specs.declared.lex.Lex.TheVariants.{Begin}
 use Rattle.query_grammar.specs.Lexical.{operand_begin, begins_from, is_one_of, begins_one_of, operators, words}
-use Rattle.query_grammar.specs.Grammar.{Token, CriterionToken, OperatorToken, OperandToken, NotWord, AndWord, OrWord, OpenMark, CloseMark, token_text, is_token, is_ended}
+use Rattle.query_grammar.specs.Grammar.{Token, CriterionToken, OperatorToken, OperandToken, AndWord, OrWord, OpenMark, CloseMark, token_text, is_token, is_ended}
 use Rattle.query_grammar.specs.Moves.{Kept, State, can_close, closes, all_closed, tightened, loosened, rested, waits_for, tested, taken, taken_after_unary}
 use Rattle.query_grammar.specs.Scanner.{free, joining, begins, begins_after_unary}
 use Rattle.query_grammar.proofs.Lexing.{same_bytes, is_plain, plain_append, plain_parts, plain_word, completed, completed_one, over_equal, over_blank}
@@ -80,10 +80,6 @@ behind_by (suc n) k e =
 
 behind : (k : Kept) → Alive AfterUnary k []
 behind k = behind_by (parens k.waiting) k refl
-
--- the same, behind a blank
-behind_blank : (k : Kept) → Alive AfterUnary k []
-behind_blank k = let h = behind k in record { more = 32 ∷ h.more; out = h.out; ends = blank_read free AfterUnary k 32 h.more h.out refl h.ends; plain = h.plain }
 
 in_value : (k : Kept) (w : List ℕ) → begins_from operand_begin w ≡ true → Alive BeforeOperand k w
 in_value k w b =

@@ -1,5 +1,5 @@
 -- Under the rules of the language queries without a fault are read, and no others.
-use Rattle.std.proofs.Common.{◌≡◌, ℕ, ◌+◌, ◌<◌, Bool, true, List, Option, Some, None, refl, ap, ◌∙◌}
+use Rattle.std.proofs.Common.{◌≡◌, ℕ, ◌+◌, Bool, true, List, Option, Some, None, refl, ap, ◌∙◌}
 use Rattle.std.specs.Option.{is_none, option_or}
 use Rattle.std.proofs.lemmas.Bool.{and_parts, and_from, lt-ltb, ltb-true}
 use Rattle.query_grammar.specs.Grammar.{Written, Test, Compared, Not, Inside, And, Or}

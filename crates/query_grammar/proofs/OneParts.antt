@@ -1,6 +1,6 @@
 -- The bytes of a criterion have one list of parts, and the bytes of an operand one text.
 use Rattle.std.proofs.Common.{◌≡◌, ℕ, ◌==◌, Bool, true, false, cond, List, [], ◌∷◌, ◌++◌, length, Option, Some, None, refl, sym, ap, subst, ◌∙◌, append_assoc, arith}
-use Rattle.std.specs.Prelude.{not, nat_lt, ◌&&◌}
+use Rattle.std.specs.Prelude.{not, nat_lt}
 use Rattle.std.specs.List.{list_all}
 use Rattle.std.proofs.lemmas.List.{append-nil}
 use Rattle.std.proofs.lemmas.Bool.{and_parts, cond_both, eq-eqb}

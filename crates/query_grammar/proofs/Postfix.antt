@@ -1,10 +1,9 @@
 -- Steps are those of one tree.
-use Rattle.std.proofs.Common.{◌≡◌, Bool, List, [], ◌∷◌, ◌++◌, refl, sym, ap, ap₂, ◌∙◌, append_assoc}
+use Rattle.std.proofs.Common.{◌≡◌, Bool, List, [], ◌∷◌, ◌++◌, refl, sym, ap, ◌∙◌, append_assoc}
 use Rattle.std.proofs.lemmas.List.{append-nil}
 use Rattle.query_grammar.specs.declared.step.StepOver.{StepOver}
-use Rattle.query_grammar.specs.Step.{Step}
 use Rattle.query_grammar.specs.declared.step.StepOver.TheVariants as steps
-use Rattle.query_grammar.specs.Grammar.{Written, Test, Compared, Not, Inside, And, Or}
+use Rattle.query_grammar.specs.Grammar.{Written}
 use Rattle.query_grammar.specs.Steps.{steps_of}
 use Rattle.query_grammar.specs.Tree.{Query, Single, Negated, Both, Either, tree_of, tree_steps, is_true, truths_of}
 

@@ -1,12 +1,11 @@
 -- The first byte at which no reading goes on.
 use Rattle.std.proofs.Common.{◌≡◌, ℕ, ◌+◌, List, [], ◌∷◌, ◌++◌, length, Result, Ok, Err, Option, Some, None, refl, sym, ap, subst, ◌∙◌, true, arith}
 use Rattle.std.proofs.lemmas.Bool.{cond_both}
-use Rattle.query_grammar.specs.declared.mode.Mode.TheVariants.{BeforeUnary}
 use Rattle.query_grammar.specs.Step.{Step}
 use Rattle.query_grammar.specs.Bytes.{is_blank}
-use Rattle.query_grammar.specs.Grammar.{Token, Written, tokens_of, IsLaid, IsQuery, IsDead, StopsAt}
+use Rattle.query_grammar.specs.Grammar.{Token, IsQuery, IsDead, StopsAt}
 use Rattle.query_grammar.specs.Steps.{steps_of}
-use Rattle.query_grammar.specs.Moves.{State, taken, last, start}
+use Rattle.query_grammar.specs.Moves.{State, taken, last}
 use Rattle.query_grammar.specs.Scanner.{Fault, Syntax, ◌>>=◌, free, Spot, begins, whole, token_taken, token_done, fresh, step_in, step, last_done, finish_in, run, begin}
 use Rattle.query_grammar.proofs.Lexing.{is_plain}
 use Rattle.query_grammar.proofs.Scan.{no_out}

@@ -147,7 +147,10 @@ fn lex_len(from: Lex, text: &[u8]) -> usize
 fn is_last_state(state: Lex) -> bool
     ensures { result ≡ may_end state }
 {
-    matches!(state, Lex::InName | Lex::InWord(_) | Lex::TextDone(_) | Lex::Done)
+    matches!(
+        state,
+        Lex::InName | Lex::InWord(_) | Lex::TextDone(_) | Lex::Done
+    )
 }
 
 /// Whether the bytes are all of a criterion, or of an operand.
