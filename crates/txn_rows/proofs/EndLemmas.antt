@@ -3,7 +3,7 @@ use Rattle.std.proofs.Common.{◌≡◌, ℕ, Bool, true, false, not, eqb, cond,
 use Rattle.std.specs.Prelude.{◌≢◌, codes, slice_index_or}
 use Rattle.std.specs.List.{All, list_all}
 use Rattle.std.specs.Option.{option_map}
-use Rattle.std.proofs.lemmas.Bool.{and_parts, eqb-false, not-true}
+use Rattle.std.proofs.lemmas.Bool.{and_parts, both_ways, eqb-false, not-true}
 use Rattle.std.proofs.lemmas.List.{append_assoc}
 use Rattle.std.proofs.lemmas.List.Elements.{All-nil, All-cons, All-head, All-tail, All-append, All-map, All-filter}
 use Rattle.std.proofs.lemmas.List.Sums.{AllPass-from_list_all}
@@ -23,9 +23,8 @@ use Rattle.txn_rows.specs.Links.{with_parent, can_join, children, root_of, tree_
 use Rattle.txn_rows.specs.Grouping.{Taken, TakenUnit, Missed, State, Leaving, no_state, nothing_left, then_left, with_new, with_transaction, raised, timed, left_by, forced_one, after_end, ended_one, after_timeouts, after_overflow, is_behind, flush, unfinished, with_all_told, grouped, is_raw, step, steps, passes_over, taken_step, taken_steps}
 use Rattle.txn_rows.specs.Ends.{HasNoEnd, IsEnded, TellsEnd, HasEnded}
 use Rattle.txn_rows.proofs.LineLemmas.{by_cases, either}
-use Rattle.txn_rows.proofs.KeepLemmas.{HoldsOn, often_holds, down_holds, timeouts_hold, Keeps, begun_kept, told_kept}
-use Rattle.txn_rows.proofs.JoinLemmas.{newest_in}
-use Rattle.txn_rows.proofs.RunLemmas.{still_pending}
+use Rattle.txn_rows.proofs.KeepLemmas.{HoldsOn, HoldsOver, holds_over, flush_holds, items_hold, Keeps, begun_kept, told_kept}
+use Rattle.txn_rows.proofs.ChangeLemmas.{newest_in, open_in, newest_split, newest_twice}
 use Rattle.txn_rows.proofs.OrderLemmas.{all_preorder}
 
 -- the End of a transaction that has ended is its last record
@@ -53,31 +52,11 @@ oldest_all P choose change (t ∷ pending) keeps all =
     (λ e. rw e (All-cons P (change t) pending (keeps t e head) tail))
     (λ e. rw e (All-cons P t (with_oldest choose change pending) head (oldest_all P choose change pending keeps tail)))
 
--- two changes of the newest are one
-newest_twice : (vxid : ℕ) (f g : Transaction → Transaction) (pending : List Transaction) → ((t : Transaction) → (f t).vxid ≡ t.vxid) → with_newest vxid g (with_newest vxid f pending) ≡ with_newest vxid (λ t. g (f t)) pending
-newest_twice vxid f g [] keeps = refl
-newest_twice vxid f g (t ∷ pending) keeps =
-    let Goal : Type 0 = with_newest vxid g (with_newest vxid f (t ∷ pending)) ≡ with_newest vxid (λ t. g (f t)) (t ∷ pending) in
-    let later : List Transaction = with_newest vxid f pending in
-    by_cases Goal (is_pending vxid pending)
-    (λ e. rw e (ap (λ (b : Bool). cond b (t ∷ with_newest vxid g later) (cond (eqb t.vxid vxid) (g t ∷ later) (t ∷ later))) (still_pending vxid f pending keeps ∙ e)
-    ∙ ap (λ (ts : List Transaction). t ∷ ts) (newest_twice vxid f g pending keeps)))
-    (λ e. by_cases Goal (eqb t.vxid vxid)
-    (λ q. rw (e, q) (ap (λ (b : Bool). cond b (f t ∷ with_newest vxid g pending) (cond (eqb (f t).vxid vxid) (g (f t) ∷ pending) (f t ∷ pending))) e
-    ∙ ap (λ (b : Bool). cond b (g (f t) ∷ pending) (f t ∷ pending)) (ap (λ (n : ℕ). eqb n vxid) (keeps t) ∙ q)))
-    (λ q. rw (e, q) (rw (e, q) refl)))
-
 -- a record goes to a transaction that has not ended
 open_newest : (vxid : ℕ) (pending : List Transaction) (t : Transaction) → is_open vxid pending ≡ true → newest vxid pending ≡ Some t → t.ended ≡ false
-open_newest vxid [] t o e = absurd (cc)
-open_newest vxid (u ∷ pending) t o e =
-    by_cases (t.ended ≡ false) (is_pending vxid pending)
-    (λ p. open_newest vxid pending t (rw p at o) (rw p at e))
-    (λ p. by_cases (t.ended ≡ false) (eqb u.vxid vxid)
-    (λ q. let same : Some u ≡ Some t = rw (p, q) at e in
-    let is : u ≡ t = (cc) in
-    ap (λ (x : Transaction). x.ended) (sym is) ∙ not-true u.ended (rw (p, q) at o))
-    (λ q. let none : None ≡ Some t = rw (p, q) at e in absurd (cc)))
+open_newest vxid pending t o e =
+    let s = newest_split vxid pending t e in
+    not-true t.ended (sym (ap (is_open vxid) s.whole ∙ open_in vxid s.front t s.back s.same s.none) ∙ o)
 
 begun_newest : (vxid : ℕ) (state : State) (t : Transaction) → newest vxid (with_transaction vxid state).pending ≡ Some t → t.ended ≡ false
 begun_newest vxid state t e =
@@ -183,7 +162,10 @@ which_open : (which : Which) → IsOfOpen (test_of which)
 which_open Unfinished t e = not-true t.ended e
 which_open (Late seconds now) t e = not-true t.ended (and_parts (not t.ended) (is_behind seconds t.time now) e).0
 
-ends_on : HoldsOn (λ state r. AllTell state → Ends r)
+abbrev EndsOn : State → Leaving → Type 0
+EndsOn state r = AllTell state → Ends r
+
+ends_on : HoldsOn EndsOn
 ends_on = record {
   none = nothing_ends;
   after = λ first next state a b all. ends_then first next (a all) b;
@@ -216,36 +198,10 @@ after_end_ends grouping vxid rec state all =
     rw e (subst (λ (s : State). Ends (ended_one vxid s)) (sym (told_end grouping vxid rec state is)) (end_ends vxid rec state is all)))
     (λ e. rw e (nothing_ends told (told_tells grouping vxid rec state (eqb-false rec.tag end_tag e) all)))
 
-grouped_ends : (options : GroupOptions) (vxid : ℕ) (rec : Record) (state : State) → AllTell state → Ends (grouped options vxid rec state)
-grouped_ends options vxid rec state all =
-    let first : Leaving = after_end vxid rec (with_all_told options.grouping vxid rec state) in
-    let late : Leaving = then_left first (after_timeouts options.timeout state.time) in
-    ends_then late (after_overflow options.limit)
-    (ends_then first (after_timeouts options.timeout state.time) (after_end_ends options.grouping vxid rec state all) (timeouts_hold (λ state r. AllTell state → Ends r) ends_on options.timeout state.time first.state))
-    (down_holds (λ state r. AllTell state → Ends r) ends_on options.limit (unfinished late.state) late.state)
-
-steps_end : (options : GroupOptions) (vxid : ℕ) (records : List Record) (state : State) → is_raw options.grouping ≡ false → AllTell state → Ends (steps options vxid records state)
-steps_end options vxid [] state whole all = nothing_ends state all
-steps_end options vxid (rec ∷ records) state whole all =
-    let first : Leaving = step options vxid rec state in
-    let first_ends : Ends first = rw whole (grouped_ends options vxid rec state all) in
-    ends_then first (steps options vxid records) first_ends (steps_end options vxid records first.state whole)
-
-flush_ends : (state : State) → AllTell state → Ends (flush state)
-flush_ends state = often_holds (λ state r. AllTell state → Ends r) ends_on (unfinished state) Unfinished Flush state
-
-item_ends : (options : GroupOptions) (item : Taken) (state : State) → is_raw options.grouping ≡ false → AllTell state → Ends (taken_step options item state)
-item_ends options (TakenUnit u) state whole all = either Ends (passes_over options.grouping u.vxid) (nothing_left state) (steps options u.vxid u.records state) (nothing_ends state all) (steps_end options u.vxid u.records state whole all)
-item_ends options Missed state whole all = flush_ends state all
-
-items_end : (options : GroupOptions) (taken : List Taken) (state : State) → is_raw options.grouping ≡ false → AllTell state → Ends (taken_steps options taken state)
-items_end options [] state whole all = nothing_ends state all
-items_end options (item ∷ taken) state whole all =
-    let first : Leaving = taken_step options item state in
-    ends_then first (taken_steps options taken) (item_ends options item state whole all) (items_end options taken first.state whole)
-
 taken_ends : (options : GroupOptions) (taken : List Taken) → is_raw options.grouping ≡ false → Ends (taken_steps options taken no_state)
-taken_ends options taken whole = items_end options taken no_state whole (All-nil Tells)
+taken_ends options taken whole =
+    let over : HoldsOver options EndsOn = holds_over options EndsOn ends_on (λ vxid rec state raw. absurd (both_ways (is_raw options.grouping) whole raw)) (after_end_ends options.grouping) in
+    items_hold options EndsOn over taken no_state (All-nil Tells)
 
 -- whatever was taken, a pending transaction tells its End
 pub each_pending_tells : (options : GroupOptions) (taken : List Taken) → is_raw options.grouping ≡ false → All (λ t. TellsEnd t.ended t.records) (taken_steps options taken no_state).state.pending
@@ -256,4 +212,4 @@ pub each_member_ended : (options : GroupOptions) (taken : List Taken) → is_raw
     All HasEnded ((taken_steps options taken no_state).groups ++ (flush (taken_steps options taken no_state).state).groups)
 each_member_ended options taken whole =
     let run : Leaving = taken_steps options taken no_state in
-    (ends_then run flush (taken_ends options taken whole) (flush_ends run.state)).groups
+    (ends_then run flush (taken_ends options taken whole) (flush_holds EndsOn ends_on run.state)).groups

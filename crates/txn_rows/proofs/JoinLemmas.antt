@@ -13,9 +13,10 @@ use Rattle.txn_rows.specs.declared.group.ParentLink.{ParentLink}
 use Rattle.txn_rows.specs.declared.join.Join.{Join}
 use Rattle.txn_rows.specs.Transaction.{Transaction, newest, with_newest, is_pending}
 use Rattle.txn_rows.specs.Links.{can_join, with_parent, with_link, children, leads_to}
-use Rattle.txn_rows.specs.inside.Rows.{transaction_of, row_of, Rising, IsTop, IsBelow, IsForest, AreTrees, Each, moved, joined, joined_at, IsNewestRow, Rows}
+use Rattle.txn_rows.specs.inside.Rows.{transaction_of, row_of, Rising, IsTop, IsBelow, IsForest, AreTrees, Each, joined, joined_at, IsNewestRow, Rows}
 use Rattle.txn_rows.proofs.LineLemmas.{by_cases, row_of_serial, deeper}
-use Rattle.txn_rows.proofs.TreeLemmas.{line_whole, each_found, each_weaker, rising_above}
+use Rattle.txn_rows.proofs.TreeLemmas.{line_whole, each_found, each_weaker, around, each_at, of_row, of_row_same, set_is_of_row}
+use Rattle.txn_rows.proofs.ChangeLemmas.{newest_in}
 
 -- a change that keeps serial numbers
 pub row_of_map : (f : Row → Row) → ((row : Row) → (f row).serial ≡ row.serial) → (s : ℕ) (rows : List Row) → row_of s (map f rows) ≡ option_map f (row_of s rows)
@@ -31,29 +32,17 @@ rising_map f keeps low high [] r = r
 rising_map f keeps low high (row ∷ rows) r = (rw (keeps row) r.0, rw (keeps row) (rising_map f keeps (row.serial + 1) high rows r.1))
 
 -- the parts of a row that was joined
-moved_serial : (join : Join) (row : Row) → (moved join row).serial ≡ row.serial
-moved_serial join row = by_cases ((moved join row).serial ≡ row.serial) (eqb row.root join.child) (λ t. rw t refl) (λ t. rw t refl)
-
 pub joined_serial : (join : Join) (row : Row) → (joined join row).serial ≡ row.serial
-joined_serial join row = by_cases ((joined join row).serial ≡ row.serial) (eqb row.serial join.child) (λ t. rw t (moved_serial join row)) (λ t. rw t (moved_serial join row))
+joined_serial join row = refl
 
 pub joined_root : (join : Join) (row : Row) → (joined join row).root ≡ cond (eqb row.root join.child) join.root row.root
-joined_root join row =
-    by_cases ((joined join row).root ≡ cond (eqb row.root join.child) join.root row.root) (eqb row.serial join.child)
-    (λ t. by_cases ((joined join row).root ≡ cond (eqb row.root join.child) join.root row.root) (eqb row.root join.child) (λ u. rw (t, u) refl) (λ u. rw (t, u) refl))
-    (λ t. by_cases ((joined join row).root ≡ cond (eqb row.root join.child) join.root row.root) (eqb row.root join.child) (λ u. rw (t, u) refl) (λ u. rw (t, u) refl))
+joined_root join row = refl
 
 joined_path : (join : Join) (row : Row) → (joined join row).path ≡ cond (eqb row.root join.child) (join.path ++ join.link.number ∷ row.path) row.path
-joined_path join row =
-    by_cases ((joined join row).path ≡ cond (eqb row.root join.child) (join.path ++ join.link.number ∷ row.path) row.path) (eqb row.serial join.child)
-    (λ t. by_cases ((joined join row).path ≡ cond (eqb row.root join.child) (join.path ++ join.link.number ∷ row.path) row.path) (eqb row.root join.child) (λ u. rw (t, u) refl) (λ u. rw (t, u) refl))
-    (λ t. by_cases ((joined join row).path ≡ cond (eqb row.root join.child) (join.path ++ join.link.number ∷ row.path) row.path) (eqb row.root join.child) (λ u. rw (t, u) refl) (λ u. rw (t, u) refl))
+joined_path join row = refl
 
 joined_parent : (join : Join) (row : Row) → (joined join row).parent ≡ cond (eqb row.serial join.child) (Some join.link) row.parent
-joined_parent join row =
-    by_cases ((joined join row).parent ≡ cond (eqb row.serial join.child) (Some join.link) row.parent) (eqb row.serial join.child)
-    (λ t. rw t refl)
-    (λ t. by_cases ((joined join row).parent ≡ cond (eqb row.serial join.child) (Some join.link) row.parent) (eqb row.root join.child) (λ u. rw (t, u) refl) (λ u. rw (t, u) refl))
+joined_parent join row = refl
 
 -- what has to hold of a join
 pub record CanJoin (rows : List Row) (join : Join) : Type 0 where
@@ -286,9 +275,7 @@ joined_trees begun rows join trees c =
 told_joined : (join : Join) (row : Row) → transaction_of (joined join row) ≡ cond (eqb row.serial join.child) (record (transaction_of row) { parent = Some join.link }) (transaction_of row)
 told_joined join row =
     let Goal : Type 0 = transaction_of (joined join row) ≡ cond (eqb row.serial join.child) (record (transaction_of row) { parent = Some join.link }) (transaction_of row) in
-    by_cases Goal (eqb row.serial join.child)
-    (λ t. by_cases Goal (eqb row.root join.child) (λ u. rw (t, u) refl) (λ u. rw (t, u) refl))
-    (λ t. by_cases Goal (eqb row.root join.child) (λ u. rw (t, u) refl) (λ u. rw (t, u) refl))
+    by_cases Goal (eqb row.serial join.child) (λ t. rw t refl) (λ t. rw t refl)
 
 abbrev serial_in : Option Transaction → ℕ
 serial_in None = 0
@@ -363,37 +350,11 @@ changed_on f rows now i row new within so_far read is =
     ∙ ap (λ (r : Row). set (map f (take i rows) ++ drop i rows) i r) is
     ∙ changed_more f rows i row within (changed_read f rows i row within (read ∙ ap (λ (rs : List Row). get_or rs i row) so_far))
 
--- what holds of each row holds of the one at a place
-pub each_at : (P : Row → Type 0) (rows : List Row) (at : ℕ) (row : Row) → Each P rows → at < length rows → row ≡ get_or rows at row → P row
-each_at P [] at row e within read = absurd (omega (arith, within))
-each_at P (r ∷ rows) zero row e within read = subst P (sym read) e.0
-each_at P (r ∷ rows) (suc at) row e within read = each_at P rows at row e.1 (omega (arith, within)) read
-
--- a transaction of the number is pending
-pub pending_in : (vxid : ℕ) (front : List Transaction) (t : Transaction) (back : List Transaction) → eqb t.vxid vxid ≡ true → is_pending vxid (front ++ t ∷ back) ≡ true
-pending_in vxid [] t back same = rw same refl
-pending_in vxid (f ∷ front) t back same = rw (pending_in vxid front t back same) (or-true (eqb f.vxid vxid))
-
--- the newest transaction of a VXID is that of the row
-pub newest_in : (vxid : ℕ) (front : List Transaction) (t : Transaction) (back : List Transaction) → eqb t.vxid vxid ≡ true → is_pending vxid back ≡ false → newest vxid (front ++ t ∷ back) ≡ Some t
-newest_in vxid [] t back same none = rw (none, same) refl
-newest_in vxid (f ∷ front) t back same none = rw (pending_in vxid front t back same) (newest_in vxid front t back same none)
-
-pub newest_none : (vxid : ℕ) (pending : List Transaction) → is_pending vxid pending ≡ false → newest vxid pending ≡ None
-newest_none vxid [] none = refl
-newest_none vxid (t ∷ pending) none =
-    let parts = or_parts (eqb t.vxid vxid) (is_pending vxid pending) none in
-    rw (parts.1, parts.0) refl
-
--- a list around the element at a place
-pub around : {X : Type 0} (at : ℕ) (xs : List X) (x : X) → at < length xs → x ≡ get_or xs at x → xs ≡ take at xs ++ x ∷ drop (at + 1) xs
-around at xs x within read = sym (take-append-drop at xs) ∙ ap (λ ys. take at xs ++ ys) (drop_more xs at x within ∙ ap (λ y. y ∷ drop (at + 1) xs) (sym read))
-
 -- rows, split at a place
 pub split_at_row : (at : ℕ) (rows : List Row) (row : Row) → at < length rows → row ≡ get_or rows at row → map transaction_of rows ≡ map transaction_of (take at rows) ++ transaction_of row ∷ map transaction_of (drop (at + 1) rows)
 split_at_row at rows row within read = ap (map transaction_of) (around at rows row within read) ∙ map-append transaction_of (take at rows) (row ∷ drop (at + 1) rows)
 
-newest_at : (vxid at : ℕ) (rows : List Row) (row : Row) → IsNewestRow vxid at rows → row ≡ get_or rows at row → newest vxid (map transaction_of rows) ≡ Some (transaction_of row)
+pub newest_at : (vxid at : ℕ) (rows : List Row) (row : Row) → IsNewestRow vxid at rows → row ≡ get_or rows at row → newest vxid (map transaction_of rows) ≡ Some (transaction_of row)
 newest_at vxid at rows row is read =
     let same : row.vxid ≡ vxid = ap (λ (r : Row). r.vxid) read ∙ is.is row in
     ap (newest vxid) (split_at_row at rows row is.within read)
@@ -447,86 +408,63 @@ alone_in_tree rows forest child at none (suc n) s row here inside short = ⊎_el
     absurd (omega (arith, some, forest.counted child.serial child at, none)))
     (forest.linked s row here)
 
--- the row of a serial number takes its part in a join
-abbrev joined_of : Join → ℕ → Row → Row
-joined_of join s row = cond (eqb row.serial s) (joined join row) row
-
-joined_of_serial : (join : Join) (s : ℕ) (row : Row) → (joined_of join s row).serial ≡ row.serial
-joined_of_serial join s row = by_cases ((joined_of join s row).serial ≡ row.serial) (eqb row.serial s) (λ t. rw t (joined_serial join row)) (λ t. rw t refl)
-
--- no later row is meant
-joined_of_later : (join : Join) (s low high : ℕ) (rows : List Row) → Rising low high rows → s < low → map (joined_of join s) rows ≡ rows
-joined_of_later join s low high [] r passed = refl
-joined_of_later join s low high (row ∷ rows) r passed =
-    let other : eqb row.serial s ≡ false = ne_eqb row.serial s (λ e. omega (arith, r.0, e, passed)) in
-    ap (λ (b : Bool). cond b (joined join row) row ∷ map (joined_of join s) rows) other
-    ∙ ap (λ (rs : List Row). row ∷ rs) (joined_of_later join s (row.serial + 1) high rows r.1 (omega (arith, r.0, passed)))
+-- a row that is written where it takes its part in a join
+pub joined_written : (join : Join) (at : ℕ) (rows : List Row) (row new : Row) → at < length rows → row ≡ get_or rows at row → new ≡ joined join row → set rows at new ≡ joined_at join at rows
+joined_written join at [] row new within read is = absurd (omega (arith, within))
+joined_written join zero (first ∷ rows) row new within read is = ap (λ (r : Row). r ∷ rows) (is ∙ ap (joined join) read)
+joined_written join (suc at) (first ∷ rows) row new within read is = ap (λ (rs : List Row). first ∷ rs) (joined_written join at rows row new (omega (arith, within)) read is)
 
 -- the row at a place is that of its serial number
-joined_at_is : (join : Join) (low high at : ℕ) (rows : List Row) (row : Row) → Rising low high rows → at < length rows → row ≡ get_or rows at row → joined_at join at rows ≡ map (joined_of join row.serial) rows
-joined_at_is join low high at [] row r within read = absurd (omega (arith, within))
-joined_at_is join low high zero (first ∷ rows) row r within read =
-    let is : first.serial ≡ row.serial = ap (λ (x : Row). x.serial) (sym read) in
-    sym (ap (λ (b : Bool). cond b (joined join first) first ∷ map (joined_of join row.serial) rows) (eq-eqb first.serial row.serial is)
-    ∙ ap (λ (rs : List Row). joined join first ∷ rs) (joined_of_later join row.serial (first.serial + 1) high rows r.1 (omega (arith, is))))
-joined_at_is join low high (suc at) (first ∷ rows) row r within read =
-    let above : first.serial + 1 ≤ row.serial = each_at (λ x. first.serial + 1 ≤ x.serial) rows at row (rising_above (first.serial + 1) high rows r.1) (omega (arith, within)) read in
-    let other : eqb first.serial row.serial ≡ false = ne_eqb first.serial row.serial (λ e. omega (arith, above, e)) in
-    ap (λ (rs : List Row). first ∷ rs) (joined_at_is join (first.serial + 1) high at rows row r.1 (omega (arith, within)) read)
-    ∙ ap (λ (b : Bool). cond b (joined join first) first ∷ map (joined_of join row.serial) rows) (sym other)
+joined_at_is : (join : Join) (low high at : ℕ) (rows : List Row) (row : Row) → Rising low high rows → at < length rows → row ≡ get_or rows at row → joined_at join at rows ≡ map (of_row row.serial (joined join)) rows
+joined_at_is join low high at rows row r within read =
+    sym (joined_written join at rows row (joined join row) within read refl) ∙ set_is_of_row (joined join) low high at rows row (joined join row) r within read refl
 
 -- a row that is neither the first of the tree nor the parent stays, where that tree has no other row
 joined_neither : (join : Join) (row : Row) → eqb row.root join.child ≡ false → eqb row.serial join.child ≡ false → eqb row.serial join.link.serial ≡ false → joined join row ≡ row
 joined_neither join row outside first above = rw (outside, first, above) refl
 
 -- what both rows do in turn is the join of all
-both_joined : (join : Join) (row : Row) → eqb join.child join.link.serial ≡ false → (eqb row.root join.child ≡ true → row.serial ≡ join.child) → joined_of join join.link.serial (joined_of join join.child row) ≡ joined join row
+both_joined : (join : Join) (row : Row) → eqb join.child join.link.serial ≡ false → (eqb row.root join.child ≡ true → row.serial ≡ join.child) → of_row join.link.serial (joined join) (of_row join.child (joined join) row) ≡ joined join row
 both_joined join row apart alone =
-    let Goal : Type 0 = joined_of join join.link.serial (joined_of join join.child row) ≡ joined join row in
+    let Goal : Type 0 = of_row join.link.serial (joined join) (of_row join.child (joined join) row) ≡ joined join row in
     by_cases Goal (eqb row.serial join.child)
-    (λ t. let first : joined_of join join.child row ≡ joined join row = ap (λ (b : Bool). cond b (joined join row) row) t in
+    (λ t. let first : of_row join.child (joined join) row ≡ joined join row = ap (λ (b : Bool). cond b (joined join row) row) t in
     let other : eqb (joined join row).serial join.link.serial ≡ false = ap (λ (n : ℕ). eqb n join.link.serial) (joined_serial join row ∙ eqb-true row.serial join.child t) ∙ apart in
-    ap (joined_of join join.link.serial) first ∙ ap (λ (b : Bool). cond b (joined join (joined join row)) (joined join row)) other)
-    (λ other. let first : joined_of join join.child row ≡ row = ap (λ (b : Bool). cond b (joined join row) row) other in
+    ap (of_row join.link.serial (joined join)) first ∙ ap (λ (b : Bool). cond b (joined join (joined join row)) (joined join row)) other)
+    (λ other. let first : of_row join.child (joined join) row ≡ row = ap (λ (b : Bool). cond b (joined join row) row) other in
     let outside : eqb row.root join.child ≡ false = ne_eqb row.root join.child (λ e. eqb-false row.serial join.child other (alone (eq-eqb row.root join.child e))) in
-    ap (joined_of join join.link.serial) first
-    ∙ by_cases (joined_of join join.link.serial row ≡ joined join row) (eqb row.serial join.link.serial)
+    ap (of_row join.link.serial (joined join)) first
+    ∙ by_cases (of_row join.link.serial (joined join) row ≡ joined join row) (eqb row.serial join.link.serial)
     (λ t. ap (λ (b : Bool). cond b (joined join row) row) t)
     (λ t. ap (λ (b : Bool). cond b (joined join row) row) t ∙ sym (joined_neither join row outside other t)))
 
-both_map : (join : Join) (rows : List Row) → eqb join.child join.link.serial ≡ false → Each (λ row. eqb row.root join.child ≡ true → row.serial ≡ join.child) rows → map (joined_of join join.link.serial) (map (joined_of join join.child) rows) ≡ map (joined join) rows
+both_map : (join : Join) (rows : List Row) → eqb join.child join.link.serial ≡ false → Each (λ row. eqb row.root join.child ≡ true → row.serial ≡ join.child) rows → map (of_row join.link.serial (joined join)) (map (of_row join.child (joined join)) rows) ≡ map (joined join) rows
 both_map join [] apart e = refl
 both_map join (row ∷ rows) apart e =
-    ap (λ (r : Row). r ∷ map (joined_of join join.link.serial) (map (joined_of join join.child) rows)) (both_joined join row apart e.0)
+    ap (λ (r : Row). r ∷ map (of_row join.link.serial (joined join)) (map (of_row join.child (joined join)) rows)) (both_joined join row apart e.0)
     ∙ ap (λ (rs : List Row). joined join row ∷ rs) (both_map join rows apart e.1)
 
 -- where the tree that joins is one row, that row and the parent alone change
 pub alone_joined : (begun below above : ℕ) (rows : List Row) (child parent : Row) (join : Join) → AreTrees begun rows → below < length rows → child ≡ get_or rows below child → above < length rows → parent ≡ get_or rows above parent →
     join.child ≡ child.serial → join.link.serial ≡ parent.serial → child.children ≡ 0 → eqb child.serial parent.serial ≡ false → joined_at join above (joined_at join below rows) ≡ map (joined join) rows
 alone_joined begun below above rows child parent join trees below_within child_read above_within parent_read child_is parent_is none apart =
-    let f : Row → Row = joined_of join child.serial in
+    let f : Row → Row = of_row child.serial (joined join) in
     let here : row_of child.serial rows ≡ Some child = each_at (λ r. row_of r.serial rows ≡ Some r) rows below child (each_found 0 begun rows trees.rising) below_within child_read in
     let first : joined_at join below rows ≡ map f rows = joined_at_is join 0 begun below rows child trees.rising below_within child_read in
     let now : Row = f parent in
-    let now_is : now.serial ≡ parent.serial = joined_of_serial join child.serial parent in
+    let now_is : now.serial ≡ parent.serial = of_row_same (λ r. r.serial) child.serial (joined join) (joined_serial join) parent in
     let read : now ≡ get_or (map f rows) above now = ap f parent_read ∙ sym (get_or-map f rows above parent now above_within) in
-    let second : joined_at join above (map f rows) ≡ map (joined_of join now.serial) (map f rows) =
-    joined_at_is join 0 begun above (map f rows) now (rising_map f (joined_of_serial join child.serial) 0 begun rows trees.rising) (omega (arith, above_within, length-map rows f)) read in
+    let second : joined_at join above (map f rows) ≡ map (of_row now.serial (joined join)) (map f rows) =
+    joined_at_is join 0 begun above (map f rows) now (rising_map f (of_row_same (λ r. r.serial) child.serial (joined join) (joined_serial join)) 0 begun rows trees.rising) (omega (arith, above_within, length-map rows f)) read in
     let alone : Each (λ row. eqb row.root join.child ≡ true → row.serial ≡ join.child) rows =
     each_weaker (λ r. row_of r.serial rows ≡ Some r) (λ r. eqb r.root join.child ≡ true → r.serial ≡ join.child)
     (λ r found inside. alone_in_tree rows trees.forest child here none (length r.path + 1) r.serial r found (eqb-true r.root join.child inside ∙ child_is) (omega arith) ∙ sym child_is)
     rows (each_found 0 begun rows trees.rising) in
     let other : eqb join.child join.link.serial ≡ false = ap (λ (n : ℕ). eqb n join.link.serial) child_is ∙ ap (eqb child.serial) parent_is ∙ apart in
     ap (joined_at join above) first ∙ second
-    ∙ ap (λ (n : ℕ). map (joined_of join n) (map f rows)) (now_is ∙ sym parent_is)
-    ∙ ap (λ (n : ℕ). map (joined_of join join.link.serial) (map (joined_of join n) rows)) (sym child_is)
+    ∙ ap (λ (n : ℕ). map (of_row n (joined join)) (map f rows)) (now_is ∙ sym parent_is)
+    ∙ ap (λ (n : ℕ). map (of_row join.link.serial (joined join)) (map (of_row n (joined join)) rows)) (sym child_is)
     ∙ both_map join rows other alone
-
--- a row that is written where it takes its part in a join
-pub joined_written : (join : Join) (at : ℕ) (rows : List Row) (row new : Row) → at < length rows → row ≡ get_or rows at row → new ≡ joined join row → set rows at new ≡ joined_at join at rows
-joined_written join at [] row new within read is = absurd (omega (arith, within))
-joined_written join zero (first ∷ rows) row new within read is = ap (λ (r : Row). r ∷ rows) (is ∙ ap (joined join) read)
-joined_written join (suc at) (first ∷ rows) row new within read is = ap (λ (rs : List Row). first ∷ rs) (joined_written join at rows row new (omega (arith, within)) read is)
 
 pub joined_at_length : (join : Join) (at : ℕ) (rows : List Row) → length (joined_at join at rows) ≡ length rows
 joined_at_length join at [] = refl

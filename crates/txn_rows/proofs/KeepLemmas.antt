@@ -1,11 +1,13 @@
 -- What each rule of a record keeps is kept up to an End, and what holds of one force-completion holds of many.
-use Rattle.std.proofs.Common.{◌≡◌, ℕ, zero, suc, Bool, eqb, ltb, length, map, cond, Option, Some, None, List, [], ◌∷◌, refl, ap}
+use Rattle.std.proofs.Common.{◌≡◌, ℕ, zero, suc, Bool, true, eqb, ltb, length, map, cond, Option, Some, None, List, [], ◌∷◌, refl, ap}
 use Rattle.std.specs.Prelude.{count_by}
+use Rattle.std.proofs.lemmas.Bool.{cond_both}
 use Rattle.vsl_tags.specs.Tags.{timestamp_tag, begin_tag, link_tag}
 use Rattle.vsl_record.specs.declared.record_type.Record.{Record}
 use Rattle.txn_rows.specs.declared.group.Grouping.{Grouping}
+use Rattle.txn_rows.specs.declared.group.GroupOptions.{GroupOptions}
 use Rattle.txn_rows.specs.declared.group.Cause.{Cause}
-use Rattle.txn_rows.specs.declared.group.Cause.TheVariants.{Overflow, Timeout}
+use Rattle.txn_rows.specs.declared.group.Cause.TheVariants.{Overflow, Timeout, Flush}
 use Rattle.txn_rows.specs.declared.force.Which.{Which}
 use Rattle.txn_rows.specs.declared.force.Which.TheVariants.{Unfinished, Late}
 use Rattle.txn_rows.specs.declared.claim.Claim.{Claim}
@@ -13,7 +15,7 @@ use Rattle.txn_rows.specs.Claim.{claim_of}
 use Rattle.txn_rows.specs.Time.{time_of}
 use Rattle.txn_rows.specs.Transaction.{Transaction, is_pending, is_open, is_unknown, with_newest, with_oldest, with_record, with_kind, claimed_kind}
 use Rattle.txn_rows.specs.Links.{with_link}
-use Rattle.txn_rows.specs.Grouping.{State, Leaving, nothing_left, then_left, forced_one, forced_often, forced_down, forced_all, after_timeouts, has_risen, is_late, is_unfinished, with_new, with_transaction, with_other, gives_parent, with_parent_named, with_child_named, with_claim, with_time, with_all_told}
+use Rattle.txn_rows.specs.Grouping.{Taken, TakenUnit, Missed, State, Leaving, nothing_left, then_left, forced_one, forced_often, forced_down, forced_all, after_end, after_timeouts, after_overflow, has_risen, is_late, is_unfinished, unfinished, with_new, with_transaction, with_other, gives_parent, with_parent_named, with_child_named, with_claim, with_time, with_all_told, grouped, is_raw, raw_group, step, steps, passes_over, flush, taken_step, taken_steps}
 use Rattle.txn_rows.specs.inside.Steps.{test_of}
 use Rattle.txn_rows.proofs.LineLemmas.{either}
 
@@ -21,22 +23,6 @@ use Rattle.txn_rows.proofs.LineLemmas.{either}
 pub claimed_same : {A : Type 0} (f : Transaction → A) → ((t : Transaction) (claim : Claim) → f (record t { kind = claim.kind; reason = claim.reason }) ≡ f t) → (claim : Option Claim) (t : Transaction) → f (claimed_kind claim t) ≡ f t
 claimed_same f keeps None t = refl
 claimed_same f keeps (Some claim) t = either (λ u. f u ≡ f t) (is_unknown t.kind) (record t { kind = claim.kind; reason = claim.reason }) t (keeps t claim) refl
-
--- what a change of one transaction keeps of it, it keeps of all
-pub newest_same : {A : Type 0} (f : Transaction → A) (vxid : ℕ) (change : Transaction → Transaction) → ((t : Transaction) → f (change t) ≡ f t) → (pending : List Transaction) → map f (with_newest vxid change pending) ≡ map f pending
-newest_same {A} f vxid change keeps [] = refl
-newest_same {A} f vxid change keeps (t ∷ pending) =
-    let P : List Transaction → Type 0 = λ ts. map f ts ≡ map f (t ∷ pending) in
-    either P (is_pending vxid pending) (t ∷ with_newest vxid change pending) (cond (eqb t.vxid vxid) (change t ∷ pending) (t ∷ pending))
-    (ap (λ (xs : List A). f t ∷ xs) (newest_same f vxid change keeps pending))
-    (either P (eqb t.vxid vxid) (change t ∷ pending) (t ∷ pending) (ap (λ (x : A). x ∷ map f pending) (keeps t)) refl)
-
-pub oldest_same : {A : Type 0} (f : Transaction → A) (test : Transaction → Bool) (change : Transaction → Transaction) → ((t : Transaction) → f (change t) ≡ f t) → (pending : List Transaction) → map f (with_oldest test change pending) ≡ map f pending
-oldest_same {A} f test change keeps [] = refl
-oldest_same {A} f test change keeps (t ∷ pending) =
-    either (λ ts. map f ts ≡ map f (t ∷ pending)) (test t) (change t ∷ pending) (t ∷ with_oldest test change pending)
-    (ap (λ (x : A). x ∷ map f pending) (keeps t))
-    (ap (λ (xs : List A). f t ∷ xs) (oldest_same f test change keeps pending))
 
 -- a record goes to its transaction, and may tell the kind and a link
 abbrev pub with_linked : Grouping → ℕ → Record → State → State
@@ -111,3 +97,45 @@ pub timeouts_hold : (Q : State → Leaving → Type 0) → HoldsOn Q → (second
 timeouts_hold Q on seconds before state =
     either (Q state) (has_risen before state.time) (forced_all (is_late seconds state.time) Timeout state) (nothing_left state)
     (often_holds Q on (count_by (is_late seconds state.time) state.pending) (Late seconds state.time) Timeout state) (on.none state)
+
+pub flush_holds : (Q : State → Leaving → Type 0) → HoldsOn Q → (state : State) → Q state (flush state)
+flush_holds Q on state = often_holds Q on (unfinished state) Unfinished Flush state
+
+-- a fact of a step that holds of each step of one record, and of all that a record is made of
+pub record HoldsOver (options : GroupOptions) (Q : State → Leaving → Type 0) : Type 0 where
+  pub on : HoldsOn Q
+  pub one : (vxid : ℕ) (rec : Record) (state : State) → Q state (step options vxid rec state)
+
+-- it holds of a record by itself, and up to an End
+pub holds_over : (options : GroupOptions) (Q : State → Leaving → Type 0) → HoldsOn Q →
+    ((vxid : ℕ) (rec : Record) (state : State) → is_raw options.grouping ≡ true → Q state (record { state = state; groups = raw_group vxid rec ∷ [] })) →
+    ((vxid : ℕ) (rec : Record) (state : State) → Q state (after_end vxid rec (with_all_told options.grouping vxid rec state))) → HoldsOver options Q
+holds_over options Q on alone ends = record {
+  on = on;
+  one = λ vxid rec state.
+      let first : Leaving = after_end vxid rec (with_all_told options.grouping vxid rec state) in
+      let late : Leaving = then_left first (after_timeouts options.timeout state.time) in
+      cond_both (is_raw options.grouping) (record { state = state; groups = raw_group vxid rec ∷ [] }) (grouped options vxid rec state) (Q state)
+      (alone vxid rec state)
+      (λ e. on.after late (after_overflow options.limit) state
+      (on.after first (after_timeouts options.timeout state.time) state (ends vxid rec state) (timeouts_hold Q on options.timeout state.time first.state))
+      (down_holds Q on options.limit (unfinished late.state) late.state));
+}
+
+-- and of records, an item and items one after another
+pub steps_hold : (options : GroupOptions) (Q : State → Leaving → Type 0) → HoldsOver options Q → (vxid : ℕ) (records : List Record) (state : State) → Q state (steps options vxid records state)
+steps_hold options Q over vxid [] state = over.on.none state
+steps_hold options Q over vxid (rec ∷ records) state =
+    let first : Leaving = step options vxid rec state in
+    over.on.after first (steps options vxid records) state (over.one vxid rec state) (steps_hold options Q over vxid records first.state)
+
+item_holds : (options : GroupOptions) (Q : State → Leaving → Type 0) → HoldsOver options Q → (item : Taken) (state : State) → Q state (taken_step options item state)
+item_holds options Q over (TakenUnit u) state =
+    either (Q state) (passes_over options.grouping u.vxid) (nothing_left state) (steps options u.vxid u.records state) (over.on.none state) (steps_hold options Q over u.vxid u.records state)
+item_holds options Q over Missed state = flush_holds Q over.on state
+
+pub items_hold : (options : GroupOptions) (Q : State → Leaving → Type 0) → HoldsOver options Q → (taken : List Taken) (state : State) → Q state (taken_steps options taken state)
+items_hold options Q over [] state = over.on.none state
+items_hold options Q over (item ∷ taken) state =
+    let first : Leaving = taken_step options item state in
+    over.on.after first (taken_steps options taken) state (item_holds options Q over item state) (items_hold options Q over taken first.state)

@@ -7,7 +7,7 @@ use Rattle.std.proofs.lemmas.List.Elements.{filter-append, filter_more}
 use Rattle.txn_rows.specs.declared.rows.Row.{Row}
 use Rattle.txn_rows.specs.inside.Rows.{rows_below, rows_beside}
 use Rattle.txn_rows.proofs.LineLemmas.{by_cases}
-use Rattle.txn_rows.proofs.JoinLemmas.{around}
+use Rattle.txn_rows.proofs.TreeLemmas.{around, set_around}
 
 -- a row of the tree is none of the others
 beside_around : (root : ℕ) (front back : List Row) (row : Row) → row.root ≡ root → rows_beside root (front ++ row ∷ back) ≡ rows_beside root front ++ rows_beside root back
@@ -16,8 +16,7 @@ beside_around root front back row inside = filter-append (λ (r : Row). not (eqb
 -- one row of the tree in the place of another
 beside_set : (root at : ℕ) (rows : List Row) (row gap : Row) → at < length rows → row ≡ get_or rows at row → row.root ≡ root → gap.root ≡ root → rows_beside root (set rows at gap) ≡ rows_beside root rows
 beside_set root at rows row gap within read inside gap_inside =
-    let changed : set rows at gap ≡ take at rows ++ gap ∷ drop (at + 1) rows = rw add-one (set_split rows at gap within) in
-    ap (rows_beside root) changed ∙ beside_around root (take at rows) (drop (at + 1) rows) gap gap_inside
+    ap (rows_beside root) (set_around at rows gap within) ∙ beside_around root (take at rows) (drop (at + 1) rows) gap gap_inside
     ∙ sym (ap (rows_beside root) (around at rows row within read) ∙ beside_around root (take at rows) (drop (at + 1) rows) row inside)
 
 -- the rows of the tree among the first are taken, the others stand, and the rest is as it was

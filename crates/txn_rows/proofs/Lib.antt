@@ -5,6 +5,7 @@ pub mod LineLemmas
 mod KeepLemmas
 mod TimeLemmas
 pub mod TreeLemmas
+pub mod ChangeLemmas
 pub mod JoinLemmas
 mod LeaveLemmas
 mod SortLemmas
@@ -19,7 +20,6 @@ mod PendingLemmas
 mod TakeLemmas
 mod PlainLemmas
 mod TakenLemmas
-mod StepLemmas
 mod TableLemmas
 mod OrderLemmas
 mod NumberLemmas

@@ -15,10 +15,10 @@ use Rattle.txn_rows.specs.Links.{with_parent, can_join, is_in_line, children, le
 use Rattle.txn_rows.specs.Grouping.{State, with_new, with_transaction, raised, timed, with_all_told}
 use Rattle.txn_rows.specs.inside.Rows.{transaction_of, row_of, IsTop, IsBelow, AreTrees, Each, rows_beside}
 use Rattle.txn_rows.proofs.LineLemmas.{by_cases}
-use Rattle.txn_rows.proofs.KeepLemmas.{claimed_same, newest_same, oldest_same, Keeps, begun_kept, told_kept}
+use Rattle.txn_rows.proofs.KeepLemmas.{claimed_same, Keeps, begun_kept, told_kept}
+use Rattle.txn_rows.proofs.ChangeLemmas.{newest_split, changed_in, newest_same, oldest_same}
 use Rattle.txn_rows.proofs.TreeLemmas.{each_weaker, each_found}
 use Rattle.txn_rows.proofs.JoinLemmas.{count_map, none_from}
-use Rattle.txn_rows.proofs.RunLemmas.{newest_vxid}
 use Rattle.txn_rows.proofs.OrderLemmas.{contains_here, all_left, all_right}
 
 -- a transaction among others, and where its link leads
@@ -116,35 +116,6 @@ numbered_put begun front p back link parent none n there serial vxid number =
           (λ t. omega (arith, more (has_number s m) refl, n.below s m (omega (arith, le, more (leads_to s) refl)), ap {B = ℕ} (λ (b : Bool). cond b 1 0) t));
     }
 
--- the newest transaction of a VXID, among those before and behind it
-record NewestIn (vxid : ℕ) (pending : List Transaction) (t : Transaction) : Type 0 where
-  front : List Transaction
-  back : List Transaction
-  whole : pending ≡ front ++ t ∷ back
-  changed : (change : Transaction → Transaction) → with_newest vxid change pending ≡ front ++ change t ∷ back
-
-newest_split : (vxid : ℕ) (pending : List Transaction) (t : Transaction) → newest vxid pending ≡ Some t → NewestIn vxid pending t
-newest_split vxid [] t e = absurd (cc)
-newest_split vxid (first ∷ pending) t e =
-    by_cases (NewestIn vxid (first ∷ pending) t) (is_pending vxid pending)
-    (λ p. let later = newest_split vxid pending t (rw p at e) in
-    record {
-      front = first ∷ later.front;
-      back = later.back;
-      whole = ap (λ (ts : List Transaction). first ∷ ts) later.whole;
-      changed = λ change. rw p (ap (λ (ts : List Transaction). first ∷ ts) (later.changed change));
-    })
-    (λ p. by_cases (NewestIn vxid (first ∷ pending) t) (eqb first.vxid vxid)
-    (λ q. let same : Some first ≡ Some t = rw (p, q) at e in
-    let is : first ≡ t = (cc) in
-    record {
-      front = [];
-      back = pending;
-      whole = ap (λ (x : Transaction). x ∷ pending) is;
-      changed = λ change. rw (p, q) (ap (λ (x : Transaction). change x ∷ pending) is);
-    })
-    (λ q. let none : None ≡ Some t = rw (p, q) at e in absurd (cc)))
-
 -- a transaction gets a parent
 parent_numbered : (cv pv : ℕ) (state : State) → IsNumbered state → (c p : Option Transaction) → newest cv state.pending ≡ c → newest pv state.pending ≡ p → IsNumbered (record state { pending = with_parent c p state.pending })
 parent_numbered cv pv state n None p e f = n
@@ -156,12 +127,13 @@ parent_numbered cv pv state n (Some child) (Some parent) e f =
     cond_both (can_join pending child parent) now pending (λ ts. Numbered state.begun (map place_of ts))
     (λ can.
     let none : child.parent ≡ None = none_from child.parent (and_parts (is_none child.parent) (not child.ended) (and_parts (is_none child.parent && not child.ended) (not (is_in_line pending child parent)) can).0).0 in
-    let at = newest_split child.vxid pending child (ap (λ (v : ℕ). newest v pending) (newest_vxid cv pending child e) ∙ e) in
+    let at = newest_split cv pending child e in
+    let changed = ap (λ (v : ℕ). with_newest v (λ t. record t { parent = Some link }) pending) (eqb-true child.vxid cv at.same) ∙ ap (with_newest cv (λ t. record t { parent = Some link })) at.whole ∙ changed_in cv (λ t. record t { parent = Some link }) at.front child at.back at.same at.none in
     let above = newest_split pv pending parent f in
     let front : List Place = map place_of at.front in
     let back : List Place = map place_of at.back in
     let was : map place_of pending ≡ front ++ place_of child ∷ back = ap (map place_of) at.whole ∙ map-append place_of at.front (child ∷ at.back) in
-    subst (Numbered state.begun) (sym (ap (map place_of) (at.changed (λ t. record t { parent = Some link })) ∙ map-append place_of at.front (record child { parent = Some link } ∷ at.back)))
+    subst (Numbered state.begun) (sym (ap (map place_of) changed ∙ map-append place_of at.front (record child { parent = Some link } ∷ at.back)))
     (numbered_put state.begun front (place_of child) back link (place_of parent) none (subst (Numbered state.begun) was n)
     (subst (λ (ps : List Place). Contains ps (place_of parent)) (sym (ap (map place_of) above.whole ∙ map-append place_of above.front (parent ∷ above.back)) ∙ was) (contains_here (map place_of above.front) (place_of parent) (map place_of above.back)))
     refl refl (sym (count_map (λ (p : Place). leads_to parent.serial p.parent) place_of pending) ∙ ap (count_links (leads_to parent.serial)) was)))

@@ -1,5 +1,6 @@
 -- Rows that begin, and which is open.
 use Rattle.std.proofs.Common.{◌≡◌, ◌+◌, ℕ, Bool, true, false, not, eqb, cond, Option, Some, None, List, [], ◌∷◌, ◌++◌, set, map, take, drop, get_or, refl, ap, sym, ◌∙◌, subst, arith}
+use Rattle.std.specs.Option.{option_map}
 use Rattle.std.proofs.lemmas.Bool.{eq-eqb, or_parts}
 use Rattle.std.proofs.lemmas.List.{map-append, length-set, drop-set-lt, get_or_default, get_or-set_same, get_or_append_left, drop-append-le, length_push}
 use Rattle.vsl_tags.specs.Tags.{begin_tag}
@@ -9,16 +10,18 @@ use Rattle.txn_rows.specs.declared.group.Reason.TheVariants as reasons
 use Rattle.txn_rows.specs.Transaction.{Transaction, is_pending, is_open, newest, with_newest, with_record, with_kind, claimed_kind, ended}
 use Rattle.txn_rows.specs.declared.claim.Claim.{Claim}
 use Rattle.txn_rows.specs.declared.group.Group.{Group}
+use Rattle.txn_rows.specs.declared.group.Grouping.{Grouping}
 use Rattle.vsl_record.specs.declared.record_type.Record.{Record}
 use Rattle.txn_rows.specs.Claim.{claim_of}
 use Rattle.txn_rows.specs.Grouping.{with_new, ended_one}
-use Rattle.txn_rows.specs.inside.Rows.{transaction_of, IsNewestRow, AreTrees, with_one, left_rows, LeftRows}
+use Rattle.txn_rows.specs.inside.Rows.{transaction_of, row_told, IsNewestRow, AreTrees, with_one, left_rows, LeftRows}
 use Rattle.txn_rows.specs.inside.Steps.{state_with, RowsStep}
 use Rattle.txn_rows.proofs.LineLemmas.{either}
 use Rattle.txn_rows.proofs.KeepLemmas.{claimed_same}
-use Rattle.txn_rows.proofs.JoinLemmas.{pending_in, split_at_row, newest_in}
-use Rattle.txn_rows.proofs.StandLemmas.{trees_push, trees_set, IsInPlaceOf}
-use Rattle.txn_rows.proofs.ForceLemmas.{written, written_leaves}
+use Rattle.txn_rows.proofs.ChangeLemmas.{KeepsLinks, pending_in, open_in, changed_in, newest_is_changed}
+use Rattle.txn_rows.proofs.JoinLemmas.{split_at_row, newest_at}
+use Rattle.txn_rows.proofs.StandLemmas.{trees_push, trees_set, row_told_is, told_in_place}
+use Rattle.txn_rows.proofs.ForceLemmas.{written, told_leaves}
 
 -- a row of which no record was seen
 abbrev pub empty_row : ℕ → ℕ → Option ℕ → Row
@@ -37,10 +40,6 @@ began begun vxid time rows now row trees is all =
       trees = subst (AreTrees (begun + 1)) (sym whole) (trees_push begun rows new trees refl (record { none = refl; root = refl; path = refl }) refl);
       told = ap (state_with (begun + 1) time) whole ∙ ap (λ (ts : List Transaction). record { pending = ts; begun = begun + 1; time = time }) (map-append transaction_of rows (new ∷ []));
     }
-
-open_in : (vxid : ℕ) (front : List Transaction) (t : Transaction) (back : List Transaction) → eqb t.vxid vxid ≡ true → is_pending vxid back ≡ false → is_open vxid (front ++ t ∷ back) ≡ not t.ended
-open_in vxid [] t back same none = rw (none, same) refl
-open_in vxid (f ∷ front) t back same none = rw (pending_in vxid front t back same) (open_in vxid front t back same none)
 
 -- whether the newest is open
 pub open_at : (vxid at : ℕ) (rows : List Row) (row : Row) → IsNewestRow vxid at rows → row ≡ get_or rows at row → is_open vxid (map transaction_of rows) ≡ not row.ended
@@ -84,13 +83,8 @@ newest_kept vxid at rows row other is = record {
       ∙ none_push vxid (map transaction_of (drop (at + 1) rows)) (transaction_of row) is.none_after other;
 }
 
--- the newest transaction of a VXID is changed where it stands
-newest_changed : (vxid : ℕ) (change : Transaction → Transaction) (front : List Transaction) (t : Transaction) (back : List Transaction) → eqb t.vxid vxid ≡ true → is_pending vxid back ≡ false → with_newest vxid change (front ++ t ∷ back) ≡ front ++ change t ∷ back
-newest_changed vxid change [] t back same none = rw (none, same) refl
-newest_changed vxid change (f ∷ front) t back same none = rw (pending_in vxid front t back same) (ap (λ (ts : List Transaction). f ∷ ts) (newest_changed vxid change front t back same none))
-
 changed_if : (test : Bool) (vxid : ℕ) (change : Transaction → Transaction) (front : List Transaction) (t : Transaction) (back : List Transaction) → eqb t.vxid vxid ≡ true → is_pending vxid back ≡ false → cond test (with_newest vxid change (front ++ t ∷ back)) (front ++ t ∷ back) ≡ front ++ cond test (change t) t ∷ back
-changed_if true vxid change front t back same none = newest_changed vxid change front t back same none
+changed_if true vxid change front t back same none = changed_in vxid change front t back same none
 changed_if false vxid change front t back same none = refl
 
 one_same : {A : Type 0} (f : Transaction → A) → ((t : Transaction) (claim : Claim) → f (record t { kind = claim.kind; reason = claim.reason }) ≡ f t) → (rec : Record) (t : Transaction) → f (record t { records = t.records ++ rec ∷ [] }) ≡ f t → f (with_one rec t) ≡ f t
@@ -103,52 +97,42 @@ pub record Added (begun vxid : ℕ) (rec : Record) (rows now : List Row) : Type 
   pub trees : AreTrees begun now
   pub told : map transaction_of now ≡ with_kind vxid rec (with_record vxid rec (map transaction_of rows))
 
-pub added : (begun vxid at : ℕ) (rec : Record) (rows : List Row) (row new : Row) → AreTrees begun rows → IsNewestRow vxid at rows → row ≡ get_or rows at row → transaction_of new ≡ with_one rec (transaction_of row) → new.root ≡ row.root → new.path ≡ row.path → new.children ≡ row.children → Added begun vxid rec rows (set rows at new)
-added begun vxid at rec rows row new trees is read told root path children =
+one_keeps : (rec : Record) → KeepsLinks (with_one rec)
+one_keeps rec = record { serial = λ t. one_same (λ x. x.serial) (λ x c. refl) rec t refl; parent = λ t. one_same (λ x. x.parent) (λ x c. refl) rec t refl }
+
+pub added : (begun vxid at : ℕ) (rec : Record) (rows : List Row) (row new : Row) → AreTrees begun rows → IsNewestRow vxid at rows → row ≡ get_or rows at row → new ≡ row_told (with_one rec) row → Added begun vxid rec rows (set rows at new)
+added begun vxid at rec rows row new trees is read told =
     let t : Transaction = transaction_of row in
     let longer : Transaction = record t { records = t.records ++ rec ∷ [] } in
     let front : List Transaction = map transaction_of (take at rows) in
     let back : List Transaction = map transaction_of (drop (at + 1) rows) in
     let same : eqb row.vxid vxid ≡ true = eq-eqb row.vxid vxid (ap (λ (r : Row). r.vxid) read ∙ is.is row) in
-    let in_place : IsInPlaceOf row new = record {
-      serial = ap (λ (x : Transaction). x.serial) told ∙ one_same (λ x. x.serial) (λ x c. refl) rec t refl;
-      parent = ap (λ (x : Transaction). x.parent) told ∙ one_same (λ x. x.parent) (λ x c. refl) rec t refl;
-      root = root;
-      path = path;
-      children = children;
-    } in
     record {
-      trees = trees_set begun at rows row new trees is.within read in_place;
+      trees = trees_set begun at rows row new trees is.within read (told_in_place (with_one rec) row new told);
       told =
           written at rows new is.within
-          ∙ ap (λ (x : Transaction). front ++ x ∷ back) told
+          ∙ ap (λ (x : Transaction). front ++ x ∷ back) (ap transaction_of told ∙ row_told_is (with_one rec) (one_keeps rec) row)
           ∙ sym (ap (λ (ts : List Transaction). with_kind vxid rec (with_record vxid rec ts)) (split_at_row at rows row is.within read)
-          ∙ ap (with_kind vxid rec) (newest_changed vxid (λ s. record s { records = s.records ++ rec ∷ [] }) front t back same is.none_after)
+          ∙ ap (with_kind vxid rec) (changed_in vxid (λ s. record s { records = s.records ++ rec ∷ [] }) front t back same is.none_after)
           ∙ changed_if (eqb rec.tag begin_tag) vxid (claimed_kind (claim_of rec.payload)) front longer back same is.none_after);
     }
 
 -- and the newest stays where it is
-pub added_newest : (vxid at : ℕ) (rec : Record) (rows : List Row) (row new : Row) → IsNewestRow vxid at rows → row ≡ get_or rows at row → transaction_of new ≡ with_one rec (transaction_of row) → IsNewestRow vxid at (set rows at new)
+pub added_newest : (vxid at : ℕ) (rec : Record) (rows : List Row) (row new : Row) → IsNewestRow vxid at rows → row ≡ get_or rows at row → new ≡ row_told (with_one rec) row → IsNewestRow vxid at (set rows at new)
 added_newest vxid at rec rows row new is read told = record {
   within = omega (arith, is.within, length-set rows at new);
   is = λ other.
-      ap (λ (r : Row). r.vxid) (get_or-set_same rows at new other is.within) ∙ ap (λ (x : Transaction). x.vxid) told ∙ one_same (λ x. x.vxid) (λ x c. refl) rec (transaction_of row) refl
+      ap (λ (r : Row). r.vxid) (get_or-set_same rows at new other is.within) ∙ ap (λ (r : Row). r.vxid) told ∙ one_same (λ x. x.vxid) (λ x c. refl) rec (transaction_of row) refl
       ∙ ap (λ (r : Row). r.vxid) read ∙ is.is row;
   none_after = ap (λ (rs : List Row). is_pending vxid (map transaction_of rs)) (drop-set-lt (at + 1) rows at new (omega arith)) ∙ is.none_after;
 }
 
 -- a row that ends is its transaction, ended
-pub ended_step : (begun vxid at : ℕ) (time : Option ℕ) (rows : List Row) (row new : Row) (now : List Row) (out_before out_now : List Group) → AreTrees begun rows → IsNewestRow vxid at rows → row ≡ get_or rows at row → new ≡ record row { ended = true } →
-    LeftRows (left_rows new.root (set rows at new)) now out_before out_now → RowsStep (ended_one vxid (state_with begun time rows)) begun time now out_before out_now
-ended_step begun vxid at time rows row new now out_before out_now trees is read ended_is left =
+pub ended_step : (grouping : Grouping) (begun vxid at : ℕ) (time : Option ℕ) (rows : List Row) (row new : Row) (now : List Row) (out_before out_now : List Group) → AreTrees begun rows → IsNewestRow vxid at rows → row ≡ get_or rows at row → new ≡ record row { ended = true } →
+    LeftRows grouping (left_rows new.root (set rows at new)) now out_before out_now → RowsStep grouping (ended_one vxid (state_with begun time rows)) begun time now out_before out_now
+ended_step grouping begun vxid at time rows row new now out_before out_now trees is read ended_is left =
     let pending : List Transaction = map transaction_of rows in
-    let t : Transaction = transaction_of row in
-    let front : List Transaction = map transaction_of (take at rows) in
-    let back : List Transaction = map transaction_of (drop (at + 1) rows) in
     let same : eqb row.vxid vxid ≡ true = eq-eqb row.vxid vxid (ap (λ (r : Row). r.vxid) read ∙ is.is row) in
-    let told : transaction_of new ≡ ended t = ap transaction_of ended_is in
-    let changed : with_newest vxid ended pending ≡ front ++ ended t ∷ back = ap (with_newest vxid ended) (split_at_row at rows row is.within read) ∙ newest_changed vxid ended front t back same is.none_after in
-    let all : with_newest vxid ended pending ≡ map transaction_of (set rows at new) = changed ∙ ap (λ (x : Transaction). front ++ x ∷ back) (sym told) ∙ sym (written at rows new is.within) in
-    let first : newest vxid (with_newest vxid ended pending) ≡ Some (transaction_of new) = ap (newest vxid) changed ∙ newest_in vxid front (ended t) back same is.none_after ∙ ap Some (sym told) in
-    let in_place : IsInPlaceOf row new = subst (IsInPlaceOf row) (sym ended_is) (record { serial = refl; parent = refl; root = refl; path = refl; children = refl }) in
-    written_leaves begun at time rows row new now out_before out_now (newest vxid (with_newest vxid ended pending)) (with_newest vxid ended pending) trees is.within read in_place left first all
+    told_leaves grouping ended begun at time rows row new now out_before out_now (newest vxid (with_newest vxid ended pending)) (with_newest vxid ended pending) (record { serial = λ t. refl; parent = λ t. refl }) trees is.within read ended_is left
+    (newest_is_changed vxid ended pending (λ t. refl) ∙ ap (option_map ended) (newest_at vxid at rows row is read))
+    (ap (with_newest vxid ended) (split_at_row at rows row is.within read) ∙ changed_in vxid ended (map transaction_of (take at rows)) (transaction_of row) (map transaction_of (drop (at + 1) rows)) same is.none_after)

@@ -1,7 +1,7 @@
 -- A record that tells nothing but itself.
 use Rattle.std.proofs.Common.{◌≡◌, ◌≤◌, ◌&&◌, ℕ, Bool, true, false, not, eqb, Option, Some, None, List, [], ◌∷◌, ◌++◌, length, refl, ap, sym, ◌∙◌, arith}
 use Rattle.std.proofs.lemmas.Bool.{and_parts, not-true, le-ltb}
-use Rattle.std.proofs.lemmas.List.{append-nil, length-map}
+use Rattle.std.proofs.lemmas.List.{length-map}
 use Rattle.vsl_tags.specs.Tags.{begin_tag, link_tag, timestamp_tag, end_tag}
 use Rattle.vsl_record.specs.declared.record_type.Record.{Record}
 use Rattle.txn_rows.specs.declared.group.Group.{Group}
@@ -11,8 +11,9 @@ use Rattle.txn_rows.specs.Transaction.{Transaction, is_open, with_record, with_k
 use Rattle.txn_rows.specs.Grouping.{State, nothing_left, has_risen, unfinished, after_overflow, grouped}
 use Rattle.txn_rows.specs.inside.Told.{is_plain}
 use Rattle.txn_rows.specs.inside.States.{state_of, Went, WentBy}
-use Rattle.txn_rows.proofs.KeepLemmas.{newest_same}
+use Rattle.txn_rows.proofs.ChangeLemmas.{newest_same}
 use Rattle.txn_rows.proofs.ForceAllLemmas.{down_within}
+use Rattle.txn_rows.proofs.TakeLemmas.{nothing_step}
 
 -- it is none of four
 record NoneOfFour (tag : ℕ) : Type 0 where
@@ -55,13 +56,9 @@ plain_step options vxid rec state plain opened few =
 
 -- its row takes it, and nothing leaves
 pub plain_went : (options : GroupOptions) (vxid : ℕ) (rec : Record) (p now : Pending) (out : List Group) → is_plain rec.tag ≡ true → is_open vxid (state_of p).pending ≡ true → length (state_of p).pending ≤ options.limit →
-    Went (record (state_of p) { pending = with_kind vxid rec (with_record vxid rec (state_of p).pending) }) now → WentBy (grouped options vxid rec (state_of p)) now out out
+    Went (record (state_of p) { pending = with_kind vxid rec (with_record vxid rec (state_of p).pending) }) now → WentBy options.grouping (grouped options vxid rec (state_of p)) now out out
 plain_went options vxid rec p now out plain opened few went =
     let tags = none_of_four rec.tag plain in
     let step = plain_step options vxid rec (state_of p) plain opened few in
     let told : state_of now ≡ longer vxid rec (state_of p) = rw tags.begins at went.told in
-    record {
-      trees = went.trees;
-      state = told ∙ sym (ap (λ r. r.state) step);
-      groups = sym (append-nil out) ∙ ap (λ r. out ++ r.groups) (sym step);
-    }
+    nothing_step options.grouping now.begun now.time now.rows.items out (grouped options vxid rec (state_of p)) went.trees (step ∙ ap nothing_left (sym told))

@@ -1,5 +1,5 @@
 -- Over every log the pending transactions stand in trees: each line ends at a transaction without a parent.
-use Rattle.std.proofs.Common.{◌≡◌, ◌+◌, ◌<◌, ◌≤◌, ⊎_elim, ℕ, Bool, false, not, eqb, cond, ◌&&◌, ◌||◌, Option, Some, None, List, [], ◌∷◌, ◌++◌, map, refl, ap, sym, ◌∙◌, subst, arith}
+use Rattle.std.proofs.Common.{◌≡◌, ◌+◌, ◌<◌, ◌≤◌, ⊎_elim, ℕ, Bool, true, false, not, eqb, cond, ◌&&◌, ◌||◌, Option, Some, None, List, [], ◌∷◌, ◌++◌, map, refl, ap, sym, ◌∙◌, subst, arith}
 use Rattle.std.specs.Prelude.{count_by, is_none}
 use Rattle.std.specs.List.{All, list_all}
 use Rattle.std.specs.Option.{option_map}
@@ -19,15 +19,16 @@ use Rattle.txn_rows.specs.declared.group.Cause.TheVariants.{Flush}
 use Rattle.txn_rows.specs.declared.force.Which.TheVariants.{Unfinished}
 use Rattle.txn_rows.specs.Transaction.{Transaction, empty_transaction, is_pending, newest, with_newest, claimed_kind, ended, forced, oldest, with_oldest}
 use Rattle.txn_rows.specs.Links.{with_parent, with_link, leads_to, line_of, root_of}
-use Rattle.txn_rows.specs.Grouping.{Taken, TakenUnit, Missed, State, Leaving, no_state, nothing_left, with_new, with_transaction, raised, timed, left_by, forced_one, after_end, after_timeouts, unfinished, with_all_told, grouped, is_raw, raw_group, step, steps, passes_over, unit_step, flush, taken_step, taken_steps}
-use Rattle.txn_rows.specs.inside.Rows.{transaction_of, row_of, Rising, AreTrees, Each, joined, Rows, left_rows, rows_below, rows_beside, row_timed}
+use Rattle.txn_rows.specs.Grouping.{Taken, TakenUnit, Missed, State, Leaving, no_state, nothing_left, with_new, with_transaction, raised, timed, left_by, ended_one, forced_one, after_end, after_timeouts, unfinished, with_all_told, grouped, is_raw, raw_group, step, steps, passes_over, unit_step, flush, taken_step, taken_steps}
+use Rattle.txn_rows.specs.inside.Rows.{transaction_of, row_told, row_of, Rising, AreTrees, Each, joined, Rows, left_rows, rows_below, rows_beside}
 use Rattle.txn_rows.specs.inside.Steps.{state_with, test_of}
 use Rattle.txn_rows.specs.inside.States.{HasOpen, OpenTrees, Standing}
 use Rattle.txn_rows.proofs.LineLemmas.{by_cases, either, row_of_serial, Line}
-use Rattle.txn_rows.proofs.KeepLemmas.{HoldsOn, often_holds, down_holds, timeouts_hold, claimed_same, Keeps, begun_kept, told_kept}
+use Rattle.txn_rows.proofs.KeepLemmas.{HoldsOn, HoldsOver, holds_over, items_hold, claimed_same, Keeps, begun_kept, told_kept}
+use Rattle.txn_rows.proofs.ChangeLemmas.{KeepsLinks, EndsNone, newest_split, OneChanged, ChangesOne, newest_one, oldest_one, newest_is_changed}
 use Rattle.txn_rows.proofs.JoinLemmas.{Pair, link_refused, link_joins, row_of_map, before_map, joined_serial, joined_root}
-use Rattle.txn_rows.proofs.TreeLemmas.{each_found, each_weaker, each_line}
-use Rattle.txn_rows.proofs.StandLemmas.{KeepsPlaces, trees_kept, trees_push, trees_after, left_is, found_push, found_still, found_filter, kept_filter}
+use Rattle.txn_rows.proofs.TreeLemmas.{each_found, each_weaker, each_line, each_in, of_row, of_row_same, of_row_in}
+use Rattle.txn_rows.proofs.StandLemmas.{KeepsPlaces, trees_kept, of_row_keeps, told_keeps, row_told_is, rows_told, trees_push, trees_after, left_is, found_push, found_still, found_filter, kept_filter}
 
 -- the same, where one tree may have ended
 pub record Ending (state : State) (root : ℕ) : Type 0 where
@@ -92,179 +93,94 @@ open_left begun root rows trees unended =
     (λ beside. unended s row here beside) in
     rw t all)
 
--- a change that keeps serial numbers and links
-pub record KeepsLinks (change : Transaction → Transaction) : Type 0 where
-  pub serial : (t : Transaction) → (change t).serial ≡ t.serial
-  pub parent : (t : Transaction) → (change t).parent ≡ t.parent
-
--- a change that ends no transaction
-abbrev pub EndsNone : (Transaction → Transaction) → Type 0
-EndsNone change = (t : Transaction) → (change t).ended ≡ t.ended
-
--- a row tells what a transaction does, in its own place
-abbrev row_with : Transaction → Row → Row
-row_with t row = record row { vxid = t.vxid; kind = t.kind; reason = t.reason; records = t.records; ended = t.ended; time = t.time }
-
 -- the row of a serial number is changed as its transaction
 abbrev changed : ℕ → (Transaction → Transaction) → Row → Row
-changed s change row = cond (eqb row.serial s) (row_with (change (transaction_of row)) row) row
+changed s change row = of_row s (row_told change) row
 
 changed_keeps : (s : ℕ) (change : Transaction → Transaction) (rows : List Row) → KeepsPlaces (changed s change) rows
-changed_keeps s change rows = record {
-  serial = λ row. by_cases ((changed s change row).serial ≡ row.serial) (eqb row.serial s) (λ t. rw t refl) (λ t. rw t refl);
-  parent = λ row. by_cases ((changed s change row).parent ≡ row.parent) (eqb row.serial s) (λ t. rw t refl) (λ t. rw t refl);
-  root = λ row. by_cases ((changed s change row).root ≡ row.root) (eqb row.serial s) (λ t. rw t refl) (λ t. rw t refl);
-  path = λ row. by_cases ((changed s change row).path ≡ row.path) (eqb row.serial s) (λ t. rw t refl) (λ t. rw t refl);
-  children = λ row. by_cases ((changed s change row).children ≡ row.children) (eqb row.serial s) (λ t. rw t refl) (λ t. rw t refl);
-}
-
-row_with_is : (t : Transaction) (row : Row) → t.serial ≡ row.serial → t.parent ≡ row.parent → transaction_of (row_with t row) ≡ t
-row_with_is t row same_serial same_parent =
-    ap (λ (n : ℕ). record t { serial = n; parent = row.parent }) (sym same_serial) ∙ ap (λ (p : Option ParentLink). record t { parent = p }) (sym same_parent)
-
-told_changed : (s : ℕ) (change : Transaction → Transaction) → KeepsLinks change → (row : Row) → transaction_of (changed s change row) ≡ cond (eqb row.serial s) (change (transaction_of row)) (transaction_of row)
-told_changed s change keeps row =
-    by_cases (transaction_of (changed s change row) ≡ cond (eqb row.serial s) (change (transaction_of row)) (transaction_of row)) (eqb row.serial s)
-    (λ t. rw t (row_with_is (change (transaction_of row)) row (keeps.serial (transaction_of row)) (keeps.parent (transaction_of row))))
-    (λ t. rw t refl)
-
--- later rows are not meant
-changed_later : (s low high : ℕ) (change : Transaction → Transaction) (rows : List Row) → Rising low high rows → s < low → map (changed s change) rows ≡ rows
-changed_later s low high change [] r passed = refl
-changed_later s low high change (row ∷ rows) r passed =
-    let other : eqb row.serial s ≡ false = ne_eqb row.serial s (λ e. omega (arith, r.0, e, passed)) in
-    ap (λ (b : Bool). cond b (row_with (change (transaction_of row)) row) row ∷ map (changed s change) rows) other
-    ∙ ap (λ (rs : List Row). row ∷ rs) (changed_later s (row.serial + 1) high change rows r.1 (omega (arith, r.0, passed)))
+changed_keeps s change rows = of_row_keeps s (row_told change) rows (told_keeps change rows)
 
 -- a row that is found, and its transaction
-pub record Found (rows : List Row) (low : ℕ) (t : Transaction) : Type 0 where
+pub record Found (rows : List Row) (t : Transaction) : Type 0 where
   pub row : Row
   pub told : transaction_of row ≡ t
   pub here : row_of row.serial rows ≡ Some row
-  pub above : low ≤ row.serial
 
-found_first : (low high : ℕ) (first : Row) (rows : List Row) (t : Transaction) → Rising low high (first ∷ rows) → Some (transaction_of first) ≡ Some t → Found (first ∷ rows) low t
-found_first low high first rows t r e = record {
-  row = first;
-  told = (cc);
-  here = rw (eq-eqb first.serial first.serial refl) refl;
-  above = r.0;
-}
+-- a transaction among others is that of a row among the rows
+record RowIn (rows : List Row) (front : List Transaction) (t : Transaction) (back : List Transaction) : Type 0 where
+  rs : List Row
+  row : Row
+  qs : List Row
+  whole : rows ≡ rs ++ row ∷ qs
+  before : map transaction_of rs ≡ front
+  told : transaction_of row ≡ t
+  behind : map transaction_of qs ≡ back
 
-found_next : (low high : ℕ) (first : Row) (rows : List Row) (t : Transaction) → Rising low high (first ∷ rows) → Found rows (first.serial + 1) t → Found (first ∷ rows) low t
-found_next low high first rows t r f =
-    let other : eqb first.serial f.row.serial ≡ false = ne_eqb first.serial f.row.serial (λ e. omega (arith, f.above, e)) in
+row_in : (rows : List Row) (front : List Transaction) (t : Transaction) (back : List Transaction) → map transaction_of rows ≡ front ++ t ∷ back → RowIn rows front t back
+row_in [] [] t back e = absurd (cc)
+row_in [] (f ∷ front) t back e = absurd (cc)
+row_in (row ∷ rows) [] t back e = record { rs = []; row = row; qs = rows; whole = refl; before = refl; told = (cc); behind = (cc) }
+row_in (row ∷ rows) (f ∷ front) t back e =
+    let first : transaction_of row ≡ f = (cc) in
+    let later = row_in rows front t back (cc) in
     record {
-      row = f.row;
-      told = f.told;
-      here = rw other f.here;
-      above = omega (arith, f.above, r.0);
+      rs = row ∷ later.rs;
+      row = later.row;
+      qs = later.qs;
+      whole = ap (λ (xs : List Row). row ∷ xs) later.whole;
+      before = ap (λ (x : Transaction). x ∷ map transaction_of later.rs) first ∙ ap (λ (ts : List Transaction). f ∷ ts) later.before;
+      told = later.told;
+      behind = later.behind;
     }
 
--- the newest transaction is that of a row
-newest_found : (vxid low high : ℕ) (rows : List Row) (t : Transaction) → Rising low high rows → newest vxid (map transaction_of rows) ≡ Some t → Found rows low t
-newest_found vxid low high [] t r e = absurd (cc)
-newest_found vxid low high (first ∷ rows) t r e =
-    by_cases (Found (first ∷ rows) low t) (is_pending vxid (map transaction_of rows))
-    (λ p. found_next low high first rows t r (newest_found vxid (first.serial + 1) high rows t r.1 (rw p at e)))
-    (λ p. by_cases (Found (first ∷ rows) low t) (eqb first.vxid vxid)
-    (λ q. found_first low high first rows t r (rw (p, q) at e))
-    (λ q. let none : None ≡ Some t = rw (p, q) at e in absurd (cc)))
-
-pub newest_vxid : (vxid : ℕ) (pending : List Transaction) (t : Transaction) → newest vxid pending ≡ Some t → t.vxid ≡ vxid
-newest_vxid vxid [] t e = absurd (cc)
-newest_vxid vxid (first ∷ pending) t e =
-    by_cases (t.vxid ≡ vxid) (is_pending vxid pending)
-    (λ p. newest_vxid vxid pending t (rw p at e))
-    (λ p. by_cases (t.vxid ≡ vxid) (eqb first.vxid vxid)
-    (λ q. let same : Some first ≡ Some t = rw (p, q) at e in let is : first ≡ t = (cc) in ap (λ (x : Transaction). x.vxid) (sym is) ∙ eqb-true first.vxid vxid q)
-    (λ q. let none : None ≡ Some t = rw (p, q) at e in absurd (cc)))
-
--- so is the oldest that passes a test
-oldest_found : (test : Transaction → Bool) (low high : ℕ) (rows : List Row) (t : Transaction) → Rising low high rows → oldest test (map transaction_of rows) ≡ Some t → Found rows low t
-oldest_found test low high [] t r e = absurd (cc)
-oldest_found test low high (first ∷ rows) t r e =
-    by_cases (Found (first ∷ rows) low t) (test (transaction_of first))
-    (λ q. found_first low high first rows t r (rw q at e))
-    (λ q. found_next low high first rows t r (oldest_found test (first.serial + 1) high rows t r.1 (rw q at e)))
-
--- a change of the newest is a change of its row
-newest_changed : (vxid low high : ℕ) (change : Transaction → Transaction) (rows : List Row) (t : Transaction) → KeepsLinks change → Rising low high rows → newest vxid (map transaction_of rows) ≡ Some t → map transaction_of (map (changed t.serial change) rows) ≡ with_newest vxid change (map transaction_of rows)
-newest_changed vxid low high change [] t keeps r e = absurd (cc)
-newest_changed vxid low high change (row ∷ rows) t keeps r e =
-    let f : Row → Row = changed t.serial change in
-    let Goal : Type 0 = map transaction_of (map f (row ∷ rows)) ≡ with_newest vxid change (map transaction_of (row ∷ rows)) in
-    by_cases Goal (is_pending vxid (map transaction_of rows))
-    (λ p. let later : newest vxid (map transaction_of rows) ≡ Some t = rw p at e in
-    let found = newest_found vxid (row.serial + 1) high rows t r.1 later in
-    let other : eqb row.serial t.serial ≡ false = ne_eqb row.serial t.serial (λ s. omega (arith, found.above, s, ap (λ (x : Transaction). x.serial) found.told)) in
-    rw p (ap (λ (x : Transaction). x ∷ map transaction_of (map f rows)) (told_changed t.serial change keeps row ∙ ap (λ (b : Bool). cond b (change (transaction_of row)) (transaction_of row)) other)
-    ∙ ap (λ (ts : List Transaction). transaction_of row ∷ ts) (newest_changed vxid (row.serial + 1) high change rows t keeps r.1 later)))
-    (λ p. by_cases Goal (eqb row.vxid vxid)
-    (λ q. let same : Some (transaction_of row) ≡ Some t = rw (p, q) at e in
-    let is : transaction_of row ≡ t = (cc) in
-    let serial : row.serial ≡ t.serial = ap (λ (x : Transaction). x.serial) is in
-    rw (p, q) (ap (λ (x : Transaction). x ∷ map transaction_of (map f rows)) (told_changed t.serial change keeps row ∙ ap (λ (b : Bool). cond b (change (transaction_of row)) (transaction_of row)) (eq-eqb row.serial t.serial serial))
-    ∙ ap (λ (rs : List Row). change (transaction_of row) ∷ map transaction_of rs) (changed_later t.serial (row.serial + 1) high change rows r.1 (omega (arith, serial)))))
-    (λ q. let none : None ≡ Some t = rw (p, q) at e in absurd (cc)))
-
-pub newest_none_stays : (vxid : ℕ) (change : Transaction → Transaction) (pending : List Transaction) → newest vxid pending ≡ None → with_newest vxid change pending ≡ pending
-newest_none_stays vxid change [] e = refl
-newest_none_stays vxid change (t ∷ pending) e =
-    by_cases (with_newest vxid change (t ∷ pending) ≡ t ∷ pending) (is_pending vxid pending)
-    (λ p. rw p (ap (λ (ts : List Transaction). t ∷ ts) (newest_none_stays vxid change pending (rw p at e))))
-    (λ p. by_cases (with_newest vxid change (t ∷ pending) ≡ t ∷ pending) (eqb t.vxid vxid)
-    (λ q. let some : Some t ≡ None = rw (p, q) at e in absurd (cc))
-    (λ q. rw (p, q) refl))
-
--- a change of the oldest that passes a test is a change of its row
-oldest_changed : (test : Transaction → Bool) (low high : ℕ) (change : Transaction → Transaction) (rows : List Row) (t : Transaction) → KeepsLinks change → Rising low high rows → oldest test (map transaction_of rows) ≡ Some t → map transaction_of (map (changed t.serial change) rows) ≡ with_oldest test change (map transaction_of rows)
-oldest_changed test low high change [] t keeps r e = absurd (cc)
-oldest_changed test low high change (row ∷ rows) t keeps r e =
-    let f : Row → Row = changed t.serial change in
-    let Goal : Type 0 = map transaction_of (map f (row ∷ rows)) ≡ with_oldest test change (map transaction_of (row ∷ rows)) in
-    by_cases Goal (test (transaction_of row))
-    (λ q. let same : Some (transaction_of row) ≡ Some t = rw q at e in
-    let is : transaction_of row ≡ t = (cc) in
-    let serial : row.serial ≡ t.serial = ap (λ (x : Transaction). x.serial) is in
-    rw q (ap (λ (x : Transaction). x ∷ map transaction_of (map f rows)) (told_changed t.serial change keeps row ∙ ap (λ (b : Bool). cond b (change (transaction_of row)) (transaction_of row)) (eq-eqb row.serial t.serial serial))
-    ∙ ap (λ (rs : List Row). change (transaction_of row) ∷ map transaction_of rs) (changed_later t.serial (row.serial + 1) high change rows r.1 (omega (arith, serial)))))
-    (λ q. let later : oldest test (map transaction_of rows) ≡ Some t = rw q at e in
-    let found = oldest_found test (row.serial + 1) high rows t r.1 later in
-    let other : eqb row.serial t.serial ≡ false = ne_eqb row.serial t.serial (λ s. omega (arith, found.above, s, ap (λ (x : Transaction). x.serial) found.told)) in
-    rw q (ap (λ (x : Transaction). x ∷ map transaction_of (map f rows)) (told_changed t.serial change keeps row ∙ ap (λ (b : Bool). cond b (change (transaction_of row)) (transaction_of row)) other)
-    ∙ ap (λ (ts : List Transaction). transaction_of row ∷ ts) (oldest_changed test (row.serial + 1) high change rows t keeps r.1 later)))
-
-pub oldest_none_stays : (test : Transaction → Bool) (change : Transaction → Transaction) (pending : List Transaction) → oldest test pending ≡ None → with_oldest test change pending ≡ pending
-oldest_none_stays test change [] e = refl
-oldest_none_stays test change (t ∷ pending) e =
-    by_cases (with_oldest test change (t ∷ pending) ≡ t ∷ pending) (test t)
-    (λ q. let some : Some t ≡ None = rw q at e in absurd (cc))
-    (λ q. rw q (ap (λ (ts : List Transaction). t ∷ ts) (oldest_none_stays test change pending (rw q at e))))
-
--- a change of the newest leaves the rows in trees
-newest_stands : (vxid : ℕ) (change : Transaction → Transaction) (state : State) → KeepsLinks change → EndsNone change → (s : Standing state) → (o : Option Transaction) → newest vxid (map transaction_of s.rows) ≡ o → Standing (record state { pending = with_newest vxid change state.pending })
-newest_stands vxid change state keeps ends s None e = record {
-  rows = s.rows;
-  trees = s.trees;
-  told = sym (newest_none_stays vxid change (map transaction_of s.rows) e) ∙ ap (with_newest vxid change) s.told;
-  unended = s.unended;
+row_found : (begun : ℕ) (rows : List Row) (front : List Transaction) (t : Transaction) (back : List Transaction) → Rising 0 begun rows → RowIn rows front t back → Found rows t
+row_found begun rows front t back rising s = record {
+  row = s.row;
+  told = s.told;
+  here = each_in (λ r. row_of r.serial rows ≡ Some r) s.rs s.row s.qs (subst (Each (λ r. row_of r.serial rows ≡ Some r)) s.whole (each_found 0 begun rows rising));
 }
-newest_stands vxid change state keeps ends s (Some t) e = record {
-  rows = map (changed t.serial change) s.rows;
-  trees = trees_kept state.begun (changed t.serial change) s.rows (changed_keeps t.serial change s.rows) s.trees;
-  told = newest_changed vxid 0 state.begun change s.rows t keeps s.trees.rising e ∙ ap (with_newest vxid change) s.told;
-  unended =
-      let places = changed_keeps t.serial change s.rows in
-      open_map (changed t.serial change) (λ x. x) s.rows places.serial places.root
-      (λ row. by_cases ((changed t.serial change row).ended ≡ row.ended) (eqb row.serial t.serial) (λ q. rw q (ends (transaction_of row))) (λ q. rw q refl)) s.unended;
-}
+
+-- a change of one transaction is a change of its row
+record RowChanged (rows : List Row) (begun : ℕ) (change : Transaction → Transaction) (t : Transaction) (now : List Transaction) : Type 0 where
+  found : Found rows t
+  told : map transaction_of (map (changed t.serial change) rows) ≡ now
+
+row_changed : (rows : List Row) (begun : ℕ) (change : Transaction → Transaction) (t : Transaction) (now : List Transaction) → KeepsLinks change → Rising 0 begun rows → OneChanged change t (map transaction_of rows) now → RowChanged rows begun change t now
+row_changed rows begun change t now keeps rising c =
+    let s = row_in rows c.front t c.back c.was in
+    let f : Row → Row = row_told change in
+    let serial : s.row.serial ≡ t.serial = ap (λ (x : Transaction). x.serial) s.told in
+    record {
+      found = row_found begun rows c.front t c.back rising s;
+      told =
+          ap (λ (n : ℕ). map transaction_of (map (of_row n f) rows)) (sym serial)
+          ∙ ap (λ (xs : List Row). map transaction_of (map (of_row s.row.serial f) xs)) s.whole
+          ∙ ap (map transaction_of) (of_row_in f 0 begun s.rs s.row s.qs (subst (Rising 0 begun) s.whole rising))
+          ∙ map-append transaction_of s.rs (f s.row ∷ s.qs)
+          ∙ ap (λ (ts : List Transaction). ts ++ transaction_of (f s.row) ∷ map transaction_of s.qs) s.before
+          ∙ ap (λ (ts : List Transaction). c.front ++ transaction_of (f s.row) ∷ ts) s.behind
+          ∙ ap (λ (x : Transaction). c.front ++ x ∷ c.back) (row_told_is change keeps s.row ∙ ap change s.told)
+          ∙ sym c.is;
+    }
+
+-- a change of one that ends none leaves the rows in trees
+change_stands : (change : Transaction → Transaction) (state : State) → KeepsLinks change → EndsNone change → (s : Standing state) → (o : Option Transaction) (now : List Transaction) → ChangesOne change o state.pending now → Standing (record state { pending = now })
+change_stands change state keeps ends s None now c = subst (λ (ts : List Transaction). Standing (record state { pending = ts })) (sym c) s
+change_stands change state keeps ends s (Some t) now c =
+    let one = row_changed s.rows state.begun change t now keeps s.trees.rising (subst (λ (ts : List Transaction). OneChanged change t ts now) (sym s.told) c) in
+    let places = changed_keeps t.serial change s.rows in
+    record {
+      rows = map (changed t.serial change) s.rows;
+      trees = trees_kept state.begun (changed t.serial change) s.rows places s.trees;
+      told = one.told;
+      unended = open_map (changed t.serial change) (λ x. x) s.rows places.serial places.root (of_row_same (λ r. r.ended) t.serial (row_told change) (λ row. ends (transaction_of row))) s.unended;
+    }
 
 with_newest_stands : (vxid : ℕ) (change : Transaction → Transaction) (state : State) → KeepsLinks change → EndsNone change → Standing state → Standing (record state { pending = with_newest vxid change state.pending })
-with_newest_stands vxid change state keeps ends s = newest_stands vxid change state keeps ends s (newest vxid (map transaction_of s.rows)) refl
+with_newest_stands vxid change state keeps ends s = change_stands change state keeps ends s (newest vxid state.pending) (with_newest vxid change state.pending) (newest_one vxid change state.pending)
 
 -- the row of a transaction that ends: only its tree may have ended
-ending_open : (change : Transaction → Transaction) (begun : ℕ) (rows : List Row) (t : Transaction) → (found : Found rows 0 t) → OpenTrees rows → (s : ℕ) (now : Row) → row_of s (map (changed t.serial change) rows) ≡ Some now → eqb now.root found.row.root ≡ false → HasOpen (map (changed t.serial change) rows) now.root
+ending_open : (change : Transaction → Transaction) (begun : ℕ) (rows : List Row) (t : Transaction) → (found : Found rows t) → OpenTrees rows → (s : ℕ) (now : Row) → row_of s (map (changed t.serial change) rows) ≡ Some now → eqb now.root found.row.root ≡ false → HasOpen (map (changed t.serial change) rows) now.root
 ending_open change begun rows t found unended s now here beside =
     let f : Row → Row = changed t.serial change in
     let places = changed_keeps t.serial change rows in
@@ -278,7 +194,7 @@ ending_open change begun rows t found unended s now here beside =
     let same : Some u.row ≡ Some found.row = sym at ∙ found.here in
     let is : u.row ≡ found.row = (cc) in
     eqb-false now.root found.row.root beside (root_is ∙ sym u.inside ∙ ap (λ (r : Row). r.root) is)) in
-    let stays : f u.row ≡ u.row = ap (λ (b : Bool). cond b (row_with (change (transaction_of u.row)) u.row) u.row) other in
+    let stays : f u.row ≡ u.row = ap (λ (b : Bool). cond b (row_told change u.row) u.row) other in
     record {
       row = u.row;
       here = row_of_map f places.serial u.row.serial rows ∙ ap (option_map f) u.here ∙ ap Some stays;
@@ -297,29 +213,25 @@ new_stands vxid state s =
       unended = open_push s.rows row refl s.unended;
     }
 
-joined_ended : (join : Join) (row : Row) → (joined join row).ended ≡ row.ended
-joined_ended join row =
-    by_cases ((joined join row).ended ≡ row.ended) (eqb row.serial join.child)
-    (λ t. by_cases ((joined join row).ended ≡ row.ended) (eqb row.root join.child) (λ u. rw (t, u) refl) (λ u. rw (t, u) refl))
-    (λ t. by_cases ((joined join row).ended ≡ row.ended) (eqb row.root join.child) (λ u. rw (t, u) refl) (λ u. rw (t, u) refl))
-
 -- what a link comes to
 link_rows : (begun cv pv : ℕ) (rows : List Row) → AreTrees begun rows → (c p : Option Transaction) → newest cv (map transaction_of rows) ≡ c → newest pv (map transaction_of rows) ≡ p → (now : List Row) × Rows begun (with_link cv pv (map transaction_of rows)) now × (OpenTrees rows → OpenTrees now)
 link_rows begun cv pv rows trees None p e f = (rows, record { trees = trees; told = sym (ap (λ (o : Option Transaction). with_parent o (newest pv (map transaction_of rows)) (map transaction_of rows)) e) }, λ o. o)
 link_rows begun cv pv rows trees (Some t) None e f = (rows, record { trees = trees; told = sym (ap (λ (o : Option Transaction). with_parent o (newest pv (map transaction_of rows)) (map transaction_of rows)) e ∙ ap (λ (o : Option Transaction). with_parent (Some t) o (map transaction_of rows)) f) }, λ o. o)
 link_rows begun cv pv rows trees (Some t) (Some u) e f =
-    let child = newest_found cv 0 begun rows t trees.rising e in
-    let parent = newest_found pv 0 begun rows u trees.rising f in
+    let below = newest_split cv (map transaction_of rows) t e in
+    let above = newest_split pv (map transaction_of rows) u f in
+    let child = row_found begun rows below.front t below.back trees.rising (row_in rows below.front t below.back below.whole) in
+    let parent = row_found begun rows above.front u above.back trees.rising (row_in rows above.front u above.back above.whole) in
     let pair : Pair cv pv rows child.row parent.row = record {
       child_newest = e ∙ ap Some (sym child.told);
       child_here = child.here;
-      child_vxid_is = ap (λ (x : Transaction). x.vxid) child.told ∙ newest_vxid cv (map transaction_of rows) t e;
+      child_vxid_is = ap (λ (x : Transaction). x.vxid) child.told ∙ eqb-true t.vxid cv below.same;
       parent_newest = f ∙ ap Some (sym parent.told);
       parent_here = parent.here;
     } in
     let join : Join = record { child = child.row.serial; link = record { serial = parent.row.serial; vxid = parent.row.vxid; number = count_by (λ (row : Row). leads_to parent.row.serial row.parent) rows }; root = parent.row.root; path = parent.row.path } in
     by_cases ((now : List Row) × Rows begun (with_link cv pv (map transaction_of rows)) now × (OpenTrees rows → OpenTrees now)) (is_none child.row.parent && not child.row.ended && not (eqb parent.row.root child.row.serial))
-    (λ can. (map (joined join) rows, link_joins begun cv pv rows child.row parent.row join trees pair can refl, open_map (joined join) (λ x. cond (eqb x join.child) join.root x) rows (joined_serial join) (joined_root join) (joined_ended join)))
+    (λ can. (map (joined join) rows, link_joins begun cv pv rows child.row parent.row join trees pair can refl, open_map (joined join) (λ x. cond (eqb x join.child) join.root x) rows (joined_serial join) (joined_root join) (λ row. refl)))
     (λ cannot. (rows, link_refused begun cv pv rows child.row parent.row trees pair cannot, λ o. o))
 
 link_stands : (cv pv : ℕ) (state : State) → Standing state → Standing (record state { pending = with_link cv pv state.pending })
@@ -327,20 +239,16 @@ link_stands cv pv state s =
     let linked = link_rows state.begun cv pv s.rows s.trees (newest cv (map transaction_of s.rows)) (newest pv (map transaction_of s.rows)) refl refl in
     record { rows = linked.0; trees = linked.1.trees; told = linked.1.told ∙ ap (with_link cv pv) s.told; unended = linked.2 s.unended }
 
-pub rows_timed : (now : Option ℕ) (rows : List Row) → map transaction_of (map (row_timed now) rows) ≡ map (timed now) (map transaction_of rows)
-rows_timed now [] = refl
-rows_timed now (row ∷ rows) = ap (λ (ts : List Transaction). timed now (transaction_of row) ∷ ts) (rows_timed now rows)
-
 stands_keeps : Keeps Standing
 stands_keeps = record {
   new = new_stands;
   kind = λ vxid claim state s. with_newest_stands vxid (claimed_kind claim) state (record { serial = claimed_same (λ t. t.serial) (λ t c. refl) claim; parent = claimed_same (λ t. t.parent) (λ t c. refl) claim }) (claimed_same (λ t. t.ended) (λ t c. refl) claim) s;
   link = link_stands;
   time = λ told state s. let now : Option ℕ = raised told state.time in record {
-    rows = map (row_timed now) s.rows;
-    trees = trees_kept state.begun (row_timed now) s.rows (record { serial = λ row. refl; parent = λ row. refl; root = λ row. refl; path = λ row. refl; children = λ row. refl }) s.trees;
-    told = rows_timed now s.rows ∙ ap (map (timed now)) s.told;
-    unended = open_map (row_timed now) (λ x. x) s.rows (λ row. refl) (λ row. refl) (λ row. refl) s.unended;
+    rows = map (row_told (timed now)) s.rows;
+    trees = trees_kept state.begun (row_told (timed now)) s.rows (told_keeps (timed now) s.rows) s.trees;
+    told = rows_told (timed now) (record { serial = λ t. refl; parent = λ t. refl }) s.rows ∙ ap (map (timed now)) s.told;
+    unended = open_map (row_told (timed now)) (λ x. x) s.rows (λ row. refl) (λ row. refl) (λ row. refl) s.unended;
   };
 }
 
@@ -348,7 +256,7 @@ stands_keeps = record {
 pub record EndedIn (state : State) (t : Transaction) : Type 0 where
   pub root : ℕ
   pub ending : Ending state root
-  pub found : Found ending.rows 0 t
+  pub found : Found ending.rows t
   pub inside : found.row.root ≡ root
 
 -- a tree leaves or stays
@@ -368,145 +276,78 @@ left_stands state t e =
     })
 
 -- a row that was changed is found
-abbrev found_changed : (change : Transaction → Transaction) (rows : List Row) (t : Transaction) → KeepsLinks change → (found : Found rows 0 t) → Found (map (changed t.serial change) rows) 0 (change t)
+abbrev found_changed : (change : Transaction → Transaction) (rows : List Row) (t : Transaction) → KeepsLinks change → (found : Found rows t) → Found (map (changed t.serial change) rows) (change t)
 found_changed change rows t keeps found =
     let f : Row → Row = changed t.serial change in
     let places = changed_keeps t.serial change rows in
-    let is : found.row.serial ≡ t.serial = ap (λ (x : Transaction). x.serial) found.told in
+    let same : eqb found.row.serial t.serial ≡ true = eq-eqb found.row.serial t.serial (ap (λ (x : Transaction). x.serial) found.told) in
     record {
       row = f found.row;
-      told = told_changed t.serial change keeps found.row ∙ ap (λ (b : Bool). cond b (change (transaction_of found.row)) (transaction_of found.row)) (eq-eqb found.row.serial t.serial is) ∙ ap change found.told;
+      told = ap (λ (b : Bool). transaction_of (cond b (row_told change found.row) found.row)) same ∙ row_told_is change keeps found.row ∙ ap change found.told;
       here = ap (λ (n : ℕ). row_of n (map f rows)) (places.serial found.row) ∙ row_of_map f places.serial found.row.serial rows ∙ ap (option_map f) found.here;
-      above = omega arith;
     }
 
-pub still_pending : (vxid : ℕ) (change : Transaction → Transaction) (pending : List Transaction) → ((x : Transaction) → (change x).vxid ≡ x.vxid) → is_pending vxid (with_newest vxid change pending) ≡ is_pending vxid pending
-still_pending vxid change [] keeps = refl
-still_pending vxid change (t ∷ pending) keeps =
-    let Goal : Type 0 = is_pending vxid (with_newest vxid change (t ∷ pending)) ≡ is_pending vxid (t ∷ pending) in
-    by_cases Goal (is_pending vxid pending)
-    (λ p. rw p (ap (λ (b : Bool). eqb t.vxid vxid || b) (still_pending vxid change pending keeps ∙ p)))
-    (λ p. by_cases Goal (eqb t.vxid vxid)
-    (λ q. rw (p, q) (ap (λ (n : ℕ). eqb n vxid || is_pending vxid pending) (keeps t) ∙ rw (p, q) refl))
-    (λ q. rw (p, q) (rw (p, q) refl)))
-
-newest_is_changed : (vxid : ℕ) (change : Transaction → Transaction) (pending : List Transaction) (t : Transaction) → ((x : Transaction) → (change x).vxid ≡ x.vxid) → newest vxid pending ≡ Some t → newest vxid (with_newest vxid change pending) ≡ Some (change t)
-newest_is_changed vxid change [] t keeps e = absurd (cc)
-newest_is_changed vxid change (first ∷ pending) t keeps e =
-    let Goal : Type 0 = newest vxid (with_newest vxid change (first ∷ pending)) ≡ Some (change t) in
-    by_cases Goal (is_pending vxid pending)
-    (λ p. rw p (ap (λ (b : Bool). cond b (newest vxid (with_newest vxid change pending)) (cond (eqb first.vxid vxid) (Some first) None)) (still_pending vxid change pending keeps ∙ p)
-    ∙ newest_is_changed vxid change pending t keeps (rw p at e)))
-    (λ p. by_cases Goal (eqb first.vxid vxid)
-    (λ q. let same : Some first ≡ Some t = rw (p, q) at e in
-    let is : first ≡ t = (cc) in
-    rw (p, q) (ap (λ (b : Bool). cond b (newest vxid pending) (cond (eqb (change first).vxid vxid) (Some (change first)) None)) p
-    ∙ ap (λ (b : Bool). cond b (Some (change first)) None) (ap (λ (n : ℕ). eqb n vxid) (keeps first) ∙ q) ∙ ap (λ (x : Transaction). Some (change x)) is))
-    (λ q. let none : None ≡ Some t = rw (p, q) at e in absurd (cc)))
-
--- what is so where nothing leaves, and where a transaction has ended, is so after an end
-pub ended_by : (P : Leaving → Type 0) (vxid : ℕ) (state : State) (s : Standing state) (o : Option Transaction) → newest vxid state.pending ≡ o → P (nothing_left state) →
-    ((t : Transaction) → EndedIn (record state { pending = with_newest vxid ended state.pending }) t → P (left_by (Some t) (record state { pending = with_newest vxid ended state.pending }))) →
-    P (left_by (newest vxid (with_newest vxid ended state.pending)) (record state { pending = with_newest vxid ended state.pending }))
-ended_by P vxid state s None e none each =
-    subst (λ (ts : List Transaction). P (left_by (newest vxid ts) (record state { pending = ts }))) (sym (newest_none_stays vxid ended state.pending e))
-    (subst (λ (o : Option Transaction). P (left_by o state)) (sym e) none)
-ended_by P vxid state s (Some t) e none each =
-    let keeps : KeepsLinks ended = record { serial = λ x. refl; parent = λ x. refl } in
-    let by_rows : newest vxid (map transaction_of s.rows) ≡ Some t = ap (newest vxid) s.told ∙ e in
-    let found = newest_found vxid 0 state.begun s.rows t s.trees.rising by_rows in
-    let places = changed_keeps t.serial ended s.rows in
-    let now : State = record state { pending = with_newest vxid ended state.pending } in
-    subst (λ (o : Option Transaction). P (left_by o now)) (sym (newest_is_changed vxid ended state.pending t (λ x. refl) e)) (each (ended t) (record {
-      root = found.row.root;
+-- what is so where nothing leaves, and where a transaction has ended, is so after one was changed
+changed_by : (P : Leaving → Type 0) (change : Transaction → Transaction) (state : State) → KeepsLinks change → (s : Standing state) → (o : Option Transaction) (now : List Transaction) → ChangesOne change o state.pending now → P (nothing_left state) →
+    ((t : Transaction) → EndedIn (record state { pending = now }) t → P (left_by (Some t) (record state { pending = now }))) → P (left_by (option_map change o) (record state { pending = now }))
+changed_by P change state keeps s None now c none each = subst (λ (ts : List Transaction). P (nothing_left (record state { pending = ts }))) (sym c) none
+changed_by P change state keeps s (Some t) now c none each =
+    let one = row_changed s.rows state.begun change t now keeps s.trees.rising (subst (λ (ts : List Transaction). OneChanged change t ts now) (sym s.told) c) in
+    let places = changed_keeps t.serial change s.rows in
+    each (change t) (record {
+      root = one.found.row.root;
       ending = record {
-        rows = map (changed t.serial ended) s.rows;
-        trees = trees_kept state.begun (changed t.serial ended) s.rows places s.trees;
-        told = newest_changed vxid 0 state.begun ended s.rows t keeps s.trees.rising by_rows ∙ ap (with_newest vxid ended) s.told;
-        unended = ending_open ended state.begun s.rows t found s.unended;
+        rows = map (changed t.serial change) s.rows;
+        trees = trees_kept state.begun (changed t.serial change) s.rows places s.trees;
+        told = one.told;
+        unended = ending_open change state.begun s.rows t one.found s.unended;
       };
-      found = found_changed ended s.rows t keeps found;
-      inside = places.root found.row;
-    }))
+      found = found_changed change s.rows t keeps one.found;
+      inside = places.root one.found.row;
+    })
+
+-- as after an end
+pub ended_by : (P : Leaving → Type 0) (vxid : ℕ) (state : State) (s : Standing state) → P (nothing_left state) →
+    ((t : Transaction) → EndedIn (record state { pending = with_newest vxid ended state.pending }) t → P (left_by (Some t) (record state { pending = with_newest vxid ended state.pending }))) → P (ended_one vxid state)
+ended_by P vxid state s none each =
+    let now : List Transaction = with_newest vxid ended state.pending in
+    subst (λ (o : Option Transaction). P (left_by o (record state { pending = now }))) (sym (newest_is_changed vxid ended state.pending (λ x. refl)))
+    (changed_by P ended state (record { serial = λ x. refl; parent = λ x. refl }) s (newest vxid state.pending) now (newest_one vxid ended state.pending) none each)
 
 pub end_stands : (vxid : ℕ) (rec : Record) (state : State) → Standing state → Standing (after_end vxid rec state).state
 end_stands vxid rec state s =
     by_cases (Standing (after_end vxid rec state).state) (eqb rec.tag end_tag)
-    (λ is_end. rw is_end (ended_by (λ r. Standing r.state) vxid state s (newest vxid state.pending) refl s (left_stands (record state { pending = with_newest vxid ended state.pending }))))
+    (λ is_end. rw is_end (ended_by (λ r. Standing r.state) vxid state s s (left_stands (record state { pending = with_newest vxid ended state.pending }))))
     (λ other. rw other s)
 
-forced_keeps : (cause : Cause) → KeepsLinks (forced cause)
-forced_keeps cause = record { serial = λ t. refl; parent = λ t. refl }
-
 -- and after the oldest was force-completed
-pub forced_by : (P : Leaving → Type 0) (test : Transaction → Bool) (cause : Cause) (state : State) (s : Standing state) (o : Option Transaction) → oldest test state.pending ≡ o → P (nothing_left state) →
+pub forced_by : (P : Leaving → Type 0) (test : Transaction → Bool) (cause : Cause) (state : State) (s : Standing state) → P (nothing_left state) →
     ((t : Transaction) → EndedIn (record state { pending = with_oldest test (forced cause) state.pending }) t → P (left_by (Some t) (record state { pending = with_oldest test (forced cause) state.pending }))) → P (forced_one test cause state)
-forced_by P test cause state s None e none each =
-    subst (λ (o : Option Transaction). P (left_by (option_map (forced cause) o) (record state { pending = with_oldest test (forced cause) state.pending }))) (sym e)
-    (subst (λ (ts : List Transaction). P (nothing_left (record state { pending = ts }))) (sym (oldest_none_stays test (forced cause) state.pending e)) none)
-forced_by P test cause state s (Some t) e none each =
-    let by_rows : oldest test (map transaction_of s.rows) ≡ Some t = ap (oldest test) s.told ∙ e in
-    let found = oldest_found test 0 state.begun s.rows t s.trees.rising by_rows in
-    let places = changed_keeps t.serial (forced cause) s.rows in
-    let now : State = record state { pending = with_oldest test (forced cause) state.pending } in
-    subst (λ (o : Option Transaction). P (left_by (option_map (forced cause) o) now)) (sym e) (each (forced cause t) (record {
-      root = found.row.root;
-      ending = record {
-        rows = map (changed t.serial (forced cause)) s.rows;
-        trees = trees_kept state.begun (changed t.serial (forced cause)) s.rows places s.trees;
-        told = oldest_changed test 0 state.begun (forced cause) s.rows t (forced_keeps cause) s.trees.rising by_rows ∙ ap (with_oldest test (forced cause)) s.told;
-        unended = ending_open (forced cause) state.begun s.rows t found s.unended;
-      };
-      found = found_changed (forced cause) s.rows t (forced_keeps cause) found;
-      inside = places.root found.row;
-    }))
+forced_by P test cause state s none each =
+    changed_by P (forced cause) state (record { serial = λ t. refl; parent = λ t. refl }) s (oldest test state.pending) (with_oldest test (forced cause) state.pending) (oldest_one test (forced cause) state.pending) none each
 
 pub one_stands : (test : Transaction → Bool) (cause : Cause) (state : State) → Standing state → Standing (forced_one test cause state).state
 one_stands test cause state s =
-    forced_by (λ r. Standing r.state) test cause state s (oldest test state.pending) refl s (left_stands (record state { pending = with_oldest test (forced cause) state.pending }))
+    forced_by (λ r. Standing r.state) test cause state s s (left_stands (record state { pending = with_oldest test (forced cause) state.pending }))
 
-pub stands_on : HoldsOn (λ state r. Standing state → Standing r.state)
+abbrev pub StandsOn : State → Leaving → Type 0
+StandsOn state r = Standing state → Standing r.state
+
+pub stands_on : HoldsOn StandsOn
 stands_on = record { none = λ state s. s; after = λ first next state a b s. b (a s); one = λ which cause state s. one_stands (test_of which) cause state s }
-
-pub timeouts_stand : (seconds : ℕ) (before : Option ℕ) (state : State) → Standing state → Standing (after_timeouts seconds before state).state
-timeouts_stand seconds before state = timeouts_hold (λ state r. Standing state → Standing r.state) stands_on seconds before state
 
 pub told_stands : (grouping : Grouping) (vxid : ℕ) (rec : Record) (state : State) → Standing state → Standing (with_all_told grouping vxid rec state)
 told_stands grouping vxid rec state s =
     told_kept Standing stands_keeps grouping vxid rec state
     (with_newest_stands vxid (λ t. record t { records = t.records ++ rec ∷ [] }) (with_transaction vxid state) (record { serial = λ t. refl; parent = λ t. refl }) (λ t. refl) (begun_kept Standing stands_keeps vxid state s))
 
-grouped_stands : (options : GroupOptions) (vxid : ℕ) (rec : Record) (state : State) → Standing state → Standing (grouped options vxid rec state).state
-grouped_stands options vxid rec state s =
-    let first : Leaving = after_end vxid rec (with_all_told options.grouping vxid rec state) in
-    let late : Leaving = after_timeouts options.timeout state.time first.state in
-    down_holds (λ state r. Standing state → Standing r.state) stands_on options.limit (unfinished late.state) late.state (timeouts_stand options.timeout state.time first.state (end_stands vxid rec (with_all_told options.grouping vxid rec state) (told_stands options.grouping vxid rec state s)))
-
-pub step_stands : (options : GroupOptions) (vxid : ℕ) (rec : Record) (state : State) → Standing state → Standing (step options vxid rec state).state
-step_stands options vxid rec state s =
-    either (λ r. Standing r.state) (is_raw options.grouping) (record { state = state; groups = raw_group vxid rec ∷ [] }) (grouped options vxid rec state) s (grouped_stands options vxid rec state s)
-
-pub steps_stand : (options : GroupOptions) (vxid : ℕ) (records : List Record) (state : State) → Standing state → Standing (steps options vxid records state).state
-steps_stand options vxid [] state s = s
-steps_stand options vxid (rec ∷ records) state s = steps_stand options vxid records (step options vxid rec state).state (step_stands options vxid rec state s)
-
-pub unit_stands : (options : GroupOptions) (u : LogUnit) (state : State) → Standing state → Standing (unit_step options u state).state
-unit_stands options u state s = either (λ r. Standing r.state) (passes_over options.grouping u.vxid) (nothing_left state) (steps options u.vxid u.records state) s (steps_stand options u.vxid u.records state s)
-
-pub flush_stands : (state : State) → Standing state → Standing (flush state).state
-flush_stands state = often_holds (λ state r. Standing state → Standing r.state) stands_on (unfinished state) Unfinished Flush state
-
-pub item_stands : (options : GroupOptions) (item : Taken) (state : State) → Standing state → Standing (taken_step options item state).state
-item_stands options (TakenUnit u) state s = unit_stands options u state s
-item_stands options Missed state s = flush_stands state s
-
-items_stand : (options : GroupOptions) (taken : List Taken) (state : State) → Standing state → Standing (taken_steps options taken state).state
-items_stand options [] state s = s
-items_stand options (item ∷ taken) state s = items_stand options taken (taken_step options item state).state (item_stands options item state s)
+pub stands_over : (options : GroupOptions) → HoldsOver options StandsOn
+stands_over options = holds_over options StandsOn stands_on (λ vxid rec state raw s. s)
+    (λ vxid rec state s. end_stands vxid rec (with_all_told options.grouping vxid rec state) (told_stands options.grouping vxid rec state s))
 
 -- over whatever was taken the pending transactions stand in trees
 pub taken_stand : (options : GroupOptions) (taken : List Taken) → Standing (taken_steps options taken no_state).state
-taken_stand options taken = items_stand options taken no_state (record {
+taken_stand options taken = items_hold options StandsOn (stands_over options) taken no_state (record {
   rows = [];
   trees = record { rising = omega arith; forest = record { linked = λ s row e. absurd (cc); shallow = λ s row e. absurd (cc); counted = λ s row e. absurd (cc) } };
   told = refl;

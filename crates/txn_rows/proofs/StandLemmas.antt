@@ -12,11 +12,12 @@ use Rattle.txn_rows.specs.declared.group.Group.{Group}
 use Rattle.txn_rows.specs.Transaction.{Transaction}
 use Rattle.txn_rows.specs.Links.{leads_to, root_of, tree_of, others, group_of}
 use Rattle.txn_rows.specs.Grouping.{Leaving, left_by, nothing_left}
-use Rattle.txn_rows.specs.inside.Rows.{transaction_of, row_of, Rising, IsTop, IsBelow, AreTrees, Each, rows_below, rows_beside, left_rows}
+use Rattle.txn_rows.specs.inside.Rows.{transaction_of, row_told, row_of, Rising, IsTop, IsBelow, AreTrees, Each, rows_below, rows_beside, left_rows}
 use Rattle.txn_rows.specs.inside.Steps.{state_with}
 use Rattle.txn_rows.proofs.LineLemmas.{by_cases, row_of_serial}
-use Rattle.txn_rows.proofs.TreeLemmas.{line_whole, tree_rows, other_rows, group_rows, rising_above, each_weaker, each_found}
-use Rattle.txn_rows.proofs.JoinLemmas.{row_of_map, rising_map, before_map, still_below, each_at}
+use Rattle.txn_rows.proofs.TreeLemmas.{line_whole, tree_rows, other_rows, group_rows, each_weaker, each_found, of_row, of_row_same, set_is_of_row}
+use Rattle.txn_rows.proofs.ChangeLemmas.{KeepsLinks}
+use Rattle.txn_rows.proofs.JoinLemmas.{row_of_map, rising_map, before_map, still_below}
 
 -- a row that is found is no older than the first
 found_above : (s low high : ℕ) (rows : List Row) (row : Row) → Rising low high rows → row_of s rows ≡ Some row → low ≤ row.serial
@@ -229,22 +230,42 @@ trees_kept begun f rows keeps trees = record {
   };
 }
 
--- a row that tells what another does, in its own place
+-- a change of one row keeps places where it keeps that row's
+pub of_row_keeps : (s : ℕ) (f : Row → Row) (rows : List Row) → KeepsPlaces f rows → KeepsPlaces (of_row s f) rows
+of_row_keeps s f rows keeps = record {
+  serial = of_row_same (λ r. r.serial) s f keeps.serial;
+  parent = of_row_same (λ r. r.parent) s f keeps.parent;
+  root = of_row_same (λ r. r.root) s f keeps.root;
+  path = of_row_same (λ r. r.path) s f keeps.path;
+  children = of_row_same (λ r. r.children) s f keeps.children;
+}
+
+-- a row that tells its transaction, changed, keeps its place
+pub told_keeps : (change : Transaction → Transaction) (rows : List Row) → KeepsPlaces (row_told change) rows
+told_keeps change rows = record { serial = λ row. refl; parent = λ row. refl; root = λ row. refl; path = λ row. refl; children = λ row. refl }
+
+pub row_told_is : (change : Transaction → Transaction) → KeepsLinks change → (row : Row) → transaction_of (row_told change row) ≡ change (transaction_of row)
+row_told_is change keeps row =
+    let t : Transaction = change (transaction_of row) in
+    ap (λ (n : ℕ). record t { serial = n; parent = row.parent }) (sym (keeps.serial (transaction_of row))) ∙ ap (λ (p : Option ParentLink). record t { parent = p }) (sym (keeps.parent (transaction_of row)))
+
+-- so rows that tell theirs, changed, tell all, changed
+pub rows_told : (change : Transaction → Transaction) → KeepsLinks change → (rows : List Row) → map transaction_of (map (row_told change) rows) ≡ map change (map transaction_of rows)
+rows_told change keeps [] = refl
+rows_told change keeps (row ∷ rows) =
+    ap (λ (t : Transaction). t ∷ map transaction_of (map (row_told change) rows)) (row_told_is change keeps row)
+    ∙ ap (λ (ts : List Transaction). change (transaction_of row) ∷ ts) (rows_told change keeps rows)
+
+-- a row tells what another row does
 abbrev pub retold : Row → Row → Row
-retold new row = record row { vxid = new.vxid; kind = new.kind; reason = new.reason; records = new.records; ended = new.ended; time = new.time }
+retold new row = row_told (λ t. transaction_of new) row
 
 -- the row with the serial number of another tells what that does
 abbrev pub swapped : Row → Row → Row
-swapped new row = cond (eqb row.serial new.serial) (retold new row) row
+swapped new row = of_row new.serial (retold new) row
 
-swapped_keeps : (new : Row) (rows : List Row) → KeepsPlaces (swapped new) rows
-swapped_keeps new rows = record {
-  serial = λ row. by_cases ((swapped new row).serial ≡ row.serial) (eqb row.serial new.serial) (λ t. rw t refl) (λ t. rw t refl);
-  parent = λ row. by_cases ((swapped new row).parent ≡ row.parent) (eqb row.serial new.serial) (λ t. rw t refl) (λ t. rw t refl);
-  root = λ row. by_cases ((swapped new row).root ≡ row.root) (eqb row.serial new.serial) (λ t. rw t refl) (λ t. rw t refl);
-  path = λ row. by_cases ((swapped new row).path ≡ row.path) (eqb row.serial new.serial) (λ t. rw t refl) (λ t. rw t refl);
-  children = λ row. by_cases ((swapped new row).children ≡ row.children) (eqb row.serial new.serial) (λ t. rw t refl) (λ t. rw t refl);
-}
+pub swapped_keeps : (new : Row) (rows : List Row) → KeepsPlaces (swapped new) rows
+swapped_keeps new rows = of_row_keeps new.serial (retold new) rows (told_keeps (λ t. transaction_of new) rows)
 
 -- a row in the place of another
 pub record IsInPlaceOf (row new : Row) : Type 0 where
@@ -254,6 +275,9 @@ pub record IsInPlaceOf (row new : Row) : Type 0 where
   pub path : new.path ≡ row.path
   pub children : new.children ≡ row.children
 
+pub told_in_place : (change : Transaction → Transaction) (row new : Row) → new ≡ row_told change row → IsInPlaceOf row new
+told_in_place change row new is = subst (IsInPlaceOf row) (sym is) (record { serial = refl; parent = refl; root = refl; path = refl; children = refl })
+
 retold_is : (row new : Row) → IsInPlaceOf row new → retold new row ≡ new
 retold_is row new same =
     ap (λ (n : ℕ). record (retold new row) { serial = n }) (sym same.serial)
@@ -262,27 +286,10 @@ retold_is row new same =
     ∙ ap (λ (p : List ℕ). record (retold new row) { serial = new.serial; parent = new.parent; root = new.root; path = p }) (sym same.path)
     ∙ ap (λ (n : ℕ). record (retold new row) { serial = new.serial; parent = new.parent; root = new.root; path = new.path; children = n }) (sym same.children)
 
--- later rows are not meant
-swapped_later : (new : Row) (low high : ℕ) (rows : List Row) → Rising low high rows → new.serial < low → map (swapped new) rows ≡ rows
-swapped_later new low high [] r passed = refl
-swapped_later new low high (row ∷ rows) r passed =
-    let other : eqb row.serial new.serial ≡ false = ne_eqb row.serial new.serial (λ e. omega (arith, r.0, e, passed)) in
-    ap (λ (b : Bool). cond b (retold new row) row ∷ map (swapped new) rows) other
-    ∙ ap (λ (rs : List Row). row ∷ rs) (swapped_later new (row.serial + 1) high rows r.1 (omega (arith, r.0, passed)))
-
-set_is_map : (low high at : ℕ) (rows : List Row) (row new : Row) → Rising low high rows → at < length rows → row ≡ get_or rows at row → IsInPlaceOf row new → set rows at new ≡ map (swapped new) rows
-set_is_map low high at [] row new r within read same = absurd (omega (arith, within))
-set_is_map low high zero (first ∷ rows) row new r within read same =
-    let is : eqb first.serial new.serial ≡ true = eq-eqb first.serial new.serial (ap (λ (x : Row). x.serial) (sym read) ∙ sym same.serial) in
-    sym (ap (λ (b : Bool). cond b (retold new first) first ∷ map (swapped new) rows) is
-    ∙ ap (λ (x : Row). retold new x ∷ map (swapped new) rows) (sym read)
-    ∙ ap (λ (x : Row). x ∷ map (swapped new) rows) (retold_is row new same)
-    ∙ ap (λ (rs : List Row). new ∷ rs) (swapped_later new (first.serial + 1) high rows r.1 (omega (arith, same.serial, ap (λ (x : Row). x.serial) read))))
-set_is_map low high (suc at) (first ∷ rows) row new r within read same =
-    let above : first.serial + 1 ≤ row.serial = each_at (λ x. first.serial + 1 ≤ x.serial) rows at row (rising_above (first.serial + 1) high rows r.1) (omega (arith, within)) read in
-    let other : eqb first.serial new.serial ≡ false = ne_eqb first.serial new.serial (λ e. omega (arith, above, e, same.serial)) in
-    ap (λ (rs : List Row). first ∷ rs) (set_is_map (first.serial + 1) high at rows row new r.1 (omega (arith, within)) read same)
-    ∙ ap (λ (b : Bool). cond b (retold new first) first ∷ map (swapped new) rows) (sym other)
+-- a row that is written at a place is the change of one
+pub set_is_map : (low high at : ℕ) (rows : List Row) (row new : Row) → Rising low high rows → at < length rows → row ≡ get_or rows at row → IsInPlaceOf row new → set rows at new ≡ map (swapped new) rows
+set_is_map low high at rows row new r within read same =
+    set_is_of_row (retold new) low high at rows row new r within read (sym (retold_is row new same)) ∙ ap (λ (s : ℕ). map (of_row s (retold new)) rows) (sym same.serial)
 
 -- a row that is written in the place of another
 pub trees_set : (begun at : ℕ) (rows : List Row) (row new : Row) → AreTrees begun rows → at < length rows → row ≡ get_or rows at row → IsInPlaceOf row new → AreTrees begun (set rows at new)

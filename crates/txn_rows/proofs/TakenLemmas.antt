@@ -25,7 +25,7 @@ use Rattle.txn_rows.specs.Grouping.{Taken, TakenUnit, Missed, State, Leaving, no
 use Rattle.txn_rows.specs.Taken.{count_in_groups, count_in_pending, count_members, count_taken, Forcing, synthesized, count_synthesized}
 use Rattle.txn_rows.proofs.LineLemmas.{by_cases, either}
 use Rattle.txn_rows.proofs.KeepLemmas.{HoldsOn, often_holds, down_holds, timeouts_hold, claimed_same, Keeps, begun_kept, told_kept}
-use Rattle.txn_rows.proofs.JoinLemmas.{pending_in}
+use Rattle.txn_rows.proofs.ChangeLemmas.{pending_in}
 use Rattle.txn_rows.proofs.OrderLemmas.{preorder_sum}
 use Rattle.txn_rows.proofs.RunLemmas.{taken_stand}
 use Rattle.txn_rows.proofs.LimitLemmas.{flush_empties}

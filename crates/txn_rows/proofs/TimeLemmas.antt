@@ -21,7 +21,8 @@ use Rattle.txn_rows.specs.inside.Steps.{test_of}
 use Rattle.txn_rows.specs.inside.Times.{TimesRise, NoneKnown, RiseTo, times_of, IsTimed}
 use Rattle.txn_rows.specs.inside.States.{state_of, AreOrdered, Went, WentBy}
 use Rattle.txn_rows.proofs.LineLemmas.{either}
-use Rattle.txn_rows.proofs.KeepLemmas.{claimed_same, newest_same, oldest_same, with_linked, Keeps, begun_kept, linked_kept, told_kept, HoldsOn, often_holds, down_holds, timeouts_hold}
+use Rattle.txn_rows.proofs.ChangeLemmas.{newest_same, oldest_same}
+use Rattle.txn_rows.proofs.KeepLemmas.{claimed_same, with_linked, Keeps, begun_kept, linked_kept, told_kept, HoldsOn, HoldsOver, holds_over, flush_holds, steps_hold}
 
 -- from an earlier time on
 rise_from : (low lower high : ℕ) (times : List (Option ℕ)) → lower ≤ low → TimesRise low high times → TimesRise lower high times
@@ -156,7 +157,7 @@ end_timed vxid rec state h =
     (left_timed (newest vxid now.pending) now (newest_timed vxid ended (λ t. refl) state h)) h
 
 -- and so do those of the rows
-pub ended_ordered : (grouping : Grouping) (vxid : ℕ) (rec : Record) {p now : Pending} {out out_now : List Group} → AreOrdered p → WentBy (after_end vxid rec (with_all_told grouping vxid rec (state_of p))) now out out_now → AreOrdered now
+pub ended_ordered : (grouping : Grouping) (vxid : ℕ) (rec : Record) {p now : Pending} {out out_now : List Group} → AreOrdered p → WentBy grouping (after_end vxid rec (with_all_told grouping vxid rec (state_of p))) now out out_now → AreOrdered now
 ended_ordered grouping vxid rec {p} o went = record {
   trees = went.trees;
   times = subst IsTimed (sym went.state) (end_timed vxid rec (with_all_told grouping vxid rec (state_of p)) (told_timed grouping vxid rec (state_of p) o.times));
@@ -173,29 +174,20 @@ TimedOn state r = IsTimed state → IsTimed r.state
 timed_on : HoldsOn TimedOn
 timed_on = record { none = λ state h. h; after = λ first next state a b h. b (a h); one = λ which cause state. one_timed (test_of which) cause state }
 
-grouped_timed : (options : GroupOptions) (vxid : ℕ) (rec : Record) (state : State) → IsTimed state → IsTimed (grouped options vxid rec state).state
-grouped_timed options vxid rec state h =
-    let told : State = with_all_told options.grouping vxid rec state in
-    let first : Leaving = after_end vxid rec told in
-    let late : Leaving = after_timeouts options.timeout state.time first.state in
-    down_holds TimedOn timed_on options.limit (unfinished late.state) late.state
-    (timeouts_hold TimedOn timed_on options.timeout state.time first.state (end_timed vxid rec told (told_timed options.grouping vxid rec state h)))
-
-step_timed : (options : GroupOptions) (vxid : ℕ) (rec : Record) (state : State) → IsTimed state → IsTimed (step options vxid rec state).state
-step_timed options vxid rec state h =
-    either (λ r. IsTimed r.state) (is_raw options.grouping) (record { state = state; groups = raw_group vxid rec ∷ [] }) (grouped options vxid rec state) h (grouped_timed options vxid rec state h)
+timed_over : (options : GroupOptions) → HoldsOver options TimedOn
+timed_over options = holds_over options TimedOn timed_on (λ vxid rec state raw h. h)
+    (λ vxid rec state h. end_timed vxid rec (with_all_told options.grouping vxid rec state) (told_timed options.grouping vxid rec state h))
 
 -- records one after another, and a flush
 pub steps_timed : (options : GroupOptions) (vxid : ℕ) (records : List Record) (state : State) → IsTimed state → IsTimed (steps options vxid records state).state
-steps_timed options vxid [] state h = h
-steps_timed options vxid (rec ∷ records) state h = steps_timed options vxid records (step options vxid rec state).state (step_timed options vxid rec state h)
+steps_timed options vxid records state = steps_hold options TimedOn (timed_over options) vxid records state
 
 -- and so do those of the rows
-pub went_ordered : (options : GroupOptions) (vxid : ℕ) (records : List Record) {p now : Pending} {out out_now : List Group} → AreOrdered p → WentBy (steps options vxid records (state_of p)) now out out_now → AreOrdered now
-went_ordered options vxid records {p} o went = record { trees = went.trees; times = subst IsTimed (sym went.state) (steps_timed options vxid records (state_of p) o.times) }
+pub one_ordered : (options : GroupOptions) (vxid : ℕ) (rec : Record) {p now : Pending} {out out_now : List Group} → AreOrdered p → WentBy options.grouping (step options vxid rec (state_of p)) now out out_now → AreOrdered now
+one_ordered options vxid rec {p} o went = record { trees = went.trees; times = subst IsTimed (sym went.state) ((timed_over options).one vxid rec (state_of p) o.times) }
 
 pub flush_timed : (state : State) → IsTimed state → IsTimed (flush state).state
-flush_timed state = often_holds TimedOn timed_on (unfinished state) Unfinished Flush state
+flush_timed state = flush_holds TimedOn timed_on state
 
 -- where a log time is known already, a time that is told changes no transaction
 pub time_known : (told old : Option ℕ) (pending : List Transaction) → is_some old ≡ true → RiseTo old (times_of pending) → map (timed (raised told old)) pending ≡ pending

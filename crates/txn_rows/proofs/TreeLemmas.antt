@@ -1,15 +1,15 @@
 -- Trees of rows are the trees of their transactions, and a tree of rows in preorder is its group.
-use Rattle.std.proofs.Common.{◌≡◌, ◌+◌, ◌≤◌, ℕ, Bool, false, not, eqb, Some, List, [], ◌∷◌, length, map, refl, ap, ◌∙◌, arith}
+use Rattle.std.proofs.Common.{◌≡◌, ◌+◌, ◌<◌, ◌≤◌, ℕ, Bool, false, not, eqb, cond, Some, List, [], ◌∷◌, ◌++◌, length, map, take, drop, get_or, set, refl, ap, sym, ◌∙◌, subst, add-one, arith}
 use Rattle.std.specs.List.{filter}
 use Rattle.std.proofs.lemmas.Bool.{eq-eqb, ne_eqb}
-use Rattle.std.proofs.lemmas.List.{length-map}
+use Rattle.std.proofs.lemmas.List.{length-map, take-append-drop, drop_more, set_split}
 use Rattle.std.proofs.lemmas.List.Sums.{count_by-le-length}
 use Rattle.txn_rows.specs.declared.rows.Row.{Row}
 use Rattle.txn_rows.specs.declared.group.Member.{Member}
 use Rattle.txn_rows.specs.Transaction.{Transaction}
 use Rattle.txn_rows.specs.Links.{line_of, root_of, tree_of, others, path_of, placed, preorder, member_of, group_of, is_path_before}
 use Rattle.txn_rows.specs.inside.Rows.{transaction_of, row_of, Rising, IsForest, Each, rows_below, rows_beside, row_placed, rows_in_preorder, member_of_row}
-use Rattle.txn_rows.proofs.LineLemmas.{by_cases, Line, line_tells}
+use Rattle.txn_rows.proofs.LineLemmas.{by_cases, either, Line, line_tells}
 
 -- the whole line of a row
 pub line_whole : (rows : List Row) → IsForest rows → (s : ℕ) (row : Row) → row_of s rows ≡ Some row → Line rows row (line_of (map transaction_of rows) (transaction_of row))
@@ -115,3 +115,54 @@ group_rows high rows root rising forest =
     (ap (λ (ts : List Transaction). map (member_of pending) (preorder (path_of pending) ts)) (tree_rows high rows root rising forest)
     ∙ ap (map (member_of pending)) (preorder_rows (path_of pending) tree paths)
     ∙ members_are (member_of pending) (rows_in_preorder tree) members)
+
+-- a list around the element at a place, and with another there
+pub around : {X : Type 0} (at : ℕ) (xs : List X) (x : X) → at < length xs → x ≡ get_or xs at x → xs ≡ take at xs ++ x ∷ drop (at + 1) xs
+around at xs x within read = sym (take-append-drop at xs) ∙ ap (λ ys. take at xs ++ ys) (drop_more xs at x within ∙ ap (λ y. y ∷ drop (at + 1) xs) (sym read))
+
+pub set_around : {X : Type 0} (at : ℕ) (xs : List X) (x : X) → at < length xs → set xs at x ≡ take at xs ++ x ∷ drop (at + 1) xs
+set_around at xs x within = rw add-one (set_split xs at x within)
+
+-- what holds of each row holds of one among others, and of the one at a place
+pub each_in : (P : Row → Type 0) (rs : List Row) (row : Row) (qs : List Row) → Each P (rs ++ row ∷ qs) → P row
+each_in P [] row qs e = e.0
+each_in P (r ∷ rs) row qs e = each_in P rs row qs e.1
+
+pub each_at : (P : Row → Type 0) (rows : List Row) (at : ℕ) (row : Row) → Each P rows → at < length rows → row ≡ get_or rows at row → P row
+each_at P rows at row e within read = each_in P (take at rows) row (drop (at + 1) rows) (subst (Each P) (around at rows row within read) e)
+
+-- the row of a serial number is changed, and no other
+abbrev pub of_row : ℕ → (Row → Row) → Row → Row
+of_row s f row = cond (eqb row.serial s) (f row) row
+
+-- what a change of a row keeps
+pub of_row_same : {A : Type 0} (g : Row → A) (s : ℕ) (f : Row → Row) → ((row : Row) → g (f row) ≡ g row) → (row : Row) → g (of_row s f row) ≡ g row
+of_row_same g s f keeps row = either (λ r. g r ≡ g row) (eqb row.serial s) (f row) row (keeps row) refl
+
+-- later rows are not meant
+pub of_row_later : (s : ℕ) (f : Row → Row) (low high : ℕ) (rows : List Row) → Rising low high rows → s < low → map (of_row s f) rows ≡ rows
+of_row_later s f low high [] r passed = refl
+of_row_later s f low high (row ∷ rows) r passed =
+    let other : eqb row.serial s ≡ false = ne_eqb row.serial s (λ e. omega (arith, r.0, e, passed)) in
+    ap (λ (b : Bool). cond b (f row) row ∷ map (of_row s f) rows) other
+    ∙ ap (λ (rs : List Row). row ∷ rs) (of_row_later s f (row.serial + 1) high rows r.1 (omega (arith, r.0, passed)))
+
+-- one among others is meant
+pub of_row_in : (f : Row → Row) (low high : ℕ) (rs : List Row) (row : Row) (qs : List Row) → Rising low high (rs ++ row ∷ qs) → map (of_row row.serial f) (rs ++ row ∷ qs) ≡ rs ++ f row ∷ qs
+of_row_in f low high [] row qs r =
+    ap (λ (b : Bool). cond b (f row) row ∷ map (of_row row.serial f) qs) (eq-eqb row.serial row.serial refl)
+    ∙ ap (λ (xs : List Row). f row ∷ xs) (of_row_later row.serial f (row.serial + 1) high qs r.1 (omega arith))
+of_row_in f low high (r ∷ rs) row qs up =
+    let above : r.serial + 1 ≤ row.serial = each_in (λ x. r.serial + 1 ≤ x.serial) rs row qs (rising_above (r.serial + 1) high (rs ++ row ∷ qs) up.1) in
+    let other : eqb r.serial row.serial ≡ false = ne_eqb r.serial row.serial (λ e. omega (arith, above, e)) in
+    ap (λ (b : Bool). cond b (f r) r ∷ map (of_row row.serial f) (rs ++ row ∷ qs)) other
+    ∙ ap (λ (xs : List Row). r ∷ xs) (of_row_in f (r.serial + 1) high rs row qs up.1)
+
+-- and the one at a place
+pub set_is_of_row : (f : Row → Row) (low high at : ℕ) (rows : List Row) (row new : Row) → Rising low high rows → at < length rows → row ≡ get_or rows at row → new ≡ f row → set rows at new ≡ map (of_row row.serial f) rows
+set_is_of_row f low high at rows row new r within read is =
+    let split = around at rows row within read in
+    set_around at rows new within
+    ∙ ap (λ (x : Row). take at rows ++ x ∷ drop (at + 1) rows) is
+    ∙ sym (of_row_in f low high (take at rows) row (drop (at + 1) rows) (subst (Rising low high) split r))
+    ∙ ap (map (of_row row.serial f)) (sym split)

@@ -2,7 +2,7 @@
 use Rattle.std.proofs.Common.{◌≡◌, ◌+◌, ◌<◌, ◌≤◌, ◌⊎◌, ⊎_elim, inl, inr, ℕ, zero, suc, Bool, true, false, eqb, cond, Option, Some, List, [], ◌∷◌, ◌++◌, length, map, refl, ap, sym, ◌∙◌, subst, append_assoc, get_or, take, drop, arith}
 use Rattle.std.specs.Prelude.{◌≢◌, count_by}
 use Rattle.std.specs.List.{sum_by, All, Contains, list_all}
-use Rattle.std.proofs.lemmas.Bool.{eqb-true, eqb-false, eq-eqb, and_from, cond_both, false_from_ne_true}
+use Rattle.std.proofs.lemmas.Bool.{both_ways, eqb-true, eqb-false, eq-eqb, and_from, cond_both, false_from_ne_true}
 use Rattle.std.proofs.lemmas.List.{length-map, length_push, map-append, get_or-map, same_from_push}
 use Rattle.std.proofs.lemmas.List.Sums.{sum_by-append, sum_by-cons}
 use Rattle.std.proofs.lemmas.List.Elements.{All-nil, All-cons, All-head, All-tail, All-weaker, All-append, All-map, All-contains, All-contains_itself, Contains-append_left, Contains-append_cases}
@@ -25,12 +25,12 @@ use Rattle.txn_rows.specs.inside.Rows.{transaction_of, row_of, Rising, IsTop, Is
 use Rattle.txn_rows.specs.inside.Steps.{state_with, test_of}
 use Rattle.txn_rows.specs.inside.States.{Standing}
 use Rattle.txn_rows.proofs.LineLemmas.{by_cases, row_of_serial, deeper}
-use Rattle.txn_rows.proofs.KeepLemmas.{HoldsOn, often_holds, down_holds, timeouts_hold}
-use Rattle.txn_rows.proofs.TreeLemmas.{line_whole, each_weaker, each_found, tree_rows, other_rows}
-use Rattle.txn_rows.proofs.JoinLemmas.{around, count_map, row_contained, row_counted}
+use Rattle.txn_rows.proofs.KeepLemmas.{HoldsOn, HoldsOver, holds_over, flush_holds, items_hold}
+use Rattle.txn_rows.proofs.TreeLemmas.{line_whole, each_weaker, each_found, tree_rows, other_rows, around}
+use Rattle.txn_rows.proofs.JoinLemmas.{count_map, row_contained, row_counted}
 use Rattle.txn_rows.proofs.StandLemmas.{rising_filter, kept_filter}
 use Rattle.txn_rows.proofs.ForceAllLemmas.{filter_fewer}
-use Rattle.txn_rows.proofs.RunLemmas.{EndedIn, all_told, ended_by, forced_by, one_stands, told_stands, end_stands, step_stands, item_stands, taken_stand}
+use Rattle.txn_rows.proofs.RunLemmas.{EndedIn, all_told, ended_by, forced_by, one_stands, told_stands, end_stands, taken_stand}
 use Rattle.txn_rows.proofs.OrderLemmas.{preorder_sum, siblings_ordered, path_total, path_then, path_same, path_both, path_longer, path_between, InOrder, all_left, all_right, contains_here, order_at, Sorts, all_preorder, all_unsorted, preorder_sorted}
 use Rattle.txn_rows.proofs.NumberLemmas.{Place, place_of, has_number, IsNamed, Numbered, IsNumbered, places_of, row_links, each_place, newest_kept, oldest_kept, told_numbered, numbered_left}
 
@@ -297,12 +297,12 @@ end_walks : (vxid : ℕ) (rec : Record) (state : State) → Standing state → I
 end_walks vxid rec state s n =
     let now : State = record state { pending = with_newest vxid ended state.pending } in
     cond_both (eqb rec.tag end_tag) (left_by (newest vxid now.pending) now) (nothing_left state) Walks
-    (λ e. ended_by Walks vxid state s (newest vxid state.pending) refl (nothing_walks state n) (λ t. left_walks now t (newest_kept vxid ended (λ x. refl) state n)))
+    (λ e. ended_by Walks vxid state s (nothing_walks state n) (λ t. left_walks now t (newest_kept vxid ended (λ x. refl) state n)))
     (λ e. nothing_walks state n)
 
 one_walks : (test : Transaction → Bool) (cause : Cause) (state : State) → Standing state → IsNumbered state → Walks (forced_one test cause state)
 one_walks test cause state s n =
-    forced_by Walks test cause state s (oldest test state.pending) refl (nothing_walks state n)
+    forced_by Walks test cause state s (nothing_walks state n)
     (λ t. left_walks (record state { pending = with_oldest test (forced cause) state.pending }) t (oldest_kept test (forced cause) (λ x. refl) state n))
 
 abbrev WalksFrom : State → Leaving → Type 0
@@ -315,53 +315,21 @@ walks_on = record {
   one = λ which cause state s n. (one_stands (test_of which) cause state s, one_walks (test_of which) cause state s n);
 }
 
-grouped_walks : (options : GroupOptions) (vxid : ℕ) (rec : Record) (state : State) → Standing state → IsNumbered state → Walks (grouped options vxid rec state)
-grouped_walks options vxid rec state s n =
+taken_walk : (options : GroupOptions) (taken : List Taken) → is_raw options.grouping ≡ false → Walks (taken_steps options taken no_state)
+taken_walk options taken tree =
+    let ends : (vxid : ℕ) (rec : Record) (state : State) → WalksFrom state (after_end vxid rec (with_all_told options.grouping vxid rec state)) = λ vxid rec state s n.
     let told : State = with_all_told options.grouping vxid rec state in
-    let told_s = told_stands options.grouping vxid rec state s in
-    let first : Leaving = after_end vxid rec told in
-    let first_s = end_stands vxid rec told told_s in
-    let first_w = end_walks vxid rec told told_s (told_numbered options.grouping vxid rec state n) in
-    let late : Leaving = then_left first (after_timeouts options.timeout state.time) in
-    let late_w = timeouts_hold WalksFrom walks_on options.timeout state.time first.state first_s first_w.numbered in
-    walks_then late (after_overflow options.limit) (walks_then first (after_timeouts options.timeout state.time) first_w late_w.1) (down_holds WalksFrom walks_on options.limit (unfinished late.state) late.state late_w.0 late_w.1.numbered).1
-
-flush_walks : (state : State) → Standing state → IsNumbered state → Walks (flush state)
-flush_walks state s n = (often_holds WalksFrom walks_on (unfinished state) Unfinished Flush state s n).1
-
--- all but raw grouping
-module _ (options : GroupOptions) (tree : is_raw options.grouping ≡ false) where
-  step_walks : (vxid : ℕ) (rec : Record) (state : State) → Standing state → IsNumbered state → Walks (step options vxid rec state)
-  step_walks vxid rec state s n = rw tree (grouped_walks options vxid rec state s n)
-
-  steps_walk : (vxid : ℕ) (records : List Record) (state : State) → Standing state → IsNumbered state → Walks (steps options vxid records state)
-  steps_walk vxid [] state s n = nothing_walks state n
-  steps_walk vxid (rec ∷ records) state s n =
-      let first = step_walks vxid rec state s n in
-      walks_then (step options vxid rec state) (steps options vxid records) first (steps_walk vxid records (step options vxid rec state).state (step_stands options vxid rec state s) first.numbered)
-
-  unit_walks : (u : LogUnit) (state : State) → Standing state → IsNumbered state → Walks (unit_step options u state)
-  unit_walks u state s n = cond_both (passes_over options.grouping u.vxid) (nothing_left state) (steps options u.vxid u.records state) Walks (λ e. nothing_walks state n) (λ e. steps_walk u.vxid u.records state s n)
-
-  item_walks : (item : Taken) (state : State) → Standing state → IsNumbered state → Walks (taken_step options item state)
-  item_walks (TakenUnit u) state s n = unit_walks u state s n
-  item_walks Missed state s n = flush_walks state s n
-
-  items_walk : (taken : List Taken) (state : State) → Standing state → IsNumbered state → Walks (taken_steps options taken state)
-  items_walk [] state s n = nothing_walks state n
-  items_walk (item ∷ taken) state s n =
-      let first = item_walks item state s n in
-      walks_then (taken_step options item state) (taken_steps options taken) first (items_walk taken (taken_step options item state).state (item_stands options item state s) first.numbered)
-
-  taken_walk : (taken : List Taken) → Walks (taken_steps options taken no_state)
-  taken_walk taken = items_walk taken no_state (taken_stand options []) (record { vxids = λ s. 0; named = All-nil (IsNamed 0 (λ s. 0)); few = λ s m. omega arith; below = λ s m le. refl })
+    let stands = told_stands options.grouping vxid rec state s in
+    (end_stands vxid rec told stands, end_walks vxid rec told stands (told_numbered options.grouping vxid rec state n)) in
+    let over : HoldsOver options WalksFrom = holds_over options WalksFrom walks_on (λ vxid rec state raw. absurd (both_ways (is_raw options.grouping) tree raw)) ends in
+    (items_hold options WalksFrom over taken no_state (taken_stand options []) (record { vxids = λ s. 0; named = All-nil (IsNamed 0 (λ s. 0)); few = λ s m. omega arith; below = λ s m le. refl })).1
 
 -- whatever was taken, and after a flush
 pub taken_walks : (options : GroupOptions) (taken : List Taken) → is_raw options.grouping ≡ false → All (λ (g : Group). IsWalk g.members) ((taken_steps options taken no_state).groups ++ (flush (taken_steps options taken no_state).state).groups)
 taken_walks options taken tree =
     let run : Leaving = taken_steps options taken no_state in
-    let walks = taken_walk options tree taken in
-    (walks_then run flush walks (flush_walks run.state (taken_stand options taken) walks.numbered)).walks
+    let walks = taken_walk options taken tree in
+    (walks_then run flush walks (flush_holds WalksFrom walks_on run.state (taken_stand options taken) walks.numbered).1).walks
 
 -- whatever was taken, no two pending children of one parent have one number
 pub siblings_apart : (options : GroupOptions) (taken : List Taken) → is_raw options.grouping ≡ false → (root : Transaction) (before : List Transaction) (a : Transaction) (between : List Transaction) (b : Transaction) (behind : List Transaction) (p q : ParentLink) →
@@ -386,6 +354,6 @@ siblings_apart options taken trees root before a between b behind p q is linked_
       preorder_sum c (path_of pending) (tree_of pending root),
       filter_fewer (λ t. has t.parent) (λ t. eqb (root_of pending t).serial root.serial) pending,
       count_map (λ (x : Place). has x.parent) place_of pending,
-      (taken_walk options trees taken).numbered.few q.serial q.number,
+      (taken_walk options taken trees).numbered.few q.serial q.number,
     )))
     (λ e. let other : p.number ≢ q.number = eqb-false p.number q.number e in omega (arith, ordered, other))

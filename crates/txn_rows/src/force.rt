@@ -3,13 +3,13 @@
 ghost use Rattle.std.specs.Prelude.{◌≡◌, ℕ, ◌≤◌, ◌<◌, Bool, length, map, false, count_by, Option, IfOk, IfSome, IfNone, OnOk, OnErr};
 ghost use Rattle.std.specs.List.{list_any};
 ghost use Rattle.vsl_record.specs.Payload.{most_payload};
-ghost use Rattle.txn_rows.specs.Transaction.{Transaction, first_mark, cause_text};
+ghost use Rattle.txn_rows.specs.Transaction.{Transaction, first_mark, cause_text, forced};
 ghost use Rattle.txn_rows.specs.Grouping.{forced_one, forced_all, after_overflow, is_behind, is_unfinished};
-ghost use Rattle.txn_rows.specs.inside.Rows.{transaction_of, forced_row, AreTrees, IsOldestRow};
+ghost use Rattle.txn_rows.specs.inside.Rows.{transaction_of, row_told, AreTrees, IsOldestRow};
 ghost use Rattle.txn_rows.specs.inside.Times.{RiseTo, times_of, IsTimed};
 ghost use Rattle.txn_rows.specs.inside.Steps.{RowsStep, AddsPart, state_with, test_of};
 
-use crate::group::{Cause, Group};
+use crate::group::{Cause, Group, Grouping};
 use crate::leave::leave;
 use crate::rows::Row;
 use log_model::NoMemory;
@@ -19,7 +19,7 @@ use vsl_tags::Tag;
 
 /// Force-completes a row: it gets a VSL record with the cause and an End.
 fn force_row(alloc: Global, row: &mut Row, cause: Cause) -> Result<(), NoMemory>
-    ensures { OnOk result (row.new ≡ forced_row cause row.old) }
+    ensures { OnOk result (row.new ≡ row_told (forced cause) row.old) }
 {
     let mark = mark_of(row.records.as_slice());
     let told = synthesized(alloc, Tag::VSL, mark, text_of(cause))?;
@@ -130,6 +130,7 @@ pub(crate) fn count_unfinished(rows: &[Row]) -> usize
 /// Force-completes a row, which may complete a group.
 pub(crate) fn force_at(
     alloc: Global,
+    grouping: Grouping,
     rows: &mut Vec<Row>,
     at: usize,
     cause: Cause,
@@ -137,32 +138,33 @@ pub(crate) fn force_at(
 ) -> Result<(), NoMemory>
     requires { at < length rows.old.items }
     ensures ok { (test : Transaction → Bool) (begun : ℕ) (time : Option ℕ) → IsOldestRow test at rows.old.items → AreTrees begun rows.old.items →
-        OnOk result (RowsStep (forced_one test cause (state_with begun time rows.old.items)) begun time rows.new.items out.old.items out.new.items) }
+        OnOk result (RowsStep grouping (forced_one test cause (state_with begun time rows.old.items)) begun time rows.new.items out.old.items out.new.items) }
     ensures err { OnErr result (out.new.items ≡ out.old.items) }
 {
     force_row(alloc, &mut rows[at], cause)?;
     let root = rows[at].root;
-    leave(alloc, rows, root, out)
+    leave(alloc, grouping, rows, root, out)
 }
 
 /// Force-completes those rows, the oldest first, and adds the groups that they complete.
 pub(crate) fn force_all(
     alloc: Global,
+    grouping: Grouping,
     rows: &mut Vec<Row>,
     which: Which,
     cause: Cause,
     out: &mut Vec<Group>,
 ) -> Result<(), NoMemory>
     ensures ok { (begun : ℕ) (time : Option ℕ) → AreTrees begun rows.old.items → IsTimed (state_with begun time rows.old.items) →
-        OnOk result (RowsStep (forced_all (test_of which) cause (state_with begun time rows.old.items)) begun time rows.new.items out.old.items out.new.items) }
+        OnOk result (RowsStep grouping (forced_all (test_of which) cause (state_with begun time rows.old.items)) begun time rows.new.items out.old.items out.new.items) }
     ensures err { (begun : ℕ) (time : Option ℕ) → AreTrees begun rows.old.items → IsTimed (state_with begun time rows.old.items) →
-        OnErr result (AddsPart (forced_all (test_of which) cause (state_with begun time rows.old.items)).groups out.old.items out.new.items) }
+        OnErr result (AddsPart grouping (forced_all (test_of which) cause (state_with begun time rows.old.items)) out.old.items out.new.items) }
 {
     for i in 0..rows.len() {
         let Some(at) = oldest_of(which, rows) else {
             return Ok(());
         };
-        force_at(alloc, rows, at, cause, out)?;
+        force_at(alloc, grouping, rows, at, cause, out)?;
     }
     Ok(())
 }
@@ -170,14 +172,15 @@ pub(crate) fn force_all(
 /// While more rows than the limit stand, force-completes the oldest that has not ended.
 pub(crate) fn keep_within(
     alloc: Global,
+    grouping: Grouping,
     rows: &mut Vec<Row>,
     limit: u32,
     out: &mut Vec<Group>,
 ) -> Result<(), NoMemory>
     ensures ok { (begun : ℕ) (time : Option ℕ) → AreTrees begun rows.old.items →
-        OnOk result (RowsStep (after_overflow limit (state_with begun time rows.old.items)) begun time rows.new.items out.old.items out.new.items) }
+        OnOk result (RowsStep grouping (after_overflow limit (state_with begun time rows.old.items)) begun time rows.new.items out.old.items out.new.items) }
     ensures err { (begun : ℕ) (time : Option ℕ) → AreTrees begun rows.old.items →
-        OnErr result (AddsPart (after_overflow limit (state_with begun time rows.old.items)).groups out.old.items out.new.items) }
+        OnErr result (AddsPart grouping (after_overflow limit (state_with begun time rows.old.items)) out.old.items out.new.items) }
 {
     for i in 0..rows.len() {
         if rows.len() <= limit as usize {
@@ -186,7 +189,7 @@ pub(crate) fn keep_within(
         let Some(at) = oldest_unfinished(rows) else {
             return Ok(());
         };
-        force_at(alloc, rows, at, Cause::Overflow, out)?;
+        force_at(alloc, grouping, rows, at, Cause::Overflow, out)?;
     }
     Ok(())
 }

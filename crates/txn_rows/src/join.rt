@@ -3,7 +3,7 @@
 ghost use Rattle.std.specs.Prelude.{◌≡◌, ℕ, ◌<◌, ◌≤◌, ◌==◌, ◌&&◌, ◌-◌, ◌^◌, min, not, is_none, length, map, IfOk, OnOk};
 ghost use Rattle.std.specs.List.{sum_by};
 ghost use Rattle.txn_rows.specs.Links.{with_link};
-ghost use Rattle.txn_rows.specs.inside.Rows.{transaction_of, IsNewestRow, moved, joined, joined_at, AreTrees, Rows};
+ghost use Rattle.txn_rows.specs.inside.Rows.{transaction_of, IsNewestRow, joined, joined_at, AreTrees, Rows};
 
 use crate::group::ParentLink;
 use crate::path::Path;
@@ -85,7 +85,7 @@ fn join_of(alloc: Global, child: &Row, parent: &Row) -> Result<Join, NoMemory>
 
 /// How many numbers the path of a row has once the tree joined. More than a `usize` holds count as the most of it.
 fn numbers_of(row: &Row, join: &Join) -> usize
-    ensures { result ≡ min (length (moved join.now row.now).path) (2 ^ 64 - 1) }
+    ensures { result ≡ min (length (joined join.now row.now).path) (2 ^ 64 - 1) }
 {
     let own = row.path.as_slice().len();
     if row.root != join.child {
@@ -97,7 +97,7 @@ fn numbers_of(row: &Row, join: &Join) -> usize
 
 /// The same of all rows together.
 fn numbers_of_all(rows: &[Row], join: &Join) -> usize
-    ensures { result ≡ min (sum_by (λ row. length (moved join.now row).path) rows.now) (2 ^ 64 - 1) }
+    ensures { result ≡ min (sum_by (λ row. length (joined join.now row).path) rows.now) (2 ^ 64 - 1) }
 {
     let mut numbers: usize = 0;
     for row in rows {

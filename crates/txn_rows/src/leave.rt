@@ -2,9 +2,10 @@
 
 ghost use Rattle.std.specs.Prelude.{◌≡◌, ◌+◌, ◌<◌, length, false, true, map, [], ◌∷◌, IfOk, OnOk, OnErr, IfSome, IfNone};
 ghost use Rattle.std.specs.List.{HoldsAt, list_all};
+ghost use Rattle.txn_rows.specs.Grouping.{is_reported};
 ghost use Rattle.txn_rows.specs.inside.Rows.{rows_below, rows_beside, rows_in_preorder, member_of_row, left_rows, LeftRows};
 
-use crate::group::{Group, Member, Members};
+use crate::group::{Group, Grouping, Kind, Member, Members};
 use crate::raw::group_alone;
 use crate::rows::{Row, empty_row};
 use log_model::NoMemory;
@@ -143,20 +144,33 @@ fn take_group(
     group_of(alloc, tree)
 }
 
-/// Where all rows of a tree have ended, they leave as a group.
+/// Whether a group that left is reported: request grouping does not report sessions.
+fn is_reported(grouping: Grouping, group: &Group) -> bool
+    ensures { result ≡ is_reported grouping group.now }
+{
+    match (grouping, group.members.as_slice()) {
+        (Grouping::Request, [root, ..]) => root.kind != Kind::Session,
+        _ => true,
+    }
+}
+
+/// Where all rows of a tree have ended, they leave as a group, which is added if it is reported.
 pub(crate) fn leave(
     alloc: Global,
+    grouping: Grouping,
     rows: &mut Vec<Row>,
     root: u64,
     out: &mut Vec<Group>,
 ) -> Result<(), NoMemory>
-    ensures ok { OnOk result (LeftRows (left_rows root rows.old.items) rows.new.items out.old.items out.new.items) }
+    ensures ok { OnOk result (LeftRows grouping (left_rows root rows.old.items) rows.new.items out.old.items out.new.items) }
     ensures err { OnErr result (out.new.items ≡ out.old.items) }
 {
     let Some(ended) = ended_rows(rows, root) else {
         return Ok(());
     };
     let group = take_group(alloc, rows, root, ended)?;
-    out.push(group)?;
+    if is_reported(grouping, &group) {
+        out.push(group)?;
+    }
     Ok(())
 }

@@ -130,18 +130,19 @@ pub(crate) fn add_to(
 /// The newest row of a VXID ends, and may complete a group.
 pub(crate) fn end_row(
     alloc: Global,
+    grouping: Grouping,
     pending: &mut Pending,
     at: usize,
     vxid: Vxid,
     out: &mut Vec<Group>,
 ) -> Result<(), NoMemory>
     requires { IsNewestRow vxid at pending.old.rows.items }
-    ensures ok { AreTrees pending.old.begun pending.old.rows.items → OnOk result (WentBy (ended_one vxid (state_of pending.old)) pending.new out.old.items out.new.items) }
+    ensures ok { AreTrees pending.old.begun pending.old.rows.items → OnOk result (WentBy grouping (ended_one vxid (state_of pending.old)) pending.new out.old.items out.new.items) }
     ensures err { OnErr result (out.new.items ≡ out.old.items) }
 {
     pending.rows[at].ended = true;
     let root = pending.rows[at].root;
-    leave(alloc, &mut pending.rows, root, out)
+    leave(alloc, grouping, &mut pending.rows, root, out)
 }
 
 /// The later of two times.

@@ -2,7 +2,8 @@
 
 ghost use Rattle.std.specs.Prelude.{◌≡◌, ◌<◌, length, false, true, map, [], ◌∷◌, IfOk, OnOk, IfSome, IfNone, None};
 ghost use Rattle.txn_rows.specs.Transaction.{is_pending, claimed_kind};
-ghost use Rattle.txn_rows.specs.inside.Rows.{transaction_of, IsNewestRow, with_one, own_claim, row_timed};
+ghost use Rattle.txn_rows.specs.Grouping.{timed};
+ghost use Rattle.txn_rows.specs.inside.Rows.{transaction_of, row_told, IsNewestRow, with_one, own_claim};
 
 use crate::claim::{Claim, read_claim};
 use crate::group::{Kind, ParentLink, Reason};
@@ -91,10 +92,7 @@ fn own_claim(rec: &Record) -> Option<Claim>
 
 /// Adds a record to a row; a Begin may tell the row's kind.
 pub(crate) fn add_record(row: &mut Row, rec: Record) -> Result<(), NoMemory>
-    ensures told { OnOk result (transaction_of row.new ≡ with_one rec (transaction_of row.old)) }
-    ensures root { OnOk result (row.new.root ≡ row.old.root) }
-    ensures path { OnOk result (row.new.path ≡ row.old.path) }
-    ensures children { OnOk result (row.new.children ≡ row.old.children) }
+    ensures { OnOk result (row.new ≡ row_told (with_one rec) row.old) }
 {
     let claim = own_claim(&rec);
     make_room(&mut row.records)?;
@@ -105,10 +103,7 @@ pub(crate) fn add_record(row: &mut Row, rec: Record) -> Result<(), NoMemory>
 
 /// Gives a row of unknown kind what a claim says.
 fn take_claim(row: &mut Row, claim: Option<Claim>)
-    ensures told { transaction_of row.new ≡ claimed_kind claim (transaction_of row.old) }
-    ensures root { row.new.root ≡ row.old.root }
-    ensures path { row.new.path ≡ row.old.path }
-    ensures children { row.new.children ≡ row.old.children }
+    ensures { row.new ≡ row_told (claimed_kind claim) row.old }
 {
     let Some(claim) = claim else {
         return;
@@ -121,7 +116,7 @@ fn take_claim(row: &mut Row, claim: Option<Claim>)
 
 /// Gives a row without a time one.
 fn time_row(row: &mut Row, now: Option<u128>)
-    ensures { row.new ≡ row_timed now row.old }
+    ensures { row.new ≡ row_told (timed now) row.old }
 {
     if row.time.is_none() {
         row.time = now;
@@ -130,7 +125,7 @@ fn time_row(row: &mut Row, now: Option<u128>)
 
 /// Gives rows without a time one.
 pub(crate) fn time_rows(rows: &mut Vec<Row>, now: Option<u128>)
-    ensures { rows.new.items ≡ map (row_timed now) rows.old.items }
+    ensures { rows.new.items ≡ map (row_told (timed now)) rows.old.items }
 {
     for i in 0..rows.len() {
         time_row(&mut rows[i], now);

@@ -91,19 +91,20 @@ fn tell(
 /// An End ends its row.
 fn take_end(
     alloc: Global,
+    grouping: Grouping,
     pending: &mut Pending,
     vxid: Vxid,
     tag: Tag,
     out: &mut Vec<Group>,
 ) -> Result<(), NoMemory>
-    ensures ok { (rec : Record) → rec.tag ≡ tag → AreTrees pending.old.begun pending.old.rows.items → OnOk result (WentBy (after_end vxid rec (state_of pending.old)) pending.new out.old.items out.new.items) }
+    ensures ok { (rec : Record) → rec.tag ≡ tag → AreTrees pending.old.begun pending.old.rows.items → OnOk result (WentBy grouping (after_end vxid rec (state_of pending.old)) pending.new out.old.items out.new.items) }
     ensures err { OnErr result (out.new.items ≡ out.old.items) }
 {
     if tag != Tag::END {
         return Ok(());
     }
     match newest_row(&pending.rows, vxid) {
-        Some(at) => end_row(alloc, pending, at, vxid, out),
+        Some(at) => end_row(alloc, grouping, pending, at, vxid, out),
         None => Ok(()),
     }
 }
@@ -122,22 +123,29 @@ fn has_risen(old: Option<u128>, now: Option<u128>) -> bool
 /// After a rise of the log time, force-completes the rows that are late.
 fn take_timeouts(
     alloc: Global,
+    options: GroupOptions,
     pending: &mut Pending,
-    seconds: u32,
     before: Option<u128>,
     out: &mut Vec<Group>,
 ) -> Result<(), NoMemory>
-    ensures ok { AreOrdered pending.old → OnOk result (WentBy (after_timeouts seconds before (state_of pending.old)) pending.new out.old.items out.new.items) }
-    ensures err { AreOrdered pending.old → OnErr result (AddsPart (after_timeouts seconds before (state_of pending.old)).groups out.old.items out.new.items) }
+    ensures ok { AreOrdered pending.old → OnOk result (WentBy options.grouping (after_timeouts options.timeout before (state_of pending.old)) pending.new out.old.items out.new.items) }
+    ensures err { AreOrdered pending.old → OnErr result (AddsPart options.grouping (after_timeouts options.timeout before (state_of pending.old)) out.old.items out.new.items) }
 {
     if !has_risen(before, pending.time) {
         return Ok(());
     }
     let late = Which::Late {
-        seconds,
+        seconds: options.timeout,
         now: pending.time,
     };
-    force_all(alloc, &mut pending.rows, late, Cause::Timeout, out)
+    force_all(
+        alloc,
+        options.grouping,
+        &mut pending.rows,
+        late,
+        Cause::Timeout,
+        out,
+    )
 }
 
 /// Takes a record that may tell more than itself, and adds the groups that it completes.
@@ -149,15 +157,21 @@ fn take_telling(
     rec: Record,
     out: &mut Vec<Group>,
 ) -> Result<(), NoMemory>
-    ensures ok { AreOrdered pending.old → OnOk result (WentBy (grouped options vxid rec (state_of pending.old)) pending.new out.old.items out.new.items) }
-    ensures err { AreOrdered pending.old → OnErr result (AddsPart (grouped options vxid rec (state_of pending.old)).groups out.old.items out.new.items) }
+    ensures ok { AreOrdered pending.old → OnOk result (WentBy options.grouping (grouped options vxid rec (state_of pending.old)) pending.new out.old.items out.new.items) }
+    ensures err { AreOrdered pending.old → OnErr result (AddsPart options.grouping (grouped options vxid rec (state_of pending.old)) out.old.items out.new.items) }
 {
     let before = pending.time;
     let tag = rec.tag;
     tell(alloc, options.grouping, pending, vxid, rec)?;
-    take_end(alloc, pending, vxid, tag, out)?;
-    take_timeouts(alloc, pending, options.timeout, before, out)?;
-    keep_within(alloc, &mut pending.rows, options.limit, out)
+    take_end(alloc, options.grouping, pending, vxid, tag, out)?;
+    take_timeouts(alloc, options, pending, before, out)?;
+    keep_within(
+        alloc,
+        options.grouping,
+        &mut pending.rows,
+        options.limit,
+        out,
+    )
 }
 
 /// Whether a record of this tag tells nothing but itself: it is no Begin, Link, Timestamp or End.
@@ -207,9 +221,9 @@ pub(crate) fn take_record(
     out: &mut Vec<Group>,
 ) -> Result<Option<usize>, NoMemory>
     requires { IfSome known (λ at. IsNewestRow vxid at pending.old.rows.items) }
-    ensures ok { AreOrdered pending.old → OnOk result (WentBy (grouped options vxid rec (state_of pending.old)) pending.new out.old.items out.new.items) }
+    ensures ok { AreOrdered pending.old → OnOk result (WentBy options.grouping (grouped options vxid rec (state_of pending.old)) pending.new out.old.items out.new.items) }
     ensures known { IfOk result (λ known. IfSome known (λ at. IsNewestRow vxid at pending.new.rows.items)) }
-    ensures err { AreOrdered pending.old → OnErr result (AddsPart (grouped options vxid rec (state_of pending.old)).groups out.old.items out.new.items) }
+    ensures err { AreOrdered pending.old → OnErr result (AddsPart options.grouping (grouped options vxid rec (state_of pending.old)) out.old.items out.new.items) }
 {
     if is_plain(rec.tag) {
         if let Some(at) = open_place(&pending.rows, options.limit, vxid, known) {

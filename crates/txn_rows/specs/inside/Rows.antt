@@ -1,7 +1,7 @@
 -- The rows of a table as pending transactions.
-use Rattle.std.specs.Prelude.{◌≡◌, ℕ, zero, suc, ◌+◌, ◌<◌, ◌≤◌, ◌==◌, ◌⊎◌, if◌then◌else◌, Bool, true, false, List, [], ◌∷◌, ◌++◌, length, take, drop, map, not, ⊤, Option, Some, None, count_by, codes}
+use Rattle.std.specs.Prelude.{◌≡◌, ℕ, zero, suc, ◌+◌, ◌<◌, ◌≤◌, ◌==◌, ◌⊎◌, if◌then◌else◌, Bool, true, false, List, [], ◌∷◌, ◌++◌, length, take, drop, map, not, ⊤, Option, Some, None, count_by}
 use Rattle.std.specs.List.{HoldsAt, find, filter, list_all, list_any}
-use Rattle.vsl_tags.specs.Tags.{begin_tag, end_tag, vsl_tag}
+use Rattle.vsl_tags.specs.Tags.{begin_tag}
 use Rattle.vsl_record.specs.declared.record_type.Record.{Record}
 use Rattle.txn_rows.specs.declared.rows.Row.{Row}
 use Rattle.txn_rows.specs.declared.group.ParentLink.{ParentLink}
@@ -10,14 +10,20 @@ use Rattle.txn_rows.specs.declared.group.Member.{Member}
 use Rattle.txn_rows.specs.declared.group.Group.{Group}
 use Rattle.txn_rows.specs.Claim.{claim_of}
 use Rattle.txn_rows.specs.declared.claim.Claim.{Claim}
-use Rattle.txn_rows.specs.declared.group.Cause.{Cause}
-use Rattle.txn_rows.specs.Transaction.{Transaction, is_pending, claimed_kind, first_mark, cause_text}
+use Rattle.txn_rows.specs.Transaction.{Transaction, is_pending, claimed_kind}
 use Rattle.txn_rows.specs.Links.{leads_to, is_path_before, parent_vxid}
-use Rattle.txn_rows.specs.Grouping.{first_known}
+use Rattle.txn_rows.specs.declared.group.Grouping.{Grouping}
+use Rattle.txn_rows.specs.Grouping.{reported}
 
 -- a row is a transaction, with the serial number at the top of its tree and its path beside it
 abbrev pub transaction_of : Row → Transaction
 transaction_of row = record { serial = row.serial; vxid = row.vxid; kind = row.kind; reason = row.reason; records = row.records; parent = row.parent; ended = row.ended; time = row.time }
+
+-- a row tells its transaction, changed, in its own place
+abbrev pub row_told : (Transaction → Transaction) → Row → Row
+row_told change row =
+    let t : Transaction = change (transaction_of row) in
+    record row { vxid = t.vxid; kind = t.kind; reason = t.reason; records = t.records; ended = t.ended; time = t.time }
 
 -- the newest row of a VXID is at this place
 pub record IsNewestRow (vxid at : ℕ) (rows : List Row) : Type 0 where
@@ -97,17 +103,14 @@ pub record AreTrees (begun : ℕ) (rows : List Row) : Type 0 where
   pub rising : Rising 0 begun rows
   pub forest : IsForest rows
 
--- a row of the tree that is joined moves below the parent
-abbrev pub moved : Join → Row → Row
-moved join row = if row.root == join.child then record row { root = join.root; path = join.path ++ join.link.number ∷ row.path } else row
-
--- a row of the tree that is joined, where its first gets the link to the parent
-abbrev pub linked_row : Join → Row → Row
-linked_row join row = if row.serial == join.child then record (moved join row) { parent = Some join.link } else moved join row
-
--- a row after its tree, or another, was joined to a parent, which has one child more
+-- a row after a tree was joined to a parent: the rows of the tree move below the parent, the first gets the link, and the parent has one child more
 abbrev pub joined : Join → Row → Row
-joined join row = record (linked_row join row) { children = if row.serial == join.link.serial then row.children + 1 else row.children }
+joined join row = record row {
+  root = if row.root == join.child then join.root else row.root;
+  path = if row.root == join.child then join.path ++ join.link.number ∷ row.path else row.path;
+  parent = if row.serial == join.child then Some join.link else row.parent;
+  children = if row.serial == join.link.serial then row.children + 1 else row.children;
+}
 
 -- rows of which the one at a place takes its part in a join
 abbrev pub joined_at : Join → ℕ → List Row → List Row
@@ -132,24 +135,13 @@ left_rows root rows =
     then record { rows = rows_beside root rows; groups = record { members = map member_of_row (rows_in_preorder (rows_below root rows)) } ∷ [] }
     else record { rows = rows; groups = [] }
 
--- the rows are those, and the groups were added to the list
-pub record LeftRows (left : RowsLeft) (now : List Row) (out_before out_now : List Group) : Type 0 where
+-- the rows are those, and of the groups those that are reported were added to the list
+pub record LeftRows (grouping : Grouping) (left : RowsLeft) (now : List Row) (out_before out_now : List Group) : Type 0 where
   pub rows : now ≡ left.rows
-  pub groups : out_now ≡ out_before ++ left.groups
-
--- a row is force-completed
-abbrev pub forced_row : Cause → Row → Row
-forced_row cause row = record row {
-  records = row.records ++ record { tag = vsl_tag; mark = first_mark row.records; payload = cause_text cause } ∷ record { tag = end_tag; mark = first_mark row.records; payload = codes "synth" } ∷ [];
-  ended = true;
-}
+  pub groups : out_now ≡ out_before ++ reported grouping left.groups
 
 -- the oldest row that passes a test is at this place
 pub record IsOldestRow (test : Transaction → Bool) (at : ℕ) (rows : List Row) : Type 0 where
   pub within : at < length rows
   pub passes : HoldsAt (λ row. test (transaction_of row) ≡ true) rows at
   pub none_before : list_any test (map transaction_of (take at rows)) ≡ false
-
--- a row without a time takes one
-abbrev pub row_timed : Option ℕ → Row → Row
-row_timed now row = record row { time = first_known row.time now }

@@ -1,10 +1,10 @@
 -- The state that a table holds.
-use Rattle.std.specs.Prelude.{◌≡◌, ℕ, ◌≤◌, false, List, ◌++◌, length, map, Some}
+use Rattle.std.specs.Prelude.{◌≡◌, ℕ, ◌≤◌, false, List, length, map, Some}
 use Rattle.txn_rows.specs.declared.rows.Row.{Row}
 use Rattle.txn_rows.specs.declared.pending.Pending.{Pending}
 use Rattle.txn_rows.specs.declared.group.Grouping.{Grouping}
 use Rattle.txn_rows.specs.declared.group.Group.{Group}
-use Rattle.txn_rows.specs.Grouping.{State, Leaving, reported}
+use Rattle.txn_rows.specs.Grouping.{State, Leaving}
 use Rattle.txn_rows.specs.inside.Rows.{transaction_of, row_of, AreTrees}
 use Rattle.txn_rows.specs.inside.Times.{IsTimed}
 use Rattle.txn_rows.specs.inside.Steps.{state_with, RowsStep}
@@ -23,15 +23,9 @@ pub record Went (state : State) (p : Pending) : Type 0 where
   pub trees : AreTrees p.begun p.rows.items
   pub told : state_of p ≡ state
 
--- the rows went to the state that was reached, and the groups that left on the way were added to the list
-abbrev pub WentBy : Leaving → Pending → List Group → List Group → Type 0
-WentBy step p out_before out_now = RowsStep step p.begun p.time p.rows.items out_before out_now
-
 -- the rows went to the state that was reached, and of the groups that left on the way those that are reported were added to the list
-pub record WentReported (grouping : Grouping) (leaving : Leaving) (p : Pending) (out_before out_now : List Group) : Type 0 where
-  pub trees : AreTrees p.begun p.rows.items
-  pub state : state_of p ≡ leaving.state
-  pub groups : out_now ≡ out_before ++ reported grouping leaving.groups
+abbrev pub WentBy : Grouping → Leaving → Pending → List Group → List Group → Type 0
+WentBy grouping step p out_before out_now = RowsStep grouping step p.begun p.time p.rows.items out_before out_now
 
 -- a row of a tree that has not ended
 pub record HasOpen (rows : List Row) (root : ℕ) : Type 0 where

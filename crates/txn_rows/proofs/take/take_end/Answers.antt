@@ -10,5 +10,5 @@ pub returns-in-None-clause-ok : goal.returns-in-None-clause-ok
 returns-in-None-clause-ok c = λ rec is trees.
     let p = c.args.pending.now in
     let is_end : eqb rec.tag end_tag ≡ true = ap (λ (t : ℕ). eqb t end_tag) is ∙ not-false (eqb c.args.tag end_tag) (sym c.ne.ensures ∙ c.if-ne.false) in
-    nothing_step p.begun p.time p.rows.items c.args.out.now.items _ trees
+    nothing_step c.args.grouping p.begun p.time p.rows.items c.args.out.now.items _ trees
     (ap (λ (b : Bool). cond b (ended_one c.args.vxid (state_of p)) (nothing_left (state_of p))) is_end ∙ ended_none c.args.vxid (state_of p) (rw c.deref.ensures.value at c.in-None.ensures.none))

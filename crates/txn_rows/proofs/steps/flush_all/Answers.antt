@@ -1,4 +1,4 @@
-use Rattle.txn_rows.proofs.steps.end_all.Goals as goal
+use Rattle.txn_rows.proofs.steps.flush_all.Goals as goal
 
 pub returns-clause-ok : goal.returns-clause-ok
 returns-clause-ok c = λ ordered. c.force_all.ensures.ok c.args.pending.now.begun c.args.pending.now.time ordered.trees ordered.times
