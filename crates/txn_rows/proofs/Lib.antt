@@ -13,7 +13,6 @@ pub mod StandLemmas
 pub mod ForceLemmas
 pub mod RunLemmas
 mod ForceAllLemmas
-mod LateLemmas
 mod LimitLemmas
 mod EndLemmas
 mod PendingLemmas

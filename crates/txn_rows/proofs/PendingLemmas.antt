@@ -7,18 +7,18 @@ use Rattle.vsl_tags.specs.Tags.{begin_tag}
 use Rattle.txn_rows.specs.declared.rows.Row.{Row}
 use Rattle.txn_rows.specs.declared.group.Kind.TheVariants as kinds
 use Rattle.txn_rows.specs.declared.group.Reason.TheVariants as reasons
-use Rattle.txn_rows.specs.Transaction.{Transaction, is_pending, is_open, newest, with_newest, with_record, with_kind, claimed_kind, ended}
+use Rattle.txn_rows.specs.Transaction.{Transaction, is_pending, is_open, newest, with_newest, longer, with_record, with_kind, claimed_kind, ended}
 use Rattle.txn_rows.specs.declared.claim.Claim.{Claim}
 use Rattle.txn_rows.specs.declared.group.Group.{Group}
 use Rattle.txn_rows.specs.declared.group.Grouping.{Grouping}
 use Rattle.vsl_record.specs.declared.record_type.Record.{Record}
 use Rattle.txn_rows.specs.Claim.{claim_of}
 use Rattle.txn_rows.specs.Grouping.{with_new, ended_one}
-use Rattle.txn_rows.specs.inside.Rows.{transaction_of, row_told, IsNewestRow, AreTrees, with_one, left_rows, LeftRows}
+use Rattle.txn_rows.specs.inside.Rows.{transaction_of, row_told, IsNewestRow, AreTrees, own_claim, with_one, left_rows, LeftRows}
 use Rattle.txn_rows.specs.inside.Steps.{state_with, RowsStep}
-use Rattle.txn_rows.proofs.LineLemmas.{either}
+use Rattle.txn_rows.proofs.LineLemmas.{by_cases}
 use Rattle.txn_rows.proofs.KeepLemmas.{claimed_same}
-use Rattle.txn_rows.proofs.ChangeLemmas.{KeepsLinks, pending_in, open_in, changed_in, newest_is_changed}
+use Rattle.txn_rows.proofs.ChangeLemmas.{KeepsLinks, pending_in, open_in, changed_in, newest_is_changed, newest_twice}
 use Rattle.txn_rows.proofs.JoinLemmas.{split_at_row, newest_at}
 use Rattle.txn_rows.proofs.StandLemmas.{trees_push, trees_set, row_told_is, told_in_place}
 use Rattle.txn_rows.proofs.ForceLemmas.{written, told_leaves}
@@ -83,14 +83,18 @@ newest_kept vxid at rows row other is = record {
       ∙ none_push vxid (map transaction_of (drop (at + 1) rows)) (transaction_of row) is.none_after other;
 }
 
-changed_if : (test : Bool) (vxid : ℕ) (change : Transaction → Transaction) (front : List Transaction) (t : Transaction) (back : List Transaction) → eqb t.vxid vxid ≡ true → is_pending vxid back ≡ false → cond test (with_newest vxid change (front ++ t ∷ back)) (front ++ t ∷ back) ≡ front ++ cond test (change t) t ∷ back
-changed_if true vxid change front t back same none = changed_in vxid change front t back same none
-changed_if false vxid change front t back same none = refl
+-- a record that goes to its transaction and may tell its kind is one change of it
+one_told : (vxid : ℕ) (rec : Record) (pending : List Transaction) → with_kind vxid rec (with_record vxid rec pending) ≡ with_newest vxid (with_one rec) pending
+one_told vxid rec pending =
+    let claim : Option Claim = claim_of rec.payload in
+    let added : List Transaction = with_newest vxid (longer rec) pending in
+    let one : Option Claim → List Transaction = λ c. with_newest vxid (λ t. claimed_kind c (longer rec t)) pending in
+    by_cases (with_kind vxid rec (with_record vxid rec pending) ≡ with_newest vxid (with_one rec) pending) (eqb rec.tag begin_tag)
+    (λ e. ap (λ (b : Bool). cond b (with_newest vxid (claimed_kind claim) added) added) e ∙ newest_twice vxid (longer rec) (claimed_kind claim) pending (λ t. refl) ∙ ap (λ (b : Bool). one (cond b claim None)) (sym e))
+    (λ e. ap (λ (b : Bool). cond b (with_newest vxid (claimed_kind claim) added) added) e ∙ ap (λ (b : Bool). one (cond b claim None)) (sym e))
 
-one_same : {A : Type 0} (f : Transaction → A) → ((t : Transaction) (claim : Claim) → f (record t { kind = claim.kind; reason = claim.reason }) ≡ f t) → (rec : Record) (t : Transaction) → f (record t { records = t.records ++ rec ∷ [] }) ≡ f t → f (with_one rec t) ≡ f t
-one_same f keeps rec t longer =
-    let t_longer : Transaction = record t { records = t.records ++ rec ∷ [] } in
-    either (λ u. f u ≡ f t) (eqb rec.tag begin_tag) (claimed_kind (claim_of rec.payload) t_longer) t_longer (claimed_same f keeps (claim_of rec.payload) t_longer ∙ longer) longer
+one_same : {A : Type 0} (f : Transaction → A) → ((t : Transaction) (claim : Claim) → f (record t { kind = claim.kind; reason = claim.reason }) ≡ f t) → (rec : Record) (t : Transaction) → f (longer rec t) ≡ f t → f (with_one rec t) ≡ f t
+one_same f keeps rec t same = claimed_same f keeps (own_claim rec) (longer rec t) ∙ same
 
 -- rows after a record
 pub record Added (begun vxid : ℕ) (rec : Record) (rows now : List Row) : Type 0 where
@@ -103,7 +107,6 @@ one_keeps rec = record { serial = λ t. one_same (λ x. x.serial) (λ x c. refl)
 pub added : (begun vxid at : ℕ) (rec : Record) (rows : List Row) (row new : Row) → AreTrees begun rows → IsNewestRow vxid at rows → row ≡ get_or rows at row → new ≡ row_told (with_one rec) row → Added begun vxid rec rows (set rows at new)
 added begun vxid at rec rows row new trees is read told =
     let t : Transaction = transaction_of row in
-    let longer : Transaction = record t { records = t.records ++ rec ∷ [] } in
     let front : List Transaction = map transaction_of (take at rows) in
     let back : List Transaction = map transaction_of (drop (at + 1) rows) in
     let same : eqb row.vxid vxid ≡ true = eq-eqb row.vxid vxid (ap (λ (r : Row). r.vxid) read ∙ is.is row) in
@@ -112,9 +115,7 @@ added begun vxid at rec rows row new trees is read told =
       told =
           written at rows new is.within
           ∙ ap (λ (x : Transaction). front ++ x ∷ back) (ap transaction_of told ∙ row_told_is (with_one rec) (one_keeps rec) row)
-          ∙ sym (ap (λ (ts : List Transaction). with_kind vxid rec (with_record vxid rec ts)) (split_at_row at rows row is.within read)
-          ∙ ap (with_kind vxid rec) (changed_in vxid (λ s. record s { records = s.records ++ rec ∷ [] }) front t back same is.none_after)
-          ∙ changed_if (eqb rec.tag begin_tag) vxid (claimed_kind (claim_of rec.payload)) front longer back same is.none_after);
+          ∙ sym (one_told vxid rec (map transaction_of rows) ∙ ap (with_newest vxid (with_one rec)) (split_at_row at rows row is.within read) ∙ changed_in vxid (with_one rec) front t back same is.none_after);
     }
 
 -- and the newest stays where it is

@@ -10,9 +10,9 @@ use Rattle.std.proofs.lemmas.Cmp.{same_from_slice_cmp, nat_list_cmp_total, tied_
 use Rattle.std.proofs.lemmas.List.Sorted.{ranks_by, sorted_far}
 use Rattle.txn_rows.specs.declared.rows.Row.{Row}
 use Rattle.txn_rows.specs.Links.{is_path_before}
-use Rattle.txn_rows.specs.inside.Rows.{Each, row_placed, rows_in_preorder}
+use Rattle.txn_rows.specs.inside.Rows.{Each, rows_in_preorder}
 use Rattle.txn_rows.proofs.LineLemmas.{by_cases}
-use Rattle.txn_rows.proofs.TreeLemmas.{each_weaker, each_placed}
+use Rattle.txn_rows.proofs.TreeLemmas.{each_weaker, row_placed, each_placed}
 
 -- whether the path of a row is less than that of another
 abbrev pub lt : Row → Row → Bool

@@ -1,12 +1,12 @@
 -- Each record that is taken is in one group or pending, once, and so is each transaction that began: each rule keeps the sum of a measure.
 use Rattle.std.proofs.Common.{◌≡◌, ◌+◌, ◌*◌, ℕ, Bool, true, false, not, eqb, cond, Option, Some, None, eq-eqb, eqb-true, List, [], ◌∷◌, ◌++◌, length, map, refl, ap, sym, ◌∙◌, arith}
 use Rattle.std.specs.Prelude.{count_by, codes}
-use Rattle.std.specs.List.{sum_by, list_all}
+use Rattle.std.specs.List.{sum_by, sum, list_all}
 use Rattle.std.specs.Option.{option_map}
 use Rattle.std.proofs.Math.Bool.{or-false, or-true}
 use Rattle.std.proofs.lemmas.Bool.{and_parts, both_ways}
 use Rattle.std.proofs.lemmas.List.{append_assoc, nil_from_length}
-use Rattle.std.proofs.lemmas.List.Sums.{sum_by-append, sum_by-cons, sum_by_push}
+use Rattle.std.proofs.lemmas.List.Sums.{sum_by-append, sum_by-cons, sum_by_push, sum-map}
 use Rattle.std.proofs.lemmas.List.Filters.{sum_by-filter_both}
 use Rattle.vsl_tags.specs.Tags.{end_tag, vsl_tag}
 use Rattle.vsl_record.specs.declared.record_type.Record.{Record}
@@ -25,7 +25,7 @@ use Rattle.txn_rows.specs.Grouping.{Taken, TakenUnit, Missed, State, Leaving, no
 use Rattle.txn_rows.specs.Taken.{count_in_groups, count_in_pending, count_members, count_taken, Forcing, synthesized, count_synthesized}
 use Rattle.txn_rows.proofs.LineLemmas.{by_cases, either}
 use Rattle.txn_rows.proofs.KeepLemmas.{HoldsOn, often_holds, down_holds, timeouts_hold, claimed_same, Keeps, begun_kept, told_kept}
-use Rattle.txn_rows.proofs.ChangeLemmas.{pending_in}
+use Rattle.txn_rows.proofs.ChangeLemmas.{pending_in, newest_same}
 use Rattle.txn_rows.proofs.OrderLemmas.{preorder_sum}
 use Rattle.txn_rows.proofs.RunLemmas.{taken_stand}
 use Rattle.txn_rows.proofs.LimitLemmas.{flush_empties}
@@ -58,13 +58,7 @@ size_groups size groups = sum_by (size_group size) groups
 
 -- a change that keeps what is summed keeps the sum
 newest_keeps : (f : Transaction → ℕ) (vxid : ℕ) (change : Transaction → Transaction) → ((t : Transaction) → f (change t) ≡ f t) → (pending : List Transaction) → sum_by f (with_newest vxid change pending) ≡ sum_by f pending
-newest_keeps f vxid change keeps [] = refl
-newest_keeps f vxid change keeps (t ∷ pending) =
-    let P : List Transaction → Type 0 = λ ts. sum_by f ts ≡ sum_by f (t ∷ pending) in
-    let whole : sum_by f (t ∷ pending) ≡ f t + sum_by f pending = sum_by-cons f t pending in
-    let later : P (t ∷ with_newest vxid change pending) = omega (arith, whole, sum_by-cons f t (with_newest vxid change pending), newest_keeps f vxid change keeps pending) in
-    let here : P (change t ∷ pending) = omega (arith, whole, sum_by-cons f (change t) pending, keeps t) in
-    either P (is_pending vxid pending) (t ∷ with_newest vxid change pending) (cond (eqb t.vxid vxid) (change t ∷ pending) (t ∷ pending)) later (either P (eqb t.vxid vxid) (change t ∷ pending) (t ∷ pending) here refl)
+newest_keeps f vxid change keeps pending = sym (sum-map f (with_newest vxid change pending)) ∙ ap sum (newest_same f vxid change keeps pending) ∙ sum-map f pending
 
 -- a change that adds to a pending transaction of a VXID adds to the sum
 newest_adds : (f : Transaction → ℕ) (n vxid : ℕ) (change : Transaction → Transaction) → ((t : Transaction) → t.vxid ≡ vxid → f (change t) ≡ f t + n) → (pending : List Transaction) → is_pending vxid pending ≡ true → sum_by f (with_newest vxid change pending) ≡ sum_by f pending + n

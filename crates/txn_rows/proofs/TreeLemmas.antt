@@ -8,7 +8,7 @@ use Rattle.txn_rows.specs.declared.rows.Row.{Row}
 use Rattle.txn_rows.specs.declared.group.Member.{Member}
 use Rattle.txn_rows.specs.Transaction.{Transaction}
 use Rattle.txn_rows.specs.Links.{line_of, root_of, tree_of, others, path_of, placed, preorder, member_of, group_of, is_path_before}
-use Rattle.txn_rows.specs.inside.Rows.{transaction_of, row_of, Rising, IsForest, Each, rows_below, rows_beside, row_placed, rows_in_preorder, member_of_row}
+use Rattle.txn_rows.specs.inside.Rows.{transaction_of, row_of, Rising, IsForest, Each, rows_below, rows_beside, rows_in_preorder, member_of_row}
 use Rattle.txn_rows.proofs.LineLemmas.{by_cases, either, Line, line_tells}
 
 -- the whole line of a row
@@ -70,6 +70,10 @@ each_filter P q (row ∷ rows) e =
     by_cases (Each P (filter q (row ∷ rows))) (q row)
     (λ t. rw t (e.0, each_filter P q rows e.1))
     (λ t. rw t (each_filter P q rows e.1))
+
+-- a row is put among others
+abbrev pub row_placed : Row → List Row → List Row
+row_placed row rows = placed (λ (r : Row). r.path) row rows
 
 pub each_placed : (P : Row → Type 0) (row : Row) (rows : List Row) → P row → Each P rows → Each P (row_placed row rows)
 each_placed P row [] p e = (p, tt)

@@ -91,13 +91,13 @@ is_path_before [] ys = true
 is_path_before (x ∷ xs) [] = false
 is_path_before (x ∷ xs) (y ∷ ys) = if x == y then is_path_before xs ys else nat_lt x y
 
--- a transaction is put among others that are in preorder
-abbrev pub placed : (Transaction → List ℕ) → Transaction → List Transaction → List Transaction
+-- a transaction, or what has a path too, is put among others that are in preorder
+abbrev pub placed : {X : Type 0} → (X → List ℕ) → X → List X → List X
 placed path t [] = t ∷ []
 placed path t (u ∷ ts) = if is_path_before (path t) (path u) then t ∷ u ∷ ts else u ∷ placed path t ts
 
 -- transactions in preorder, children in the order in which they got their parent: sorted by their paths (this project's choice)
-abbrev pub preorder : (Transaction → List ℕ) → List Transaction → List Transaction
+abbrev pub preorder : {X : Type 0} → (X → List ℕ) → List X → List X
 preorder path [] = []
 preorder path (t ∷ ts) = placed path t (preorder path ts)
 
@@ -106,16 +106,13 @@ abbrev pub parent_vxid : Option ParentLink → ℕ
 parent_vxid None = 0
 parent_vxid (Some link) = link.vxid
 
+-- a transaction that stands at a level, as a member of its group
+abbrev pub member_at : ℕ → Transaction → Member
+member_at level t = record { vxid = t.vxid; kind = t.kind; reason = t.reason; level = level; parent = parent_vxid t.parent; records = t.records }
+
 -- a transaction as a member of its group
 abbrev pub member_of : List Transaction → Transaction → Member
-member_of pending t = record {
-  vxid = t.vxid;
-  kind = t.kind;
-  reason = t.reason;
-  level = length (line_of pending t);
-  parent = parent_vxid t.parent;
-  records = t.records;
-}
+member_of pending t = member_at (length (line_of pending t)) t
 
 -- the group of a tree
 abbrev pub group_of : List Transaction → Transaction → Group

@@ -56,9 +56,13 @@ with_newest vxid change [] = []
 with_newest vxid change (t ∷ pending) =
     if is_pending vxid pending then t ∷ with_newest vxid change pending else (if t.vxid == vxid then change t ∷ pending else t ∷ pending)
 
--- a record goes to the newest transaction of its VXID, at its end
+-- a transaction with a record at its end
+abbrev pub longer : Record → Transaction → Transaction
+longer rec t = record t { records = t.records ++ rec ∷ [] }
+
+-- a record goes to the newest transaction of its VXID
 abbrev pub with_record : ℕ → Record → List Transaction → List Transaction
-with_record vxid rec pending = with_newest vxid (λ t. record t { records = t.records ++ rec ∷ [] }) pending
+with_record vxid rec pending = with_newest vxid (longer rec) pending
 
 -- whether a kind is not known
 abbrev pub is_unknown : Kind → Bool

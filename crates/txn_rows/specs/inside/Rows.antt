@@ -10,8 +10,8 @@ use Rattle.txn_rows.specs.declared.group.Member.{Member}
 use Rattle.txn_rows.specs.declared.group.Group.{Group}
 use Rattle.txn_rows.specs.Claim.{claim_of}
 use Rattle.txn_rows.specs.declared.claim.Claim.{Claim}
-use Rattle.txn_rows.specs.Transaction.{Transaction, is_pending, claimed_kind}
-use Rattle.txn_rows.specs.Links.{leads_to, is_path_before, parent_vxid}
+use Rattle.txn_rows.specs.Transaction.{Transaction, is_pending, longer, claimed_kind}
+use Rattle.txn_rows.specs.Links.{leads_to, preorder, member_at}
 use Rattle.txn_rows.specs.declared.group.Grouping.{Grouping}
 use Rattle.txn_rows.specs.Grouping.{reported}
 
@@ -37,9 +37,7 @@ own_claim rec = if rec.tag == begin_tag then claim_of rec.payload else None
 
 -- a transaction with a record at its end, of which it takes the claim if that is a Begin
 abbrev pub with_one : Record → Transaction → Transaction
-with_one rec t =
-    let longer : Transaction = record t { records = t.records ++ rec ∷ [] } in
-    if rec.tag == begin_tag then claimed_kind (claim_of rec.payload) longer else longer
+with_one rec t = claimed_kind (own_claim rec) (longer rec t)
 
 -- the row of a serial number
 abbrev pub row_of : ℕ → List Row → Option Row
@@ -84,19 +82,13 @@ rows_below root rows = filter (λ row. row.root == root) rows
 abbrev pub rows_beside : ℕ → List Row → List Row
 rows_beside root rows = filter (λ row. not (row.root == root)) rows
 
--- a row is put among others that are in preorder
-abbrev pub row_placed : Row → List Row → List Row
-row_placed row [] = row ∷ []
-row_placed row (r ∷ rows) = if is_path_before row.path r.path then row ∷ r ∷ rows else r ∷ row_placed row rows
-
 -- rows in preorder
 abbrev pub rows_in_preorder : List Row → List Row
-rows_in_preorder [] = []
-rows_in_preorder (row ∷ rows) = row_placed row (rows_in_preorder rows)
+rows_in_preorder rows = preorder (λ (row : Row). row.path) rows
 
 -- a row as a member of its group
 abbrev pub member_of_row : Row → Member
-member_of_row row = record { vxid = row.vxid; kind = row.kind; reason = row.reason; level = length row.path + 1; parent = parent_vxid row.parent; records = row.records }
+member_of_row row = member_at (length row.path + 1) (transaction_of row)
 
 -- rows are in the order of their serial numbers, all below the next one, and stand in trees
 pub record AreTrees (begun : ℕ) (rows : List Row) : Type 0 where

@@ -1,5 +1,5 @@
 use Rattle.std.proofs.Common.{sym, ◌∙◌}
-use Rattle.txn_rows.proofs.LateLemmas.{none_meant, oldest_meant, first_not_meant}
+use Rattle.txn_rows.proofs.ForceAllLemmas.{none_meant, oldest_meant, first_not_meant}
 use Rattle.txn_rows.proofs.force.oldest_of.Goals as goal
 
 pub returns-in_default-clause-none : goal.returns-in_default-clause-none
