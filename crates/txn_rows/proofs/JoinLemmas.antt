@@ -15,8 +15,8 @@ use Rattle.txn_rows.specs.Transaction.{Transaction, newest, with_newest, is_pend
 use Rattle.txn_rows.specs.Links.{can_join, with_parent, with_link, children, leads_to}
 use Rattle.txn_rows.specs.inside.Rows.{transaction_of, row_of, Rising, IsTop, IsBelow, IsForest, AreTrees, Each, joined, joined_at, IsNewestRow, Rows}
 use Rattle.txn_rows.proofs.LineLemmas.{by_cases, row_of_serial, deeper}
-use Rattle.txn_rows.proofs.TreeLemmas.{line_whole, each_found, each_weaker, around, each_at, of_row, of_row_same, set_is_of_row}
-use Rattle.txn_rows.proofs.ChangeLemmas.{newest_in}
+use Rattle.txn_rows.proofs.TreeLemmas.{line_whole, each_found, each_weaker, around, each_at, of_row, of_row_same, set_is_of_row, row_changed}
+use Rattle.txn_rows.proofs.ChangeLemmas.{newest_in, newest_split, changed_in, OneChanged}
 
 -- a change that keeps serial numbers
 pub row_of_map : (f : Row → Row) → ((row : Row) → (f row).serial ≡ row.serial) → (s : ℕ) (rows : List Row) → row_of s (map f rows) ≡ option_map f (row_of s rows)
@@ -271,61 +271,27 @@ joined_trees begun rows join trees c =
       };
     }
 
--- a join changes one link in the transactions
-told_joined : (join : Join) (row : Row) → transaction_of (joined join row) ≡ cond (eqb row.serial join.child) (record (transaction_of row) { parent = Some join.link }) (transaction_of row)
-told_joined join row =
-    let Goal : Type 0 = transaction_of (joined join row) ≡ cond (eqb row.serial join.child) (record (transaction_of row) { parent = Some join.link }) (transaction_of row) in
-    by_cases Goal (eqb row.serial join.child) (λ t. rw t refl) (λ t. rw t refl)
-
-abbrev serial_in : Option Transaction → ℕ
-serial_in None = 0
-serial_in (Some t) = t.serial
-
--- the newest is no older than the first
-newest_above : (vxid low high : ℕ) (rows : List Row) (row : Row) → Rising low high rows → newest vxid (map transaction_of rows) ≡ Some (transaction_of row) → low ≤ row.serial
-newest_above vxid low high [] row r e = absurd (cc)
-newest_above vxid low high (first ∷ rows) row r e =
-    by_cases (low ≤ row.serial) (is_pending vxid (map transaction_of rows))
-    (λ t. let later = newest_above vxid (first.serial + 1) high rows row r.1 (rw t at e) in omega (arith, later, r.0))
-    (λ t. by_cases (low ≤ row.serial) (eqb first.vxid vxid)
-    (λ u. let h : Some (transaction_of first) ≡ Some (transaction_of row) = rw (t, u) at e in
-    let same : first.serial ≡ row.serial = ap serial_in h in omega (arith, same, r.0))
-    (λ u. let h : None ≡ Some (transaction_of row) = rw (t, u) at e in absurd (cc)))
-
--- no later row has a serial number that is passed
-joined_same : (join : Join) (low high : ℕ) (rows : List Row) → Rising low high rows → join.child < low → map transaction_of (map (joined join) rows) ≡ map transaction_of rows
-joined_same join low high [] r passed = refl
-joined_same join low high (row ∷ rows) r passed =
-    let other : eqb row.serial join.child ≡ false = ne_eqb row.serial join.child (λ e. omega (arith, r.0, passed)) in
-    let head : transaction_of (joined join row) ≡ transaction_of row = told_joined join row ∙ ap (λ (b : Bool). cond b (record (transaction_of row) { parent = Some join.link }) (transaction_of row)) other in
-    ap (λ (t : Transaction). t ∷ map transaction_of (map (joined join) rows)) head
-    ∙ ap (λ (ts : List Transaction). transaction_of row ∷ ts) (joined_same join (row.serial + 1) high rows r.1 (omega (arith, r.0, passed)))
-
 -- the newest of a VXID gets the link
-newest_joined : (vxid low high : ℕ) (rows : List Row) (join : Join) (child : Row) → Rising low high rows → newest vxid (map transaction_of rows) ≡ Some (transaction_of child) → child.serial ≡ join.child →
+told_linked : (join : Join) (rows : List Row) → map transaction_of (map (joined join) rows) ≡ map transaction_of (map (of_row join.child (λ row. record row { parent = Some join.link })) rows)
+told_linked join [] = refl
+told_linked join (row ∷ rows) =
+    let linked : Row → Row = λ r. record r { parent = Some join.link } in
+    let Goal : Type 0 = transaction_of (joined join row) ≡ transaction_of (of_row join.child linked row) in
+    ap (λ (t : Transaction). t ∷ map transaction_of (map (joined join) rows)) (by_cases Goal (eqb row.serial join.child) (λ t. rw t refl) (λ t. rw t refl))
+    ∙ ap (λ (ts : List Transaction). transaction_of (of_row join.child linked row) ∷ ts) (told_linked join rows)
+
+newest_joined : (vxid begun : ℕ) (rows : List Row) (join : Join) (child : Row) → Rising 0 begun rows → newest vxid (map transaction_of rows) ≡ Some (transaction_of child) → child.serial ≡ join.child →
     map transaction_of (map (joined join) rows) ≡ with_newest vxid (λ t. record t { parent = Some join.link }) (map transaction_of rows)
-newest_joined vxid low high [] join child r e is = absurd (cc)
-newest_joined vxid low high (row ∷ rows) join child r e is =
-    let change : Transaction → Transaction = λ t. record t { parent = Some join.link } in
-    let Goal : Type 0 = map transaction_of (map (joined join) (row ∷ rows)) ≡ with_newest vxid change (map transaction_of (row ∷ rows)) in
-    by_cases Goal (is_pending vxid (map transaction_of rows))
-    (λ t. let later : newest vxid (map transaction_of rows) ≡ Some (transaction_of child) = rw t at e in
-    let above = newest_above vxid (row.serial + 1) high rows child r.1 later in
-    let other : eqb row.serial join.child ≡ false = ne_eqb row.serial join.child (λ s. omega (arith, above, s, is)) in
-    let head : transaction_of (joined join row) ≡ transaction_of row = told_joined join row ∙ ap (λ (b : Bool). cond b (change (transaction_of row)) (transaction_of row)) other in
-    ap (λ (x : Transaction). x ∷ map transaction_of (map (joined join) rows)) head
-    ∙ ap (λ (ts : List Transaction). transaction_of row ∷ ts) (newest_joined vxid (row.serial + 1) high rows join child r.1 later is)
-    ∙ ap (λ (b : Bool). cond b (transaction_of row ∷ with_newest vxid change (map transaction_of rows)) (cond (eqb row.vxid vxid) (change (transaction_of row) ∷ map transaction_of rows) (transaction_of row ∷ map transaction_of rows))) (sym t))
-    (λ t. by_cases Goal (eqb row.vxid vxid)
-    (λ u. let h : Some (transaction_of row) ≡ Some (transaction_of child) = rw (t, u) at e in
-    let same : row.serial ≡ child.serial = ap serial_in h in
-    let this : eqb row.serial join.child ≡ true = eq-eqb row.serial join.child (same ∙ is) in
-    let head : transaction_of (joined join row) ≡ change (transaction_of row) = told_joined join row ∙ ap (λ (b : Bool). cond b (change (transaction_of row)) (transaction_of row)) this in
-    ap (λ (x : Transaction). x ∷ map transaction_of (map (joined join) rows)) head
-    ∙ ap (λ (ts : List Transaction). change (transaction_of row) ∷ ts) (joined_same join (row.serial + 1) high rows r.1 (omega (arith, same, is)))
-    ∙ ap (λ (b : Bool). cond b (change (transaction_of row) ∷ map transaction_of rows) (transaction_of row ∷ map transaction_of rows)) (sym u)
-    ∙ ap (λ (b : Bool). cond b (transaction_of row ∷ with_newest vxid change (map transaction_of rows)) (cond (eqb row.vxid vxid) (change (transaction_of row) ∷ map transaction_of rows) (transaction_of row ∷ map transaction_of rows))) (sym t))
-    (λ u. let h : None ≡ Some (transaction_of child) = rw (t, u) at e in absurd (cc)))
+newest_joined vxid begun rows join child rising e is =
+    let pending : List Transaction = map transaction_of rows in
+    let t : Transaction = transaction_of child in
+    let change : Transaction → Transaction = λ u. record u { parent = Some join.link } in
+    let linked : Row → Row = λ r. record r { parent = Some join.link } in
+    let s = newest_split vxid pending t e in
+    let one : OneChanged change t pending (with_newest vxid change pending) = record { front = s.front; back = s.back; was = s.whole; is = ap (with_newest vxid change) s.whole ∙ changed_in vxid change s.front t s.back s.same s.none } in
+    told_linked join rows
+    ∙ ap (λ (n : ℕ). map transaction_of (map (of_row n linked) rows)) (sym is)
+    ∙ (row_changed rows begun linked change t (with_newest vxid change pending) (λ row. refl) rising one).told
 
 -- rows of which the first few were changed
 changed_more : (f : Row → Row) (rows : List Row) (i : ℕ) (row : Row) → i < length rows → row ≡ get_or rows i row → set (map f (take i rows) ++ drop i rows) i (f row) ≡ map f (take (i + 1) rows) ++ drop (i + 1) rows
@@ -541,7 +507,7 @@ link_joins begun cv pv rows child parent join trees pair yes_can is =
     record {
       trees = joined_trees begun rows join trees c;
       told =
-          newest_joined cv 0 begun rows join child trees.rising pair.child_newest (sym (ap (λ (j : Join). j.child) is))
+          newest_joined cv begun rows join child trees.rising pair.child_newest (sym (ap (λ (j : Join). j.child) is))
           ∙ ap (λ (l : ParentLink). with_newest cv (λ t. record t { parent = Some l }) pending) link_told
           ∙ ap (λ (v : ℕ). with_newest v (λ t. record t { parent = Some link }) pending) (sym same)
           ∙ sym (link_is cv pv rows child parent pair ∙ rw can refl);

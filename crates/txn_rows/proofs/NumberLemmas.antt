@@ -19,6 +19,7 @@ use Rattle.txn_rows.proofs.KeepLemmas.{claimed_same, Keeps, begun_kept, told_kep
 use Rattle.txn_rows.proofs.ChangeLemmas.{newest_split, changed_in, newest_same, oldest_same}
 use Rattle.txn_rows.proofs.TreeLemmas.{each_weaker, each_found}
 use Rattle.txn_rows.proofs.JoinLemmas.{count_map, none_from}
+use Rattle.txn_rows.proofs.StandLemmas.{filter_count}
 use Rattle.txn_rows.proofs.OrderLemmas.{contains_here, all_left, all_right}
 
 -- a transaction among others, and where its link leads
@@ -156,25 +157,6 @@ pub told_numbered : (grouping : Grouping) (vxid : ℕ) (rec : Record) (state : S
 told_numbered grouping vxid rec state n =
     told_kept IsNumbered numbered_keeps grouping vxid rec state
     (newest_kept vxid (λ t. record t { records = t.records ++ rec ∷ [] }) (λ t. refl) (with_transaction vxid state) (begun_kept IsNumbered numbered_keeps vxid state n))
-
--- what passes a test is kept, or none of it is
-filter_count : (p q : Row → Bool) (b : Bool) (rows : List Row) → Each (λ row. q row ≡ true → p row ≡ b) rows → count_by q (filter p rows) ≡ cond b (count_by q rows) 0
-filter_count p q true [] e = refl
-filter_count p q false [] e = refl
-filter_count p q b (row ∷ rows) e =
-    let c : Row → ℕ = λ r. cond (q r) 1 0 in
-    let later = filter_count p q b rows e.1 in
-    let Goal : Type 0 = count_by q (filter p (row ∷ rows)) ≡ cond b (count_by q (row ∷ rows)) 0 in
-    let whole = sum_by-cons c row rows in
-    let kept = sum_by-cons c row (filter p rows) in
-    by_cases Goal (q row)
-    (λ t. let one = ap {B = ℕ} (λ (x : Bool). cond x 1 0) t in
-    by_cases Goal b
-    (λ u. rw (e.0 t, u) (omega (arith, whole, kept, one, later, ap {B = ℕ} (λ (x : Bool). cond x (count_by q rows) 0) u)))
-    (λ u. rw (e.0 t, u) (omega (arith, later, ap {B = ℕ} (λ (x : Bool). cond x (count_by q rows) 0) u))))
-    (λ t. let none = ap {B = ℕ} (λ (x : Bool). cond x 1 0) t in
-    let same : count_by q (row ∷ rows) ≡ count_by q rows = omega (arith, whole, none) in
-    rw same (cond_both (p row) (row ∷ filter p rows) (filter p rows) (λ rs. count_by q rs ≡ cond b (count_by q rows) 0) (λ u. omega (arith, kept, none, later)) (λ u. later)))
 
 abbrev root_in : Option Row → ℕ
 root_in None = 0

@@ -27,7 +27,7 @@ use Rattle.txn_rows.proofs.LineLemmas.{by_cases, either, row_of_serial, Line}
 use Rattle.txn_rows.proofs.KeepLemmas.{HoldsOn, HoldsOver, holds_over, items_hold, claimed_same, Keeps, begun_kept, told_kept}
 use Rattle.txn_rows.proofs.ChangeLemmas.{KeepsLinks, EndsNone, newest_split, OneChanged, ChangesOne, newest_one, oldest_one, newest_is_changed}
 use Rattle.txn_rows.proofs.JoinLemmas.{Pair, link_refused, link_joins, row_of_map, before_map, joined_serial, joined_root}
-use Rattle.txn_rows.proofs.TreeLemmas.{each_found, each_weaker, each_line, each_in, of_row, of_row_same, of_row_in}
+use Rattle.txn_rows.proofs.TreeLemmas.{each_found, each_weaker, each_line, of_row, of_row_same, Found, row_in, row_found, row_changed}
 use Rattle.txn_rows.proofs.StandLemmas.{KeepsPlaces, trees_kept, of_row_keeps, told_keeps, row_told_is, rows_told, trees_push, trees_after, left_is, found_push, found_still, found_filter, kept_filter}
 
 -- the same, where one tree may have ended
@@ -100,74 +100,11 @@ changed s change row = of_row s (row_told change) row
 changed_keeps : (s : ℕ) (change : Transaction → Transaction) (rows : List Row) → KeepsPlaces (changed s change) rows
 changed_keeps s change rows = of_row_keeps s (row_told change) rows (told_keeps change rows)
 
--- a row that is found, and its transaction
-pub record Found (rows : List Row) (t : Transaction) : Type 0 where
-  pub row : Row
-  pub told : transaction_of row ≡ t
-  pub here : row_of row.serial rows ≡ Some row
-
--- a transaction among others is that of a row among the rows
-record RowIn (rows : List Row) (front : List Transaction) (t : Transaction) (back : List Transaction) : Type 0 where
-  rs : List Row
-  row : Row
-  qs : List Row
-  whole : rows ≡ rs ++ row ∷ qs
-  before : map transaction_of rs ≡ front
-  told : transaction_of row ≡ t
-  behind : map transaction_of qs ≡ back
-
-row_in : (rows : List Row) (front : List Transaction) (t : Transaction) (back : List Transaction) → map transaction_of rows ≡ front ++ t ∷ back → RowIn rows front t back
-row_in [] [] t back e = absurd (cc)
-row_in [] (f ∷ front) t back e = absurd (cc)
-row_in (row ∷ rows) [] t back e = record { rs = []; row = row; qs = rows; whole = refl; before = refl; told = (cc); behind = (cc) }
-row_in (row ∷ rows) (f ∷ front) t back e =
-    let first : transaction_of row ≡ f = (cc) in
-    let later = row_in rows front t back (cc) in
-    record {
-      rs = row ∷ later.rs;
-      row = later.row;
-      qs = later.qs;
-      whole = ap (λ (xs : List Row). row ∷ xs) later.whole;
-      before = ap (λ (x : Transaction). x ∷ map transaction_of later.rs) first ∙ ap (λ (ts : List Transaction). f ∷ ts) later.before;
-      told = later.told;
-      behind = later.behind;
-    }
-
-row_found : (begun : ℕ) (rows : List Row) (front : List Transaction) (t : Transaction) (back : List Transaction) → Rising 0 begun rows → RowIn rows front t back → Found rows t
-row_found begun rows front t back rising s = record {
-  row = s.row;
-  told = s.told;
-  here = each_in (λ r. row_of r.serial rows ≡ Some r) s.rs s.row s.qs (subst (Each (λ r. row_of r.serial rows ≡ Some r)) s.whole (each_found 0 begun rows rising));
-}
-
--- a change of one transaction is a change of its row
-record RowChanged (rows : List Row) (begun : ℕ) (change : Transaction → Transaction) (t : Transaction) (now : List Transaction) : Type 0 where
-  found : Found rows t
-  told : map transaction_of (map (changed t.serial change) rows) ≡ now
-
-row_changed : (rows : List Row) (begun : ℕ) (change : Transaction → Transaction) (t : Transaction) (now : List Transaction) → KeepsLinks change → Rising 0 begun rows → OneChanged change t (map transaction_of rows) now → RowChanged rows begun change t now
-row_changed rows begun change t now keeps rising c =
-    let s = row_in rows c.front t c.back c.was in
-    let f : Row → Row = row_told change in
-    let serial : s.row.serial ≡ t.serial = ap (λ (x : Transaction). x.serial) s.told in
-    record {
-      found = row_found begun rows c.front t c.back rising s;
-      told =
-          ap (λ (n : ℕ). map transaction_of (map (of_row n f) rows)) (sym serial)
-          ∙ ap (λ (xs : List Row). map transaction_of (map (of_row s.row.serial f) xs)) s.whole
-          ∙ ap (map transaction_of) (of_row_in f 0 begun s.rs s.row s.qs (subst (Rising 0 begun) s.whole rising))
-          ∙ map-append transaction_of s.rs (f s.row ∷ s.qs)
-          ∙ ap (λ (ts : List Transaction). ts ++ transaction_of (f s.row) ∷ map transaction_of s.qs) s.before
-          ∙ ap (λ (ts : List Transaction). c.front ++ transaction_of (f s.row) ∷ ts) s.behind
-          ∙ ap (λ (x : Transaction). c.front ++ x ∷ c.back) (row_told_is change keeps s.row ∙ ap change s.told)
-          ∙ sym c.is;
-    }
-
 -- a change of one that ends none leaves the rows in trees
 change_stands : (change : Transaction → Transaction) (state : State) → KeepsLinks change → EndsNone change → (s : Standing state) → (o : Option Transaction) (now : List Transaction) → ChangesOne change o state.pending now → Standing (record state { pending = now })
 change_stands change state keeps ends s None now c = subst (λ (ts : List Transaction). Standing (record state { pending = ts })) (sym c) s
 change_stands change state keeps ends s (Some t) now c =
-    let one = row_changed s.rows state.begun change t now keeps s.trees.rising (subst (λ (ts : List Transaction). OneChanged change t ts now) (sym s.told) c) in
+    let one = row_changed s.rows state.begun (row_told change) change t now (row_told_is change keeps) s.trees.rising (subst (λ (ts : List Transaction). OneChanged change t ts now) (sym s.told) c) in
     let places = changed_keeps t.serial change s.rows in
     record {
       rows = map (changed t.serial change) s.rows;
@@ -292,7 +229,7 @@ changed_by : (P : Leaving → Type 0) (change : Transaction → Transaction) (st
     ((t : Transaction) → EndedIn (record state { pending = now }) t → P (left_by (Some t) (record state { pending = now }))) → P (left_by (option_map change o) (record state { pending = now }))
 changed_by P change state keeps s None now c none each = subst (λ (ts : List Transaction). P (nothing_left (record state { pending = ts }))) (sym c) none
 changed_by P change state keeps s (Some t) now c none each =
-    let one = row_changed s.rows state.begun change t now keeps s.trees.rising (subst (λ (ts : List Transaction). OneChanged change t ts now) (sym s.told) c) in
+    let one = row_changed s.rows state.begun (row_told change) change t now (row_told_is change keeps) s.trees.rising (subst (λ (ts : List Transaction). OneChanged change t ts now) (sym s.told) c) in
     let places = changed_keeps t.serial change s.rows in
     each (change t) (record {
       root = one.found.row.root;

@@ -3,7 +3,7 @@ use Rattle.std.proofs.Common.{◌≡◌, ◌+◌, ◌<◌, ◌≤◌, ◌⊎◌,
 use Rattle.std.specs.Prelude.{count_by}
 use Rattle.std.specs.List.{list_all, filter}
 use Rattle.std.specs.Option.{option_map, option_or}
-use Rattle.std.proofs.lemmas.Bool.{eqb-true, eqb-false, eq-eqb, ne_eqb, not-true}
+use Rattle.std.proofs.lemmas.Bool.{cond_both, eqb-true, eqb-false, eq-eqb, ne_eqb, not-true}
 use Rattle.std.proofs.lemmas.List.Sums.{sum_by-cons, sum_by_push}
 use Rattle.std.proofs.lemmas.List.Folds.{find-append, list_all-map}
 use Rattle.txn_rows.specs.declared.rows.Row.{Row}
@@ -15,7 +15,7 @@ use Rattle.txn_rows.specs.Grouping.{Leaving, left_by, nothing_left}
 use Rattle.txn_rows.specs.inside.Rows.{transaction_of, row_told, row_of, Rising, IsTop, IsBelow, AreTrees, Each, rows_below, rows_beside, left_rows}
 use Rattle.txn_rows.specs.inside.Steps.{state_with}
 use Rattle.txn_rows.proofs.LineLemmas.{by_cases, row_of_serial}
-use Rattle.txn_rows.proofs.TreeLemmas.{line_whole, tree_rows, other_rows, group_rows, each_weaker, each_found, of_row, of_row_same, set_is_of_row}
+use Rattle.txn_rows.proofs.TreeLemmas.{line_whole, tree_rows, other_rows, group_rows, each_of_all, each_weaker, each_found, of_row, of_row_same, set_is_of_row}
 use Rattle.txn_rows.proofs.ChangeLemmas.{KeepsLinks}
 use Rattle.txn_rows.proofs.JoinLemmas.{row_of_map, rising_map, before_map, still_below}
 
@@ -70,18 +70,34 @@ rising_filter q low high (row ∷ rows) r =
     (λ t. rw t (r.0, rising_filter q (row.serial + 1) high rows r.1))
     (λ t. rw t (rising_weaker (row.serial + 1) low high (filter q rows) (omega (arith, r.0)) (rising_filter q (row.serial + 1) high rows r.1)))
 
+-- what passes a test is kept, or none of it is
+pub filter_count : (p q : Row → Bool) (b : Bool) (rows : List Row) → Each (λ row. q row ≡ true → p row ≡ b) rows → count_by q (filter p rows) ≡ cond b (count_by q rows) 0
+filter_count p q true [] e = refl
+filter_count p q false [] e = refl
+filter_count p q b (row ∷ rows) e =
+    let c : Row → ℕ = λ r. cond (q r) 1 0 in
+    let later = filter_count p q b rows e.1 in
+    let Goal : Type 0 = count_by q (filter p (row ∷ rows)) ≡ cond b (count_by q (row ∷ rows)) 0 in
+    let whole = sum_by-cons c row rows in
+    let kept = sum_by-cons c row (filter p rows) in
+    by_cases Goal (q row)
+    (λ t. let one = ap {B = ℕ} (λ (x : Bool). cond x 1 0) t in
+    by_cases Goal b
+    (λ u. rw (e.0 t, u) (omega (arith, whole, kept, one, later, ap {B = ℕ} (λ (x : Bool). cond x (count_by q rows) 0) u)))
+    (λ u. rw (e.0 t, u) (omega (arith, later, ap {B = ℕ} (λ (x : Bool). cond x (count_by q rows) 0) u))))
+    (λ t. let none = ap {B = ℕ} (λ (x : Bool). cond x 1 0) t in
+    let same : count_by q (row ∷ rows) ≡ count_by q rows = omega (arith, whole, none) in
+    rw same (cond_both (p row) (row ∷ filter p rows) (filter p rows) (λ rs. count_by q rs ≡ cond b (count_by q rows) 0) (λ u. omega (arith, kept, none, later)) (λ u. later)))
+
+-- rows that are all kept where they count
+count_filter : (p q : Row → Bool) (rows : List Row) → Each (λ r. p r ≡ true → q r ≡ true) rows → count_by p (filter q rows) ≡ count_by p rows
+count_filter p q rows e = filter_count q p true rows e
+
 -- other trees keep their rows
-count_beside : (root x : ℕ) → eqb x root ≡ false → (rows : List Row) → count_by (λ (r : Row). eqb r.root x) (rows_beside root rows) ≡ count_by (λ (r : Row). eqb r.root x) rows
-count_beside root x other [] = refl
-count_beside root x other (row ∷ rows) =
-    let p : Row → ℕ = λ r. cond (eqb r.root x) 1 0 in
-    let ih = count_beside root x other rows in
-    let whole = sum_by-cons p row rows in
-    by_cases (count_by (λ (r : Row). eqb r.root x) (rows_beside root (row ∷ rows)) ≡ count_by (λ (r : Row). eqb r.root x) (row ∷ rows)) (eqb row.root root)
-    (λ t. let none : eqb row.root x ≡ false = ne_eqb row.root x (λ e. eqb-false x root other (sym e ∙ eqb-true row.root root t)) in
-    let zero_here : p row ≡ 0 = rw none refl in
-    rw t (omega (arith, ih, whole, zero_here)))
-    (λ t. rw t (omega (arith, ih, whole, sum_by-cons p row (rows_beside root rows))))
+pub count_beside : (root x : ℕ) → eqb x root ≡ false → (rows : List Row) → count_by (λ (r : Row). eqb r.root x) (rows_beside root rows) ≡ count_by (λ (r : Row). eqb r.root x) rows
+count_beside root x other rows =
+    count_filter (λ r. eqb r.root x) (λ r. not (eqb r.root root)) rows
+    (each_of_all (λ r. eqb r.root x ≡ true → not (eqb r.root root) ≡ true) (λ r e. ap (λ (n : ℕ). not (eqb n root)) (eqb-true r.root x e) ∙ ap not other) rows)
 
 -- a row and the one to which its link leads are of one tree
 pub child_in_tree : (rows : List Row) (row child : Row) → row_of row.serial rows ≡ Some row → IsTop child ⊎ IsBelow rows child → leads_to row.serial child.parent ≡ true → child.root ≡ row.root
@@ -94,18 +110,6 @@ child_in_tree rows row child here linked leads = ⊎_elim
     let above : below.above ≡ row = (cc) in
     below.root ∙ ap (λ (r : Row). r.root) above)
     linked
-
--- rows that are all kept where they count
-count_filter : (p q : Row → Bool) (rows : List Row) → Each (λ r. p r ≡ true → q r ≡ true) rows → count_by p (filter q rows) ≡ count_by p rows
-count_filter p q [] e = refl
-count_filter p q (row ∷ rows) e =
-    let n : Row → ℕ = λ r. cond (p r) 1 0 in
-    let ih = count_filter p q rows e.1 in
-    let whole = sum_by-cons n row rows in
-    by_cases (count_by p (filter q (row ∷ rows)) ≡ count_by p (row ∷ rows)) (q row)
-    (λ t. rw t (omega (arith, ih, whole, sum_by-cons n row (filter q rows))))
-    (λ t. let none : n row ≡ 0 = by_cases (n row ≡ 0) (p row) (λ u. let kept : q row ≡ true = e.0 u in let both : false ≡ true = sym t ∙ kept in absurd (cc)) (λ u. ap {B = ℕ} (λ (b : Bool). cond b 1 0) u) in
-    rw t (omega (arith, ih, whole, none)))
 
 -- rows of which none counts
 count_none : (p : Row → Bool) (rows : List Row) → Each (λ r. p r ≡ false) rows → count_by p rows ≡ 0
@@ -180,19 +184,17 @@ pub record KeepsPlaces (f : Row → Row) (rows : List Row) : Type 0 where
   pub path : (row : Row) → (f row).path ≡ row.path
   pub children : (row : Row) → (f row).children ≡ row.children
 
-count_kept : (f : Row → Row) → ((row : Row) → (f row).root ≡ row.root) → (x : ℕ) (rows : List Row) → count_by (λ (r : Row). eqb r.root x) (map f rows) ≡ count_by (λ (r : Row). eqb r.root x) rows
-count_kept f keeps x [] = refl
-count_kept f keeps x (row ∷ rows) =
-    let p : Row → ℕ = λ r. cond (eqb r.root x) 1 0 in
-    sum_by-cons p (f row) (map f rows) ∙ ap (λ (n : ℕ). cond (eqb n x) 1 0 + count_by (λ (r : Row). eqb r.root x) (map f rows)) (keeps row)
-    ∙ ap (λ (n : ℕ). p row + n) (count_kept f keeps x rows) ∙ sym (sum_by-cons p row rows)
+count_same : (p : Row → Bool) (f : Row → Row) → ((row : Row) → p (f row) ≡ p row) → (rows : List Row) → count_by p (map f rows) ≡ count_by p rows
+count_same p f same [] = refl
+count_same p f same (row ∷ rows) =
+    let n : Row → ℕ = λ r. cond (p r) 1 0 in
+    omega (arith, sum_by-cons n (f row) (map f rows), ap {B = ℕ} (λ (b : Bool). cond b 1 0) (same row), count_same p f same rows, sum_by-cons n row rows)
+
+pub count_kept : (f : Row → Row) → ((row : Row) → (f row).root ≡ row.root) → (x : ℕ) (rows : List Row) → count_by (λ (r : Row). eqb r.root x) (map f rows) ≡ count_by (λ (r : Row). eqb r.root x) rows
+count_kept f keeps x rows = count_same (λ r. eqb r.root x) f (λ row. ap (λ (n : ℕ). eqb n x) (keeps row)) rows
 
 children_kept : (f : Row → Row) → ((row : Row) → (f row).parent ≡ row.parent) → (x : ℕ) (rows : List Row) → count_by (λ (r : Row). leads_to x r.parent) (map f rows) ≡ count_by (λ (r : Row). leads_to x r.parent) rows
-children_kept f keeps x [] = refl
-children_kept f keeps x (row ∷ rows) =
-    let p : Row → ℕ = λ r. cond (leads_to x r.parent) 1 0 in
-    let one : p (f row) ≡ p row = ap (λ (o : Option ParentLink). cond (leads_to x o) 1 0) (keeps row) in
-    omega (arith, sum_by-cons p (f row) (map f rows), one, children_kept f keeps x rows, sum_by-cons p row rows)
+children_kept f keeps x rows = count_same (λ r. leads_to x r.parent) f (λ row. ap (leads_to x) (keeps row)) rows
 
 -- rows that keep their places stand in trees
 pub trees_kept : (begun : ℕ) (f : Row → Row) (rows : List Row) → KeepsPlaces f rows → AreTrees begun rows → AreTrees begun (map f rows)

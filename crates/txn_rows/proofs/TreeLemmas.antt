@@ -2,7 +2,7 @@
 use Rattle.std.proofs.Common.{◌≡◌, ◌+◌, ◌<◌, ◌≤◌, ℕ, Bool, false, not, eqb, cond, Some, List, [], ◌∷◌, ◌++◌, length, map, take, drop, get_or, set, refl, ap, sym, ◌∙◌, subst, add-one, arith}
 use Rattle.std.specs.List.{filter}
 use Rattle.std.proofs.lemmas.Bool.{eq-eqb, ne_eqb}
-use Rattle.std.proofs.lemmas.List.{length-map, take-append-drop, drop_more, set_split}
+use Rattle.std.proofs.lemmas.List.{length-map, map-append, take-append-drop, drop_more, set_split}
 use Rattle.std.proofs.lemmas.List.Sums.{count_by-le-length}
 use Rattle.txn_rows.specs.declared.rows.Row.{Row}
 use Rattle.txn_rows.specs.declared.group.Member.{Member}
@@ -10,12 +10,17 @@ use Rattle.txn_rows.specs.Transaction.{Transaction}
 use Rattle.txn_rows.specs.Links.{line_of, root_of, tree_of, others, path_of, placed, preorder, member_of, group_of, is_path_before}
 use Rattle.txn_rows.specs.inside.Rows.{transaction_of, row_of, Rising, IsForest, Each, rows_below, rows_beside, rows_in_preorder, member_of_row}
 use Rattle.txn_rows.proofs.LineLemmas.{by_cases, either, Line, line_tells}
+use Rattle.txn_rows.proofs.ChangeLemmas.{OneChanged}
 
 -- the whole line of a row
 pub line_whole : (rows : List Row) → IsForest rows → (s : ℕ) (row : Row) → row_of s rows ≡ Some row → Line rows row (line_of (map transaction_of rows) (transaction_of row))
 line_whole rows forest s row here =
     line_tells rows forest (length (map transaction_of rows)) s row here
     (omega (arith, forest.shallow s row here, count_by-le-length (λ (r : Row). eqb r.root row.root) rows, length-map rows transaction_of))
+
+pub each_of_all : (P : Row → Type 0) → ((row : Row) → P row) → (rows : List Row) → Each P rows
+each_of_all P all [] = tt
+each_of_all P all (row ∷ rows) = (all row, each_of_all P all rows)
 
 pub each_weaker : (P Q : Row → Type 0) → ((row : Row) → P row → Q row) → (rows : List Row) → Each P rows → Each Q rows
 each_weaker P Q w [] e = tt
@@ -170,3 +175,65 @@ set_is_of_row f low high at rows row new r within read is =
     ∙ ap (λ (x : Row). take at rows ++ x ∷ drop (at + 1) rows) is
     ∙ sym (of_row_in f low high (take at rows) row (drop (at + 1) rows) (subst (Rising low high) split r))
     ∙ ap (map (of_row row.serial f)) (sym split)
+
+-- a row that is found, and its transaction
+pub record Found (rows : List Row) (t : Transaction) : Type 0 where
+  pub row : Row
+  pub told : transaction_of row ≡ t
+  pub here : row_of row.serial rows ≡ Some row
+
+-- a transaction among others is that of a row among the rows
+pub record RowIn (rows : List Row) (front : List Transaction) (t : Transaction) (back : List Transaction) : Type 0 where
+  pub rs : List Row
+  pub row : Row
+  pub qs : List Row
+  pub whole : rows ≡ rs ++ row ∷ qs
+  pub before : map transaction_of rs ≡ front
+  pub told : transaction_of row ≡ t
+  pub behind : map transaction_of qs ≡ back
+
+pub row_in : (rows : List Row) (front : List Transaction) (t : Transaction) (back : List Transaction) → map transaction_of rows ≡ front ++ t ∷ back → RowIn rows front t back
+row_in [] [] t back e = absurd (cc)
+row_in [] (f ∷ front) t back e = absurd (cc)
+row_in (row ∷ rows) [] t back e = record { rs = []; row = row; qs = rows; whole = refl; before = refl; told = (cc); behind = (cc) }
+row_in (row ∷ rows) (f ∷ front) t back e =
+    let first : transaction_of row ≡ f = (cc) in
+    let later = row_in rows front t back (cc) in
+    record {
+      rs = row ∷ later.rs;
+      row = later.row;
+      qs = later.qs;
+      whole = ap (λ (xs : List Row). row ∷ xs) later.whole;
+      before = ap (λ (x : Transaction). x ∷ map transaction_of later.rs) first ∙ ap (λ (ts : List Transaction). f ∷ ts) later.before;
+      told = later.told;
+      behind = later.behind;
+    }
+
+pub row_found : (begun : ℕ) (rows : List Row) (front : List Transaction) (t : Transaction) (back : List Transaction) → Rising 0 begun rows → RowIn rows front t back → Found rows t
+row_found begun rows front t back rising s = record {
+  row = s.row;
+  told = s.told;
+  here = each_in (λ r. row_of r.serial rows ≡ Some r) s.rs s.row s.qs (subst (Each (λ r. row_of r.serial rows ≡ Some r)) s.whole (each_found 0 begun rows rising));
+}
+
+-- a change of one transaction is a change of its row
+pub record RowChanged (rows : List Row) (f : Row → Row) (t : Transaction) (now : List Transaction) : Type 0 where
+  pub found : Found rows t
+  pub told : map transaction_of (map (of_row t.serial f) rows) ≡ now
+
+pub row_changed : (rows : List Row) (begun : ℕ) (f : Row → Row) (change : Transaction → Transaction) (t : Transaction) (now : List Transaction) → ((row : Row) → transaction_of (f row) ≡ change (transaction_of row)) → Rising 0 begun rows → OneChanged change t (map transaction_of rows) now → RowChanged rows f t now
+row_changed rows begun f change t now tells rising c =
+    let s = row_in rows c.front t c.back c.was in
+    let serial : s.row.serial ≡ t.serial = ap (λ (x : Transaction). x.serial) s.told in
+    record {
+      found = row_found begun rows c.front t c.back rising s;
+      told =
+          ap (λ (n : ℕ). map transaction_of (map (of_row n f) rows)) (sym serial)
+          ∙ ap (λ (xs : List Row). map transaction_of (map (of_row s.row.serial f) xs)) s.whole
+          ∙ ap (map transaction_of) (of_row_in f 0 begun s.rs s.row s.qs (subst (Rising 0 begun) s.whole rising))
+          ∙ map-append transaction_of s.rs (f s.row ∷ s.qs)
+          ∙ ap (λ (ts : List Transaction). ts ++ transaction_of (f s.row) ∷ map transaction_of s.qs) s.before
+          ∙ ap (λ (ts : List Transaction). c.front ++ transaction_of (f s.row) ∷ ts) s.behind
+          ∙ ap (λ (x : Transaction). c.front ++ x ∷ c.back) (tells s.row ∙ ap change s.told)
+          ∙ sym c.is;
+    }
