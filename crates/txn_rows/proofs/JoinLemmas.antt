@@ -6,7 +6,7 @@ use Rattle.std.specs.Option.{option_map}
 use Rattle.std.proofs.Math.Bool.{or-true}
 use Rattle.std.proofs.lemmas.Bool.{eqb-true, eqb-false, eq-eqb, ne_eqb, or_parts, and_parts, not-true}
 use Rattle.std.proofs.lemmas.List.{length-map, length-take-le, map-append, take-append-drop, drop_more, set_at, map_more, get_or_at, get_or-map}
-use Rattle.std.proofs.lemmas.List.Sums.{sum_by-cons, get_or-le-sum_by}
+use Rattle.std.proofs.lemmas.List.Sums.{sum_by-append, sum_by-cons, get_or-le-sum_by}
 use Rattle.std.proofs.lemmas.List.Elements.{Contains-append_right}
 use Rattle.txn_rows.specs.declared.rows.Row.{Row}
 use Rattle.txn_rows.specs.declared.group.ParentLink.{ParentLink}
@@ -15,7 +15,7 @@ use Rattle.txn_rows.specs.Transaction.{Transaction, newest, with_newest, is_pend
 use Rattle.txn_rows.specs.Links.{can_join, with_parent, with_link, children, leads_to}
 use Rattle.txn_rows.specs.inside.Rows.{transaction_of, row_of, Rising, IsTop, IsBelow, IsForest, AreTrees, Each, joined, joined_at, IsNewestRow, Rows}
 use Rattle.txn_rows.proofs.LineLemmas.{by_cases, row_of_serial, deeper}
-use Rattle.txn_rows.proofs.TreeLemmas.{line_whole, each_found, each_weaker, around, each_at, of_row, of_row_same, set_is_of_row, row_changed}
+use Rattle.txn_rows.proofs.TreeLemmas.{line_whole, each_found, each_weaker, around, each_at, of_row, of_row_same, of_row_in, set_is_of_row, row_changed}
 use Rattle.txn_rows.proofs.ChangeLemmas.{newest_in, newest_split, changed_in, OneChanged}
 
 -- a change that keeps serial numbers
@@ -210,39 +210,53 @@ joined_shallow rows forest join c s row here =
     let more = count_other join row.root (ne_eqb join.child row.root (λ e. eqb-false row.root join.child outside (sym e))) rows in
     rw (joined_path join row, joined_root join row, outside) (omega (arith, shallow, more)))
 
--- no later row gets the link
-count_later : (join : Join) (x low high : ℕ) (rows : List Row) → Rising low high rows → join.child < low → count_by (λ (r : Row). leads_to x r.parent) (map (joined join) rows) ≡ count_by (λ (r : Row). leads_to x r.parent) rows
-count_later join x low high [] r passed = refl
-count_later join x low high (row ∷ rows) r passed =
-    let ih = count_later join x (row.serial + 1) high rows r.1 (omega (arith, r.0, passed)) in
-    let p : Row → ℕ = λ r. cond (leads_to x r.parent) 1 0 in
-    let other : eqb row.serial join.child ≡ false = ne_eqb row.serial join.child (λ e. omega (arith, r.0, passed, e)) in
-    let one : p (joined join row) ≡ p row = ap (λ (o : Option ParentLink). cond (leads_to x o) 1 0) (parent_stays join row other) in
-    omega (arith, ih, sum_by-cons p row rows, sum_by-cons p (joined join row) (map (joined join) rows), one)
+pub count_map : {X Y : Type 0} (p : Y → Bool) (f : X → Y) (xs : List X) → count_by p (map f xs) ≡ count_by (λ x. p (f x)) xs
+count_map p f [] = refl
+count_map {X} {Y} p f (x ∷ xs) =
+    let c : Y → ℕ = λ y. cond (p y) 1 0 in
+    sum_by-cons c (f x) (map f xs) ∙ ap (λ (n : ℕ). c (f x) + n) (count_map p f xs) ∙ sym (sum_by-cons (λ (x : X). c (f x)) x xs)
+
+-- a row that is found is in the list
+pub row_contained : (s : ℕ) (rows : List Row) (row : Row) → row_of s rows ≡ Some row → Contains rows row
+row_contained s [] row here = absurd (cc)
+row_contained s (first ∷ rows) row here =
+    by_cases (Contains (first ∷ rows) row) (eqb first.serial s)
+    (λ t. let same : Some first ≡ Some row = rw t at here in (0, omega arith, (cc)))
+    (λ t. Contains-append_right (first ∷ []) rows row (row_contained s rows row (rw t at here)))
+
+-- a join changes one link in the transactions
+told_linked : (join : Join) (rows : List Row) → map transaction_of (map (joined join) rows) ≡ map transaction_of (map (of_row join.child (λ row. record row { parent = Some join.link })) rows)
+told_linked join [] = refl
+told_linked join (row ∷ rows) =
+    let linked : Row → Row = λ r. record r { parent = Some join.link } in
+    let Goal : Type 0 = transaction_of (joined join row) ≡ transaction_of (of_row join.child linked row) in
+    ap (λ (t : Transaction). t ∷ map transaction_of (map (joined join) rows)) (by_cases Goal (eqb row.serial join.child) (λ t. rw t refl) (λ t. rw t refl))
+    ∙ ap (λ (ts : List Transaction). transaction_of (of_row join.child linked row) ∷ ts) (told_linked join rows)
 
 -- the first of the tree that joins is one child more
-count_linked : (join : Join) (x low high : ℕ) (rows : List Row) (child : Row) → Rising low high rows → row_of join.child rows ≡ Some child → child.parent ≡ None →
+count_linked : (join : Join) (x begun : ℕ) (rows : List Row) (child : Row) → Rising 0 begun rows → row_of join.child rows ≡ Some child → child.parent ≡ None →
     count_by (λ (r : Row). leads_to x r.parent) (map (joined join) rows) ≡ count_by (λ (r : Row). leads_to x r.parent) rows + cond (eqb join.link.serial x) 1 0
-count_linked join x low high [] child r here none = absurd (cc)
-count_linked join x low high (row ∷ rows) child r here none =
-    let p : Row → ℕ = λ r. cond (leads_to x r.parent) 1 0 in
-    let whole = sum_by-cons p row rows in
-    let now = sum_by-cons p (joined join row) (map (joined join) rows) in
-    by_cases (count_by (λ (r : Row). leads_to x r.parent) (map (joined join) (row ∷ rows)) ≡ count_by (λ (r : Row). leads_to x r.parent) (row ∷ rows) + cond (eqb join.link.serial x) 1 0) (eqb row.serial join.child)
-    (λ t. let same : Some row ≡ Some child = rw t at here in
-    let is : row ≡ child = (cc) in
-    let was : p row ≡ 0 = ap (λ (o : Option ParentLink). cond (leads_to x o) 1 0) (ap (λ (r : Row). r.parent) is ∙ none) in
-    let one : p (joined join row) ≡ cond (eqb join.link.serial x) 1 0 = ap (λ (o : Option ParentLink). cond (leads_to x o) 1 0) (joined_parent join row ∙ ap (λ (b : Bool). cond b (Some join.link) row.parent) t) in
-    let later = count_later join x (row.serial + 1) high rows r.1 (omega (arith, eqb-true row.serial join.child t)) in
-    omega (arith, whole, now, was, one, later))
-    (λ other. let ih = count_linked join x (row.serial + 1) high rows child r.1 (rw other at here) none in
-    let one : p (joined join row) ≡ p row = ap (λ (o : Option ParentLink). cond (leads_to x o) 1 0) (parent_stays join row other) in
-    omega (arith, whole, now, one, ih))
+count_linked join x begun rows child rising here none =
+    let links : List Row → ℕ = λ rs. count_by (λ (r : Row). leads_to x r.parent) rs in
+    let told : List Transaction → ℕ = λ ts. count_by (λ (t : Transaction). leads_to x t.parent) ts in
+    let one : Row → ℕ = λ r. cond (leads_to x r.parent) 1 0 in
+    let linked : Row → Row = λ r. record r { parent = Some join.link } in
+    let at = row_contained join.child rows child here in
+    let front : List Row = take at.0 rows in
+    let back : List Row = drop (at.0 + 1) rows in
+    let split : rows ≡ front ++ child ∷ back = around at.0 rows child at.1 (sym at.2) in
+    let now : map (of_row join.child linked) rows ≡ front ++ linked child ∷ back =
+    ap (λ (n : ℕ). map (of_row n linked) rows) (sym (row_of_serial join.child rows child here))
+    ∙ ap (map (of_row child.serial linked)) split ∙ of_row_in linked 0 begun front child back (subst (Rising 0 begun) split rising) in
+    let same : links (map (joined join) rows) ≡ links (front ++ linked child ∷ back) =
+    sym (count_map (λ (t : Transaction). leads_to x t.parent) transaction_of (map (joined join) rows)) ∙ ap told (told_linked join rows)
+    ∙ count_map (λ (t : Transaction). leads_to x t.parent) transaction_of (map (of_row join.child linked) rows) ∙ ap links now in
+    omega (arith, same, ap links split, sum_by-append one front (child ∷ back), sum_by-cons one child back, sum_by-append one front (linked child ∷ back), sum_by-cons one (linked child) back, ap {B = ℕ} (λ (p : Option ParentLink). cond (leads_to x p) 1 0) none)
 
 joined_counted : (begun : ℕ) (rows : List Row) → AreTrees begun rows → (join : Join) (c : CanJoin rows join) (s : ℕ) (row : Row) → row_of s rows ≡ Some row → (joined join row).children ≡ count_by (λ (r : Row). leads_to (joined join row).serial r.parent) (map (joined join) rows)
 joined_counted begun rows trees join c s row here =
     let was : row.children ≡ count_by (λ (r : Row). leads_to row.serial r.parent) rows = trees.forest.counted s row here in
-    let more = count_linked join row.serial 0 begun rows c.child trees.rising c.here c.top.none in
+    let more = count_linked join row.serial begun rows c.child trees.rising c.here c.top.none in
     let now : (joined join row).children ≡ count_by (λ (r : Row). leads_to row.serial r.parent) (map (joined join) rows) =
     by_cases ((joined join row).children ≡ count_by (λ (r : Row). leads_to row.serial r.parent) (map (joined join) rows)) (eqb row.serial join.link.serial)
     (λ t. let back : cond (eqb join.link.serial row.serial) 1 0 ≡ 1 = ap {B = ℕ} (λ (b : Bool). cond b 1 0) (eq-eqb join.link.serial row.serial (sym (eqb-true row.serial join.link.serial t))) in
@@ -272,14 +286,6 @@ joined_trees begun rows join trees c =
     }
 
 -- the newest of a VXID gets the link
-told_linked : (join : Join) (rows : List Row) → map transaction_of (map (joined join) rows) ≡ map transaction_of (map (of_row join.child (λ row. record row { parent = Some join.link })) rows)
-told_linked join [] = refl
-told_linked join (row ∷ rows) =
-    let linked : Row → Row = λ r. record r { parent = Some join.link } in
-    let Goal : Type 0 = transaction_of (joined join row) ≡ transaction_of (of_row join.child linked row) in
-    ap (λ (t : Transaction). t ∷ map transaction_of (map (joined join) rows)) (by_cases Goal (eqb row.serial join.child) (λ t. rw t refl) (λ t. rw t refl))
-    ∙ ap (λ (ts : List Transaction). transaction_of (of_row join.child linked row) ∷ ts) (told_linked join rows)
-
 newest_joined : (vxid begun : ℕ) (rows : List Row) (join : Join) (child : Row) → Rising 0 begun rows → newest vxid (map transaction_of rows) ≡ Some (transaction_of child) → child.serial ≡ join.child →
     map transaction_of (map (joined join) rows) ≡ with_newest vxid (λ t. record t { parent = Some join.link }) (map transaction_of rows)
 newest_joined vxid begun rows join child rising e is =
@@ -340,20 +346,6 @@ can_join_rows begun rows trees child parent here there =
     let line = line_whole rows trees.forest parent.serial parent there in
     ap (λ (b : Bool). is_none child.parent && not child.ended && not b) (line.has child (none_from child.parent none) here))
     (λ some. rw some refl)
-
-pub count_map : {X Y : Type 0} (p : Y → Bool) (f : X → Y) (xs : List X) → count_by p (map f xs) ≡ count_by (λ x. p (f x)) xs
-count_map p f [] = refl
-count_map {X} {Y} p f (x ∷ xs) =
-    let c : Y → ℕ = λ y. cond (p y) 1 0 in
-    sum_by-cons c (f x) (map f xs) ∙ ap (λ (n : ℕ). c (f x) + n) (count_map p f xs) ∙ sym (sum_by-cons (λ (x : X). c (f x)) x xs)
-
--- a row that is found is in the list
-pub row_contained : (s : ℕ) (rows : List Row) (row : Row) → row_of s rows ≡ Some row → Contains rows row
-row_contained s [] row here = absurd (cc)
-row_contained s (first ∷ rows) row here =
-    by_cases (Contains (first ∷ rows) row) (eqb first.serial s)
-    (λ t. let same : Some first ≡ Some row = rw t at here in (0, omega arith, (cc)))
-    (λ t. Contains-append_right (first ∷ []) rows row (row_contained s rows row (rw t at here)))
 
 -- a row that passes is counted
 pub row_counted : (q : Row → Bool) (s : ℕ) (rows : List Row) (row : Row) → row_of s rows ≡ Some row → q row ≡ true → 1 ≤ count_by q rows

@@ -3,7 +3,8 @@ use Rattle.std.proofs.Common.{◌≡◌, ◌+◌, ◌<◌, ◌≤◌, ◌⊎◌,
 use Rattle.std.specs.Prelude.{⊤, ◌≢◌}
 use Rattle.std.specs.List.{All, Contains, flat_map, sum_by}
 use Rattle.std.proofs.lemmas.Bool.{eqb-true, eqb-false, eq-eqb, ne_eqb, ltb-true, ltb-false, lt-ltb}
-use Rattle.std.proofs.lemmas.List.Sums.{sum_by-cons}
+use Rattle.std.specs.List.Sorted.{IsPermutation}
+use Rattle.std.proofs.lemmas.List.Sorted.{IsPermutation-refl, IsPermutation-sym, IsPermutation-trans, IsPermutation-cons, IsPermutation-middle, All-permutation, sum_by-IsPermutation}
 use Rattle.std.proofs.lemmas.List.Elements.{All-nil, All-cons, All-head, All-tail, All-weaker, All-contains, Contains-append_right}
 use Rattle.txn_rows.specs.declared.group.ParentLink.{ParentLink}
 use Rattle.txn_rows.specs.Transaction.{Transaction}
@@ -94,42 +95,30 @@ abbrev pub InOrder : {X : Type 0} → (X → X → Type 0) → List X → Type 0
 InOrder R [] = ⊤
 InOrder R (x ∷ xs) = All (R x) xs × InOrder R xs
 
+-- transactions in preorder are the same in another order
+placed_permutes : (path : Transaction → List ℕ) (t : Transaction) (ts : List Transaction) → IsPermutation (t ∷ ts) (placed path t ts)
+placed_permutes path t [] = IsPermutation-refl (t ∷ [])
+placed_permutes path t (u ∷ ts) =
+    by_cases (IsPermutation (t ∷ u ∷ ts) (placed path t (u ∷ ts))) (is_path_before (path t) (path u))
+    (λ e. rw e (IsPermutation-refl (t ∷ u ∷ ts)))
+    (λ e. rw e (IsPermutation-trans (t ∷ u ∷ ts) (u ∷ t ∷ ts) (u ∷ placed path t ts) (IsPermutation-middle (t ∷ []) u ts) (IsPermutation-cons u (t ∷ ts) (placed path t ts) (placed_permutes path t ts))))
+
+preorder_permutes : (path : Transaction → List ℕ) (ts : List Transaction) → IsPermutation ts (preorder path ts)
+preorder_permutes path [] = IsPermutation-refl []
+preorder_permutes path (t ∷ ts) =
+    IsPermutation-trans (t ∷ ts) (t ∷ preorder path ts) (preorder path (t ∷ ts)) (IsPermutation-cons t ts (preorder path ts) (preorder_permutes path ts)) (placed_permutes path t (preorder path ts))
+
 all_placed : (P : Transaction → Type 0) (path : Transaction → List ℕ) (t : Transaction) (ts : List Transaction) → P t → All P ts → All P (placed path t ts)
-all_placed P path t [] p a = All-cons P t [] p a
-all_placed P path t (u ∷ ts) p a =
-    by_cases (All P (placed path t (u ∷ ts))) (is_path_before (path t) (path u))
-    (λ e. rw e (All-cons P t (u ∷ ts) p a))
-    (λ e. rw e (All-cons P u (placed path t ts) (All-head P u ts a) (all_placed P path t ts p (All-tail P u ts a))))
+all_placed P path t ts p a = All-permutation P (t ∷ ts) (placed path t ts) (placed_permutes path t ts) (All-cons P t ts p a)
 
 pub all_preorder : (P : Transaction → Type 0) (path : Transaction → List ℕ) (ts : List Transaction) → All P ts → All P (preorder path ts)
-all_preorder P path [] a = a
-all_preorder P path (t ∷ ts) a = all_placed P path t (preorder path ts) (All-head P t ts a) (all_preorder P path ts (All-tail P t ts a))
-
-all_unplaced : (P : Transaction → Type 0) (path : Transaction → List ℕ) (t : Transaction) (ts : List Transaction) → All P (placed path t ts) → All P (t ∷ ts)
-all_unplaced P path t [] a = a
-all_unplaced P path t (u ∷ ts) a =
-    by_cases (All P (t ∷ u ∷ ts)) (is_path_before (path t) (path u))
-    (λ e. rw e at a)
-    (λ e. let b : All P (u ∷ placed path t ts) = rw e at a in
-    let later = all_unplaced P path t ts (All-tail P u (placed path t ts) b) in
-    All-cons P t (u ∷ ts) (All-head P t ts later) (All-cons P u ts (All-head P u (placed path t ts) b) (All-tail P t ts later)))
+all_preorder P path ts a = All-permutation P ts (preorder path ts) (preorder_permutes path ts) a
 
 pub all_unsorted : (P : Transaction → Type 0) (path : Transaction → List ℕ) (ts : List Transaction) → All P (preorder path ts) → All P ts
-all_unsorted P path [] a = a
-all_unsorted P path (t ∷ ts) a =
-    let first = all_unplaced P path t (preorder path ts) a in
-    All-cons P t ts (All-head P t (preorder path ts) first) (all_unsorted P path ts (All-tail P t (preorder path ts) first))
-
-placed_sum : (f : Transaction → ℕ) (path : Transaction → List ℕ) (t : Transaction) (ts : List Transaction) → sum_by f (placed path t ts) ≡ f t + sum_by f ts
-placed_sum f path t [] = sum_by-cons f t []
-placed_sum f path t (u ∷ ts) =
-    by_cases (sum_by f (placed path t (u ∷ ts)) ≡ f t + sum_by f (u ∷ ts)) (is_path_before (path t) (path u))
-    (λ e. rw e (sum_by-cons f t (u ∷ ts)))
-    (λ e. rw e (omega (arith, sum_by-cons f u (placed path t ts), placed_sum f path t ts, sum_by-cons f u ts)))
+all_unsorted P path ts a = All-permutation P (preorder path ts) ts (IsPermutation-sym ts (preorder path ts) (preorder_permutes path ts)) a
 
 pub preorder_sum : (f : Transaction → ℕ) (path : Transaction → List ℕ) (ts : List Transaction) → sum_by f (preorder path ts) ≡ sum_by f ts
-preorder_sum f path [] = refl
-preorder_sum f path (t ∷ ts) = omega (arith, placed_sum f path t (preorder path ts), preorder_sum f path ts, sum_by-cons f t ts)
+preorder_sum f path ts = sum_by-IsPermutation f ts (preorder path ts) (preorder_permutes path ts)
 
 -- what two transactions are to each other once they are sorted
 abbrev pub Sorts : (Transaction → List ℕ) → (Transaction → Transaction → Type 0) → Transaction → Transaction → Type 0

@@ -14,7 +14,7 @@ use Rattle.txn_rows.specs.declared.group.Grouping.{Grouping}
 use Rattle.vsl_record.specs.declared.record_type.Record.{Record}
 use Rattle.txn_rows.specs.Claim.{claim_of}
 use Rattle.txn_rows.specs.Grouping.{with_new, ended_one}
-use Rattle.txn_rows.specs.inside.Rows.{transaction_of, row_told, IsNewestRow, AreTrees, own_claim, with_one, left_rows, LeftRows}
+use Rattle.txn_rows.specs.inside.Rows.{transaction_of, row_told, IsNewestRow, AreTrees, own_claim, with_one, Rows, left_rows, LeftRows}
 use Rattle.txn_rows.specs.inside.Steps.{state_with, RowsStep}
 use Rattle.txn_rows.proofs.LineLemmas.{by_cases}
 use Rattle.txn_rows.proofs.KeepLemmas.{claimed_same}
@@ -96,15 +96,11 @@ one_told vxid rec pending =
 one_same : {A : Type 0} (f : Transaction → A) → ((t : Transaction) (claim : Claim) → f (record t { kind = claim.kind; reason = claim.reason }) ≡ f t) → (rec : Record) (t : Transaction) → f (longer rec t) ≡ f t → f (with_one rec t) ≡ f t
 one_same f keeps rec t same = claimed_same f keeps (own_claim rec) (longer rec t) ∙ same
 
--- rows after a record
-pub record Added (begun vxid : ℕ) (rec : Record) (rows now : List Row) : Type 0 where
-  pub trees : AreTrees begun now
-  pub told : map transaction_of now ≡ with_kind vxid rec (with_record vxid rec (map transaction_of rows))
-
 one_keeps : (rec : Record) → KeepsLinks (with_one rec)
 one_keeps rec = record { serial = λ t. one_same (λ x. x.serial) (λ x c. refl) rec t refl; parent = λ t. one_same (λ x. x.parent) (λ x c. refl) rec t refl }
 
-pub added : (begun vxid at : ℕ) (rec : Record) (rows : List Row) (row new : Row) → AreTrees begun rows → IsNewestRow vxid at rows → row ≡ get_or rows at row → new ≡ row_told (with_one rec) row → Added begun vxid rec rows (set rows at new)
+-- rows after a record
+pub added : (begun vxid at : ℕ) (rec : Record) (rows : List Row) (row new : Row) → AreTrees begun rows → IsNewestRow vxid at rows → row ≡ get_or rows at row → new ≡ row_told (with_one rec) row → Rows begun (with_kind vxid rec (with_record vxid rec (map transaction_of rows))) (set rows at new)
 added begun vxid at rec rows row new trees is read told =
     let t : Transaction = transaction_of row in
     let front : List Transaction = map transaction_of (take at rows) in

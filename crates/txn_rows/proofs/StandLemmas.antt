@@ -19,32 +19,27 @@ use Rattle.txn_rows.proofs.TreeLemmas.{line_whole, tree_rows, other_rows, group_
 use Rattle.txn_rows.proofs.ChangeLemmas.{KeepsLinks}
 use Rattle.txn_rows.proofs.JoinLemmas.{row_of_map, rising_map, before_map, still_below}
 
--- a row that is found is no older than the first
-found_above : (s low high : ℕ) (rows : List Row) (row : Row) → Rising low high rows → row_of s rows ≡ Some row → low ≤ row.serial
-found_above s low high [] row r here = absurd (cc)
-found_above s low high (first ∷ rows) row r here =
-    by_cases (low ≤ row.serial) (eqb first.serial s)
-    (λ t. let same : Some first ≡ Some row = rw t at here in let is : first ≡ row = (cc) in omega (arith, r.0, ap (λ (x : Row). x.serial) is))
-    (λ t. let later = found_above s (first.serial + 1) high rows row r.1 (rw t at here) in omega (arith, r.0, later))
+-- what holds of each row holds of one that is found, and of those that are kept
+each_row : (P : Row → Type 0) (s : ℕ) (rows : List Row) (row : Row) → Each P rows → row_of s rows ≡ Some row → P row
+each_row P s [] row e here = absurd (cc)
+each_row P s (first ∷ rows) row e here =
+    by_cases (P row) (eqb first.serial s)
+    (λ t. let same : Some first ≡ Some row = rw t at here in let is : first ≡ row = (cc) in subst P is e.0)
+    (λ t. each_row P s rows row e.1 (rw t at here))
+
+each_kept : (P : Row → Type 0) (q : Row → Bool) (rows : List Row) → Each P rows → Each (λ r. P r × (q r ≡ true)) (filter q rows)
+each_kept P q [] e = tt
+each_kept P q (row ∷ rows) e =
+    by_cases (Each (λ r. P r × (q r ≡ true)) (filter q (row ∷ rows))) (q row)
+    (λ t. rw t ((e.0, t), each_kept P q rows e.1))
+    (λ t. rw t (each_kept P q rows e.1))
 
 -- what is found among those that are kept was there, and is kept
 pub found_filter : (q : Row → Bool) (s low high : ℕ) (rows : List Row) (row : Row) → Rising low high rows → row_of s (filter q rows) ≡ Some row → (row_of s rows ≡ Some row) × (q row ≡ true)
-found_filter q s low high [] row r here = absurd (cc)
-found_filter q s low high (first ∷ rows) row r here =
-    let Goal : Type 0 = (row_of s (first ∷ rows) ≡ Some row) × (q row ≡ true) in
-    by_cases Goal (q first)
-    (λ kept.
-    let here_kept : cond (eqb first.serial s) (Some first) (row_of s (filter q rows)) ≡ Some row = rw kept at here in
-    by_cases Goal (eqb first.serial s)
-    (λ t. let same : Some first ≡ Some row = rw t at here_kept in
-    let is : first ≡ row = (cc) in
-    (rw t same, ap q (sym is) ∙ kept))
-    (λ t. let later = found_filter q s (first.serial + 1) high rows row r.1 (rw t at here_kept) in (rw t later.0, later.1)))
-    (λ left.
-    let later = found_filter q s (first.serial + 1) high rows row r.1 (rw left at here) in
-    let above = found_above s (first.serial + 1) high rows row r.1 later.0 in
-    let other : eqb first.serial s ≡ false = ne_eqb first.serial s (λ e. omega (arith, above, e, row_of_serial s rows row later.0)) in
-    (rw other later.0, later.1))
+found_filter q s low high rows row r here =
+    let P : Row → Type 0 = λ x. row_of x.serial rows ≡ Some x in
+    let both = each_row (λ x. P x × (q x ≡ true)) s (filter q rows) row (each_kept P q rows (each_found low high rows r)) here in
+    (ap (λ (n : ℕ). row_of n rows) (sym (row_of_serial s (filter q rows) row here)) ∙ both.0, both.1)
 
 -- what is kept is found
 pub kept_filter : (q : Row → Bool) (s : ℕ) (rows : List Row) (row : Row) → row_of s rows ≡ Some row → q row ≡ true → row_of s (filter q rows) ≡ Some row

@@ -22,7 +22,7 @@ use Rattle.txn_rows.specs.inside.Times.{TimesRise, NoneKnown, RiseTo, times_of, 
 use Rattle.txn_rows.specs.inside.States.{state_of, AreOrdered, Went, WentBy}
 use Rattle.txn_rows.proofs.LineLemmas.{either}
 use Rattle.txn_rows.proofs.ChangeLemmas.{newest_same, oldest_same}
-use Rattle.txn_rows.proofs.KeepLemmas.{claimed_same, with_linked, Keeps, begun_kept, linked_kept, told_kept, HoldsOn, HoldsOver, holds_over, flush_holds, steps_hold}
+use Rattle.txn_rows.proofs.KeepLemmas.{claimed_same, Keeps, begun_kept, told_kept, HoldsOn, HoldsOver, holds_over, flush_holds, steps_hold}
 
 -- from an earlier time on
 rise_from : (low lower high : ℕ) (times : List (Option ℕ)) → lower ≤ low → TimesRise low high times → TimesRise lower high times
@@ -121,9 +121,6 @@ begun_timed vxid state h = begun_kept IsTimed timed_keeps vxid state h
 
 added_timed : (vxid : ℕ) (rec : Record) (state : State) → IsTimed state → IsTimed (record state { pending = with_record vxid rec state.pending })
 added_timed vxid rec state h = newest_timed vxid (λ t. record t { records = t.records ++ rec ∷ [] }) (λ t. refl) state h
-
-linked_timed : (grouping : Grouping) (vxid : ℕ) (rec : Record) (state : State) → IsTimed state → IsTimed (with_linked grouping vxid rec state)
-linked_timed grouping vxid rec state h = linked_kept IsTimed timed_keeps grouping vxid rec state (added_timed vxid rec state h)
 
 told_timed : (grouping : Grouping) (vxid : ℕ) (rec : Record) (state : State) → IsTimed state → IsTimed (with_all_told grouping vxid rec state)
 told_timed grouping vxid rec state h = told_kept IsTimed timed_keeps grouping vxid rec state (added_timed vxid rec (with_transaction vxid state) (begun_timed vxid state h))

@@ -14,17 +14,20 @@ ghost use Rattle.txn_rows.specs.Taken.{count_in_groups, count_in_pending, count_
 ghost use Rattle.txn_rows.specs.Walk.{IsWalk};
 
 /// The law that above each pending transaction stands one without a parent: no links go in a circle.
+#[tactic(auto, using(crate::proofs::RunLemmas::taken_lines_end))]
 pub fn every_line_ends()
     ensures { (options : GroupOptions) (taken : List Taken) →
         All (λ t. (root_of (taken_steps options taken no_state).state.pending t).parent ≡ None) (taken_steps options taken no_state).state.pending }
 {}
 
 /// The law that no more than the limit are pending after a unit or an overrun.
+#[tactic(auto, using(crate::proofs::LimitLemmas::taken_within))]
 pub fn limit_holds()
     ensures { (options : GroupOptions) (taken : List Taken) → length (taken_steps options taken no_state).state.pending ≤ options.limit }
 {}
 
 /// The law that an overrun leaves none pending, and that the groups up to it are those that a flush there would leave.
+#[tactic(auto, using(crate::proofs::LimitLemmas::overrun_empties, crate::proofs::LimitLemmas::overrun_leaves))]
 pub fn overrun_leaves_none()
     ensures none { (options : GroupOptions) (taken : List Taken) → length (taken_steps options (taken ++ Missed ∷ []) no_state).state.pending ≡ 0 }
     ensures groups { (options : GroupOptions) (taken : List Taken) → left_of options (taken ++ Missed ∷ []) false ≡ left_of options taken true }
@@ -39,6 +42,7 @@ pub fn each_record_once()
 {}
 
 /// The law that each transaction that began is a member of one group or pending, once, but for raw grouping, where none begins; after a flush, in which none begins, it is a member of one group.
+#[tactic(auto, using(crate::proofs::TakenLemmas::each_member_once, crate::proofs::TakenLemmas::each_flushed_member_once))]
 pub fn each_transaction_once()
     ensures pending { (options : GroupOptions) (taken : List Taken) → is_raw options.grouping ≡ false →
         count_members (left_of options taken false) + length (taken_steps options taken no_state).state.pending ≡ (taken_steps options taken no_state).state.begun }
@@ -56,6 +60,7 @@ pub fn each_member_ends()
 {}
 
 /// The law that of two children of one parent the one that got it first stands first, in any list; of those that are pending no two have one number.
+#[tactic(auto, using(crate::proofs::OrderLemmas::siblings_ordered, crate::proofs::WalkLemmas::siblings_apart))]
 pub fn siblings_stand_in_order()
     ensures ordered { (pending : List Transaction) (root : Transaction) (before : List Transaction) (a : Transaction) (between : List Transaction) (b : Transaction) (behind : List Transaction) (p q : ParentLink) →
         preorder (path_of pending) (tree_of pending root) ≡ before ++ a ∷ between ++ b ∷ behind → a.parent ≡ Some p → b.parent ≡ Some q → p.serial ≡ q.serial → p.number ≤ q.number }

@@ -18,6 +18,7 @@ use vsl_record::{Record, Vxid};
 /// The pending transactions, oldest first, and the log time.
 #[derive(Drop)]
 pub(crate) struct Pending {
+    pub(crate) alloc: Global,
     pub(crate) rows: Vec<Row>,
     /// How many transactions began.
     pub(crate) begun: u64,
@@ -26,7 +27,7 @@ pub(crate) struct Pending {
 }
 
 /// A transaction begins, the newest of all. Where no serial number is left, that counts as want of memory.
-fn begin(alloc: Global, pending: &mut Pending, vxid: Vxid) -> Result<(), NoMemory>
+fn begin(pending: &mut Pending, vxid: Vxid) -> Result<(), NoMemory>
     ensures went { AreTrees pending.old.begun pending.old.rows.items → OnOk result (Went (with_new vxid (state_of pending.old)) pending.new) }
     ensures newest { OnOk result (IsNewestRow vxid (length pending.old.rows.items) pending.new.rows.items) }
     ensures keeps { OnOk result ((v at : ℕ) → v ≢ vxid → IsNewestRow v at pending.old.rows.items → IsNewestRow v at pending.new.rows.items) }
@@ -34,14 +35,14 @@ fn begin(alloc: Global, pending: &mut Pending, vxid: Vxid) -> Result<(), NoMemor
     if pending.begun == u64::MAX {
         return Err(NoMemory);
     }
-    let row = empty_row(alloc, pending.begun, vxid, pending.time);
+    let row = empty_row(pending.alloc, pending.begun, vxid, pending.time);
     pending.rows.push(row)?;
     pending.begun += 1;
     Ok(())
 }
 
 /// The place of the newest row of a VXID that has not ended; where there is none, one begins.
-pub(crate) fn open_row(alloc: Global, pending: &mut Pending, vxid: Vxid) -> Result<usize, NoMemory>
+pub(crate) fn open_row(pending: &mut Pending, vxid: Vxid) -> Result<usize, NoMemory>
     ensures went { AreTrees pending.old.begun pending.old.rows.items → OnOk result (Went (with_transaction vxid (state_of pending.old)) pending.new) }
     ensures newest { IfOk result (λ at. IsNewestRow vxid at pending.new.rows.items) }
 {
@@ -51,12 +52,12 @@ pub(crate) fn open_row(alloc: Global, pending: &mut Pending, vxid: Vxid) -> Resu
         }
     }
     let at = pending.rows.len();
-    begin(alloc, pending, vxid)?;
+    begin(pending, vxid)?;
     Ok(at)
 }
 
 /// The place of the newest row of a VXID; where there is none, one begins.
-fn other_row(alloc: Global, pending: &mut Pending, vxid: Vxid) -> Result<usize, NoMemory>
+fn other_row(pending: &mut Pending, vxid: Vxid) -> Result<usize, NoMemory>
     ensures went { AreTrees pending.old.begun pending.old.rows.items → OnOk result (Went (with_other vxid (state_of pending.old)) pending.new) }
     ensures newest { IfOk result (λ at. IsNewestRow vxid at pending.new.rows.items) }
     ensures keeps { OnOk result ((v at : ℕ) → IsNewestRow v at pending.old.rows.items → IsNewestRow v at pending.new.rows.items) }
@@ -65,7 +66,7 @@ fn other_row(alloc: Global, pending: &mut Pending, vxid: Vxid) -> Result<usize, 
         return Ok(at);
     }
     let at = pending.rows.len();
-    begin(alloc, pending, vxid)?;
+    begin(pending, vxid)?;
     Ok(at)
 }
 
@@ -86,7 +87,6 @@ fn gives_parent(grouping: Grouping, claim: Claim) -> bool
 /// The claim of a Begin or a Link may link two transactions: a Begin names the parent of its transaction, a Link a
 /// child. The newest row of the VXID stands at `at`.
 pub(crate) fn take_claim(
-    alloc: Global,
     grouping: Grouping,
     pending: &mut Pending,
     at: usize,
@@ -104,11 +104,25 @@ pub(crate) fn take_claim(
     if !gives_parent(grouping, claim) {
         return Ok(());
     }
-    let other = other_row(alloc, pending, claim.vxid)?;
+    let other = other_row(pending, claim.vxid)?;
     if begins {
-        return link_rows(alloc, &mut pending.rows, at, vxid, other, claim.vxid);
+        return link_rows(
+            pending.alloc,
+            &mut pending.rows,
+            at,
+            vxid,
+            other,
+            claim.vxid,
+        );
     }
-    link_rows(alloc, &mut pending.rows, other, claim.vxid, at, vxid)
+    link_rows(
+        pending.alloc,
+        &mut pending.rows,
+        other,
+        claim.vxid,
+        at,
+        vxid,
+    )
 }
 
 /// Adds a record to the newest row of its VXID; a Begin may tell the row's kind.
@@ -129,7 +143,6 @@ pub(crate) fn add_to(
 
 /// The newest row of a VXID ends, and may complete a group.
 pub(crate) fn end_row(
-    alloc: Global,
     grouping: Grouping,
     pending: &mut Pending,
     at: usize,
@@ -142,7 +155,7 @@ pub(crate) fn end_row(
 {
     pending.rows[at].ended = true;
     let root = pending.rows[at].root;
-    leave(alloc, grouping, &mut pending.rows, root, out)
+    leave(pending.alloc, grouping, &mut pending.rows, root, out)
 }
 
 /// The later of two times.

@@ -12,13 +12,11 @@ use crate::pending::Pending;
 use crate::raw::take_raw;
 use crate::take::take_record;
 use log_model::NoMemory;
-use std::alloc::Global;
 use vsl_record::{Record, Vxid};
 
 /// Takes one record, and adds the groups that it completes. It is told and tells the place of the newest row of the
 /// VXID, where that is known.
 fn take_one(
-    alloc: Global,
     options: GroupOptions,
     pending: &mut Pending,
     vxid: Vxid,
@@ -32,15 +30,14 @@ fn take_one(
     ensures err { AreOrdered pending.old → OnErr result (AddsPart options.grouping (step options vxid rec (state_of pending.old)) out.old.items out.new.items) }
 {
     if options.grouping == Grouping::Raw {
-        take_raw(alloc, vxid, rec, out)?;
+        take_raw(pending.alloc, vxid, rec, out)?;
         return Ok(None);
     }
-    take_record(alloc, options, pending, vxid, known, rec, out)
+    take_record(options, pending, vxid, known, rec, out)
 }
 
 /// Takes records of one VXID in order, and adds the groups that they complete.
 pub(crate) fn take_records(
-    alloc: Global,
     options: GroupOptions,
     pending: &mut Pending,
     vxid: Vxid,
@@ -52,14 +49,13 @@ pub(crate) fn take_records(
 {
     let mut known = None;
     for rec in records {
-        known = take_one(alloc, options, pending, vxid, known, rec, out)?;
+        known = take_one(options, pending, vxid, known, rec, out)?;
     }
     Ok(())
 }
 
 /// Force-completes the oldest row that has not ended, and adds the group that it completes.
 pub(crate) fn force_oldest(
-    alloc: Global,
     grouping: Grouping,
     pending: &mut Pending,
     cause: Cause,
@@ -71,12 +67,11 @@ pub(crate) fn force_oldest(
     let Some(at) = oldest_unfinished(&pending.rows) else {
         return Ok(());
     };
-    force_at(alloc, grouping, &mut pending.rows, at, cause, out)
+    force_at(pending.alloc, grouping, &mut pending.rows, at, cause, out)
 }
 
 /// Force-completes every row that has not ended, the oldest first, and adds the groups that they complete.
 pub(crate) fn flush_all(
-    alloc: Global,
     grouping: Grouping,
     pending: &mut Pending,
     out: &mut Vec<Group>,
@@ -85,7 +80,7 @@ pub(crate) fn flush_all(
     ensures err { AreOrdered pending.old → OnErr result (AddsPart grouping (flush (state_of pending.old)) out.old.items out.new.items) }
 {
     force_all(
-        alloc,
+        pending.alloc,
         grouping,
         &mut pending.rows,
         Which::Unfinished,

@@ -23,7 +23,6 @@ const FIRST_ROWS: usize = 16;
 /// to tell where their transactions stand count as want of memory.
 #[derive(Drop)]
 pub struct Table {
-    alloc: Global,
     options: GroupOptions,
     pending: Pending,
     failed: bool,
@@ -46,9 +45,9 @@ impl Table {
         ensures { IfOk result (λ t. t ≡ record { options = options; state = no_state; failed = false }) }
     {
         Ok(Table {
-            alloc,
             options,
             pending: Pending {
+                alloc,
                 rows: Vec::with_capacity(alloc, FIRST_ROWS)?,
                 begun: 0,
                 time: None,
@@ -72,7 +71,6 @@ impl Table {
             return Ok(());
         }
         let taken = take_records(
-            self.alloc,
             self.options,
             &mut self.pending,
             unit.vxid(),
@@ -93,13 +91,7 @@ impl Table {
         if self.failed {
             return Err(NoMemory);
         }
-        let forced = force_oldest(
-            self.alloc,
-            self.options.grouping,
-            &mut self.pending,
-            cause,
-            out,
-        );
+        let forced = force_oldest(self.options.grouping, &mut self.pending, cause, out);
         self.failed = forced.is_err();
         forced
     }
@@ -115,7 +107,7 @@ impl Table {
         if self.failed {
             return Err(NoMemory);
         }
-        let flushed = flush_all(self.alloc, self.options.grouping, &mut self.pending, out);
+        let flushed = flush_all(self.options.grouping, &mut self.pending, out);
         self.failed = flushed.is_err();
         flushed
     }

@@ -15,7 +15,6 @@ use crate::pending::{Pending, add_to, end_row, open_row, raise, take_claim};
 use crate::rows::{Row, newest_row};
 use crate::time::time_told;
 use log_model::NoMemory;
-use std::alloc::Global;
 use vsl_record::{Record, Vxid};
 use vsl_tags::Tag;
 
@@ -50,7 +49,6 @@ fn read_told(rec: &Record) -> Told
 
 /// What a record told may link its transaction, the newest row of which is at this place, or raise the log time.
 fn follow(
-    alloc: Global,
     grouping: Grouping,
     pending: &mut Pending,
     at: usize,
@@ -62,8 +60,8 @@ fn follow(
         OnOk result (Went (with_log_time rec (with_claim grouping vxid rec (state_of pending.old))) pending.new) }
 {
     match told {
-        Told::Begin(claim) => take_claim(alloc, grouping, pending, at, vxid, true, claim),
-        Told::Link(claim) => take_claim(alloc, grouping, pending, at, vxid, false, claim),
+        Told::Begin(claim) => take_claim(grouping, pending, at, vxid, true, claim),
+        Told::Link(claim) => take_claim(grouping, pending, at, vxid, false, claim),
         Told::Time(time) => {
             raise(pending, time);
             Ok(())
@@ -73,24 +71,17 @@ fn follow(
 }
 
 /// A record goes to its row, and may tell the kind, a link and the time.
-fn tell(
-    alloc: Global,
-    grouping: Grouping,
-    pending: &mut Pending,
-    vxid: Vxid,
-    rec: Record,
-) -> Result<(), NoMemory>
+fn tell(grouping: Grouping, pending: &mut Pending, vxid: Vxid, rec: Record) -> Result<(), NoMemory>
     ensures { AreOrdered pending.old → OnOk result (Went (with_all_told grouping vxid rec (state_of pending.old)) pending.new) }
 {
     let told = read_told(&rec);
-    let at = open_row(alloc, pending, vxid)?;
+    let at = open_row(pending, vxid)?;
     add_to(pending, at, vxid, rec)?;
-    follow(alloc, grouping, pending, at, vxid, told)
+    follow(grouping, pending, at, vxid, told)
 }
 
 /// An End ends its row.
 fn take_end(
-    alloc: Global,
     grouping: Grouping,
     pending: &mut Pending,
     vxid: Vxid,
@@ -104,7 +95,7 @@ fn take_end(
         return Ok(());
     }
     match newest_row(&pending.rows, vxid) {
-        Some(at) => end_row(alloc, grouping, pending, at, vxid, out),
+        Some(at) => end_row(grouping, pending, at, vxid, out),
         None => Ok(()),
     }
 }
@@ -122,7 +113,6 @@ fn has_risen(old: Option<u128>, now: Option<u128>) -> bool
 
 /// After a rise of the log time, force-completes the rows that are late.
 fn take_timeouts(
-    alloc: Global,
     options: GroupOptions,
     pending: &mut Pending,
     before: Option<u128>,
@@ -139,7 +129,7 @@ fn take_timeouts(
         now: pending.time,
     };
     force_all(
-        alloc,
+        pending.alloc,
         options.grouping,
         &mut pending.rows,
         late,
@@ -150,7 +140,6 @@ fn take_timeouts(
 
 /// Takes a record that may tell more than itself, and adds the groups that it completes.
 fn take_telling(
-    alloc: Global,
     options: GroupOptions,
     pending: &mut Pending,
     vxid: Vxid,
@@ -162,11 +151,11 @@ fn take_telling(
 {
     let before = pending.time;
     let tag = rec.tag;
-    tell(alloc, options.grouping, pending, vxid, rec)?;
-    take_end(alloc, options.grouping, pending, vxid, tag, out)?;
-    take_timeouts(alloc, options, pending, before, out)?;
+    tell(options.grouping, pending, vxid, rec)?;
+    take_end(options.grouping, pending, vxid, tag, out)?;
+    take_timeouts(options, pending, before, out)?;
     keep_within(
-        alloc,
+        pending.alloc,
         options.grouping,
         &mut pending.rows,
         options.limit,
@@ -212,7 +201,6 @@ fn open_place(rows: &[Row], limit: u32, vxid: Vxid, known: Option<usize>) -> Opt
 /// Takes one record of a transaction, and adds the groups that it completes. It is told and tells the place of the
 /// newest row of the VXID, where that is known: most records go to the row of the one before.
 pub(crate) fn take_record(
-    alloc: Global,
     options: GroupOptions,
     pending: &mut Pending,
     vxid: Vxid,
@@ -231,6 +219,6 @@ pub(crate) fn take_record(
             return Ok(Some(at));
         }
     }
-    take_telling(alloc, options, pending, vxid, rec, out)?;
+    take_telling(options, pending, vxid, rec, out)?;
     Ok(None)
 }
