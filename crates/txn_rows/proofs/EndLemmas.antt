@@ -1,5 +1,5 @@
 -- Each member of a group that left has one End, its last record.
-use Rattle.std.proofs.Common.{◌≡◌, ℕ, Bool, true, false, not, eqb, cond, Option, Some, None, List, [], ◌∷◌, ◌++◌, refl, ap, sym, subst, ◌∙◌, eq-eqb, eqb-true, arith}
+use Rattle.std.proofs.Common.{◌≡◌, ℕ, Bool, true, false, not, eqb, Option, Some, None, List, [], ◌∷◌, ◌++◌, refl, ap, sym, subst, ◌∙◌, eq-eqb, eqb-true, arith}
 use Rattle.std.specs.Prelude.{◌≢◌, codes, slice_index_or}
 use Rattle.std.specs.List.{All, list_all}
 use Rattle.std.specs.Option.{option_map}
@@ -12,7 +12,6 @@ use Rattle.vsl_record.specs.declared.record_type.Record.{Record}
 use Rattle.txn_rows.specs.declared.group.Grouping.{Grouping}
 use Rattle.txn_rows.specs.declared.group.GroupOptions.{GroupOptions}
 use Rattle.txn_rows.specs.declared.group.Cause.{Cause}
-use Rattle.txn_rows.specs.declared.group.Cause.TheVariants.{Flush}
 use Rattle.txn_rows.specs.declared.group.Member.{Member}
 use Rattle.txn_rows.specs.declared.claim.Claim.{Claim}
 use Rattle.txn_rows.specs.declared.force.Which.{Which}
@@ -20,7 +19,7 @@ use Rattle.txn_rows.specs.inside.Steps.{test_of}
 use Rattle.txn_rows.specs.declared.force.Which.TheVariants.{Unfinished, Late}
 use Rattle.txn_rows.specs.Transaction.{Transaction, cause_text, empty_transaction, is_unknown, is_pending, is_open, newest, with_newest, with_record, claimed_kind, ended, forced, first_mark, oldest, with_oldest}
 use Rattle.txn_rows.specs.Links.{with_parent, can_join, children, root_of, tree_of, path_of, preorder, member_of, group_of}
-use Rattle.txn_rows.specs.Grouping.{Taken, TakenUnit, Missed, State, Leaving, no_state, nothing_left, then_left, with_new, with_transaction, raised, timed, left_by, forced_one, after_end, ended_one, after_timeouts, after_overflow, is_behind, flush, unfinished, with_all_told, grouped, is_raw, step, steps, passes_over, taken_step, taken_steps}
+use Rattle.txn_rows.specs.Grouping.{Taken, State, Leaving, no_state, nothing_left, then_left, with_new, with_transaction, raised, timed, left_by, forced_one, after_end, ended_one, is_behind, flush, with_all_told, is_raw, taken_steps}
 use Rattle.txn_rows.specs.Ends.{HasNoEnd, IsEnded, TellsEnd, HasEnded}
 use Rattle.txn_rows.proofs.LineLemmas.{by_cases, either}
 use Rattle.txn_rows.proofs.KeepLemmas.{HoldsOn, HoldsOver, holds_over, flush_holds, items_hold, Keeps, begun_kept, told_kept}

@@ -3,15 +3,14 @@ use Rattle.std.proofs.Common.{◌≡◌, ◌+◌, ◌<◌, ◌≤◌, ◌⊎◌,
 use Rattle.std.specs.Prelude.{count_by, is_none}
 use Rattle.std.specs.List.{Contains}
 use Rattle.std.specs.Option.{option_map}
-use Rattle.std.proofs.Math.Bool.{or-true}
-use Rattle.std.proofs.lemmas.Bool.{eqb-true, eqb-false, eq-eqb, ne_eqb, or_parts, and_parts, not-true}
-use Rattle.std.proofs.lemmas.List.{length-map, length-take-le, map-append, take-append-drop, drop_more, set_at, map_more, get_or_at, get_or-map}
+use Rattle.std.proofs.lemmas.Bool.{eqb-true, eqb-false, eq-eqb, ne_eqb, and_parts, not-true}
+use Rattle.std.proofs.lemmas.List.{length-map, length-take-le, map-append, drop_more, set_at, map_more, get_or_at, get_or-map}
 use Rattle.std.proofs.lemmas.List.Sums.{sum_by-append, sum_by-cons, get_or-le-sum_by}
 use Rattle.std.proofs.lemmas.List.Elements.{Contains-append_right}
 use Rattle.txn_rows.specs.declared.rows.Row.{Row}
 use Rattle.txn_rows.specs.declared.group.ParentLink.{ParentLink}
 use Rattle.txn_rows.specs.declared.join.Join.{Join}
-use Rattle.txn_rows.specs.Transaction.{Transaction, newest, with_newest, is_pending}
+use Rattle.txn_rows.specs.Transaction.{Transaction, newest, with_newest}
 use Rattle.txn_rows.specs.Links.{can_join, with_parent, with_link, children, leads_to}
 use Rattle.txn_rows.specs.inside.Rows.{transaction_of, row_of, Rising, IsTop, IsBelow, IsForest, AreTrees, Each, joined, joined_at, IsNewestRow, Rows}
 use Rattle.txn_rows.proofs.LineLemmas.{by_cases, row_of_serial, deeper}

@@ -1,5 +1,5 @@
 -- What each rule of a record keeps is kept up to an End, and what holds of one force-completion holds of many.
-use Rattle.std.proofs.Common.{◌≡◌, ℕ, zero, suc, Bool, true, eqb, ltb, length, map, cond, Option, Some, None, List, [], ◌∷◌, refl, ap}
+use Rattle.std.proofs.Common.{◌≡◌, ℕ, zero, suc, true, eqb, ltb, length, cond, Option, Some, None, List, [], ◌∷◌, refl}
 use Rattle.std.specs.Prelude.{count_by}
 use Rattle.std.proofs.lemmas.Bool.{cond_both}
 use Rattle.vsl_tags.specs.Tags.{timestamp_tag, begin_tag, link_tag}
@@ -13,7 +13,7 @@ use Rattle.txn_rows.specs.declared.force.Which.TheVariants.{Unfinished, Late}
 use Rattle.txn_rows.specs.declared.claim.Claim.{Claim}
 use Rattle.txn_rows.specs.Claim.{claim_of}
 use Rattle.txn_rows.specs.Time.{time_of}
-use Rattle.txn_rows.specs.Transaction.{Transaction, is_pending, is_open, is_unknown, with_newest, with_oldest, with_record, with_kind, claimed_kind}
+use Rattle.txn_rows.specs.Transaction.{Transaction, is_pending, is_open, is_unknown, with_newest, with_record, with_kind, claimed_kind}
 use Rattle.txn_rows.specs.Links.{with_link}
 use Rattle.txn_rows.specs.Grouping.{Taken, TakenUnit, Missed, State, Leaving, nothing_left, then_left, forced_one, forced_often, forced_down, forced_all, after_end, after_timeouts, after_overflow, has_risen, is_late, is_unfinished, unfinished, with_new, with_transaction, with_other, gives_parent, with_parent_named, with_child_named, with_claim, with_time, with_all_told, grouped, is_raw, raw_group, step, steps, passes_over, flush, taken_step, taken_steps}
 use Rattle.txn_rows.specs.inside.Steps.{test_of}

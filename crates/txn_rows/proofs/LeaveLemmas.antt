@@ -1,8 +1,8 @@
 -- Rows of a tree among others.
-use Rattle.std.proofs.Common.{◌≡◌, ◌+◌, ◌<◌, ℕ, false, not, eqb, List, [], ◌∷◌, ◌++◌, length, get_or, set, take, drop, refl, ap, sym, ◌∙◌, append-nil, length-append, add-one, arith}
+use Rattle.std.proofs.Common.{◌≡◌, ◌+◌, ◌<◌, ℕ, false, not, eqb, List, [], ◌∷◌, ◌++◌, length, get_or, set, take, drop, refl, ap, sym, ◌∙◌, append-nil, length-append, arith}
 use Rattle.std.specs.List.{HoldsAt}
 use Rattle.std.proofs.lemmas.Bool.{eq-eqb}
-use Rattle.std.proofs.lemmas.List.{drop_more, drop-set-lt, nil_from_length, set_split, length-set}
+use Rattle.std.proofs.lemmas.List.{drop_more, drop-set-lt, nil_from_length, length-set}
 use Rattle.std.proofs.lemmas.List.Elements.{filter-append, filter_more}
 use Rattle.txn_rows.specs.declared.rows.Row.{Row}
 use Rattle.txn_rows.specs.inside.Rows.{rows_below, rows_beside}

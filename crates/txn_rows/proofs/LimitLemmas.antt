@@ -7,7 +7,6 @@ use Rattle.std.proofs.lemmas.Bool.{eq-eqb, ltb-false}
 use Rattle.std.proofs.lemmas.List.{append-nil, length-map}
 use Rattle.std.proofs.lemmas.List.Sums.{length-filter, count_by-le-length}
 use Rattle.vsl_record.specs.declared.record_type.Record.{Record}
-use Rattle.vsl_record.specs.Unit.{LogUnit}
 use Rattle.txn_rows.specs.declared.rows.Row.{Row}
 use Rattle.txn_rows.specs.declared.group.Group.{Group}
 use Rattle.txn_rows.specs.declared.group.GroupOptions.{GroupOptions}
@@ -16,7 +15,7 @@ use Rattle.txn_rows.specs.declared.group.Cause.{Cause}
 use Rattle.txn_rows.specs.declared.group.Cause.TheVariants.{Overflow, Flush}
 use Rattle.txn_rows.specs.Transaction.{Transaction, forced, oldest, with_oldest}
 use Rattle.txn_rows.specs.Links.{root_of, tree_of}
-use Rattle.txn_rows.specs.Grouping.{Taken, TakenUnit, Missed, State, Leaving, nothing_left, left_by, forced_one, forced_often, forced_down, flush, is_unfinished, unfinished, grouped, after_end, after_timeouts, with_all_told, no_state, is_raw, raw_group, step, steps, taken_steps, left_of}
+use Rattle.txn_rows.specs.Grouping.{Taken, Missed, State, Leaving, left_by, forced_one, forced_often, forced_down, flush, is_unfinished, unfinished, grouped, after_end, after_timeouts, with_all_told, no_state, is_raw, raw_group, steps, taken_steps, left_of}
 use Rattle.txn_rows.specs.inside.Rows.{transaction_of, row_of}
 use Rattle.txn_rows.specs.inside.Steps.{test_of}
 use Rattle.txn_rows.specs.inside.States.{HasOpen, Standing}

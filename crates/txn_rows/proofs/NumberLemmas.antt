@@ -1,7 +1,7 @@
 -- The children of one parent have different numbers, whatever was taken, and a link tells its parent's VXID.
 use Rattle.std.proofs.Common.{◌≡◌, ◌+◌, ◌<◌, ◌≤◌, ⊎_elim, ℕ, Bool, true, false, not, eqb, cond, ◌&&◌, Option, Some, None, List, [], ◌∷◌, ◌++◌, map, refl, ap, sym, ◌∙◌, subst, arith}
 use Rattle.std.specs.Prelude.{count_by, is_none}
-use Rattle.std.specs.List.{All, Contains, filter}
+use Rattle.std.specs.List.{All, Contains}
 use Rattle.std.proofs.lemmas.Bool.{eqb-true, eq-eqb, ne_eqb, and_parts, cond_both}
 use Rattle.std.proofs.lemmas.List.{map-append}
 use Rattle.std.proofs.lemmas.List.Sums.{sum_by-cons, sum_by-append, sum_by_push}
@@ -10,7 +10,7 @@ use Rattle.vsl_record.specs.declared.record_type.Record.{Record}
 use Rattle.txn_rows.specs.declared.rows.Row.{Row}
 use Rattle.txn_rows.specs.declared.group.ParentLink.{ParentLink}
 use Rattle.txn_rows.specs.declared.group.Grouping.{Grouping}
-use Rattle.txn_rows.specs.Transaction.{Transaction, empty_transaction, is_pending, newest, with_newest, with_oldest, claimed_kind}
+use Rattle.txn_rows.specs.Transaction.{Transaction, empty_transaction, newest, with_newest, with_oldest, claimed_kind}
 use Rattle.txn_rows.specs.Links.{with_parent, can_join, is_in_line, children, leads_to}
 use Rattle.txn_rows.specs.Grouping.{State, with_new, with_transaction, raised, timed, with_all_told}
 use Rattle.txn_rows.specs.inside.Rows.{transaction_of, row_of, IsTop, IsBelow, AreTrees, Each, rows_beside}

@@ -1,5 +1,5 @@
 -- Rows that begin, and which is open.
-use Rattle.std.proofs.Common.{◌≡◌, ◌+◌, ℕ, Bool, true, false, not, eqb, cond, Option, Some, None, List, [], ◌∷◌, ◌++◌, set, map, take, drop, get_or, refl, ap, sym, ◌∙◌, subst, arith}
+use Rattle.std.proofs.Common.{◌≡◌, ◌+◌, ℕ, Bool, true, false, not, eqb, cond, Option, None, List, [], ◌∷◌, ◌++◌, set, map, take, drop, get_or, refl, ap, sym, ◌∙◌, subst, arith}
 use Rattle.std.specs.Option.{option_map}
 use Rattle.std.proofs.lemmas.Bool.{eq-eqb, or_parts}
 use Rattle.std.proofs.lemmas.List.{map-append, length-set, drop-set-lt, get_or_default, get_or-set_same, get_or_append_left, drop-append-le, length_push}

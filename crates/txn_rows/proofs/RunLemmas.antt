@@ -1,5 +1,5 @@
 -- Over every log the pending transactions stand in trees: each line ends at a transaction without a parent.
-use Rattle.std.proofs.Common.{◌≡◌, ◌+◌, ◌<◌, ◌≤◌, ⊎_elim, ℕ, Bool, true, false, not, eqb, cond, ◌&&◌, ◌||◌, Option, Some, None, List, [], ◌∷◌, ◌++◌, map, refl, ap, sym, ◌∙◌, subst, arith}
+use Rattle.std.proofs.Common.{◌≡◌, ⊎_elim, ℕ, Bool, true, false, not, eqb, cond, ◌&&◌, Option, Some, None, List, [], ◌∷◌, ◌++◌, map, refl, ap, sym, ◌∙◌, subst, arith}
 use Rattle.std.specs.Prelude.{count_by, is_none}
 use Rattle.std.specs.List.{All, list_all}
 use Rattle.std.specs.Option.{option_map}
@@ -8,22 +8,18 @@ use Rattle.std.proofs.lemmas.List.{map-append}
 use Rattle.std.proofs.lemmas.List.Elements.{All-nil, All-cons}
 use Rattle.vsl_tags.specs.Tags.{end_tag}
 use Rattle.vsl_record.specs.declared.record_type.Record.{Record}
-use Rattle.vsl_record.specs.Unit.{LogUnit}
 use Rattle.txn_rows.specs.declared.rows.Row.{Row}
 use Rattle.txn_rows.specs.declared.join.Join.{Join}
-use Rattle.txn_rows.specs.declared.group.ParentLink.{ParentLink}
 use Rattle.txn_rows.specs.declared.group.Grouping.{Grouping}
 use Rattle.txn_rows.specs.declared.group.GroupOptions.{GroupOptions}
 use Rattle.txn_rows.specs.declared.group.Cause.{Cause}
-use Rattle.txn_rows.specs.declared.group.Cause.TheVariants.{Flush}
-use Rattle.txn_rows.specs.declared.force.Which.TheVariants.{Unfinished}
-use Rattle.txn_rows.specs.Transaction.{Transaction, empty_transaction, is_pending, newest, with_newest, claimed_kind, ended, forced, oldest, with_oldest}
+use Rattle.txn_rows.specs.Transaction.{Transaction, empty_transaction, newest, with_newest, claimed_kind, ended, forced, oldest, with_oldest}
 use Rattle.txn_rows.specs.Links.{with_parent, with_link, leads_to, line_of, root_of}
-use Rattle.txn_rows.specs.Grouping.{Taken, TakenUnit, Missed, State, Leaving, no_state, nothing_left, with_new, with_transaction, raised, timed, left_by, ended_one, forced_one, after_end, after_timeouts, unfinished, with_all_told, grouped, is_raw, raw_group, step, steps, passes_over, unit_step, flush, taken_step, taken_steps}
-use Rattle.txn_rows.specs.inside.Rows.{transaction_of, row_told, row_of, Rising, AreTrees, Each, joined, Rows, left_rows, rows_below, rows_beside}
+use Rattle.txn_rows.specs.Grouping.{Taken, State, Leaving, no_state, nothing_left, with_new, with_transaction, raised, timed, left_by, ended_one, forced_one, after_end, with_all_told, taken_steps}
+use Rattle.txn_rows.specs.inside.Rows.{transaction_of, row_told, row_of, AreTrees, Each, joined, Rows, left_rows, rows_below, rows_beside}
 use Rattle.txn_rows.specs.inside.Steps.{state_with, test_of}
 use Rattle.txn_rows.specs.inside.States.{HasOpen, OpenTrees, Standing}
-use Rattle.txn_rows.proofs.LineLemmas.{by_cases, either, row_of_serial, Line}
+use Rattle.txn_rows.proofs.LineLemmas.{by_cases, row_of_serial, Line}
 use Rattle.txn_rows.proofs.KeepLemmas.{HoldsOn, HoldsOver, holds_over, items_hold, claimed_same, Keeps, begun_kept, told_kept}
 use Rattle.txn_rows.proofs.ChangeLemmas.{KeepsLinks, EndsNone, newest_split, OneChanged, ChangesOne, newest_one, oldest_one, newest_is_changed}
 use Rattle.txn_rows.proofs.JoinLemmas.{Pair, link_refused, link_joins, row_of_map, before_map, joined_serial, joined_root}

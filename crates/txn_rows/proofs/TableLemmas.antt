@@ -1,23 +1,17 @@
 -- What stays sound of a table.
-use Rattle.std.proofs.Common.{◌≡◌, ◌≤◌, ℕ, suc, Bool, false, not, eqb, Option, Some, None, List, [], ◌∷◌, length, map, Result, Ok, Err, refl, ap, sym, subst, arith}
-use Rattle.std.specs.List.{list_all}
-use Rattle.std.specs.Option.{option_map}
+use Rattle.std.proofs.Common.{◌≡◌, ◌≤◌, ℕ, false, List, length, map, Result, Ok, Err, ap, sym, subst, arith}
 use Rattle.std.specs.Result.{is_err, OnOk}
 use Rattle.std.proofs.lemmas.List.{length-map}
-use Rattle.std.proofs.lemmas.List.Sums.{length-filter, count_by-le-length}
 use Rattle.vsl_record.specs.declared.record_type.Record.{Record}
 use Rattle.txn_rows.specs.declared.group.GroupOptions.{GroupOptions}
 use Rattle.txn_rows.specs.declared.group.Grouping.{Grouping}
 use Rattle.txn_rows.specs.declared.group.Group.{Group}
 use Rattle.txn_rows.specs.declared.group.Cause.{Cause}
 use Rattle.txn_rows.specs.declared.pending.Pending.{Pending}
-use Rattle.txn_rows.specs.Transaction.{Transaction, forced, oldest, with_oldest}
-use Rattle.txn_rows.specs.Links.{root_of, tree_of}
-use Rattle.txn_rows.specs.Grouping.{State, Leaving, left_by, is_unfinished, steps, force, flush}
+use Rattle.txn_rows.specs.Grouping.{State, Leaving, is_unfinished, steps, force, flush}
 use Rattle.txn_rows.specs.inside.Rows.{transaction_of}
 use Rattle.txn_rows.specs.inside.Times.{IsTimed}
 use Rattle.txn_rows.specs.inside.States.{state_of, WentBy, Standing, IsSound}
-use Rattle.txn_rows.proofs.LineLemmas.{by_cases}
 use Rattle.txn_rows.proofs.KeepLemmas.{steps_hold, flush_holds}
 use Rattle.txn_rows.proofs.RunLemmas.{StandsOn, stands_on, stands_over, one_stands}
 use Rattle.txn_rows.proofs.TimeLemmas.{one_timed, steps_timed, flush_timed}

@@ -10,13 +10,11 @@ use Rattle.txn_rows.specs.declared.group.Grouping.{Grouping}
 use Rattle.txn_rows.specs.declared.group.GroupOptions.{GroupOptions}
 use Rattle.txn_rows.specs.declared.group.Group.{Group}
 use Rattle.txn_rows.specs.declared.group.Cause.{Cause}
-use Rattle.txn_rows.specs.declared.group.Cause.TheVariants.{Flush}
 use Rattle.txn_rows.specs.declared.pending.Pending.{Pending}
-use Rattle.txn_rows.specs.declared.force.Which.TheVariants.{Unfinished}
 use Rattle.txn_rows.specs.Claim.{claim_of}
 use Rattle.txn_rows.specs.Transaction.{Transaction, empty_transaction, newest, with_newest, with_record, with_kind, oldest, with_oldest, claimed_kind, ended, forced}
 use Rattle.txn_rows.specs.Links.{with_parent, can_join, children, root_of, tree_of, others, group_of}
-use Rattle.txn_rows.specs.Grouping.{State, Leaving, nothing_left, first_known, timed, raised, with_transaction, with_all_told, left_by, ended_one, forced_one, after_end, after_timeouts, unfinished, grouped, is_raw, raw_group, step, steps, flush}
+use Rattle.txn_rows.specs.Grouping.{State, Leaving, nothing_left, first_known, timed, raised, with_transaction, with_all_told, left_by, ended_one, forced_one, after_end, step, steps, flush}
 use Rattle.txn_rows.specs.inside.Steps.{test_of}
 use Rattle.txn_rows.specs.inside.Times.{TimesRise, NoneKnown, RiseTo, times_of, IsTimed}
 use Rattle.txn_rows.specs.inside.States.{state_of, AreOrdered, Went, WentBy}

@@ -8,18 +8,15 @@ use Rattle.std.proofs.lemmas.List.Sums.{sum_by-append, sum_by-cons}
 use Rattle.std.proofs.lemmas.List.Elements.{All-nil, All-cons, All-head, All-tail, All-weaker, All-append, All-map, All-contains, All-contains_itself, Contains-append_left, Contains-append_cases}
 use Rattle.vsl_tags.specs.Tags.{end_tag}
 use Rattle.vsl_record.specs.declared.record_type.Record.{Record}
-use Rattle.vsl_record.specs.Unit.{LogUnit}
 use Rattle.txn_rows.specs.declared.rows.Row.{Row}
 use Rattle.txn_rows.specs.declared.group.ParentLink.{ParentLink}
 use Rattle.txn_rows.specs.declared.group.GroupOptions.{GroupOptions}
 use Rattle.txn_rows.specs.declared.group.Cause.{Cause}
-use Rattle.txn_rows.specs.declared.group.Cause.TheVariants.{Flush}
 use Rattle.txn_rows.specs.declared.group.Member.{Member}
 use Rattle.txn_rows.specs.declared.group.Group.{Group}
-use Rattle.txn_rows.specs.declared.force.Which.TheVariants.{Unfinished}
-use Rattle.txn_rows.specs.Transaction.{Transaction, newest, with_newest, with_oldest, ended, forced, oldest}
+use Rattle.txn_rows.specs.Transaction.{Transaction, newest, with_newest, with_oldest, ended, forced}
 use Rattle.txn_rows.specs.Links.{line_of, root_of, tree_of, path_of, is_path_before, preorder, parent_vxid, member_of, group_of}
-use Rattle.txn_rows.specs.Grouping.{Taken, TakenUnit, Missed, State, Leaving, no_state, nothing_left, then_left, left_by, forced_one, after_end, after_timeouts, after_overflow, unfinished, with_all_told, grouped, is_raw, step, steps, passes_over, unit_step, taken_step, taken_steps, flush}
+use Rattle.txn_rows.specs.Grouping.{Taken, State, Leaving, no_state, nothing_left, then_left, left_by, forced_one, after_end, with_all_told, is_raw, taken_steps, flush}
 use Rattle.txn_rows.specs.Walk.{FollowsParent, FollowParents, IsWalk}
 use Rattle.txn_rows.specs.inside.Rows.{transaction_of, row_of, Rising, IsTop, IsBelow, IsForest, AreTrees, Each, rows_below}
 use Rattle.txn_rows.specs.inside.Steps.{state_with, test_of}
