@@ -5,6 +5,7 @@ use Rattle.std.specs.List.{list_any, list_all, filter}
 use Rattle.std.specs.Option.{option_map}
 use Rattle.std.proofs.lemmas.Bool.{or_parts, lt-ltb, le-ltb, ltb-false}
 use Rattle.std.proofs.lemmas.List.{length-map, get_or-map, get_or_default}
+use Rattle.std.proofs.lemmas.List.Filters.{sum_by-filter_both}
 use Rattle.std.proofs.lemmas.List.Sums.{sum_by-cons, get_or-le-sum_by, count_by-le-length}
 use Rattle.txn_rows.specs.declared.rows.Row.{Row}
 use Rattle.txn_rows.specs.declared.force.Which.{Which}
@@ -49,12 +50,7 @@ not_again Unfinished cause t = refl
 not_again (Late seconds now) cause t = refl
 
 pub filter_fewer : (test q : Transaction → Bool) (pending : List Transaction) → count_by test (filter q pending) ≤ count_by test pending
-filter_fewer test q [] = omega arith
-filter_fewer test q (t ∷ pending) =
-    let p : Transaction → ℕ = λ u. cond (test u) 1 0 in
-    by_cases (count_by test (filter q (t ∷ pending)) ≤ count_by test (t ∷ pending)) (q t)
-    (λ e. rw e (omega (arith, sum_by-cons p t pending, sum_by-cons p t (filter q pending), filter_fewer test q pending)))
-    (λ e. rw e (omega (arith, sum_by-cons p t pending, filter_fewer test q pending)))
+filter_fewer test q pending = omega (arith, sum_by-filter_both q (λ u. not (q u)) (λ u. refl) (λ u. cond (test u) 1 0) pending)
 
 left_fewer : (test : Transaction → Bool) (o : Option Transaction) (state : State) → count_by test (left_by o state).state.pending ≤ count_by test state.pending
 left_fewer test None state = omega arith

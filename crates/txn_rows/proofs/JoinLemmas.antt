@@ -37,9 +37,6 @@ joined_serial join row = refl
 pub joined_root : (join : Join) (row : Row) → (joined join row).root ≡ cond (eqb row.root join.child) join.root row.root
 joined_root join row = refl
 
-joined_path : (join : Join) (row : Row) → (joined join row).path ≡ cond (eqb row.root join.child) (join.path ++ join.link.number ∷ row.path) row.path
-joined_path join row = refl
-
 joined_parent : (join : Join) (row : Row) → (joined join row).parent ≡ cond (eqb row.serial join.child) (Some join.link) row.parent
 joined_parent join row = refl
 
@@ -110,7 +107,7 @@ root_stays : (join : Join) (row : Row) → eqb row.root join.child ≡ false →
 root_stays join row outside = joined_root join row ∙ ap (λ (b : Bool). cond b join.root row.root) outside
 
 path_stays : (join : Join) (row : Row) → eqb row.root join.child ≡ false → (joined join row).path ≡ row.path
-path_stays join row outside = joined_path join row ∙ ap (λ (b : Bool). cond b (join.path ++ join.link.number ∷ row.path) row.path) outside
+path_stays join row outside = ap (λ (b : Bool). cond b (join.path ++ join.link.number ∷ row.path) row.path) outside
 
 parent_stays : (join : Join) (row : Row) → eqb row.serial join.child ≡ false → (joined join row).parent ≡ row.parent
 parent_stays join row other = joined_parent join row ∙ ap (λ (b : Bool). cond b (Some join.link) row.parent) other
@@ -130,7 +127,7 @@ child_below rows join c =
       above = joined join c.parent;
       found = found_joined rows join join.link.serial c.parent c.there;
       root = joined_root join c.child ∙ ap (λ (b : Bool). cond b join.root c.child.root) inside ∙ c.root ∙ sym (root_stays join c.parent c.apart);
-      path = joined_path join c.child ∙ ap (λ (b : Bool). cond b (join.path ++ join.link.number ∷ c.child.path) c.child.path) inside
+      path = ap (λ (b : Bool). cond b (join.path ++ join.link.number ∷ c.child.path) c.child.path) inside
           ∙ ap (λ (p : List ℕ). join.path ++ join.link.number ∷ p) c.top.path ∙ ap (λ (p : List ℕ). p ++ join.link.number ∷ []) (c.path ∙ sym (path_stays join c.parent c.apart));
     }
 
@@ -144,10 +141,10 @@ inner_below rows join c row below other inside =
       above = joined join below.above;
       found = found_joined rows join below.link.serial below.above below.found;
       root = joined_root join row ∙ ap (λ (b : Bool). cond b join.root row.root) inside ∙ sym (joined_root join below.above ∙ ap (λ (b : Bool). cond b join.root below.above.root) above_inside);
-      path = joined_path join row ∙ ap (λ (b : Bool). cond b (join.path ++ join.link.number ∷ row.path) row.path) inside
+      path = ap (λ (b : Bool). cond b (join.path ++ join.link.number ∷ row.path) row.path) inside
           ∙ ap (λ (p : List ℕ). join.path ++ join.link.number ∷ p) below.path
           ∙ sym (append_assoc join.path (join.link.number ∷ below.above.path) (below.link.number ∷ []))
-          ∙ ap (λ (p : List ℕ). p ++ below.link.number ∷ []) (sym (joined_path join below.above ∙ ap (λ (b : Bool). cond b (join.path ++ join.link.number ∷ below.above.path) below.above.path) above_inside));
+          ∙ ap (λ (p : List ℕ). p ++ below.link.number ∷ []) (sym (ap (λ (b : Bool). cond b (join.path ++ join.link.number ∷ below.above.path) below.above.path) above_inside));
     }
 
 -- a row is below another among other rows, where that one is found
@@ -204,10 +201,10 @@ joined_shallow rows forest join c s row here =
     let own : length row.path < count_by (λ (r : Row). eqb r.root join.child) rows = subst (λ (n : ℕ). length row.path < count_by (λ (r : Row). eqb r.root n) rows) (eqb-true row.root join.child inside) shallow in
     let all = count_both join apart rows in
     let long = length-append join.path (join.link.number ∷ row.path) in
-    rw (joined_path join row, joined_root join row, inside) (omega (arith, above_is, own, all, long)))
+    rw (joined_root join row, inside) (omega (arith, above_is, own, all, long)))
     (λ outside.
     let more = count_other join row.root (ne_eqb join.child row.root (λ e. eqb-false row.root join.child outside (sym e))) rows in
-    rw (joined_path join row, joined_root join row, outside) (omega (arith, shallow, more)))
+    rw (joined_root join row, outside) (omega (arith, shallow, more)))
 
 pub count_map : {X Y : Type 0} (p : Y → Bool) (f : X → Y) (xs : List X) → count_by p (map f xs) ≡ count_by (λ x. p (f x)) xs
 count_map p f [] = refl

@@ -13,7 +13,7 @@ use Rattle.txn_rows.specs.declared.force.Which.TheVariants.{Unfinished, Late}
 use Rattle.txn_rows.specs.declared.claim.Claim.{Claim}
 use Rattle.txn_rows.specs.Claim.{claim_of}
 use Rattle.txn_rows.specs.Time.{time_of}
-use Rattle.txn_rows.specs.Transaction.{Transaction, is_pending, is_open, is_unknown, with_newest, with_record, with_kind, claimed_kind}
+use Rattle.txn_rows.specs.Transaction.{Transaction, is_pending, is_open, is_unknown, with_newest, with_record, claimed_kind}
 use Rattle.txn_rows.specs.Links.{with_link}
 use Rattle.txn_rows.specs.Grouping.{Taken, TakenUnit, Missed, State, Leaving, nothing_left, then_left, forced_one, forced_often, forced_down, forced_all, after_end, after_timeouts, after_overflow, has_risen, is_late, is_unfinished, unfinished, with_new, with_transaction, with_other, gives_parent, with_parent_named, with_child_named, with_claim, with_time, with_all_told, grouped, is_raw, raw_group, step, steps, passes_over, flush, taken_step, taken_steps}
 use Rattle.txn_rows.specs.inside.Steps.{test_of}
@@ -23,10 +23,6 @@ use Rattle.txn_rows.proofs.LineLemmas.{either}
 pub claimed_same : {A : Type 0} (f : Transaction → A) → ((t : Transaction) (claim : Claim) → f (record t { kind = claim.kind; reason = claim.reason }) ≡ f t) → (claim : Option Claim) (t : Transaction) → f (claimed_kind claim t) ≡ f t
 claimed_same f keeps None t = refl
 claimed_same f keeps (Some claim) t = either (λ u. f u ≡ f t) (is_unknown t.kind) (record t { kind = claim.kind; reason = claim.reason }) t (keeps t claim) refl
-
--- a record goes to its transaction, and may tell the kind and a link
-abbrev pub with_linked : Grouping → ℕ → Record → State → State
-with_linked grouping vxid rec state = with_claim grouping vxid rec (record state { pending = with_kind vxid rec (with_record vxid rec state.pending) })
 
 -- a fact of a state that each rule keeps
 pub record Keeps (P : State → Type 0) : Type 0 where
@@ -53,26 +49,22 @@ child_kept : (P : State → Type 0) → Keeps P → (grouping : Grouping) (vxid 
 child_kept P keeps grouping vxid None state p = p
 child_kept P keeps grouping vxid (Some claim) state p = both_kept P keeps grouping claim claim.vxid vxid state p
 
--- the rules after the record went to its transaction: it may tell the kind and a link
-pub linked_kept : (P : State → Type 0) → Keeps P → (grouping : Grouping) (vxid : ℕ) (rec : Record) (state : State) → P (record state { pending = with_record vxid rec state.pending }) → P (with_linked grouping vxid rec state)
-linked_kept P keeps grouping vxid rec state p =
-    let claim : Option Claim = claim_of rec.payload in
-    let added : List Transaction = with_record vxid rec state.pending in
-    let told : List Transaction = with_newest vxid (claimed_kind claim) added in
-    let kind : State = record state { pending = cond (eqb rec.tag begin_tag) told added } in
-    let kind_kept : P kind = either (λ ts. P (record state { pending = ts })) (eqb rec.tag begin_tag) told added (keeps.kind vxid claim (record state { pending = added }) p) p in
-    let child : State = with_child_named grouping vxid claim kind in
-    either P (eqb rec.tag begin_tag) (with_parent_named grouping vxid claim kind) (cond (eqb rec.tag link_tag) child kind) (parent_kept P keeps grouping vxid claim kind kind_kept)
-    (either P (eqb rec.tag link_tag) child kind (child_kept P keeps grouping vxid claim kind kind_kept) kind_kept)
-
--- and the time
+-- the rules after the record went to its transaction: it may tell the kind, a link and the time
 pub told_kept : (P : State → Type 0) → Keeps P → (grouping : Grouping) (vxid : ℕ) (rec : Record) (state : State) →
     P (record (with_transaction vxid state) { pending = with_record vxid rec (with_transaction vxid state).pending }) → P (with_all_told grouping vxid rec state)
 told_kept P keeps grouping vxid rec state p =
-    let linked : State = with_linked grouping vxid rec (with_transaction vxid state) in
-    let kept : P linked = linked_kept P keeps grouping vxid rec (with_transaction vxid state) p in
-    let told : Option ℕ = time_of rec.payload in
-    either P (eqb rec.tag timestamp_tag) (with_time told linked) linked (keeps.time told linked kept) kept
+    let begun : State = with_transaction vxid state in
+    let claim : Option Claim = claim_of rec.payload in
+    let added : List Transaction = with_record vxid rec begun.pending in
+    let told : List Transaction = with_newest vxid (claimed_kind claim) added in
+    let kind : State = record begun { pending = cond (eqb rec.tag begin_tag) told added } in
+    let kind_kept : P kind = either (λ ts. P (record begun { pending = ts })) (eqb rec.tag begin_tag) told added (keeps.kind vxid claim (record begun { pending = added }) p) p in
+    let child : State = with_child_named grouping vxid claim kind in
+    let linked : State = with_claim grouping vxid rec kind in
+    let linked_kept : P linked = either P (eqb rec.tag begin_tag) (with_parent_named grouping vxid claim kind) (cond (eqb rec.tag link_tag) child kind) (parent_kept P keeps grouping vxid claim kind kind_kept)
+    (either P (eqb rec.tag link_tag) child kind (child_kept P keeps grouping vxid claim kind kind_kept) kind_kept) in
+    let time : Option ℕ = time_of rec.payload in
+    either P (eqb rec.tag timestamp_tag) (with_time time linked) linked (keeps.time time linked linked_kept) linked_kept
 
 -- what holds of a step from a state, of one after another and of each force-completion
 pub record HoldsOn (Q : State → Leaving → Type 0) : Type 0 where
@@ -101,7 +93,7 @@ timeouts_hold Q on seconds before state =
 pub flush_holds : (Q : State → Leaving → Type 0) → HoldsOn Q → (state : State) → Q state (flush state)
 flush_holds Q on state = often_holds Q on (unfinished state) Unfinished Flush state
 
--- a fact of a step that holds of each step of one record, and of all that a record is made of
+-- a fact of a step that holds of the parts of steps, and of each record's step
 pub record HoldsOver (options : GroupOptions) (Q : State → Leaving → Type 0) : Type 0 where
   pub on : HoldsOn Q
   pub one : (vxid : ℕ) (rec : Record) (state : State) → Q state (step options vxid rec state)
