@@ -1,24 +1,27 @@
 -- How many records, words and cuts traffic has that is made.
-use Rattle.std.proofs.Common.{◌≡◌, ℕ, zero, suc, ◌+◌, ◌*◌, ◌%◌, ◌<◌, ◌≤◌, Bool, true, false, List, [], ◌∷◌, ◌++◌, length, map, Option, None, Some, inl, inr, refl, ap, ◌∙◌, arith}
+use Rattle.std.proofs.Common.{◌≡◌, ℕ, zero, suc, ◌+◌, ◌*◌, ◌%◌, ◌<◌, ◌≤◌, Bool, true, false, cond, List, [], ◌∷◌, ◌++◌, length, Option, None, Some, inl, inr, refl, ap, ◌∙◌, arith}
 use Rattle.std.specs.Prelude.{codes, decimal}
-use Rattle.std.specs.List.{fold}
+use Rattle.std.specs.List.{flat_map, fold}
 use Rattle.std.proofs.lemmas.Bool.{cases_Bool}
 use Rattle.std.proofs.lemmas.Fmt.{length-decimal-le}
 use Rattle.std.proofs.lemmas.List.{append-nil, length-append, length-take}
-use Rattle.vsl_record.specs.declared.mark.Mark.{Mark}
-use Rattle.vsl_record.specs.declared.mark.Mark.TheVariants.{Client, Backend}
 use Rattle.vsl_record.specs.Unit.{LogUnit, Log}
 use Rattle.vsl_record.specs.Words.{record_words, unit_words}
 use Rattle.traffic_feed.specs.Lines.{LoggedRecord, Line, BlankLine, CommentLine, RecordLine}
 use Rattle.traffic_feed.specs.Batches.{shortened, unit_of, with_record, goes_on, has_room}
 use Rattle.traffic_feed.specs.Listing.{record_count, word_count}
-use Rattle.traffic_feed.specs.Made.{Part, part_line, with_number, body_of, sizes_of, time_of, is_miss, session_vxid, request_vxid, fetch_vxid, fetch_parts, cache_parts, request_parts, session_parts, fetch_lines, request_lines, draw_of, made_lines, made_units, made_cuts}
+use Rattle.traffic_feed.specs.declared.requests.Number.{Number}
+use Rattle.traffic_feed.specs.declared.requests.Number.TheVariants.{Nothing, VxidOf, Seconds, Item, SizesFetched, SizesSent}
+use Rattle.traffic_feed.specs.declared.requests.TheConstants.{ROWS}
+use Rattle.traffic_feed.specs.declared.requests.Whose.{Whose}
+use Rattle.traffic_feed.specs.declared.requests.Whose.TheVariants.{Fetch, Request, Miss, Hit, Session}
+use Rattle.traffic_feed.specs.Made.{is_miss, is_said, vxid_of, sizes_of, number_text, row_lines, request_lines, draw_of, made_lines, made_units, made_cuts}
 use Rattle.traffic_feed.specs.inside.Gathering.{Gathered, begins, ended, taken_by, stepped, nothing, gathered_lines}
-use Rattle.traffic_feed.specs.inside.Making.{IsPartlyMade, request_end, most_lines, opening_parts, closing_parts}
+use Rattle.traffic_feed.specs.inside.Making.{IsPartlyMade, request_end}
 use Rattle.traffic_feed.proofs.BatchLemmas.{gathered_units, gathered_cuts}
 use Rattle.traffic_feed.proofs.BegunUnitLemmas.{record_size, size_more, unit_size}
 use Rattle.traffic_feed.proofs.BoundLemmas.{closed, records_pushed, words_pushed}
-use Rattle.traffic_feed.proofs.MakingLemmas.{lines_of_request, request_apart, made_more}
+use Rattle.traffic_feed.proofs.MakingLemmas.{made_more}
 
 -- ---- lines
 
@@ -103,10 +106,6 @@ Adds-lines (RecordLine l ∷ ls) g =
 
 -- ---- requests
 
--- the lines of parts
-abbrev lines_of : ℕ → Mark → List Part → List Line
-lines_of vxid mark parts = map (part_line vxid mark) parts
-
 -- so many lines or fewer with payloads of so many bytes or fewer
 record IsSmall (ls : List Line) (lines bytes : ℕ) : Type 0 where
   few : length ls ≤ lines
@@ -116,94 +115,87 @@ record IsSmall (ls : List Line) (lines bytes : ℕ) : Type 0 where
 IsSmall-both : (xs ys : List Line) (m n x y : ℕ) → IsSmall xs m x → IsSmall ys n y → IsSmall (xs ++ ys) (m + n) (x + y)
 IsSmall-both xs ys m n x y a b = record { few = omega (arith, a.few, b.few, length-append xs ys); short = omega (arith, a.short, b.short, payload_bytes_append xs ys) }
 
--- a text with a number of 32 bits in it
-number_bytes : (before : List ℕ) (n : ℕ) (behind : List ℕ) → n < 4294967296 → length (with_number before n behind) ≤ length before + 10 + length behind
-number_bytes before n behind few = omega (arith, length-append (before ++ decimal n) behind, length-append before (decimal n), length-decimal-le 10 n (omega arith) (omega (arith, few)) (omega (arith, few)))
+-- the most bytes of a number's text
+abbrev most_digits : Number → ℕ
+most_digits Nothing = 0
+most_digits SizesFetched = 21
+most_digits SizesSent = 21
+most_digits number = 10
+
+-- a number of 32 bits
+digits_few : (n : ℕ) → n < 4294967296 → length (decimal n) ≤ 10
+digits_few n few = length-decimal-le 10 n (omega arith) (omega (arith, few)) (omega (arith, few))
 
 -- the counts of bytes of an answer
 sizes_bytes : (headers x : ℕ) → headers ≤ 1000 → length (sizes_of headers x) ≤ 21
 sizes_bytes headers x few = omega (
   arith,
-  length-append (with_number [] (body_of x) (codes " ")) (decimal (body_of x + headers)),
-  number_bytes [] (body_of x) (codes " ") (omega arith),
-  length-decimal-le 10 (body_of x + headers) (omega arith) (omega (arith, few)) (omega (arith, few)),
+  length-append (decimal (x % 1000) ++ codes " ") (decimal (x % 1000 + headers)),
+  length-append (decimal (x % 1000)) (codes " "),
+  digits_few (x % 1000) (omega arith),
+  digits_few (x % 1000 + headers) (omega (arith, few)),
 )
 
--- the lines of a request to the backend
-fetch_small : (k x : ℕ) → k < request_end → IsSmall (lines_of (fetch_vxid k) Backend (fetch_parts k x)) 7 130
+-- VXIDs are such numbers
+vxid_low : (whose : Whose) (k : ℕ) → k < request_end → vxid_of whose k < 4294967296
+vxid_low Fetch k few = omega (arith, few)
+vxid_low Request k few = omega (arith, few)
+vxid_low Miss k few = omega (arith, few)
+vxid_low Hit k few = omega (arith, few)
+vxid_low Session k few = omega (arith, few)
+
+-- the text of a number
+number_bytes : (number : Number) (k x : ℕ) → k < request_end → length (number_text number k x) ≤ most_digits number
+number_bytes Nothing k x few = omega arith
+number_bytes (VxidOf whose) k x few = digits_few (vxid_of whose k) (vxid_low whose k few)
+number_bytes Seconds k x few = digits_few (1650000000 + k) (omega (arith, few))
+number_bytes Item k x few = digits_few (x % 100) (omega arith)
+number_bytes SizesFetched k x few = sizes_bytes 180 x (omega arith)
+number_bytes SizesSent k x few = sizes_bytes 200 x (omega arith)
+
+-- the lines of a row
+row_small : (whose : Whose) (tag : ℕ) (before : List ℕ) (number : Number) (behind : List ℕ) (k x : ℕ) (miss : Bool) → is_said whose (is_miss x) ≡ miss → k < request_end
+    → IsSmall (row_lines k x whose tag before number behind) (cond miss 1 0) (length before + most_digits number + length behind)
 unfolding payload_bytes
-fetch_small k x few = record {
+row_small whose tag before number behind k x true is few = rw is (record {
   few = omega arith;
-  short = omega (
-    arith,
-    number_bytes (codes "bereq ") (request_vxid k) (codes " fetch") (omega (arith, few)),
-    number_bytes (codes "/item/") (x % 100) [] (omega arith),
-    length-append (codes "90 0 90 180 ") (sizes_of 180 x),
-    sizes_bytes 180 x (omega arith),
-  );
-}
+  short = omega (arith, number_bytes number k x few, length-append (before ++ number_text number k x) behind, length-append before (number_text number k x));
+})
+row_small whose tag before number behind k x false is few = rw is (record { few = omega arith; short = omega arith })
 
--- the lines of the three parts of a request
-opening_small : (k x : ℕ) → k < request_end → IsSmall (lines_of_request k (opening_parts k x)) 7 130
-unfolding payload_bytes
-opening_small k x few = record {
-  few = omega arith;
-  short = omega (
-    arith,
-    number_bytes (codes "req ") (session_vxid k) (codes " rxreq") (omega (arith, few)),
-    number_bytes (codes "Start: ") (time_of k) (codes ".000000 0.000000 0.000000") (omega (arith, few)),
-    number_bytes (codes "/item/") (x % 100) [] (omega arith),
-  );
-}
+-- how many lines rows have, and the most bytes, whatever a row is
+line_count : {R : Type 0} → (R → Whose) → Bool → List R → ℕ
+line_count whose miss [] = 0
+line_count whose miss (r ∷ rows) = cond (is_said (whose r) miss) 1 0 + line_count whose miss rows
 
-cache_small : (k : ℕ) (miss : Bool) → k < request_end → IsSmall (lines_of_request k (cache_parts k miss)) 2 30
-unfolding payload_bytes
-cache_small k true few = record { few = omega arith; short = omega (arith, number_bytes (codes "bereq ") (fetch_vxid k) (codes " fetch") (omega (arith, few))) }
-cache_small k false few = record { few = omega arith; short = omega arith }
+most_bytes : {R : Type 0} → (R → List ℕ) → (R → Number) → (R → List ℕ) → List R → ℕ
+most_bytes before number behind [] = 0
+most_bytes before number behind (r ∷ rows) = length (before r) + most_digits (number r) + length (behind r) + most_bytes before number behind rows
 
-closing_small : (k x : ℕ) → k < request_end → IsSmall (lines_of_request k (closing_parts k x)) 4 90
-unfolding payload_bytes
-closing_small k x few = record {
-  few = omega arith;
-  short = omega (
-    arith,
-    number_bytes (codes "Resp: ") (time_of k) (codes ".001000 0.001000 0.001000") (omega (arith, few)),
-    length-append (codes "80 0 80 200 ") (sizes_of 200 x),
-    sizes_bytes 200 x (omega arith),
-  );
-}
+-- the lines of rows
+rows_small : {R : Type 0} (whose : R → Whose) (tag : R → ℕ) (before : R → List ℕ) (number : R → Number) (behind : R → List ℕ) (k x : ℕ) (rows : List R) → k < request_end
+    → IsSmall (flat_map (λ (r : R). row_lines k x (whose r) (tag r) (before r) (number r) (behind r)) rows) (line_count whose (is_miss x) rows) (most_bytes before number behind rows)
+unfolding payload_bytes line_count most_bytes
+rows_small whose tag before number behind k x [] few = record { few = omega arith; short = omega arith }
+rows_small whose tag before number behind k x (r ∷ rows) few =
+    IsSmall-both _ _ _ _ _ _ (row_small (whose r) (tag r) (before r) (number r) (behind r) k x (is_said (whose r) (is_miss x)) refl few) (rows_small whose tag before number behind k x rows few)
 
--- the lines of a session
-session_small : (k : ℕ) → k < request_end → IsSmall (lines_of (session_vxid k) Client (session_parts k)) 5 90
-unfolding payload_bytes
-session_small k few = record {
-  few = omega arith;
-  short = omega (arith, number_bytes (codes "req ") (request_vxid k) (codes " rxreq") (omega (arith, few)));
-}
-
--- the lines of a request to the backend, where there is one
-fetch_of_miss_small : (k x : ℕ) (miss : Bool) → is_miss x ≡ miss → k < request_end → IsSmall (fetch_lines k x) 7 130
-unfolding payload_bytes
-fetch_of_miss_small k x true is few = rw is (fetch_small k x few)
-fetch_of_miss_small k x false is few = rw is (record { few = omega arith; short = omega arith })
-
--- and of a request
-request_part_small : (k x : ℕ) → k < request_end → IsSmall (lines_of_request k (request_parts k x)) 13 250
-request_part_small k x few = rw (request_apart k x) (IsSmall-both _ _ 7 6 130 120 (opening_small k x few) (IsSmall-both _ _ 2 4 30 90 (cache_small k (is_miss x) few) (closing_small k x few)))
+-- the table's rows
+few_said : (miss : Bool) → line_count (λ row. row.0) miss ROWS ≤ 25
+unfolding line_count
+few_said true = omega arith
+few_said false = omega arith
 
 -- all lines of a request
-request_small : (k x : ℕ) → k < request_end → IsSmall (request_lines k x) most_lines 500
+request_small : (k x : ℕ) → k < request_end → IsSmall (request_lines k x) 25 500
+unfolding most_bytes
 request_small k x few =
-    let both = IsSmall-both _ _ 7 13 130 250 (fetch_of_miss_small k x (is_miss x) refl few) (request_part_small k x few) in
-    let all = IsSmall-both _ _ 20 5 380 90 both (session_small k few) in
-    record { few = all.few; short = omega (arith, all.short) }
-
--- a request has few lines
-pub request_lines_few : (k x : ℕ) → k < request_end → length (request_lines k x) ≤ most_lines
-request_lines_few k x few = (request_small k x few).few
+    let all = rows_small (λ row. row.0) (λ row. row.1) (λ row. row.2.now) (λ row. row.3) (λ row. row.4.now) k x ROWS few in
+    let bytes : most_bytes (λ row. row.2.now) (λ row. row.3) (λ row. row.4.now) ROWS ≡ 420 = refl in
+    record { few = omega (arith, all.few, few_said (is_miss x)); short = omega (arith, all.short, bytes) }
 
 -- the lines of so many requests
-made_small : (count seed : ℕ) → count ≤ 100000 → IsSmall (made_lines count seed) (most_lines * count) (500 * count)
+made_small : (count seed : ℕ) → count ≤ 100000 → IsSmall (made_lines count seed) (25 * count) (500 * count)
 unfolding payload_bytes
 made_small zero seed most = record { few = omega arith; short = omega arith }
 made_small (suc k) seed most =

@@ -1,45 +1,38 @@
 -- Making traffic line by line, and request by request.
-use Rattle.std.proofs.Common.{◌≡◌, ℕ, zero, suc, ◌+◌, ◌≤◌, List, [], ◌∷◌, ◌++◌, length, map, subst, refl, sym, ap, ◌∙◌, arith}
-use Rattle.std.specs.List.{All, AllByRecursion, flat_map, fold, range_with_len}
-use Rattle.std.proofs.lemmas.List.{append-nil, length-append, map-append}
+use Rattle.std.proofs.Common.{◌≡◌, ℕ, zero, suc, ◌+◌, ◌≤◌, true, leb, ◌&&◌, List, [], ◌∷◌, ◌++◌, map, slice_index_or, subst, refl, sym, ap, ◌∙◌, arith, leb-true}
+use Rattle.std.proofs.Math.ListN as whole
+use Rattle.std.specs.Borrow.{Bor}
+use Rattle.std.specs.List.{All, AllByRecursion, flat_map, fold, list_all, range_with_len}
+use Rattle.std.proofs.lemmas.List.{append-nil}
 use Rattle.std.proofs.lemmas.List.Concat.{flat_map-append}
 use Rattle.std.proofs.lemmas.List.Elements.{All-from_recursion}
-use Rattle.std.proofs.lemmas.List.Sums.{fold-append}
-use Rattle.vsl_record.specs.declared.mark.Mark.TheVariants.{Client}
+use Rattle.std.proofs.lemmas.List.Sums.{AllPass-from_list_all, fold-append}
+use Rattle.vsl_tags.specs.Tags.{first_tag, last_tag, IsTag}
 use Rattle.vsl_record.specs.Unit.{Log}
+use Rattle.ring_layout.proofs.AgreedLemmas.{both_true}
+use Rattle.traffic_feed.specs.declared.requests.Number.{Number}
+use Rattle.traffic_feed.specs.declared.requests.Whose.{Whose}
 use Rattle.traffic_feed.specs.Lines.{Line}
-use Rattle.traffic_feed.specs.Made.{Part, part_line, is_miss, request_vxid, cache_parts, request_parts, request_lines, draw_of, made_lines}
+use Rattle.traffic_feed.specs.Made.{request_lines, draw_of, made_lines}
 use Rattle.traffic_feed.specs.Batches.{IsWithin}
 use Rattle.traffic_feed.specs.Turns.{first_draw, next_draw}
 use Rattle.traffic_feed.specs.inside.Gathering.{Gathered, nothing, stepped, gathered_lines}
-use Rattle.traffic_feed.specs.inside.Making.{Took, IsPartlyMade, most_lines, opening_parts, closing_parts, drawn_before}
+use Rattle.traffic_feed.specs.inside.Making.{IsPartlyMade, row_count, drawn_before}
 use Rattle.traffic_feed.proofs.PartlyLemmas.{seg_folded}
-
--- a line, and then others
-pub took_more : {l : Line} {ls : List Line} {a b c : Gathered} → Took (l ∷ []) a b → Took ls b c → Took (l ∷ ls) a c
-took_more {ls = ls} one more = record { state = more.state ∙ ap (λ (g : Gathered). fold stepped g ls) one.state; few_cuts = omega (arith, one.few_cuts, more.few_cuts) }
-
--- lines, and then others
-pub took_then : {xs ys : List Line} {a b c : Gathered} → Took xs a b → Took ys b c → Took (xs ++ ys) a c
-took_then {xs = xs} {ys = ys} {a = a} one more = record {
-  state = more.state ∙ ap (λ (g : Gathered). fold stepped g ys) one.state ∙ sym (fold-append stepped a xs ys);
-  few_cuts = omega (arith, one.few_cuts, more.few_cuts, length-append xs ys);
-}
 
 -- ---- requests
 
--- the lines of a request's parts
-abbrev pub lines_of_request : ℕ → List Part → List Line
-lines_of_request k parts = map (part_line (request_vxid k) Client) parts
+-- a row of the table that the code has
+abbrev Row : Type 0
+Row = Whose × ℕ × Bor (List ℕ) × Number × Bor (List ℕ)
 
--- a request's lines are those of its opening, of what it says of the cache, and of its closing
-pub request_apart : (k x : ℕ) → lines_of_request k (request_parts k x) ≡ lines_of_request k (opening_parts k x) ++ (lines_of_request k (cache_parts k (is_miss x)) ++ lines_of_request k (closing_parts k x))
-request_apart k x = ap (λ ls. lines_of_request k (opening_parts k x) ++ ls) (map-append (part_line (request_vxid k) Client) (cache_parts k (is_miss x)) (closing_parts k x))
+-- the tag of a row, among the tags of all
+pub tag_at : (rows : List Row) (i : ℕ) (none : Row) → (slice_index_or rows i none).1 ≡ slice_index_or (map (λ (row : Row). row.1) rows) i none.1
+tag_at rows i none = sym (whole.get_or-map (λ (row : Row). row.1) rows i none)
 
--- a request's lines were taken
-pub took_request : (k x : ℕ) {a b c d : Gathered} → Took (lines_of_request k (opening_parts k x)) a b → Took (lines_of_request k (cache_parts k (is_miss x))) b c → Took (lines_of_request k (closing_parts k x)) c d
-    → Took (lines_of_request k (request_parts k x)) a d
-took_request k x opening cache closing = rw (request_apart k x) (took_then opening (took_then cache closing))
+-- numbers are tags where a test says so
+pub are_tags : (tags : List ℕ) → list_all (λ (tag : ℕ). leb first_tag tag && leb tag last_tag) tags ≡ true → All IsTag tags
+are_tags tags e k none inside = let both = both_true (AllPass-from_list_all _ tags e k none inside) in (leb-true _ _ both.0, leb-true _ _ both.1)
 
 -- a number more
 range_more : (a n : ℕ) → range_with_len a (suc n) ≡ range_with_len a n ++ (a + n) ∷ []
@@ -63,21 +56,21 @@ pub IsPartlyMade-none : (seed reclen seg x : ℕ) (g : Gathered) → g ≡ nothi
 IsPartlyMade-none seed reclen seg x g is drawn = record { state = is; drawn = drawn; few_cuts = omega (arith, ap (λ (g : Gathered). g.cuts) is) }
 
 -- a request more was made, for which this was drawn
-made_next : (seed reclen seg k x y now : ℕ) (g new : Gathered) → IsPartlyMade seed reclen seg k x g → now ≡ next_draw x → y ≡ now → length (request_lines k y) ≤ most_lines → Took (request_lines k y) g new → IsPartlyMade seed reclen seg (suc k) now new
-made_next seed reclen seg k x y now g new made draw same few took =
+made_next : (seed reclen seg k x y now : ℕ) (g new : Gathered) → IsPartlyMade seed reclen seg k x g → now ≡ next_draw x → y ≡ now → new ≡ fold stepped g (request_lines k y) → new.cuts ≤ g.cuts + row_count → IsPartlyMade seed reclen seg (suc k) now new
+made_next seed reclen seg k x y now g new made draw same took few =
     let drawn : now ≡ draw_of seed k = draw ∙ ap next_draw made.drawn ∙ drawn_next seed k in
     record {
-      state = took.state ∙ ap (λ (g : Gathered). fold stepped g (request_lines k y)) made.state ∙ ap (λ y. fold stepped (gathered_lines reclen seg (made_lines k seed)) (request_lines k y)) (same ∙ drawn)
+      state = took ∙ ap (λ (g : Gathered). fold stepped g (request_lines k y)) made.state ∙ ap (λ y. fold stepped (gathered_lines reclen seg (made_lines k seed)) (request_lines k y)) (same ∙ drawn)
           ∙ sym (fold-append stepped (nothing reclen seg) (made_lines k seed) (request_lines k (draw_of seed k))) ∙ ap (λ ls. gathered_lines reclen seg ls) (sym (made_more k seed));
       drawn = drawn;
-      few_cuts = omega (arith, took.few_cuts, made.few_cuts, few);
+      few_cuts = omega (arith, few, made.few_cuts);
     }
 
 -- the same with the number as a loop counts it
-pub IsPartlyMade-more : (seed reclen seg k x y now : ℕ) (g new : Gathered) → IsPartlyMade seed reclen seg k x g → now ≡ next_draw x → y ≡ now → length (request_lines k y) ≤ most_lines → Took (request_lines k y) g new → IsPartlyMade seed reclen seg (k + 1) now new
-IsPartlyMade-more seed reclen seg k x y now g new made draw same few took =
+pub IsPartlyMade-more : (seed reclen seg k x y now : ℕ) (g new : Gathered) → IsPartlyMade seed reclen seg k x g → now ≡ next_draw x → y ≡ now → new ≡ fold stepped g (request_lines k y) → new.cuts ≤ g.cuts + row_count → IsPartlyMade seed reclen seg (k + 1) now new
+IsPartlyMade-more seed reclen seg k x y now g new made draw same took few =
     let next : suc k ≡ k + 1 = omega arith in
-    subst (λ n. IsPartlyMade seed reclen seg n now new) next (made_next seed reclen seg k x y now g new made draw same few took)
+    subst (λ n. IsPartlyMade seed reclen seg n now new) next (made_next seed reclen seg k x y now g new made draw same took few)
 
 -- all that was made fits in segments
 pub made_within : (seed reclen seg k x : ℕ) (g : Gathered) (units : Log) → IsPartlyMade seed reclen seg k x g → AllByRecursion (IsWithin g.seg) units → All (IsWithin seg) units

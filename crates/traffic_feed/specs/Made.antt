@@ -1,124 +1,70 @@
 -- Traffic that is made from a number: requests of a cache, each with its session, and where it is a miss with the request to a backend (this project's choice). It is said as
--- the lines of a listing, and its units are those of that listing.
-use Rattle.std.specs.Prelude.{ℕ, zero, suc, ◌+◌, ◌*◌, ◌%◌, ◌==◌, if◌then◌else◌, Bool, true, false, List, [], ◌∷◌, ◌++◌, map, codes, decimal}
+-- the lines of a listing, and its units are those of that listing. What is said of a request stands in the table of `requests.rt`.
+use Rattle.std.specs.Prelude.{ℕ, zero, suc, ◌+◌, ◌*◌, ◌%◌, ◌==◌, not, if◌then◌else◌, Bool, true, List, [], ◌∷◌, ◌++◌, codes, decimal}
 use Rattle.std.specs.List.{flat_map, range_with_len}
-use Rattle.vsl_tags.specs.Tags.{timestamp_tag, begin_tag, link_tag, end_tag}
 use Rattle.vsl_record.specs.declared.mark.Mark.{Mark}
 use Rattle.vsl_record.specs.declared.mark.Mark.TheVariants.{Client, Backend}
 use Rattle.vsl_record.specs.Unit.{Log}
+use Rattle.traffic_feed.specs.declared.requests.Number.{Number}
+use Rattle.traffic_feed.specs.declared.requests.Number.TheVariants.{Nothing, VxidOf, Seconds, Item, SizesFetched, SizesSent}
+use Rattle.traffic_feed.specs.declared.requests.TheConstants.{ROWS}
+use Rattle.traffic_feed.specs.declared.requests.Whose.{Whose}
+use Rattle.traffic_feed.specs.declared.requests.Whose.TheVariants.{Fetch, Request, Miss, Hit, Session}
 use Rattle.traffic_feed.specs.Turns.{first_draw, next_draw}
 use Rattle.traffic_feed.specs.Lines.{Line, RecordLine}
 use Rattle.traffic_feed.specs.Batches.{listing_units, listing_cuts}
-use Rattle.traffic_feed.specs.TagNumbers.{sess_open_tag, sess_close_tag, backend_open_tag, vcl_call_tag, req_start_tag, req_acct_tag, bereq_acct_tag, hit_tag, req_method_tag, req_url_tag, req_protocol_tag, req_header_tag, resp_status_tag, bereq_method_tag, bereq_url_tag, beresp_status_tag}
 
 -- the number that is drawn from a seed for the k-th request, from 0
 abbrev pub draw_of : ℕ → ℕ → ℕ
 draw_of seed zero = next_draw (first_draw seed)
 draw_of seed (suc k) = next_draw (draw_of seed k)
 
--- a record to be made: its tag and its payload
-pub record Part : Type 0 where
-  pub tag : ℕ
-  pub payload : List ℕ
-
--- a part as a line of a listing, of a VXID and with a mark
-abbrev pub part_line : ℕ → Mark → Part → Line
-part_line vxid mark part = RecordLine (record { vxid = vxid; rec = record { tag = part.tag; mark = mark; payload = part.payload } })
-
--- a part of a tag with a text
-abbrev pub said : ℕ → List ℕ → Part
-said tag payload = record { tag = tag; payload = payload }
-
--- a text with a number in it
-abbrev pub with_number : List ℕ → ℕ → List ℕ → List ℕ
-with_number before n behind = before ++ decimal n ++ behind
-
--- the VXID of the k-th request's session
-abbrev pub session_vxid : ℕ → ℕ
-session_vxid k = 3 * k + 1
-
--- the VXID of the k-th request
-abbrev pub request_vxid : ℕ → ℕ
-request_vxid k = 3 * k + 2
-
--- the VXID of its request to the backend
-abbrev pub fetch_vxid : ℕ → ℕ
-fetch_vxid k = 3 * k + 3
-
--- when it comes, in seconds
-abbrev pub time_of : ℕ → ℕ
-time_of k = 1650000000 + k
-
 -- whether a draw is a miss; else it is a hit
 abbrev pub is_miss : ℕ → Bool
 is_miss x = x % 4 == 0
 
--- what is asked for
-abbrev pub url_of : ℕ → List ℕ
-url_of x = with_number (codes "/item/") (x % 100) []
+-- whether a record is said of a miss, or of a hit
+abbrev pub is_said : Whose → Bool → Bool
+is_said Fetch miss = miss
+is_said Request miss = true
+is_said Miss miss = miss
+is_said Hit miss = not miss
+is_said Session miss = true
 
--- how many bytes the answer's body has
-abbrev pub body_of : ℕ → ℕ
-body_of x = x % 1000
+-- the VXID of a record of the k-th request
+abbrev pub vxid_of : Whose → ℕ → ℕ
+vxid_of Fetch k = 3 * k + 3
+vxid_of Session k = 3 * k + 1
+vxid_of whose k = 3 * k + 2
+
+-- the mark of a record
+abbrev pub mark_of : Whose → Mark
+mark_of Fetch = Backend
+mark_of whose = Client
 
 -- the counts of bytes of an answer: of its body, and of all with so many bytes of headers
 abbrev pub sizes_of : ℕ → ℕ → List ℕ
-sizes_of headers x = with_number [] (body_of x) (codes " ") ++ decimal (body_of x + headers)
+sizes_of headers x = decimal (x % 1000) ++ codes " " ++ decimal (x % 1000 + headers)
 
--- the request to the backend
-abbrev pub fetch_parts : ℕ → ℕ → List Part
-fetch_parts k x =
-    said begin_tag (with_number (codes "bereq ") (request_vxid k) (codes " fetch")) ∷
-    said bereq_method_tag (codes "GET") ∷
-    said bereq_url_tag (url_of x) ∷
-    said backend_open_tag (codes "25 main 10.0.0.9 8080 10.0.0.1 40000") ∷
-    said beresp_status_tag (codes "200") ∷
-    said bereq_acct_tag (codes "90 0 90 180 " ++ sizes_of 180 x) ∷
-    said end_tag [] ∷
-    []
+-- a number of the k-th request, for which x was drawn: what is asked for is one of 100
+abbrev pub number_text : Number → ℕ → ℕ → List ℕ
+number_text Nothing k x = []
+number_text (VxidOf whose) k x = decimal (vxid_of whose k)
+number_text Seconds k x = decimal (1650000000 + k)
+number_text Item k x = decimal (x % 100)
+number_text SizesFetched k x = sizes_of 180 x
+number_text SizesSent k x = sizes_of 200 x
 
--- what a request says of the cache: a miss links the request to the backend
-abbrev pub cache_parts : ℕ → Bool → List Part
-cache_parts k true = said vcl_call_tag (codes "MISS") ∷ said link_tag (with_number (codes "bereq ") (fetch_vxid k) (codes " fetch")) ∷ []
-cache_parts k false = said vcl_call_tag (codes "HIT") ∷ said hit_tag (codes "1") ∷ []
-
--- the request
-abbrev pub request_parts : ℕ → ℕ → List Part
-request_parts k x =
-    said begin_tag (with_number (codes "req ") (session_vxid k) (codes " rxreq")) ∷
-    said timestamp_tag (with_number (codes "Start: ") (time_of k) (codes ".000000 0.000000 0.000000")) ∷
-    said req_start_tag (codes "10.0.0.7 41000 a0") ∷
-    said req_method_tag (codes "GET") ∷
-    said req_url_tag (url_of x) ∷
-    said req_protocol_tag (codes "HTTP/1.1") ∷
-    said req_header_tag (codes "Host: example.com") ∷
-    cache_parts k (is_miss x)
-    ++ said resp_status_tag (codes "200") ∷
-    said timestamp_tag (with_number (codes "Resp: ") (time_of k) (codes ".001000 0.001000 0.001000")) ∷
-    said req_acct_tag (codes "80 0 80 200 " ++ sizes_of 200 x) ∷
-    said end_tag [] ∷
-    []
-
--- its session
-abbrev pub session_parts : ℕ → List Part
-session_parts k =
-    said begin_tag (codes "sess 0 HTTP/1") ∷
-    said sess_open_tag (codes "10.0.0.7 41000 a0 10.0.0.1 80") ∷
-    said link_tag (with_number (codes "req ") (request_vxid k) (codes " rxreq")) ∷
-    said sess_close_tag (codes "REM_CLOSE 0.010") ∷
-    said end_tag [] ∷
-    []
-
--- the lines of the request to the backend, where there is one
-abbrev pub fetch_lines : ℕ → ℕ → List Line
-fetch_lines k x = if is_miss x then map (part_line (fetch_vxid k) Backend) (fetch_parts k x) else []
+-- the line of a row, where it is said of the k-th request
+abbrev pub row_lines : ℕ → ℕ → Whose → ℕ → List ℕ → Number → List ℕ → List Line
+row_lines k x whose tag before number behind =
+    if is_said whose (is_miss x) then
+    RecordLine (record { vxid = vxid_of whose k; rec = record { tag = tag; mark = mark_of whose; payload = before ++ number_text number k x ++ behind } }) ∷ []
+    else []
 
 -- the lines of the k-th request, for which x was drawn
 abbrev pub request_lines : ℕ → ℕ → List Line
-request_lines k x =
-    fetch_lines k x
-    ++ map (part_line (request_vxid k) Client) (request_parts k x)
-    ++ map (part_line (session_vxid k) Client) (session_parts k)
+request_lines k x = flat_map (λ row. row_lines k x row.0 row.1 row.2.now row.3 row.4.now) ROWS
 
 -- the lines of so many requests
 abbrev pub made_lines : ℕ → ℕ → List Line

@@ -19,6 +19,7 @@ mod line;
 mod listing;
 mod maker;
 mod raises;
+mod requests;
 mod shares;
 mod tag_cache;
 mod tag_numbers;

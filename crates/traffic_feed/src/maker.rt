@@ -1,21 +1,17 @@
 //! Making the records of requests.
 
-ghost use Rattle.std.specs.Prelude.{◌≡◌, ◌+◌, ◌^◌, ◌<◌, ◌≤◌, [], ◌∷◌, ◌++◌, true, false, map, decimal, OnOk};
+ghost use Rattle.std.specs.Prelude.{◌≡◌, ◌+◌, ◌^◌, ◌<◌, ◌≤◌, ◌++◌, decimal, length, OnOk};
+ghost use Rattle.std.specs.List.{All, flat_map, fold};
 ghost use Rattle.vsl_tags.specs.Tags.{IsTag};
-ghost use Rattle.vsl_record.specs.declared.mark.Mark.TheVariants.{Client, Backend};
 ghost use Rattle.vsl_record.specs.Payload.{most_payload};
 ghost use Rattle.vsl_record.specs.Unit.{vxid_end};
-ghost use Rattle.traffic_feed.specs.Made.{part_line, said, with_number, sizes_of, is_miss, request_vxid, session_vxid, fetch_vxid, fetch_parts, fetch_lines, cache_parts, request_parts, session_parts, request_lines};
-ghost use Rattle.traffic_feed.specs.inside.Gathering.{nothing};
-ghost use Rattle.traffic_feed.specs.inside.Making.{Took, request_end, opening_parts, closing_parts};
+ghost use Rattle.traffic_feed.specs.Made.{is_miss, is_said, mark_of, number_text, request_lines, row_lines, sizes_of, vxid_of};
+ghost use Rattle.traffic_feed.specs.inside.Gathering.{nothing, stepped};
+ghost use Rattle.traffic_feed.specs.inside.Making.{request_end, row_count};
 
 use crate::gathering::Gathering;
 use crate::line::LineRead;
-use crate::tag_numbers::{
-    BACKEND_OPEN, BEGIN, BEREQ_ACCT, BEREQ_METHOD, BEREQ_URL, BERESP_STATUS, END, HIT, LINK,
-    REQ_ACCT, REQ_HEADER, REQ_METHOD, REQ_PROTOCOL, REQ_START, REQ_URL, RESP_STATUS, SESS_CLOSE,
-    SESS_OPEN, TIMESTAMP, VCL_CALL,
-};
+use crate::requests::{Number, ROWS, Row, Whose};
 use itoa::Buffer;
 use log_model::NoMemory;
 use ring_layout::Shape;
@@ -43,6 +39,40 @@ fn tag_with(number: u8) -> Tag
     }
 }
 
+/// Whether a record is said of a request for which x was drawn.
+fn is_said(whose: Whose, x: u32) -> bool
+    ensures { result ≡ is_said whose (is_miss x) }
+{
+    match whose {
+        Whose::Request | Whose::Session => true,
+        Whose::Fetch | Whose::Miss => x % 4 == 0,
+        Whose::Hit => x % 4 != 0,
+    }
+}
+
+/// The VXID of a record of the k-th request.
+fn vxid_of(whose: Whose, k: u32) -> Vxid
+    requires { k < request_end }
+    ensures vxid { result ≡ vxid_of whose k }
+    ensures in_range { result < vxid_end }
+{
+    match whose {
+        Whose::Fetch => 3 * k + 3,
+        Whose::Request | Whose::Miss | Whose::Hit => 3 * k + 2,
+        Whose::Session => 3 * k + 1,
+    }
+}
+
+/// The mark of a record.
+fn mark_of(whose: Whose) -> Mark
+    ensures { result ≡ mark_of whose }
+{
+    match whose {
+        Whose::Fetch => Mark::Backend,
+        _ => Mark::Client,
+    }
+}
+
 /// Adds a number in decimal digits.
 fn put_decimal(text: &mut Vec<u8>, n: u32) -> Result<(), NoMemory>
     ensures { OnOk result (text.new.items ≡ text.old.items ++ decimal n) }
@@ -52,26 +82,29 @@ fn put_decimal(text: &mut Vec<u8>, n: u32) -> Result<(), NoMemory>
     Ok(())
 }
 
-/// Makes the text one with a number in it.
-fn put_number(text: &mut Vec<u8>, before: &[u8], n: u32, behind: &[u8]) -> Result<(), NoMemory>
-    ensures { OnOk result (text.new.items ≡ with_number before.now n behind.now) }
+/// Adds the counts of bytes of an answer, which has so many of headers.
+fn put_sizes(text: &mut Vec<u8>, headers: u32, x: u32) -> Result<(), NoMemory>
+    requires { headers ≤ 1000 }
+    ensures { OnOk result (text.new.items ≡ text.old.items ++ sizes_of headers x) }
 {
-    text.clear();
-    text.extend_from_slice(before)?;
-    put_decimal(text, n)?;
-    text.extend_from_slice(behind)?;
-    Ok(())
+    put_decimal(text, x % 1000)?;
+    text.push(b' ')?;
+    put_decimal(text, x % 1000 + headers)
 }
 
-/// Makes the text another one with the counts of bytes of an answer behind it.
-fn put_sizes(text: &mut Vec<u8>, before: &[u8], headers: u32, x: u32) -> Result<(), NoMemory>
-    requires { headers ≤ 1000 }
-    ensures { OnOk result (text.new.items ≡ before.now ++ sizes_of headers x) }
+/// Adds a number of the k-th request, for which x was drawn.
+fn put_number(text: &mut Vec<u8>, number: Number, k: u32, x: u32) -> Result<(), NoMemory>
+    requires { k < request_end }
+    ensures { OnOk result (text.new.items ≡ text.old.items ++ number_text number k x) }
 {
-    let body = x % 1000;
-    put_number(text, before, body, b" ")?;
-    put_decimal(text, body + headers)?;
-    Ok(())
+    match number {
+        Number::Nothing => Ok(()),
+        Number::VxidOf(whose) => put_decimal(text, vxid_of(whose, k)),
+        Number::Seconds => put_decimal(text, 1_650_000_000 + k),
+        Number::Item => put_decimal(text, x % 100),
+        Number::SizesFetched => put_sizes(text, 180, x),
+        Number::SizesSent => put_sizes(text, 200, x),
+    }
 }
 
 impl Maker {
@@ -86,229 +119,59 @@ impl Maker {
         }
     }
 
-    /// A record with a payload.
-    fn say(&mut self, vxid: Vxid, mark: Mark, tag: u8, payload: &[u8]) -> Result<(), NoMemory>
-        requires in_range { vxid < vxid_end }
-        requires tag { IsTag tag }
-        requires cuts { self.old.gathering.cuts + 1 < 2 ^ 64 }
-        ensures { OnOk result (Took (part_line vxid mark (said tag payload.now) ∷ []) self.old.gathering self.new.gathering) }
-    {
-        self.gathering.step(LineRead::Record {
-            vxid,
-            tag: tag_with(tag),
-            mark,
-            payload,
-        })
-    }
-
-    /// A record with a number in its payload.
-    fn say_number(
+    /// The record of a row, where it is said of the k-th request.
+    fn say(
         &mut self,
-        vxid: Vxid,
-        mark: Mark,
+        whose: Whose,
         tag: u8,
         before: &[u8],
-        n: u32,
+        number: Number,
         behind: &[u8],
-    ) -> Result<(), NoMemory>
-        requires in_range { vxid < vxid_end }
-        requires tag { IsTag tag }
-        requires cuts { self.old.gathering.cuts + 1 < 2 ^ 64 }
-        ensures { OnOk result (Took (part_line vxid mark (said tag (with_number before.now n behind.now)) ∷ []) self.old.gathering self.new.gathering) }
-    {
-        put_number(&mut self.text, before, n, behind)?;
-        self.gathering.step(LineRead::Record {
-            vxid,
-            tag: tag_with(tag),
-            mark,
-            payload: &self.text,
-        })
-    }
-
-    /// A record with the counts of bytes of an answer behind a text.
-    fn say_sizes(
-        &mut self,
-        vxid: Vxid,
-        mark: Mark,
-        tag: u8,
-        before: &[u8],
-        headers: u32,
+        k: u32,
         x: u32,
     ) -> Result<(), NoMemory>
-        requires in_range { vxid < vxid_end }
+        requires few { k < request_end }
         requires tag { IsTag tag }
-        requires headers { headers ≤ 1000 }
         requires cuts { self.old.gathering.cuts + 1 < 2 ^ 64 }
-        ensures { OnOk result (Took (part_line vxid mark (said tag (before.now ++ sizes_of headers x)) ∷ []) self.old.gathering self.new.gathering) }
+        ensures state { OnOk result (self.new.gathering ≡ fold stepped self.old.gathering (row_lines k x whose tag before.now number behind.now)) }
+        ensures few_cuts { OnOk result (self.new.gathering.cuts ≤ self.old.gathering.cuts + 1) }
     {
-        put_sizes(&mut self.text, before, headers, x)?;
+        if !is_said(whose, x) {
+            return Ok(());
+        }
+        self.text.clear();
+        self.text.extend_from_slice(before)?;
+        put_number(&mut self.text, number, k, x)?;
+        self.text.extend_from_slice(behind)?;
         self.gathering.step(LineRead::Record {
-            vxid,
+            vxid: vxid_of(whose, k),
             tag: tag_with(tag),
-            mark,
+            mark: mark_of(whose),
             payload: &self.text,
         })
     }
 
-    /// The request to the backend.
-    fn fetch(&mut self, k: u32, x: u32) -> Result<(), NoMemory>
+    /// The records of rows.
+    fn say_all(&mut self, rows: &[Row], k: u32, x: u32) -> Result<(), NoMemory>
         requires few { k < request_end }
-        requires cuts { self.old.gathering.cuts + 7 < 2 ^ 64 }
-        ensures { OnOk result (Took (map (part_line (fetch_vxid k) Backend) (fetch_parts k x)) self.old.gathering self.new.gathering) }
+        requires tags { All (λ row. IsTag row.1) rows.now }
+        requires cuts { self.old.gathering.cuts + length rows.now < 2 ^ 64 }
+        ensures state { OnOk result (self.new.gathering ≡ fold stepped self.old.gathering (flat_map (λ row. row_lines k x row.0 row.1 row.2.now row.3 row.4.now) rows.now)) }
+        ensures few_cuts { OnOk result (self.new.gathering.cuts ≤ self.old.gathering.cuts + length rows.now) }
     {
-        let vxid = 3 * k + 3;
-        let mark = Mark::Backend;
-        self.say_number(vxid, mark, BEGIN, b"bereq ", 3 * k + 2, b" fetch")?;
-        self.say(vxid, mark, BEREQ_METHOD, b"GET")?;
-        self.say_number(vxid, mark, BEREQ_URL, b"/item/", x % 100, b"")?;
-        self.say(
-            vxid,
-            mark,
-            BACKEND_OPEN,
-            b"25 main 10.0.0.9 8080 10.0.0.1 40000",
-        )?;
-        self.say(vxid, mark, BERESP_STATUS, b"200")?;
-        self.say_sizes(vxid, mark, BEREQ_ACCT, b"90 0 90 180 ", 180, x)?;
-        self.say(vxid, mark, END, b"")?;
-        Ok(())
-    }
-
-    /// The request to the backend, where there is one.
-    fn fetch_of_miss(&mut self, k: u32, x: u32) -> Result<(), NoMemory>
-        requires few { k < request_end }
-        requires cuts { self.old.gathering.cuts + 7 < 2 ^ 64 }
-        ensures { OnOk result (Took (fetch_lines k x) self.old.gathering self.new.gathering) }
-    {
-        if x % 4 == 0 {
-            return self.fetch(k, x);
+        for row in rows {
+            self.say(row.0, row.1, row.2, row.3, row.4, k, x)?;
         }
-        Ok(())
-    }
-
-    /// What a request says before it asks the cache.
-    fn opening(&mut self, k: u32, x: u32) -> Result<(), NoMemory>
-        requires few { k < request_end }
-        requires cuts { self.old.gathering.cuts + 7 < 2 ^ 64 }
-        ensures { OnOk result (Took (map (part_line (request_vxid k) Client) (opening_parts k x)) self.old.gathering self.new.gathering) }
-    {
-        let vxid = 3 * k + 2;
-        let mark = Mark::Client;
-        let time = 1_650_000_000 + k;
-        self.say_number(vxid, mark, BEGIN, b"req ", 3 * k + 1, b" rxreq")?;
-        self.say_number(
-            vxid,
-            mark,
-            TIMESTAMP,
-            b"Start: ",
-            time,
-            b".000000 0.000000 0.000000",
-        )?;
-        self.say(vxid, mark, REQ_START, b"10.0.0.7 41000 a0")?;
-        self.say(vxid, mark, REQ_METHOD, b"GET")?;
-        self.say_number(vxid, mark, REQ_URL, b"/item/", x % 100, b"")?;
-        self.say(vxid, mark, REQ_PROTOCOL, b"HTTP/1.1")?;
-        self.say(vxid, mark, REQ_HEADER, b"Host: example.com")?;
-        Ok(())
-    }
-
-    /// What a request says of the cache where it is a miss.
-    fn miss(&mut self, k: u32) -> Result<(), NoMemory>
-        requires few { k < request_end }
-        requires cuts { self.old.gathering.cuts + 2 < 2 ^ 64 }
-        ensures { OnOk result (Took (map (part_line (request_vxid k) Client) (cache_parts k true)) self.old.gathering self.new.gathering) }
-    {
-        let vxid = 3 * k + 2;
-        let mark = Mark::Client;
-        self.say(vxid, mark, VCL_CALL, b"MISS")?;
-        self.say_number(vxid, mark, LINK, b"bereq ", 3 * k + 3, b" fetch")?;
-        Ok(())
-    }
-
-    /// And where it is a hit.
-    fn hit(&mut self, k: u32) -> Result<(), NoMemory>
-        requires few { k < request_end }
-        requires cuts { self.old.gathering.cuts + 2 < 2 ^ 64 }
-        ensures { OnOk result (Took (map (part_line (request_vxid k) Client) (cache_parts k false)) self.old.gathering self.new.gathering) }
-    {
-        let vxid = 3 * k + 2;
-        let mark = Mark::Client;
-        self.say(vxid, mark, VCL_CALL, b"HIT")?;
-        self.say(vxid, mark, HIT, b"1")?;
-        Ok(())
-    }
-
-    /// What a request says of the cache.
-    fn cache(&mut self, k: u32, x: u32) -> Result<(), NoMemory>
-        requires few { k < request_end }
-        requires cuts { self.old.gathering.cuts + 2 < 2 ^ 64 }
-        ensures { OnOk result (Took (map (part_line (request_vxid k) Client) (cache_parts k (is_miss x))) self.old.gathering self.new.gathering) }
-    {
-        if x % 4 == 0 {
-            return self.miss(k);
-        }
-        self.hit(k)
-    }
-
-    /// What a request says of the answer.
-    fn closing(&mut self, k: u32, x: u32) -> Result<(), NoMemory>
-        requires few { k < request_end }
-        requires cuts { self.old.gathering.cuts + 4 < 2 ^ 64 }
-        ensures { OnOk result (Took (map (part_line (request_vxid k) Client) (closing_parts k x)) self.old.gathering self.new.gathering) }
-    {
-        let vxid = 3 * k + 2;
-        let mark = Mark::Client;
-        let time = 1_650_000_000 + k;
-        self.say(vxid, mark, RESP_STATUS, b"200")?;
-        self.say_number(
-            vxid,
-            mark,
-            TIMESTAMP,
-            b"Resp: ",
-            time,
-            b".001000 0.001000 0.001000",
-        )?;
-        self.say_sizes(vxid, mark, REQ_ACCT, b"80 0 80 200 ", 200, x)?;
-        self.say(vxid, mark, END, b"")?;
-        Ok(())
-    }
-
-    /// The request.
-    fn request(&mut self, k: u32, x: u32) -> Result<(), NoMemory>
-        requires few { k < request_end }
-        requires cuts { self.old.gathering.cuts + 13 < 2 ^ 64 }
-        ensures { OnOk result (Took (map (part_line (request_vxid k) Client) (request_parts k x)) self.old.gathering self.new.gathering) }
-    {
-        self.opening(k, x)?;
-        self.cache(k, x)?;
-        self.closing(k, x)?;
-        Ok(())
-    }
-
-    /// The request's session.
-    fn session(&mut self, k: u32) -> Result<(), NoMemory>
-        requires few { k < request_end }
-        requires cuts { self.old.gathering.cuts + 5 < 2 ^ 64 }
-        ensures { OnOk result (Took (map (part_line (session_vxid k) Client) (session_parts k)) self.old.gathering self.new.gathering) }
-    {
-        let vxid = 3 * k + 1;
-        let mark = Mark::Client;
-        self.say(vxid, mark, BEGIN, b"sess 0 HTTP/1")?;
-        self.say(vxid, mark, SESS_OPEN, b"10.0.0.7 41000 a0 10.0.0.1 80")?;
-        self.say_number(vxid, mark, LINK, b"req ", 3 * k + 2, b" rxreq")?;
-        self.say(vxid, mark, SESS_CLOSE, b"REM_CLOSE 0.010")?;
-        self.say(vxid, mark, END, b"")?;
         Ok(())
     }
 
     /// All that is logged of the k-th request, for which x was drawn.
     pub fn make(&mut self, k: u32, x: u32) -> Result<(), NoMemory>
         requires few { k < request_end }
-        requires cuts { self.old.gathering.cuts + 25 < 2 ^ 64 }
-        ensures { OnOk result (Took (request_lines k x) self.old.gathering self.new.gathering) }
+        requires cuts { self.old.gathering.cuts + row_count < 2 ^ 64 }
+        ensures state { OnOk result (self.new.gathering ≡ fold stepped self.old.gathering (request_lines k x)) }
+        ensures few_cuts { OnOk result (self.new.gathering.cuts ≤ self.old.gathering.cuts + row_count) }
     {
-        self.fetch_of_miss(k, x)?;
-        self.request(k, x)?;
-        self.session(k)?;
-        Ok(())
+        self.say_all(&ROWS, k, x)
     }
 }

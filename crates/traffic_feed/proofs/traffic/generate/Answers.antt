@@ -1,5 +1,5 @@
 use Rattle.std.proofs.Common.{arith}
-use Rattle.traffic_feed.proofs.MadeBounds.{IsMade, IsMade-from, request_lines_few}
+use Rattle.traffic_feed.proofs.MadeBounds.{IsMade, IsMade-from}
 use Rattle.traffic_feed.proofs.MakingLemmas.{IsPartlyMade-none, IsPartlyMade-more, made_within}
 use Rattle.traffic_feed.proofs.traffic.generate.Goals as goal
 use Rattle.traffic_feed.proofs.traffic.generate.Goals.{In_ok-finish}
@@ -12,7 +12,7 @@ make-requires-clause-cuts c = omega (arith, c.loop-k.invariant.few_cuts, c.requi
 
 pub loop-k-preserved : goal.loop-k-preserved
 loop-k-preserved c =
-    IsPartlyMade-more c.args.seed c.args.reclen c.args.shape c.loop-k.k _ _ _ _ _ c.loop-k.invariant c.draw.ensures.drawn c.draw.ensures.draw (request_lines_few c.loop-k.k _ (omega (arith, c.requires.most))) c.in_ok-make.ensures
+    IsPartlyMade-more c.args.seed c.args.reclen c.args.shape c.loop-k.k _ _ _ _ _ c.loop-k.invariant c.draw.ensures.drawn c.draw.ensures.draw c.in_ok-make.ensures.state c.in_ok-make.ensures.few_cuts
 
 -- all requests were made
 all_made : (c : In_ok-finish) → IsMade c.args.count c.args.seed c.args.reclen c.args.shape c.in_ok-finish.field-0.units c.in_ok-finish.field-0.cuts

@@ -1,5 +1,7 @@
-use Rattle.traffic_feed.proofs.MakingLemmas.{took_then}
+use Rattle.std.proofs.Common.{map, refl}
+use Rattle.traffic_feed.specs.declared.requests.TheConstants.{ROWS}
+use Rattle.traffic_feed.proofs.MakingLemmas.{tag_at, are_tags}
 use Rattle.traffic_feed.proofs.maker.Maker.make.Goals as goal
 
-pub returns : goal.returns
-returns c = took_then (took_then c.in_ok-fetch_of_miss.ensures c.in_ok-request.ensures) c.in_ok-session.ensures
+pub say_all-requires-clause-tags : goal.say_all-requires-clause-tags
+say_all-requires-clause-tags c = λ k none inside. rw tag_at (are_tags (map (λ row. row.1) ROWS) refl k none.1 inside)
