@@ -7,26 +7,26 @@ _vtools_options() {
     case $1 in
     "")
         takes=(
-            [--feed]=file [--gen]=text [--ring]=text [--reclen]=text [--turns]=text [--feed-first]=flag
+            [--feed]=file [--gen]=text [--feed-first]=flag [--turns]=text [--ring]=text [--reclen]=text
         )
         ;;
     varnishlog)
         takes=(
-            [-a]=flag [-A]=flag [-b]=flag [-c]=flag [-C]=flag [-d]=flag [-E]=flag [-v]=flag [-g]=grouping
-            [-i]=tag [-I]=text [-k]=text [-L]=text [-q]=text [-Q]=file [-r]=file [-T]=text [-w]=file [-x]=tag
-            [-X]=text
+            [-r]=file [-g]=grouping [-L]=text [-T]=text [-q]=text [-Q]=file [-k]=text [-b]=flag [-c]=flag
+            [-E]=flag [-C]=flag [-d]=flag [-i]=tag [-x]=tag [-I]=text [-X]=text [-w]=file [-a]=flag [-v]=flag
+            [-A]=flag
         )
         ;;
     varnishncsa)
         takes=(
-            [-a]=flag [-b]=flag [-c]=flag [-C]=flag [-d]=flag [-E]=flag [-F]=text [-g]=access_grouping [-k]=text
-            [-L]=text [-q]=text [-Q]=file [-r]=file [-T]=text [-w]=file
+            [-r]=file [-g]=access_grouping [-L]=text [-T]=text [-q]=text [-Q]=file [-k]=text [-b]=flag [-c]=flag
+            [-E]=flag [-C]=flag [-d]=flag [-w]=file [-a]=flag [-F]=text
         )
         ;;
     varnishtop)
         takes=(
-            [-1]=flag [-b]=flag [-c]=flag [-C]=flag [-d]=flag [-E]=flag [-f]=flag [-g]=grouping [-i]=tag
-            [-I]=text [-k]=text [-L]=text [-q]=text [-Q]=file [-r]=file [-T]=text [-x]=tag [-X]=text
+            [-r]=file [-g]=grouping [-L]=text [-T]=text [-q]=text [-Q]=file [-k]=text [-b]=flag [-c]=flag
+            [-E]=flag [-C]=flag [-d]=flag [-i]=tag [-x]=tag [-I]=text [-X]=text [-1]=flag [-f]=flag
         )
         ;;
     varnishstat)

@@ -1,7 +1,7 @@
 #!/usr/bin/env bash
 # Checks that completion/vtools.bash is what tools/completion.py writes, and what it offers for command lines, row by
 # row, in bash without a terminal. A row is a command line with `|` at the cursor, `=>`, and what is offered, in order,
-# with `_` for a blank in a name.
+# with `_` for a blank in a name; `OPTIONS TOOL` stands for all that the tool takes, by the rows of the source.
 set -euo pipefail
 cd "$(dirname "${BASH_SOURCE[0]}")/.."
 LC_ALL=C
@@ -16,6 +16,7 @@ tools/completion.py >/dev/null
 source completion/vtools.bash
 [ "$(complete -p vtools)" = "complete -F _vtools vtools" ] || fail "_vtools doesn't complete vtools"
 
+listed=$(tools/options.py)
 work=$(mktemp -d)
 trap 'rm -rf "$work"' EXIT
 cd "$work"
@@ -48,6 +49,11 @@ take_apart() {
     fi
 }
 
+# The options that a tool takes, in their order.
+options_of() {
+    awk -v tool="$1" '$1 == tool && $3 != "absent" { print $2 }' <<<"$listed" | sort | tr '\n' ' '
+}
+
 count=0
 row_form='^([^|]*)\|(.*[^ ])? *=>( .*)?$'
 
@@ -58,11 +64,12 @@ check_rows() {
         [[ "$row" =~ $row_form ]] || fail "not a row: $row"
         before=${BASH_REMATCH[1]}
         wanted=${BASH_REMATCH[3]# }
+        [[ "$wanted" != "OPTIONS "* ]] || wanted=$(options_of "${wanted#OPTIONS }")
         take_apart "$before${BASH_REMATCH[2]}" "${#before}"
         COMPREPLY=(unset)
         _vtools
         offered=$(printf '%s\n' "${COMPREPLY[@]// /_}" | sort | tr '\n' ' ')
-        [ "${offered% }" = "$wanted" ] || fail "$before| => ${offered% }, and not: $wanted"
+        [ "${offered% }" = "${wanted% }" ] || fail "$before| => ${offered% }, and not: $wanted"
         count=$((count + 1))
     done
 }
@@ -74,16 +81,16 @@ vtools varnishn| => varnishncsa
 vtools --v| => --version
 vtools --help | =>
 vtools --feed| => --feed --feed-first
-vtools --feed-first -| => --feed --feed-first --gen --reclen --ring --turns
+vtools --feed-first -| => OPTIONS vtools
 vtools --feed | => access.log at@one folder log log:old my_log queries
 vtools --feed log --feed q| => queries
 vtools --feed varnishlog v| => varnishlog varnishncsa varnishstat varnishtop
 vtools --ring | =>
 vtools --gen | =>
 vtools --gen 20,7 --ring 64 varnisht| => varnishtop
-vtools varnishlog | => -A -C -E -I -L -Q -T -X -a -b -c -d -g -i -k -q -r -v -w -x
-vtools --feed log --feed-first varnishncsa -| => -C -E -F -L -Q -T -a -b -c -d -g -k -q -r -w
-vtools varnishtop -| => -1 -C -E -I -L -Q -T -X -b -c -d -f -g -i -k -q -r -x
+vtools varnishlog | => OPTIONS varnishlog
+vtools --feed log --feed-first varnishncsa -| => OPTIONS varnishncsa
+vtools varnishtop -| => OPTIONS varnishtop
 vtools varnishstat -| => -1 -f -j -l
 vtools varnishlgo -| =>
 vtools varnishlog -D| =>

@@ -53,57 +53,8 @@ for page in docs/man/*.1; do
     [ ! -s "$work/unknown" ] || fail "options of $page that are not in docs/FORMATS.md:" "$work/unknown"
 done
 
-# Cells of FORMATS' tables under a heading: those whose first is an option, without quotes and spaces.
-cells() {
-    sed -n "/^### $1\$/,/^##/s/^| *\(\`-.*\) *|\$/\1/p" docs/FORMATS.md | sed -e 's/`//g' -e 's/ *| */|/g'
-}
-
-# FORMATS has the options of each tool, with their kinds, as the tables of the source have them.
-{
-    cells 'Options before the tool' | awk -F'|' '{ print "vtools", $1, $2 }'
-    cells 'Options of the tools' | awk -F'|' '
-        BEGIN { split("varnishlog varnishncsa varnishtop varnishstat", tools, " ") }
-        NF == 6 { for (i = 1; i <= 4; i++) if ($(i + 1) != "") print tools[i], $1, $(i + 1) }'
-} | sort >"$work/tables"
-python3 tools/options.py | sort >"$work/options"
-diff "$work/options" "$work/tables" >"$work/differ" ||
-    fail "options of docs/FORMATS.md that are not those of the source ('<' is the source):" "$work/differ"
-
-# COMING_FROM_VARNISH has the options of each tool, and those that are left out are not here.
-sed -n 's/^| *`\(-.\)` *|/\1|/p' docs/COMING_FROM_VARNISH.md | sed 's/ *| */|/g' | awk -F'|' '
-    BEGIN { split("varnishlog varnishncsa varnishtop varnishstat", tools, " ") }
-    NF == 7 { for (i = 1; i <= 4; i++) if ($(i + 1) != "") print tools[i], $1, $(i + 1) }' |
-    sed -e 's/not here$/absent/' -e 's/\(same\|differs\|added\)$/here/' | sort >"$work/tables"
-awk '$1 != "vtools" { print $1, $2, $3 == "absent" ? $3 : "here" }' "$work/options" |
-    diff - "$work/tables" >"$work/differ" ||
-    fail "options of docs/COMING_FROM_VARNISH.md that are not those of the source ('<' is the source):" "$work/differ"
-
-# The help is FORMATS' text, and the options that are built are the same in FORMATS, in the help, and of each tool in its
-# man page.
-sed -n '/^const HELP/,/^";/p' crates/vtools/src/answers.rt | sed -e '1d' -e '$d' >"$work/help"
-# shellcheck disable=SC2016 # the backquotes are the document's
-sed -n '/^`vtools --help` prints/,/^`vtools --version`/p' docs/FORMATS.md |
-    sed -n '/^```text/,/^```$/p' | sed -e '1d' -e '$d' | diff "$work/help" - >"$work/differ" ||
-    fail "the help of docs/FORMATS.md is not the program's ('<' is the program's):" "$work/differ"
-cells 'What each option does' | cut -d'|' -f1 | options >"$work/built"
-[ -s "$work/built" ] || fail "docs/FORMATS.md has no options that are built"
-options <"$work/help" | diff "$work/built" - >"$work/differ" ||
-    fail "options that are built and not in --help, or the reverse ('<' is docs/FORMATS.md):" "$work/differ"
-while read -r tool page; do
-    {
-        awk -v tool="$tool" '($1 == "vtools" || $1 == tool) && $3 != "absent" { print $2 }' "$work/options"
-        printf '%s\n' --help --version
-    } | sort -u | comm -12 "$work/built" - >"$work/wanted"
-    sed -n '/^\.SH OPTIONS/,/^\.SH [^O]/p' "docs/man/$page" | grep -A 1 '^\.TP' | grep '^\.B' |
-        sed -e 's/\\-/-/g' | options | diff "$work/wanted" - >"$work/differ" ||
-        fail "options of $tool that are built and not in its page $page, or the reverse ('<' is docs/FORMATS.md):" "$work/differ"
-done <<'PAGES'
-vtools vtools.1
-varnishlog vtools-varnishlog.1
-varnishncsa vtools-varnishncsa.1
-varnishtop vtools-varnishtop.1
-varnishstat vtools-varnishstat.1
-PAGES
+# The help, the tables of options and the options of the man pages are what the rows of the source make.
+tools/options.py --check >"$work/made" 2>"$work/errors" || fail "what is made of the options:" "$work/errors"
 
 # The newest release of CHANGELOG has the version that the program prints, FORMATS has it too, and the header of each man page
 # has it with the date.

@@ -16,19 +16,16 @@ import subprocess
 import sys
 import tempfile
 
+sys.dont_write_bytecode = True
+import options
+
 TOP = pathlib.Path(__file__).resolve().parent.parent
 PAGES = TOP / "docs/man"
 DOCUMENTS = ("README.md", "docs/GUIDE.md", "docs/COMING_FROM_VARNISH.md")
 LOG = TOP / "cases/a_log_is_written_to_standard_output/data/f"
 ANSWERED = TOP / "cases/ncsa_prints_a_line_of_a_request/hex/f"
 QUERIES = "Link\n"
-OPTIONS = {
-    "vtools.1": ("--feed", "--gen", "--feed-first", "--turns", "--ring", "--reclen", "--version"),
-    "vtools-varnishlog.1": "aAbcCdEgiIkLqQrTvwxX",
-    "vtools-varnishncsa.1": "abcCdEFgkLqQrTw",
-    "vtools-varnishstat.1": "1fjl",
-    "vtools-varnishtop.1": "1bcCdEfgiIkLqQrTxX",
-}
+TOOL_OF = {f"vtools-{tool}.1": tool for tool in options.TOOLS} | {"vtools.1": "vtools"}
 MARKS = {"\\(aq": "'", "\\(dq": '"', "\\(ti": "~", "\\(ha": "^", "\\-": "-", "\\ ": " ", "\\&": "", "\\e": "\\"}
 
 
@@ -76,7 +73,13 @@ def has_option(command, option):
     """Whether a command has an option: a word of `vtools`, or a letter of the tool."""
     if option.startswith("--"):
         return option in command.split()
-    return re.search(rf" -[a-zA-Z1]*{option}", command) is not None
+    return re.search(rf" -[a-zA-Z1]*{option[1:]}", command) is not None
+
+
+def wanted_options(name):
+    """The options that stand in examples of a page."""
+    alone = ["--version"] if name == "vtools.1" else []
+    return [option.name for option in options.here(TOOL_OF[name])] + alone
 
 
 def run_page(program, name):
@@ -93,7 +96,7 @@ def run_page(program, name):
                 if got != wanted:
                     sys.exit(f"man: {name}: {command}: {got}, not {wanted}")
                 ran.append(command)
-    for option in OPTIONS[name]:
+    for option in wanted_options(name):
         if not any(has_option(command, option) for command in ran):
             sys.exit(f"man: {name}: no example of {option} is run")
     return len(ran)
@@ -118,9 +121,9 @@ def run_document(program, name):
 
 def main():
     program = str(pathlib.Path(sys.argv[1] if len(sys.argv) > 1 else TOP / "crates/vtools/out/vtools").resolve())
-    if {page.name for page in PAGES.iterdir()} != set(OPTIONS):
-        sys.exit(f"man: the pages of {PAGES} are not {', '.join(OPTIONS)}")
-    count = sum(run_page(program, name) for name in OPTIONS) + sum(run_document(program, name) for name in DOCUMENTS)
+    if {page.name for page in PAGES.iterdir()} != set(TOOL_OF):
+        sys.exit(f"man: the pages of {PAGES} are not {', '.join(TOOL_OF)}")
+    count = sum(run_page(program, name) for name in TOOL_OF) + sum(run_document(program, name) for name in DOCUMENTS)
     print(f"man: ok, {count} examples")
 
 

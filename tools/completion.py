@@ -17,17 +17,8 @@ TOP = Path(__file__).resolve().parent.parent
 COMPLETION = TOP / "completion" / "vtools.bash"
 TAGS = TOP / "crates" / "vsl_tags" / "src" / "names.rt"
 COUNTERS = TOP / "crates" / "vsl_stat" / "src" / "table.rt"
-FORM = re.compile(r"^    /// ([^\n]*)\n    (\w+)(?:\(u32\))?,$", re.M)
-# what is offered as the value of an option, by what the option says, or else by the form of its value; else nothing
-OF_CHOICE = {
-    "Feed": "file",
-    "FileName": "file",
-    "QueryFile": "file",
-    "Write": "file",
-    "Include": "tag",
-    "Exclude": "tag",
-    "Glob": "counter",
-}
+# what is offered as the value of an option, by the value's name in the help, or else by its form; else nothing
+OF_VALUE = {"FILE": "file", "TAGLIST": "tag", "GLOB": "counter"}
 OF_FORM = {"AnyGrouping": "grouping", "AccessGrouping": "access_grouping"}
 
 TEMPLATE = r"""# Completes command lines of vtools in bash, 4.3 or later. tools/completion.py makes this file: nobody writes in it.
@@ -223,16 +214,12 @@ def kind_of(option):
     """What an option takes."""
     if option.kind == "flag":
         return "flag"
-    return OF_CHOICE.get(option.choice) or OF_FORM.get(option.form) or "text"
+    return OF_VALUE.get(option.value) or OF_FORM.get(option.form) or "text"
 
 
 def form_words(name):
-    """The words that a form of values takes, by the comment of the form."""
-    for comment, form in FORM.findall(options.SOURCE.read_text()):
-        words = re.findall(r"`(\w+)`", comment)
-        if form == name and words:
-            return words
-    sys.exit(f"{options.SOURCE.name}: the form {name} names no words")
+    """The words that a form of values takes."""
+    return re.findall(r"`(\w+)`", options.form_words(name)) or sys.exit(f"completion: the form {name} names no words")
 
 
 def table_words(source, start, row):
@@ -254,9 +241,9 @@ def branch(pattern, lines):
     return "\n".join([f"    {pattern})", *(f"        {line}" for line in lines), "        ;;"])
 
 
-def options_branch(tool, listed):
+def options_branch(tool):
     """The branch that says what each option of a tool takes."""
-    taken = [f"[{option.name}]={kind_of(option)}" for option in listed if option.tool == tool]
+    taken = [f"[{option.name}]={kind_of(option)}" for option in options.here(tool)]
     pattern = '""' if tool == "vtools" else tool
     return branch(pattern, ["takes=(", *(f"    {line}" for line in wrapped(" ".join(taken))), ")"])
 
@@ -268,18 +255,14 @@ def words_branch(kind, words):
 
 def completion():
     """The text of the file."""
-    known = [option for option in options.all_options() if option.kind != "absent"]
-    if not {option.choice for option in known}.issuperset(OF_CHOICE):
-        sys.exit(f"{options.SOURCE.name}: no option says one of {', '.join(OF_CHOICE)}")
-    tools = list(dict.fromkeys(option.tool for option in known))  # of which the first stands for the words before it
     kinds = {
-        "tool": tools[1:],
+        "tool": options.TOOLS,
         "alone": ["--help", "--version"],
         **{OF_FORM[form]: form_words(form) for form in OF_FORM},
         "tag": table_words(TAGS, "static COLUMNS: [&str", r'^    "(\w+) *",$'),
         "counter": table_words(COUNTERS, "static COUNTERS: [(&str, &str)", r'^    \("([\w.]+)", "[^"]*"\),$'),
     }
-    return TEMPLATE.replace("@OPTIONS@", "\n".join(options_branch(tool, known) for tool in tools)).replace(
+    return TEMPLATE.replace("@OPTIONS@", "\n".join(map(options_branch, ("vtools", *options.TOOLS)))).replace(
         "@WORDS@", "\n".join(words_branch(kind, words) for kind, words in kinds.items())
     )
 

@@ -1,46 +1,319 @@
 #!/usr/bin/env python3
-"""Prints the options that tool_words knows, from its tables: a line of tool, option and kind for each.
+"""The options of the tools, from the rows of crates/tool_words/src/options.rt and the lines above each row.
 
-The tool is `vtools` for the options before the tool. The kind is `flag`, `value` (the option takes one) or
-`absent` (an option of Varnish that is left out). It proves nothing: the tables are what the proofs cite.
-tools/completion.py takes from here what an option says and the form of its value, too.
+Usage: tools/options.py            prints a line of tool, option and kind for each
+       tools/options.py --write    writes what is made of the rows
+       tools/options.py --check    says whether that stands as it would be written; the status is 1 where it doesn't
+
+Made are the usage and the paragraphs of options in the help, which is `HELP` in crates/vtools/src/answers.rt, and the
+case of the help; the tables of docs/FORMATS.md and of docs/COMING_FROM_VARNISH.md; and SYNOPSIS and OPTIONS of
+docs/man/*.1. In documents they stand between two comments. tools/completion.py makes the completion of the same rows.
+
+The tool is `vtools` for the options before the tool. The kind is `flag`, `value` (the option takes one) or `absent` (an
+option of Varnish that is left out). Lines above a row: `OPTION VALUE` and what the help says of it, in the help's own
+lines; `page:` for the man pages; `varnish:` for how it is beside Varnish's own, for each tool or for all, and how it
+differs; `instead:` for what to do where it is left out. A text goes on in lines that are indented. A line that ends
+with a colon, and an empty one, begin a paragraph of the help. It proves nothing.
 """
-import collections
+
 import re
 import sys
+import textwrap
 from pathlib import Path
 
-SOURCE = Path(__file__).resolve().parent.parent / "crates" / "tool_words" / "src" / "options.rt"
-TABLE = re.compile(r"^pub static (\w+): \[\((?:u8|&str), Meaning\); (\d+)\] = \[\n(.*?)^\];", re.M | re.S)
-MEANING = r"NotHere|Flag\(\w+\)|Value\((?P<choice>\w+), (?:Form::)?(?P<form>\w+)(?:\(\d+\))?\)"
-ROW = re.compile(rf"^ *\((?:b'(?P<letter>.)'|\"(?P<word>--[a-z-]+)\"), (?P<meaning>{MEANING})\),$")
+TOP = Path(__file__).resolve().parent.parent
+SOURCE = TOP / "crates/tool_words/src/options.rt"
+ANSWERS = TOP / "crates/vtools/src/answers.rt"
+FORMATS = TOP / "docs/FORMATS.md"
+COMING_FROM = TOP / "docs/COMING_FROM_VARNISH.md"
+TOOLS = ("varnishlog", "varnishncsa", "varnishtop", "varnishstat")
+PAGES = {tool: TOP / f"docs/man/vtools-{tool}.1" for tool in TOOLS} | {"vtools": TOP / "docs/man/vtools.1"}
+HELP_COLUMNS = 80
 KINDS = {"Flag": "flag", "Value": "value", "NotHere": "absent"}
-Option = collections.namedtuple("Option", "tool name kind choice form")  # without a value no choice and no form
+SETS = re.compile(r"^const (\w+): Tools = \(([a-z, ]+)\);$", re.M)
+USAGE = re.compile(r"^/// usage: (\w+) (.*)$", re.M)
+NAME = re.compile(r"--[a-z-]+|[A-Za-z1]")
+TABLE = re.compile(r"^pub static (LETTERS|WORDS): \[[^\n]*; (\d+)\] = \[\n(.*?)^\];", re.M | re.S)
+ROW = re.compile(r"\((?:b'(.)', (\w+)|\"(--[a-z-]+)\"), (\w+)(?:\(Choice::(\w+)(?:, (?:Form::)?(\w+)(?:\(\d+\))?)?\))?\),")
+LABEL = re.compile(r"(`[^`]*`|page:|varnish:|instead:)(?: |$)")
+FORM = re.compile(r"^    /// ([^\n]*)\.\n    (\w+)(?:\(u32\))?,$", re.M)
+RANGE = re.compile(r"^        Choice::(\w+) => \(([\d_]+), ([\d_]+)\),$", re.M)
+HELP = re.compile(r'(?<=^const HELP: &str = "\\\n)(.*?)(?=^";$)', re.M | re.S)
 
 
-def rows(text):
-    """The options of all tables, in their order."""
-    for name, count, body in TABLE.findall(text):
-        tool = "vtools" if name == "BEFORE_TOOL" else name.lower()
-        found = [ROW.match(line) for line in body.splitlines()]
-        if None in found or len(found) != int(count):
-            sys.exit(f"{SOURCE.name}: a row of {name} has another form")
-        for row in found:
-            kind = KINDS[row["meaning"].split("(")[0]]
-            yield Option(tool, row["word"] or f"-{row['letter']}", kind, row["choice"], row["form"])
+def refuse(what):
+    """Ends the run with what is wrong."""
+    sys.exit(f"options: {what}")
+
+
+class Option:
+    """A row: its tools, name, kind, choice, form and texts, and the paragraph of the help that it stands in."""
+
+    def __init__(self, line, comments, sets, paragraph):
+        found = ROW.fullmatch(line) or refuse(f"{SOURCE.name}: a row has another form: {line}")
+        letter, having, word, kind, self.choice, self.form = found.groups()
+        self.tools = sets[having] if letter else ("vtools",)
+        self.name = word or f"-{letter}"
+        self.kind = KINDS[kind]
+        self.paragraph = paragraph
+        self.texts = {}
+        for comment in comments:
+            if comment.startswith("  "):
+                last.append(comment.strip())
+                continue
+            label = LABEL.match(comment) or refuse(f"{SOURCE.name}: above {self.name}: {comment}")
+            last = self.texts[label[1]] = [comment[label.end() :]] if label.end() < len(comment) else []
+        self.helps = {label.strip("`"): lines for label, lines in self.texts.items() if label[0] == "`"}
+        self.value = next(iter(self.helps), "").partition(" ")[2]
+
+    def of(self, label):
+        """A text of the row, as one line."""
+        return " ".join(self.texts.get(label, []))
+
+    def does(self):
+        """What the option does, as the help has it."""
+        said = {words: " ".join(lines) for words, lines in self.helps.items() if lines}
+        return "; ".join(f"{words} {text}" if len(said) > 1 else text for words, text in said.items())
+
+    def words(self):
+        """The option with the name of its value."""
+        return f"{self.name} {self.value}".strip()
 
 
 def all_options():
-    """The options of the five tables."""
-    found = list(rows(SOURCE.read_text()))
-    if len({option.tool for option in found}) != 5:
-        sys.exit(f"{SOURCE.name}: not five tables")
-    return found
+    """The options of both tables."""
+    text, options, paragraph = SOURCE.read_text(), [], 0
+    sets = {
+        name: tuple(tool for tool, has in zip(TOOLS, having.split(", ")) if has == "true")
+        for name, having in SETS.findall(text)
+    }
+    for name, count, body in TABLE.findall(text):
+        comments, before = [], len(options)
+        for line in map(str.strip, body.splitlines()):
+            if line == "//":
+                comments, paragraph = [], paragraph + 1
+            elif line.startswith("//"):
+                comments.append(line[3:])
+            else:
+                options.append(Option(line, comments, sets, paragraph))
+                comments = []
+        if len(options) - before != int(count):
+            refuse(f"{SOURCE.name}: {name} has not {count} rows")
+    return options or refuse(f"{SOURCE.name}: no table")
+
+
+def here(tool):
+    """The options that a tool takes."""
+    return [option for option in all_options() if tool in option.tools and option.kind != "absent"]
+
+
+def form_words(name):
+    """What a form of values is, by the comment of the form."""
+    forms = {form: comment for comment, form in FORM.findall(SOURCE.read_text())}
+    return forms.get(name) or refuse(f"{SOURCE.name}: no form {name}")
+
+
+def check_ranges():
+    """Asks that the help and the page of each option with a number have its range."""
+    ranges = {choice: (int(low), int(high)) for choice, low, high in RANGE.findall(SOURCE.read_text())}
+    for option in all_options():
+        if option.form == "Number":
+            low, high = ranges.get(option.choice) or refuse(f"{SOURCE.name}: no range of {option.choice}")
+            if f"{low} to {high}" not in option.does() or f"{low:,} to {high:,}" not in option.of("page:"):
+                refuse(f"{SOURCE.name}: the texts of {option.name} have not the range {low} to {high}")
+
+
+def usage_of(tool, shown):
+    """The usage of a tool, or of what stands before it, with each option as it is shown."""
+    named = {option.name if tool == "vtools" else option.name[1]: option for option in here(tool)}
+    usage = dict(USAGE.findall(SOURCE.read_text()))[tool]
+    told = {name for name, option in named.items() if option.value or option.does()}
+    if sorted(NAME.findall(usage)) != sorted(told):
+        refuse(f"{SOURCE.name}: the usage of {tool} has not each of its options once")
+    return NAME.sub(lambda name: shown(named[name[0]]), usage)
+
+
+def unbroken(usage):
+    """A usage with bytes 0 for the blanks within brackets."""
+    depth, made = 0, ""
+    for byte in usage:
+        depth += (byte in "[(") - (byte in "])")
+        made += "\0" if byte == " " and depth > 0 else byte
+    return made
+
+
+def help_usage():
+    """The usage of the program, in which no line is broken within brackets or within an option."""
+    used = {tool: unbroken(usage_of(tool, lambda option: option.words().replace(" ", "\0"))) for tool in PAGES}
+    lines = [f"vtools [OPTIONS] {tool} {used[tool]}" for tool in TOOLS]
+    lines.insert(-1, f"vtools {used['vtools']} TOOL .., as above without -r FILE")
+    broken = textwrap.TextWrapper(HELP_COLUMNS - 8, subsequent_indent=" " * 7, break_on_hyphens=False)
+    made = "\n".join(broken.fill(line) for line in lines)
+    return "usage: " + made.replace("\0", " ").replace("\n", "\n" + " " * 7)
+
+
+def help_options():
+    """The paragraphs of options in the help."""
+    paragraphs = {}
+    for option in all_options():
+        for words, lines in option.helps.items():
+            for at, line in enumerate(lines):
+                made = f"{'' if at else '  ' + words:<20}{line}"
+                paragraphs.setdefault(option.paragraph, []).append(made)
+                if len(made) > HELP_COLUMNS:
+                    refuse(f"the help of {words} is wider than {HELP_COLUMNS} columns")
+    return ["\n".join(lines) for lines in paragraphs.values()]
+
+
+def help_made(text):
+    """The help, with its usage and its paragraphs of options made anew."""
+    made, paragraphs = help_options(), text.split("\n\n")
+    places = [at for at, paragraph in enumerate(paragraphs) if paragraph.startswith("  -")]
+    if len(places) != len(made):
+        refuse(f"the help has {len(places)} paragraphs of options, and not {len(made)}")
+    for at, paragraph in zip(places, made):
+        paragraphs[at] = paragraph
+    return "\n\n".join(help_usage() if paragraph.startswith("usage: ") else paragraph for paragraph in paragraphs)
+
+
+def by_letter():
+    """The options behind the tool, by their letters."""
+    found = {}
+    for option in all_options():
+        if option.tools != ("vtools",):
+            found.setdefault(option.name, []).append(option)
+    return sorted(found.items(), key=lambda item: (item[0].lower(), item[0].isupper()))
+
+
+def table_of(heads, rows):
+    """A table, with its heads."""
+    lines = [heads, *([cell.replace("|", "\\|") for cell in row] for row in rows)]
+    made = ["|" + "".join(f" {cell} |" if cell else " |" for cell in line) for line in lines]
+    return "\n".join([made[0], "|" + "---|" * len(heads), *made[1:]])
+
+
+def in_cell(text):
+    """A text of the help for a cell: with quotes round options, and stars that stay."""
+    text = re.sub(r"(?<![\w`-])-(?:-?[A-Za-z1][\w-]*)?(?![\w-])", lambda option: f"`{option[0]}`", text)
+    return text.replace("*", "\\*")
+
+
+def letters_table():
+    """The table of the options of the tools."""
+    rows = []
+    for name, options in by_letter():
+        kinds = {tool: option.kind for option in options for tool in option.tools}
+        told = [(option, option.does()) for option in options if option.does()]
+        does = [text if len(told) == 1 else f"{' and '.join(option.tools)}: {text}" for option, text in told]
+        rows.append([f"`{name}`", *(kinds.get(tool, "") for tool in TOOLS), in_cell("; ".join(does))])
+    return table_of(["Option", *TOOLS, "What it does"], rows)
+
+
+def words_table():
+    """The table of the options before the tool."""
+    rows = [[f"`{option.words()}`", option.kind, in_cell(option.does())] for option in here("vtools")]
+    return table_of(["Option", "Kind", "What it does"], rows)
+
+
+def beside_varnish(option):
+    """How an option is beside Varnish's, for each of its tools, and what differs."""
+    how, _, text = option.of("varnish:").partition(": ")
+    if option.kind == "absent":
+        how, text = "not here", option.of("instead:")
+    each = how.split(", ")
+    if not set(each) <= {"same", "differs", "added", "not here"} or len(each) not in (1, len(option.tools)):
+        refuse(f"{SOURCE.name}: `varnish:` of {option.name} has another form")
+    return dict(zip(option.tools, each * len(option.tools))), text
+
+
+def varnish_table():
+    """The table of the options beside Varnish's."""
+    rows = []
+    for name, options in by_letter():
+        beside = [beside_varnish(option) for option in options]
+        how = {tool: is_so for each, _ in beside for tool, is_so in each.items()}
+        differs = "; ".join(text for _, text in beside if text)
+        rows.append([f"`{name}`", *(how.get(tool, "") for tool in TOOLS), differs])
+    return table_of(["Option", *TOOLS, "What differs, or what to do"], rows)
+
+
+def roff(text):
+    """A text for a man page, of which `this` is bold, and so is the name of a page, and *this* in italics."""
+    text = text.replace("\\", "\\e").replace("-", "\\-")
+    text = re.sub(r"\*([^*`]+)\*", r"\\fI\1\\fR", text)
+    text = re.sub(r"`([^`]*)`|([\w\\-]+)(?=\(1\))", lambda found: f"\\fB{found[1] or found[2]}\\fR", text)
+    return f"\\&{text}" if text[0] in ".'" else text
+
+
+def shown_words(option):
+    """An option with the name of its value, for a man page."""
+    return roff(f"`{option.name}` *{option.value}*" if option.value else f"`{option.name}`")
+
+
+def page_usage(tool):
+    """The usage of a tool for its page; that of `vtools` is of any tool over feeds."""
+    before = f"\\fBvtools\\fR {usage_of('vtools', shown_words)}"
+    if tool == "vtools":
+        return f"{before} \\fITOOL\\fR [\\fIOPTIONS\\fR]"
+    behind = f"\\fB{tool}\\fR {usage_of(tool, shown_words)}"
+    if tool == "varnishstat":
+        return f"{before} {behind}"
+    return f"\\fBvtools\\fR [\\fIOPTIONS\\fR] {behind}\n.br\n{before} \\fB{tool}\\fR [\\fIOPTIONS\\fR]"
+
+
+def page_options(tool):
+    """The options of a tool, for its page."""
+    silent = [option.name for option in here(tool) if not option.of("page:")]
+    if silent:
+        refuse(f"{SOURCE.name}: no `page:` of {', '.join(silent)}")
+    return "\n".join(f".TP\n{shown_words(option)}\n{roff(option.of('page:'))}" for option in here(tool))
+
+
+def between(path, parts, marks):
+    """The text of a file, with each part between two comments."""
+    text = path.read_text()
+    for name, made in parts.items():
+        begin, end = (marks.replace("@", line) for line in (f"made by tools/options.py: {name}", "made until here"))
+        before, found, rest = text.partition(begin)
+        _, ended, after = rest.partition(end)
+        if not found or not ended:
+            refuse(f"{path.name}: no comments round {name}")
+        text = f"{before}{begin}{made}\n{end}{after}"
+    return text
+
+
+def all_made():
+    """Each file in which something is made, with its text."""
+    check_ranges()
+    answers = HELP.sub(lambda found: help_made(found[0]), ANSWERS.read_text())
+    yield ANSWERS, answers
+    for case in (TOP / "cases").rglob("help_is_printed"):
+        yield case / "stdout", HELP.search(answers)[0]
+    tables = {"options before the tool": words_table(), "options of the tools": letters_table()}
+    yield FORMATS, between(FORMATS, tables, "<!-- @ -->\n")
+    yield COMING_FROM, between(COMING_FROM, {"options": varnish_table()}, "<!-- @ -->\n")
+    for tool, page in PAGES.items():
+        parts = {"usage": page_usage(tool), "options": page_options(tool)}
+        if tool != "vtools":
+            parts["options before the tool"] = page_options("vtools")
+        yield page, between(page, parts, '.\\" @\n')
 
 
 def main():
-    for option in all_options():
-        print(option.tool, option.name, option.kind)
+    if sys.argv[1:] == []:
+        for option in all_options():
+            for tool in option.tools:
+                print(tool, option.name, option.kind)
+    elif sys.argv[1:] == ["--write"]:
+        for path, text in list(all_made()):
+            path.write_text(text)
+    elif sys.argv[1:] == ["--check"]:
+        for path, text in all_made():
+            if path.read_text() != text:
+                refuse(f"{path.relative_to(TOP)} is not what `tools/options.py --write` writes")
+        print("options: all that is made of them is up to date")
+    else:
+        sys.exit("usage: tools/options.py [--write|--check]")
 
 
 if __name__ == "__main__":

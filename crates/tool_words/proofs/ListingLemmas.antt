@@ -16,7 +16,7 @@ use Rattle.tool_words.specs.declared.options.Form.{Form}
 use Rattle.tool_words.specs.declared.options.Form.TheVariants.{FeedName}
 use Rattle.tool_words.specs.declared.options.Meaning.{Meaning}
 use Rattle.tool_words.specs.declared.options.Meaning.TheVariants.{Flag, Value, NotHere}
-use Rattle.tool_words.specs.declared.options.TheConstants.{BEFORE_TOOL}
+use Rattle.tool_words.specs.declared.options.TheConstants.{WORDS}
 use Rattle.tool_words.specs.declared.reading.Given.{Given}
 use Rattle.tool_words.specs.declared.reading.Reading.{Reading}
 use Rattle.tool_words.specs.Fold.{with_choice, with_options}
@@ -111,7 +111,7 @@ word-few : (wanted : Option (Choice × Form)) (tool : Option Tool) (reading : Re
 word-few (Some wanted) tool reading at word few h = value-few wanted.0 wanted.1 reading at word few h.given
 word-few None None reading at word few h =
     cond_both (has_minus word) (read_long (long_meaning_of word) reading at) (read_tool (tool_named word) reading at) (λ r. IfOk r HasFew)
-    (λ minus. long-few (long_meaning_of word) reading at (named-few (λ row. row.0.now) (λ row. row.1) BEFORE_TOOL word refl) h.given)
+    (λ minus. long-few (long_meaning_of word) reading at (named-few (λ row. row.0.now) (λ row. row.1) WORDS word refl) h.given)
     (λ other. tool-few (tool_named word) reading at h.given)
 word-few None (Some tool) reading at word few h =
     cond_both (has_letters word) (read_letters (letters_of tool) reading at (drop 1 word)) (Err (UnknownOption at)) (λ r. IfOk r HasFew)

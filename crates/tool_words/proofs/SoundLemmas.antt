@@ -12,10 +12,9 @@ use Rattle.tool_words.specs.declared.options.Choice.TheVariants.{FeedFirst, Keep
 use Rattle.tool_words.specs.declared.reading.Given.{Given}
 use Rattle.tool_words.specs.declared.reading.Reading.{Reading}
 use Rattle.tool_words.specs.Answers.{Gives}
-use Rattle.tool_words.specs.Fold.{plain_job, with_choice, with_options}
+use Rattle.tool_words.specs.Fold.{number_for, plain_job, with_choice, with_options}
 use Rattle.tool_words.specs.Job.{job_from, job_of, job_read, lacks_log, has_two_logs}
 use Rattle.tool_words.specs.Number.{is_short_number, digits_value, number_in, both, count_and_seed_at, is_comma}
-use Rattle.tool_words.specs.Options.{number_for}
 use Rattle.tool_words.specs.Reading.{nothing, read_all}
 use Rattle.tool_words.specs.Sound.{IsWithin, AreInRange, IsSound}
 use Rattle.tool_words.proofs.ListingLemmas.{listings, all-few, feeds-with_options}

@@ -14,8 +14,9 @@ use Rattle.tool_words.specs.declared.options.Meaning.{Meaning}
 use Rattle.tool_words.specs.declared.options.Meaning.TheVariants as meanings
 use Rattle.tool_words.specs.declared.reading.Given.{Given}
 use Rattle.tool_words.specs.declared.reading.Reading.{Reading}
+use Rattle.tool_words.specs.Fold.{number_for}
 use Rattle.tool_words.specs.Number.{count_and_seed, grouping_named}
-use Rattle.tool_words.specs.Options.{letters_of, meaning_of, long_meaning_of, number_for}
+use Rattle.tool_words.specs.Options.{letters_of, meaning_of, long_meaning_of}
 
 -- whether an option names a listing
 abbrev pub is_feed : Choice → Bool

@@ -1,13 +1,13 @@
 //! What the given options change in a job.
 
 ghost use Rattle.std.specs.Prelude.{◌≡◌, ◌∷◌, [], ◌++◌, IfOk, OnOk, unwrap_or};
-ghost use Rattle.tool_words.specs.Fold.{or_json, plain_job, with_choice, with_flag, with_options, with_query, with_rule, with_text, with_value};
+ghost use Rattle.tool_words.specs.Fold.{number_or, or_json, plain_job, with_choice, with_options, with_query, with_rule};
 ghost use Rattle.tool_words.specs.Number.{grouping_named};
-ghost use Rattle.tool_words.specs.Options.{number_for};
 
 use crate::job::{Job, Order, QueryText, StatMode, Tool};
+use crate::lookup::option_number;
 use crate::number::{read_count_and_seed, read_grouping};
-use crate::options::{Choice, option_number};
+use crate::options::Choice;
 use crate::reading::Given;
 use std::alloc::{AllocError, Global};
 use txn_rows::Grouping;
@@ -49,8 +49,8 @@ pub(crate) fn new_job(alloc: Global, tool: Tool) -> Job
 }
 
 /// The number that an option has of a value, or what was there before.
-fn number_or(choice: Choice, value: &Text, before: u32) -> u32
-    ensures { result ≡ unwrap_or (number_for choice value.now) before }
+fn number_of(choice: Choice, value: &Text, before: u32) -> u32
+    ensures { result ≡ number_or choice value.now before }
 {
     match option_number(choice, value.as_bytes()) {
         Some(number) => number,
@@ -107,43 +107,6 @@ fn add_rule(
     Ok(())
 }
 
-/// What a flag changes in a job.
-fn set_flag(job: &mut Job, choice: Choice)
-    ensures { job.new ≡ with_flag choice job.old }
-{
-    match choice {
-        Choice::Append => job.append = true,
-        Choice::AsText => job.text = true,
-        Choice::Backend => job.sides.backend = true,
-        Choice::Caseless => job.caseless = true,
-        Choice::Client => job.sides.client = true,
-        Choice::Esi => job.sides.esi = true,
-        Choice::FeedFirst => job.order = Order::FeedFirst,
-        Choice::FirstField => job.first_field = true,
-        Choice::Json => job.stat = json_or_list(job.stat),
-        Choice::ListCounters => job.stat = StatMode::List,
-        Choice::Verbose => job.verbose = true,
-        _ => {}
-    }
-}
-
-/// What an option with a number or a name of a few changes in a job.
-fn set_value(job: &mut Job, choice: Choice, value: &Text)
-    ensures { job.new ≡ with_value choice value.now job.old }
-{
-    match choice {
-        Choice::Group => job.grouping = grouping_or(value, job.grouping),
-        Choice::Keep => job.keep = option_number(Choice::Keep, value.as_bytes()),
-        Choice::Limit => job.limit = number_or(Choice::Limit, value, job.limit),
-        Choice::Made => job.made = read_count_and_seed(value.as_bytes()),
-        Choice::RecordLength => job.reclen = number_or(Choice::RecordLength, value, job.reclen),
-        Choice::Segment => job.seg = number_or(Choice::Segment, value, job.seg),
-        Choice::Timeout => job.timeout = number_or(Choice::Timeout, value, job.timeout),
-        Choice::Turns => job.order = Order::Turns(number_or(Choice::Turns, value, 0)),
-        _ => {}
-    }
-}
-
 /// One more text.
 fn add_name(names: &mut Listed<Text>, name: Text) -> Result<(), AllocError>
     ensures { OnOk result (names.new ≡ names.old ++ name ∷ []) }
@@ -152,28 +115,47 @@ fn add_name(names: &mut Listed<Text>, name: Text) -> Result<(), AllocError>
     Ok(())
 }
 
-/// What an option that keeps its text changes in a job.
-fn add_text(job: &mut Job, choice: Choice, word: u32, text: Text) -> Result<(), AllocError>
-    ensures { OnOk result (job.new ≡ with_text choice word text job.old) }
+/// What an option changes in a job, by the place and the text of its value.
+fn add_choice(job: &mut Job, choice: Choice, word: u32, text: Text) -> Result<(), AllocError>
+    ensures { OnOk result (job.new ≡ with_choice choice word text job.old) }
 {
     match choice {
-        Choice::Exclude => return add_rule(job, false, false, word, text),
-        Choice::ExcludePattern => return add_rule(job, false, true, word, text),
-        Choice::Feed => return add_name(&mut job.feeds, text),
+        Choice::Append => job.append = true,
+        Choice::AsText => job.text = true,
+        Choice::Backend => job.sides.backend = true,
+        Choice::Caseless => job.caseless = true,
+        Choice::Client => job.sides.client = true,
+        Choice::Esi => job.sides.esi = true,
+        Choice::Exclude => add_rule(job, false, false, word, text)?,
+        Choice::ExcludePattern => add_rule(job, false, true, word, text)?,
+        Choice::Feed => add_name(&mut job.feeds, text)?,
+        Choice::FeedFirst => job.order = Order::FeedFirst,
         Choice::FileName => job.file = Some(text),
+        Choice::FirstField => job.first_field = true,
         Choice::Format => job.format = Some(text),
-        Choice::Glob => return add_name(&mut job.globs, text),
-        Choice::Include => return add_rule(job, true, false, word, text),
-        Choice::IncludePattern => return add_rule(job, true, true, word, text),
-        Choice::Query => return add_query(job, false, text),
-        Choice::QueryFile => return add_query(job, true, text),
+        Choice::FromHead | Choice::Once => {}
+        Choice::Glob => add_name(&mut job.globs, text)?,
+        Choice::Group => job.grouping = grouping_or(&text, job.grouping),
+        Choice::Include => add_rule(job, true, false, word, text)?,
+        Choice::IncludePattern => add_rule(job, true, true, word, text)?,
+        Choice::Json => job.stat = json_or_list(job.stat),
+        Choice::Keep => job.keep = option_number(Choice::Keep, text.as_bytes()),
+        Choice::Limit => job.limit = number_of(Choice::Limit, &text, job.limit),
+        Choice::ListCounters => job.stat = StatMode::List,
+        Choice::Made => job.made = read_count_and_seed(text.as_bytes()),
+        Choice::Query => add_query(job, false, text)?,
+        Choice::QueryFile => add_query(job, true, text)?,
+        Choice::RecordLength => job.reclen = number_of(Choice::RecordLength, &text, job.reclen),
+        Choice::Segment => job.seg = number_of(Choice::Segment, &text, job.seg),
+        Choice::Timeout => job.timeout = number_of(Choice::Timeout, &text, job.timeout),
+        Choice::Turns => job.order = Order::Turns(number_of(Choice::Turns, &text, 0)),
+        Choice::Verbose => job.verbose = true,
         Choice::Write => job.write = Some(text),
-        _ => {}
     }
     Ok(())
 }
 
-/// What an option changes in a job.
+/// What an option that is given changes in a job.
 fn add_option(job: &mut Job, one: Given) -> Result<(), AllocError>
     ensures { OnOk result (job.new ≡ with_choice one.choice one.word one.value job.old) }
 {
@@ -182,9 +164,7 @@ fn add_option(job: &mut Job, one: Given) -> Result<(), AllocError>
         word,
         value,
     } = one;
-    set_flag(job, choice);
-    set_value(job, choice, &value);
-    add_text(job, choice, word, value)
+    add_choice(job, choice, word, value)
 }
 
 /// What the given options change in a job, each in turn.

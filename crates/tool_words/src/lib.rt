@@ -4,7 +4,7 @@
 //! wrong with the words, with the place of the word. Every list of words has one of the two; nothing is
 //! opened and nothing is printed here.
 //!
-//! Start with `specs/Job.antt`; the options of each tool are the tables of `options.rt`, which the
+//! Start with `specs/Job.antt`; each option is a row of `options.rt`, which the
 //! definitions cite as they stand. Source: varnishlog(1), varnishncsa(1), varnishtop(1), varnishstat(1).
 #![tactic(auto)]
 
@@ -12,6 +12,7 @@ mod fault;
 mod fold;
 mod job;
 mod laws;
+mod lookup;
 mod number;
 mod options;
 mod reading;

@@ -11,8 +11,9 @@ ghost use Rattle.tool_words.specs.Reading.{at_end, has_letters, has_minus, is_fe
 use crate::fault::{UsageFault, WordsFault};
 use crate::fold::{add_options, new_job};
 use crate::job::{Job, Tool};
+use crate::lookup::{letter_meaning, option_number, word_meaning};
 use crate::number::{read_count_and_seed, read_grouping};
-use crate::options::{Choice, Form, Meaning, letter_meaning, option_number, word_meaning};
+use crate::options::{Choice, Form, Meaning};
 use crate::reading::{Given, Reading};
 use crate::whole::{is_ended, test_job};
 use std::alloc::Global;

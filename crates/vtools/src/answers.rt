@@ -15,7 +15,7 @@ use vio::{NoMemory, OUTPUT, World, WorldFault, write_all};
 /// What `vtools --version` prints.
 const VERSION: &str = "vtools 0.2\n";
 
-/// What `vtools --help` prints.
+/// What `vtools --help` prints; `tools/options.py` makes its usage and its paragraphs of options.
 const HELP: &str = "\
 vtools: Varnish's logging tools as one program
 
