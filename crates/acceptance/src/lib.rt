@@ -18,6 +18,8 @@ mod feeds;
 #[cfg(test)]
 mod files;
 #[cfg(test)]
+mod live;
+#[cfg(test)]
 mod queries;
 #[cfg(test)]
 mod support;

@@ -9,9 +9,9 @@ use Rattle.log_ring.specs.Writers.{WriterState, new_writer, new_writers}
 use Rattle.traffic_feed.specs.declared.listing.Listing.{Listing}
 use Rattle.traffic_feed.specs.Batches.{IsWithin}
 use Rattle.traffic_feed.specs.Listing.{record_count}
-use Rattle.live_feed.specs.Feeding.{most_records}
-use Rattle.live_workers.specs.declared.worker.Worker.{Worker}
-use Rattle.live_workers.specs.Workers.{AllReady, listings_of}
+use Rattle.traffic_feed.specs.Feeding.{most_records}
+use Rattle.traffic_feed.specs.declared.worker.Worker.{Worker}
+use Rattle.traffic_feed.specs.Workers.{AllReady, listings_of}
 use Rattle.live_run.specs.Runs.{MayBePut}
 
 -- what is so of each is so in the other order

@@ -22,10 +22,10 @@ use Rattle.one_run.specs.declared.pass.RunEnded.{RunEnded}
 use Rattle.one_run.specs.declared.source.Never.{Never}
 use Rattle.one_run.specs.Run.{Made, Ran, RanShort, EndsBy}
 use Rattle.one_run.proofs.RunLemmas.{made_so}
-use Rattle.live_source.specs.Live.{LiveGave, LiveStarved}
+use Rattle.run_sources.specs.Live.{LiveGave, LiveStarved}
 use Rattle.traffic_feed.specs.declared.listing.Listing.{Listing}
-use Rattle.live_feed.specs.declared.feeding.Fed.{Fed}
-use Rattle.live_workers.specs.Workers.{AllFed, listings_of}
+use Rattle.traffic_feed.specs.declared.feeding.Fed.{Fed}
+use Rattle.traffic_feed.specs.Workers.{AllFed, listings_of}
 use Rattle.live_run.specs.Runs.{MayBePut, LiveCame, LiveBegan, feeds_of}
 use Rattle.live_run.specs.declared.opening.Opened.{Opened}
 use Rattle.live_run.specs.inside.Opening.{IsOpened, lefts_of}

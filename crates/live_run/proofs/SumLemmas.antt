@@ -16,9 +16,9 @@ use Rattle.log_ring.specs.Closed.{entries_from}
 use Rattle.counter_segments.specs.Sums.{CounterSet, counter_count, own_sum, total, totals}
 use Rattle.traffic_feed.specs.declared.listing.Listing.{Listing}
 use Rattle.traffic_feed.specs.Counted.{Cause, EachTag, EachRequest, EachFetch, EachCall, EachField, EachRecord, EachUnit, EachCut, EachWait, EachWrap, causes, unit_share, wrap_raise, listing_share}
-use Rattle.live_feed.specs.declared.feeding.Fed.{Fed}
-use Rattle.live_feed.specs.Feeding.{most_waits, wait_raise, wraps_of}
-use Rattle.live_workers.specs.Workers.{AllFed}
+use Rattle.traffic_feed.specs.declared.feeding.Fed.{Fed}
+use Rattle.traffic_feed.specs.Feeding.{most_waits, wait_raise, wraps_of}
+use Rattle.traffic_feed.specs.Workers.{AllFed}
 use Rattle.live_run.specs.inside.Opening.{lefts_of, counts_of, AreWhole}
 use Rattle.live_run.specs.Runs.{AreTold, live_value, live_values}
 use Rattle.live_run.proofs.ListLemmas.{interleaving_sum, map_range}

@@ -19,9 +19,9 @@ use Rattle.counter_segments.specs.Sums.{CounterSet, AreOf, totals}
 use Rattle.traffic_feed.specs.declared.listing.Listing.{Listing}
 use Rattle.traffic_feed.specs.Listing.{word_count}
 use Rattle.feed_schedule.specs.Replaying.{count_feed_words}
-use Rattle.live_feed.specs.declared.feeding.Fed.{Fed}
-use Rattle.live_feed.specs.Feeding.{IsFullAt}
-use Rattle.live_workers.specs.Workers.{AllFed}
+use Rattle.traffic_feed.specs.declared.feeding.Fed.{Fed}
+use Rattle.traffic_feed.specs.Feeding.{IsFullAt}
+use Rattle.traffic_feed.specs.Workers.{AllFed}
 use Rattle.live_run.specs.inside.Opening.{lefts_of, counts_of, AreWhole}
 use Rattle.live_run.specs.Runs.{LiveCounted, MayBePut, feeds_of}
 use Rattle.live_run.proofs.ListLemmas.{interleaving_sum}

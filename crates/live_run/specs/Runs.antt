@@ -18,7 +18,7 @@ use Rattle.traffic_feed.specs.Batches.{IsWithin}
 use Rattle.traffic_feed.specs.Counted.{causes, counter_value}
 use Rattle.traffic_feed.specs.Listing.{record_count}
 use Rattle.feed_schedule.specs.Replaying.{count_feed_words}
-use Rattle.live_feed.specs.Feeding.{most_records, most_waits, wait_raise}
+use Rattle.traffic_feed.specs.Feeding.{most_records, most_waits, wait_raise}
 
 -- the units of listings, list by list
 abbrev pub feeds_of : List Listing → List Log

@@ -3,20 +3,19 @@
 ghost use Rattle.std.specs.Prelude.{◌≡◌, ◌<◌, ◌≤◌, ◌^◌, [], vec_len, vec_capacity};
 ghost use Rattle.std.specs.Thread.{IsSync};
 ghost use Rattle.log_ring.specs.Readers.{new_pass};
-ghost use Rattle.live_workers.specs.Workers.{AllReady, AllFed, listings_of};
+ghost use Rattle.traffic_feed.specs.Workers.{AllReady, AllFed, listings_of};
 ghost use Rattle.live_run.specs.inside.Opening.{WorkReady, WorkFed};
 ghost use Rattle.live_run.specs.inside.Reading.{HasRead, ReadBeside};
 
 use counter_segments::Counters;
-use live_feed::{Fed, Gate};
-use live_source::LiveItems;
-use live_workers::{Worker, run_workers};
 use log_model::NoMemory;
 use log_ring::{ReaderPass, Ring};
 use one_run::{Never, Output, RunEnded, run};
+use run_sources::LiveItems;
 use std::alloc::Global;
 use std::sync::{Mutex, Wait};
 use std::thread::{Threads, join_mut};
+use traffic_feed::{Fed, Gate, Worker, run_workers};
 use vio::World;
 
 /// What workers are to do, until they are started, and the room for what they leave.

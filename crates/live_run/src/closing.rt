@@ -4,8 +4,8 @@ ghost use Rattle.std.specs.Prelude.{◌≡◌, ◌≤◌, [], vec_len, vec_capac
 ghost use Rattle.live_run.specs.inside.Opening.{counts_of, lefts_of};
 
 use counter_segments::CounterPass;
-use live_feed::Fed;
 use log_ring::LeftWriter;
+use traffic_feed::Fed;
 
 /// The passes to the ring and those to the counters, of what workers left, in the room that the caller took.
 pub fn part(

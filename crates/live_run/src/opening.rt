@@ -2,18 +2,16 @@
 
 ghost use Rattle.std.specs.Prelude.{◌≡◌, ◌≤◌, map, reverse, vec_len, IfOk};
 ghost use Rattle.log_ring.specs.Ring.{most_readers};
-ghost use Rattle.live_workers.specs.Workers.{listings_of};
+ghost use Rattle.traffic_feed.specs.Workers.{listings_of};
 ghost use Rattle.live_run.specs.Runs.{MayBePut};
 ghost use Rattle.live_run.specs.inside.Opening.{IsOpened};
 
 use counter_segments::{CounterPass, Counters, OpenCounters};
-use live_feed::Fed;
-use live_workers::Worker;
 use log_model::NoMemory;
 use log_ring::{LeftWriter, ReaderPass, Ring, WriterPass};
 use ring_layout::Shape;
 use std::alloc::Global;
-use traffic_feed::Listing;
+use traffic_feed::{Fed, Listing, Worker};
 
 /// A ring and counters, whose passes workers and readers have, and room for what workers leave.
 #[derive(Drop)]

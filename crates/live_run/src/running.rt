@@ -8,17 +8,15 @@ use crate::beside::{Beside, run_beside};
 use crate::closing::part;
 use crate::opening::{Opened, open};
 use counter_segments::Values;
-use live_feed::Gate;
-use live_source::items_are_the_history;
-use live_workers::run_workers;
 use log_model::NoMemory;
 use log_ring::{ClosedRing, close};
 use one_run::{Never, Output, RunEnded};
 use ring_layout::Shape;
+use run_sources::items_are_the_history;
 use std::alloc::Global;
 use std::sync::Wait;
 use std::thread::Threads;
-use traffic_feed::Listing;
+use traffic_feed::{Gate, Listing, run_workers};
 use vio::World;
 
 /// How a run over a shared ring ended, and the ring, which is closed.

@@ -1,3 +1,4 @@
 pub mod FileLemmas
 pub mod FeedLemmas
 pub mod ToldLemmas
+mod ItemLemmas

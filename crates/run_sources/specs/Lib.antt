@@ -1,3 +1,4 @@
 pub mod Sources
 pub mod Laws
 pub mod Told
+pub mod Live

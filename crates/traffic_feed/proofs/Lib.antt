@@ -14,3 +14,5 @@ mod OrderLemmas
 mod PartlyLemmas
 mod RawLemmas
 mod ReadingLemmas
+mod FeedingLemmas
+mod WorkerLemmas

@@ -7,3 +7,5 @@ pub mod RawLog
 pub mod TagNumbers
 pub mod Turns
 pub mod inside
+pub mod Feeding
+pub mod Workers

@@ -5,3 +5,4 @@ pub mod Making
 pub mod Partly
 pub mod Raises
 pub mod Reading
+pub mod Putting

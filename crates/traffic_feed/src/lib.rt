@@ -6,13 +6,16 @@
 //! a unit raises them by, and takes no memory.
 //!
 //! Start with `specs/Lines.antt`, then `specs/Batches.antt` and `specs/Listing.antt`; for traffic that is made with `specs/Made.antt`,
-//! for the counters with `specs/Counted.antt`. Source: varnishlog(1), `-g raw`, and varnish-counters(7), `MAIN.`; where a unit ends,
-//! the draws, the traffic that is made, and what raises which counter are this project's choice.
+//! for the counters with `specs/Counted.antt`, for workers with `specs/Feeding.antt` and `specs/Workers.antt`.
+//! Source: varnishlog(1), `-g raw`, and varnish-counters(7), `MAIN.`; where a unit ends, the draws, the traffic that is made,
+//! and what raises which counter are this project's choice.
 #![tactic(auto)]
 
 mod begun_unit;
 mod counting;
 mod fault;
+mod feeding;
+mod gate;
 mod gathering;
 mod laws;
 mod line;
@@ -25,9 +28,13 @@ mod tag_cache;
 mod tag_numbers;
 mod traffic;
 mod turns;
+mod waiting;
+mod worker;
 
 pub use counting::{count_cuts, count_unit, count_wraps};
 pub use fault::ListFault;
+pub use feeding::{Fed, feed};
+pub use gate::{Gate, OpenGate};
 pub use laws::{
     each_record_once, every_listing, one_listing, one_meaning, raw_lines_read_back,
     units_are_longest,
@@ -35,3 +42,4 @@ pub use laws::{
 pub use listing::{Listing, read_listing};
 pub use traffic::generate;
 pub use turns::Turns;
+pub use worker::{Worker, run_workers};

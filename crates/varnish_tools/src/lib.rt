@@ -17,6 +17,6 @@ mod tools;
 pub use job_runs::RunRecord;
 pub use job_steps::ToolFault;
 pub use laws::{good_words_have_no_fault, told_logs_are_printed};
-pub use live_feed::{Gate, OpenGate};
 pub use outcome::Outcome;
 pub use tools::{run_alone, run_tools};
+pub use traffic_feed::{Gate, OpenGate};

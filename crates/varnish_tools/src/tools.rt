@@ -20,13 +20,13 @@ use job_steps::{
     Begun, Input, ToolFault, is_counting, is_on_threads, read_job, read_selection,
     take_counter_steps, take_group_steps,
 };
-use live_feed::Gate;
 use log_model::Halt;
 use std::alloc::Global;
 use std::sync::Wait;
 use std::thread::Threads;
 use tool_consumers::consumer_of;
 use tool_words::Job;
+use traffic_feed::Gate;
 use vio::{ERRORS, NoMemory, World, WorldFault, write_all};
 
 /// Works off a job that starts no thread, but for the message of a fault: takes its steps, and runs it.

@@ -6,8 +6,8 @@ use Rattle.log_ring.specs.Ring.{RingSet}
 use Rattle.log_ring.specs.Writers.{WriterState}
 use Rattle.log_ring.specs.Readers.{new_passes}
 use Rattle.traffic_feed.specs.declared.listing.Listing.{Listing}
-use Rattle.live_feed.specs.declared.feeding.Fed.{Fed}
-use Rattle.live_workers.specs.Workers.{AllReady, AllFed, listings_of}
+use Rattle.traffic_feed.specs.declared.feeding.Fed.{Fed}
+use Rattle.traffic_feed.specs.Workers.{AllReady, AllFed, listings_of}
 use Rattle.live_run.specs.declared.opening.Opened.{Opened}
 use Rattle.live_run.specs.declared.beside.Work.{Work}
 

@@ -8,7 +8,7 @@ use Rattle.log_ring.specs.Readers.{ReaderState}
 use Rattle.one_run.specs.declared.pass.RunEnded.{RunEnded}
 use Rattle.one_run.specs.declared.source.Never.{Never}
 use Rattle.one_run.specs.Run.{Made, Ran, RanShort}
-use Rattle.live_source.specs.Live.{LiveGave, LiveStarved}
+use Rattle.run_sources.specs.Live.{LiveGave, LiveStarved}
 
 -- a run over what a pass met, from one state of it to a later one, however it ended; no handle is read
 pub record HasRead {E : Type 0} (writes : List ℕ) (printed : List Call → List Item → Type 0) (ended : E → List Call → List Item → List Item → Bool → Type 0) (starved : List Call → List Item → Bool → Type 0)

@@ -1,6 +1,6 @@
 -- each worker that was made has the last of the passes that were there, and there are passes, and room, for the rest
 use Rattle.std.proofs.Common.{◌≡◌, ◌+◌, ◌≤◌, ◌++◌, map, reverse, vec_len, vec_capacity}
-use Rattle.live_workers.specs.Workers.{listings_of}
+use Rattle.traffic_feed.specs.Workers.{listings_of}
 use Rattle.live_run.proofs.opening.workers_of.Given as goal
 
 abbrev pub invariant-loop-listing : goal.invariant-loop-listing

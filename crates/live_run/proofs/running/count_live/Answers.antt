@@ -6,7 +6,7 @@ use Rattle.counter_segments.specs.Sums.{AreOf, totals}
 use Rattle.log_ring.specs.Writers.{AreWritersOf, units_put, entries_of, busy_of}
 use Rattle.log_ring.specs.Readers.{history_taken}
 use Rattle.log_ring.specs.Closed.{entries_from, HasReached}
-use Rattle.live_workers.specs.Workers.{AllFed, listings_of}
+use Rattle.traffic_feed.specs.Workers.{AllFed, listings_of}
 use Rattle.live_run.specs.Runs.{MayBePut, LiveCounted}
 use Rattle.live_run.proofs.WholeLemmas.{fed_writers, fed_counts, live_counted}
 use Rattle.live_run.proofs.running.count_live.Goals as goal

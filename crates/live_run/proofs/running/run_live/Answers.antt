@@ -1,7 +1,7 @@
 use Rattle.std.proofs.Common.{arith, ◌≡◌, length, ap, sym, subst, ◌∙◌, vec_len}
 use Rattle.std.proofs.lemmas.List.{length-map}
 use Rattle.log_ring.specs.Writers.{AreWritersOf}
-use Rattle.live_workers.specs.Workers.{listings_of}
+use Rattle.traffic_feed.specs.Workers.{listings_of}
 use Rattle.vio.proofs.WholeLemmas.{OnErr-always}
 use Rattle.live_run.specs.Runs.{feeds_of}
 use Rattle.live_run.proofs.WholeLemmas.{fed_writers, fed_length}

@@ -1,2 +1,0 @@
--- What only the private steps of this crate say.
-pub mod Putting
