@@ -1,10 +1,10 @@
 -- Stages go on by events: what each turn adds to what the reader met.
-use Rattle.std.proofs.Common.{◌≡◌, ℕ, zero, suc, ◌-◌, ◌/◌, ◌%◌, Bool, true, false, cond, ltb, List, [], ◌∷◌, ◌++◌, map, reverse, slice_get, sym, refl, ap, ◌∙◌, Option, Some, None, append_assoc}
+use Rattle.std.proofs.Common.{◌≡◌, ℕ, zero, suc, ◌-◌, ◌/◌, ◌%◌, Bool, cond, ltb, List, [], ◌∷◌, ◌++◌, map, reverse, slice_get, sym, refl, ap, ◌∙◌, Option, Some, None, append_assoc}
 use Rattle.std.proofs.lemmas.List.{append-nil, map-append, reverse-append}
 use Rattle.std.proofs.lemmas.Bool.{cond_both}
 use Rattle.std.specs.Option.{option_to_list}
 use Rattle.log_model.specs.Prefix.{IsPrefix}
-use Rattle.log_model.proofs.PrefixLemmas.{prefix_same, prefix_past}
+use Rattle.log_model.proofs.PrefixLemmas.{prefix_same, prefix_then}
 use Rattle.vsl_record.specs.Unit.{LogUnit}
 use Rattle.vsl_record.specs.Words.{unit_words}
 use Rattle.ring_layout.specs.History.{first_number, HasRun, with_unit}
@@ -12,19 +12,7 @@ use Rattle.ring_layout.specs.declared.history.Run.{Run}
 use Rattle.ring_layout.specs.declared.history.HistoryItem.{HistoryItem}
 use Rattle.ring_layout.specs.declared.history.HistoryItem.TheVariants.{UnitRun, Overrun}
 use Rattle.traffic_feed.specs.Turns.{next_draw}
-use Rattle.feed_schedule.specs.Schedule.{Event, TookUnit, WasOverrun, Stage, count_writers, after_writer, after_taking, last_segment, is_overrun, after_overrun, after_reader, has_ended, count_active, after_turn_of, after_turn, after_turns, events_of, met}
-
--- what a turn of the reader adds
-abbrev pub reader_meets : ℕ → Stage → List Event
-reader_meets seg s = cond (is_overrun seg s) (WasOverrun (s.place / seg) (last_segment seg s) ∷ []) (map TookUnit (option_to_list (slice_get s.log s.number)))
-
--- what the k-th adds in its turn: a writer adds nothing
-abbrev pub turn_of_meets : ℕ → ℕ → Stage → List Event
-turn_of_meets seg k s = cond (ltb k (count_writers s.writers)) [] (reader_meets seg s)
-
--- what a turn adds
-abbrev pub turn_meets : ℕ → Bool → Stage → List Event
-turn_meets seg in_turns s = cond (has_ended s.reading) [] (cond in_turns (turn_of_meets seg (next_draw s.drawn % count_active s) s) (turn_of_meets seg 0 s))
+use Rattle.feed_schedule.specs.Schedule.{TookUnit, WasOverrun, Stage, count_writers, after_writer, after_taking, last_segment, is_overrun, after_overrun, after_reader, has_ended, count_active, after_turn_of, after_turn, after_turns, events_of, met}
 
 -- the events of items behind others come last
 events_append : (xs ys : List (HistoryItem LogUnit)) → events_of (xs ++ ys) ≡ events_of xs ++ events_of ys
@@ -57,51 +45,35 @@ pub taking_events : (seg : ℕ) (found : Option LogUnit) (s : Stage) → HasRun 
 taking_events seg None s h = sym (append-nil (met s))
 taking_events seg (Some u) s h = unit_events u s.history h
 
--- of two turns by a test, each adds its own
-by_test : (b : Bool) (s x y : Stage) (p q : List Event) → met x ≡ met s ++ p → met y ≡ met s ++ q → met (cond b x y) ≡ met s ++ cond b p q
-by_test true s x y p q e f = e
-by_test false s x y p q e f = f
-
--- a reader's turn
-pub reader_events : (seg : ℕ) (s : Stage) → HasRun s.history → met (after_reader seg s) ≡ met s ++ reader_meets seg s
-reader_events seg s h = by_test (is_overrun seg s) s (after_overrun seg s) (after_taking seg (slice_get s.log s.number) s) (WasOverrun (s.place / seg) (last_segment seg s) ∷ []) (map TookUnit (option_to_list (slice_get s.log s.number))) (overrun_events seg s)
-    (taking_events seg (slice_get s.log s.number) s h)
-
--- the turn of the k-th
-turn_of_events : (seg k : ℕ) (s : Stage) → HasRun s.history → met (after_turn_of seg k s) ≡ met s ++ turn_of_meets seg k s
-turn_of_events seg k s h = by_test (ltb k (count_writers s.writers)) s (after_writer k s) (after_reader seg s) [] (reader_meets seg s) (sym (append-nil (met s))) (reader_events seg s h)
-
--- any turn
-pub turn_events : (seg : ℕ) (in_turns : Bool) (s : Stage) → HasRun s.history → met (after_turn seg in_turns s) ≡ met s ++ turn_meets seg in_turns s
-turn_events seg in_turns s h = let x : Stage = after_turn_of seg (next_draw s.drawn % count_active s) (record s { drawn = next_draw s.drawn }) in let y : Stage = after_turn_of seg 0 s in
-    let p : List Event = turn_of_meets seg (next_draw s.drawn % count_active s) s in let q : List Event = turn_of_meets seg 0 s in
-    by_test (has_ended s.reading) s s (cond in_turns x y) [] (cond in_turns p q) (sym (append-nil (met s)))
-    (by_test in_turns s x y p q (turn_of_events seg (next_draw s.drawn % count_active s) (record s { drawn = next_draw s.drawn }) h) (turn_of_events seg 0 s h))
-
--- the newest item stays a run in each kind of turn
+-- the newest item stays a run where a unit is taken
 pub unit_keeps_run : (u : LogUnit) (history : List (HistoryItem LogUnit)) → HasRun history → HasRun (with_unit u history)
 unit_keeps_run u [] h = h
 unit_keeps_run u (UnitRun r ∷ items) h = h
 unit_keeps_run u (Overrun at seen ∷ items) h = h
 
+-- at a later stage what was met stays met, first, and the newest item is a run
+pub record IsLater (s t : Stage) : Type 0 where
+  pub met_more : IsPrefix (met s) (met t)
+  pub run : HasRun t.history
+
 -- where the reader takes or finds none
-taking_keeps_run : (seg : ℕ) (found : Option LogUnit) (s : Stage) → HasRun s.history → HasRun (after_taking seg found s).history
-taking_keeps_run seg None s h = h
-taking_keeps_run seg (Some u) s h = unit_keeps_run u s.history h
+taking_later : (seg : ℕ) (found : Option LogUnit) (s : Stage) → HasRun s.history → IsLater s (after_taking seg found s)
+taking_later seg None s h = record { met_more = prefix_same (met s); run = h }
+taking_later seg (Some u) s h = record { met_more = record { rest = TookUnit u ∷ []; is = unit_events u s.history h }; run = unit_keeps_run u s.history h }
 
--- in the turn of the k-th
-turn_of_keeps_run : (seg k : ℕ) (s : Stage) → HasRun s.history → HasRun (after_turn_of seg k s).history
-turn_of_keeps_run seg k s h = cond_both (ltb k (count_writers s.writers)) (after_writer k s) (after_reader seg s) (λ t. HasRun t.history) (λ e. h)
-    (λ e. cond_both (is_overrun seg s) (after_overrun seg s) (after_taking seg (slice_get s.log s.number) s) (λ t. HasRun t.history) (λ lost. tt) (λ near. taking_keeps_run seg (slice_get s.log s.number) s h))
+-- after the turn of the k-th
+turn_of_later : (seg k : ℕ) (s : Stage) → HasRun s.history → IsLater s (after_turn_of seg k s)
+turn_of_later seg k s h = cond_both (ltb k (count_writers s.writers)) (after_writer k s) (after_reader seg s) (IsLater s) (λ writer. record { met_more = prefix_same (met s); run = h })
+    (λ reader. cond_both (is_overrun seg s) (after_overrun seg s) (after_taking seg (slice_get s.log s.number) s) (IsLater s)
+    (λ lost. record { met_more = record { rest = WasOverrun (s.place / seg) (last_segment seg s) ∷ []; is = overrun_events seg s }; run = tt }) (λ near. taking_later seg (slice_get s.log s.number) s h))
 
--- in any turn
-pub turn_keeps_run : (seg : ℕ) (in_turns : Bool) (s : Stage) → HasRun s.history → HasRun (after_turn seg in_turns s).history
-turn_keeps_run seg in_turns s h = let x : Stage = after_turn_of seg (next_draw s.drawn % count_active s) (record s { drawn = next_draw s.drawn }) in let y : Stage = after_turn_of seg 0 s in
-    cond_both (has_ended s.reading) s (cond in_turns x y) (λ t. HasRun t.history) (λ ended. h)
-    (λ before. cond_both in_turns x y (λ t. HasRun t.history) (λ drawn. turn_of_keeps_run seg (next_draw s.drawn % count_active s) (record s { drawn = next_draw s.drawn }) h) (λ first. turn_of_keeps_run seg 0 s h))
+-- after any turn
+pub turn_later : (seg : ℕ) (in_turns : Bool) (s : Stage) → HasRun s.history → IsLater s (after_turn seg in_turns s)
+turn_later seg in_turns s h = let drawn : Stage = record s { drawn = next_draw s.drawn } in let x : Stage = after_turn_of seg (next_draw s.drawn % count_active s) drawn in let y : Stage = after_turn_of seg 0 s in
+    cond_both (has_ended s.reading) s (cond in_turns x y) (IsLater s) (λ ended. record { met_more = prefix_same (met s); run = h })
+    (λ before. cond_both in_turns x y (IsLater s) (λ draws. let l = turn_of_later seg (next_draw s.drawn % count_active s) drawn h in record { met_more = l.met_more; run = l.run }) (λ first. turn_of_later seg 0 s h))
 
--- what was met stays met, first
+-- and after turns
 pub events_go_on : (n seg : ℕ) (in_turns : Bool) (s : Stage) → HasRun s.history → IsPrefix (met s) (met (after_turns n seg in_turns s))
 events_go_on zero seg in_turns s h = prefix_same (met s)
-events_go_on (suc n) seg in_turns s h = prefix_past (met s) (met (after_turn seg in_turns s)) (met (after_turns n seg in_turns (after_turn seg in_turns s))) (turn_meets seg in_turns s) (turn_events seg in_turns s h)
-    (events_go_on n seg in_turns (after_turn seg in_turns s) (turn_keeps_run seg in_turns s h))
+events_go_on (suc n) seg in_turns s h = let l = turn_later seg in_turns s h in prefix_then l.met_more (events_go_on n seg in_turns (after_turn seg in_turns s) l.run)

@@ -1,8 +1,11 @@
--- Where a replay stands after a writer's turn. A put isn't refused: no unit has more words than a segment, and it moves the tail by at most twice its words.
-use Rattle.std.proofs.Common.{◌≡◌, ℕ, ◌+◌, ◌*◌, ◌/◌, ◌%◌, ◌<◌, ◌≤◌, eqb, List, [], ◌∷◌, ◌++◌, length, set, sym, refl, ap, ◌∙◌, subst, arith, Option, None, append_assoc, div-add-mod', mod-lt}
-use Rattle.std.proofs.lemmas.List.{append-nil}
+-- Where writers stand before the first turn and after a turn, and a replay with them. A put isn't refused: no unit has more words than a segment, and it moves the tail by at most twice its words.
+use Rattle.std.proofs.Common.{◌≡◌, ℕ, ◌+◌, ◌*◌, ◌/◌, ◌%◌, ◌<◌, ◌≤◌, eqb, List, [], ◌∷◌, ◌++◌, length, map, set, sym, refl, ap, ◌∙◌, subst, arith, Option, Some, None, append_assoc, div-add-mod', mod-lt}
+use Rattle.std.proofs.lemmas.List.{append-nil, length-map}
 use Rattle.std.proofs.lemmas.List.Sums.{sum_by-cons}
 use Rattle.std.proofs.lemmas.Bool.{le-ltb}
+use Rattle.std.proofs.lemmas.Option.{same_Some}
+use Rattle.std.specs.List.{All}
+use Rattle.std.specs.Option.{option_map}
 use mathlib.Core.Logic.{dite}
 use native.Mathlib.Decide.{dec_lt}
 use Rattle.vsl_record.specs.Unit.{LogUnit, Log}
@@ -11,14 +14,16 @@ use Rattle.ring_layout.specs.Places.{end_at, tail, AreFit, last_tail}
 use Rattle.ring_layout.proofs.PushLemmas.{tail_push}
 use Rattle.ring_layout.proofs.EntriesLemmas.{at_stay, at_wrap}
 use Rattle.ring_plain.specs.Ring.{RingState, IsRingOf, put_fault}
-use Rattle.ring_plain.specs.Cursor.{CursorState, Stands}
+use Rattle.ring_plain.specs.Cursor.{Stands}
 use Rattle.ring_plain.proofs.CursorLemmas.{stands_longer}
 use Rattle.traffic_feed.specs.Listing.{word_count}
-use Rattle.feed_schedule.specs.Schedule.{Reads, Stage, count_writers, put_by, without_next, after_writer}
-use Rattle.feed_schedule.specs.Replaying.{ReplayState, IsAt, waiting}
+use Rattle.traffic_feed.specs.Turns.{first_draw}
+use Rattle.feed_schedule.specs.Schedule.{Reads, Stage, count_writers, put_by, without_next, after_writer, seed_of, is_drawn}
+use Rattle.feed_schedule.specs.Replaying.{ReplayState, AreAt, written_at, IsAt, count_feed_words, waiting}
+use Rattle.feed_schedule.specs.Unread.{Written, nothing_written, written_by}
 use Rattle.feed_schedule.specs.inside.Turning.{IsSteady, turns_to_come}
-use Rattle.feed_schedule.proofs.WriterLemmas.{leave_counts, count_falls}
-use Rattle.feed_schedule.proofs.WaitingLemmas.{put_length, put_words, put_is_fit, IsWriterAt, puts_at, leaves_at}
+use Rattle.feed_schedule.proofs.WriterLemmas.{leave_counts, count_falls, stays_longer}
+use Rattle.feed_schedule.proofs.WaitingLemmas.{put_length, put_words, put_is_fit, IsWriterAt, puts_at, leaves_at, first_is_fit, first_words, first_count}
 
 -- a unit moves the tail by at most twice its words
 end_twice : (seg t w : ℕ) → 0 < seg → end_at seg t w ≤ t + 2 * w
@@ -28,7 +33,7 @@ end_twice seg t w pos = dite (dec_lt (t % (8 * seg) + w) (8 * seg))
     (let p : t / (8 * seg) * (8 * seg) + t % (8 * seg) ≡ t = div-add-mod' t (8 * seg) in let m : t % (8 * seg) < 8 * seg = mod-lt t (omega arith) in omega arith))
 
 -- so do more units
-pub tail_twice : (seg : ℕ) (log more : Log) → 0 < seg → tail unit_words seg (log ++ more) ≤ tail unit_words seg log + 2 * word_count more
+tail_twice : (seg : ℕ) (log more : Log) → 0 < seg → tail unit_words seg (log ++ more) ≤ tail unit_words seg log + 2 * word_count more
 tail_twice seg log [] pos = subst (λ (l : Log). tail unit_words seg l ≤ tail unit_words seg log + 2 * word_count []) (sym (append-nil log)) (omega arith)
 tail_twice seg log (u ∷ more) pos =
     let r = tail_twice seg (log ++ u ∷ []) more pos in
@@ -38,17 +43,12 @@ tail_twice seg log (u ∷ more) pos =
     let d = sum_by-cons (λ (v : LogUnit). length (unit_words v)) u more in
     omega arith
 
--- puts leave where a cursor stands
-stands_grows : (cursor : CursorState) (log more : Log) (k : ℕ) → 0 < cursor.seg → Stands cursor log k → Stands cursor (log ++ more) k
-stands_grows cursor log [] k pos h = subst (λ (l : Log). Stands cursor l k) (sym (append-nil log)) h
-stands_grows cursor log (u ∷ more) k pos h = subst (λ (l : Log). Stands cursor l k) (append_assoc log (u ∷ []) more) (stands_grows cursor (log ++ u ∷ []) more k pos (stands_longer cursor log u k pos h))
-
 -- a segment has words
-segment_pos : (r : ReplayState) (s : Stage) → IsAt r s → 0 < r.ring.seg
-segment_pos r s h = let b = h.ring.segment in omega arith
+pub ring_pos : (ring : RingState) (log : Log) → IsRingOf ring log → 0 < ring.seg
+ring_pos ring log h = let s = h.segment in omega arith
 
 -- a unit that a writer puts isn't refused, where what is still to be put is fit and has room
-pub put_has_room : (ring : RingState) (writers : List (Option Log)) (k : ℕ) (u : LogUnit) → 0 < ring.seg → AreFit unit_words ring.seg (waiting writers) → ring.tail + 2 * word_count (waiting writers) ≤ last_tail → put_by k writers ≡ u ∷ [] → put_fault ring u ≡ None
+put_has_room : (ring : RingState) (writers : List (Option Log)) (k : ℕ) (u : LogUnit) → 0 < ring.seg → AreFit unit_words ring.seg (waiting writers) → ring.tail + 2 * word_count (waiting writers) ≤ last_tail → put_by k writers ≡ u ∷ [] → put_fault ring u ≡ None
 put_has_room ring writers k u pos fit room e =
     let w : ℕ = length (unit_words u) in
     let f = subst (AreFit unit_words ring.seg) e (put_is_fit ring.seg k writers fit).0 in
@@ -59,13 +59,9 @@ put_has_room ring writers k u pos fit room e =
     let low : end_at ring.seg ring.tail w ≤ last_tail = omega arith in
     rw (le-ltb ring.seg w fits, le-ltb last_tail (end_at ring.seg ring.tail w) low) refl
 
--- so in a replay
-put_accepted : (r : ReplayState) (s : Stage) (k : ℕ) (u : LogUnit) → IsAt r s → put_by k s.writers ≡ u ∷ [] → put_fault r.ring u ≡ None
-put_accepted r s k u h e = put_has_room r.ring s.writers k u (segment_pos r s h) h.fit h.room e
-
--- nor is the one that is found by its place
-pub room_at : (r : ReplayState) (s : Stage) (k place : ℕ) (w : Option Log) (u : LogUnit) → IsAt r s → IsWriterAt r.writers k place w → put_by 0 (w ∷ []) ≡ u ∷ [] → put_fault r.ring u ≡ None
-room_at r s k place w u h at e = put_accepted r s k u h (ap (put_by k) (sym h.writers) ∙ puts_at r.writers k place w at ∙ e)
+-- nor is that of the writer at a place
+pub room_at : (ring : RingState) (writers : List (Option Log)) (drawn : Option ℕ) (s : Written) (k place : ℕ) (w : Option Log) (u : LogUnit) → AreAt ring writers drawn s → IsWriterAt writers k place w → put_by 0 (w ∷ []) ≡ u ∷ [] → put_fault ring u ≡ None
+room_at ring writers drawn s k place w u h at e = put_has_room ring s.writers k u (ring_pos ring s.log h.in_ring) h.fit h.room (ap (put_by k) (sym h.writers_are) ∙ (puts_at writers k place w at ∙ e))
 
 -- a writer had a turn: what it put is in the ring, which ends with the last writer; so many have not left then
 pub record Wrote (old : RingState) (waited : List (Option Log)) (k left : ℕ) (ring : RingState) (writers : List (Option Log)) : Type 0 where
@@ -98,31 +94,43 @@ wrote_at old waited k place active left w after ring at below counted seg put al
       fewer = omega arith;
     }
 
--- after a writer's turn
+-- where writers stand then
+pub at_written : (ring : RingState) (writers : List (Option Log)) (k left : ℕ) (drawn then_drawn : Option ℕ) (ring' : RingState) (writers' : List (Option Log)) (s t : Written) → AreAt ring writers drawn s → Wrote ring writers k left ring' writers'
+    → t.log ≡ s.log → t.writers ≡ s.writers → ((x : ℕ) → then_drawn ≡ Some x → x ≡ t.drawn) → AreAt ring' writers' then_drawn (written_by k t)
+at_written ring writers k left drawn then_drawn ring' writers' s t h wrote log_is ws_is drawn_is =
+    let same : writers ≡ t.writers = h.writers_are ∙ sym ws_is in
+    let is : IsRingOf ring' (t.log ++ put_by k t.writers) = subst (λ (l : List (Option Log)). IsRingOf ring' (t.log ++ put_by k l)) same (wrote.put t.log (subst (IsRingOf ring) (sym log_is) h.in_ring)) in
+    let rest : writers' ≡ without_next k t.writers = wrote.rest ∙ ap (without_next k) same in
+    let fit : AreFit unit_words ring.seg (waiting t.writers) = subst (λ (l : List (Option Log)). AreFit unit_words ring.seg (waiting l)) (sym ws_is) h.fit in
+    let words = put_words k t.writers in
+    let moved = tail_twice ring.seg t.log (put_by k t.writers) (ring_pos ring s.log h.in_ring) in
+    let was = h.in_ring.tail_is in
+    let log_tail = ap (tail unit_words ring.seg) log_is in
+    let now = is.tail_is in
+    let segs = ap (λ (g : ℕ). tail unit_words g (t.log ++ put_by k t.writers)) wrote.seg in
+    let room = h.room in
+    let waits = ap (λ (l : List (Option Log)). word_count (waiting l)) ws_is in
+    record {
+      in_ring = is;
+      ended = wrote.ended ∙ ap (λ (l : List (Option Log)). eqb (count_writers l) 0) rest;
+      writers_are = rest;
+      drawn_is = drawn_is;
+      fit = subst (λ (g : ℕ). AreFit unit_words g (waiting (without_next k t.writers))) (sym wrote.seg) (put_is_fit ring.seg k t.writers fit).1;
+      room = omega arith;
+    }
+
+-- where a replay does
 pub at_writer : (r : ReplayState) (k left : ℕ) (ring : RingState) (writers : List (Option Log)) (s : Stage) → Wrote r.ring r.writers k left ring writers → IsAt r s → IsAt (record r { ring = ring; writers = writers; reading = Reads }) (after_writer k s)
 at_writer r k left ring writers s wrote h =
-    let pos : 0 < r.cursor.seg = (let p = segment_pos r s h in let e = h.same in omega arith) in
-    let is : IsRingOf ring (s.log ++ put_by k s.writers) = subst (λ (l : List (Option Log)). IsRingOf ring (s.log ++ put_by k l)) h.writers (wrote.put s.log h.ring) in
-    let rest : writers ≡ without_next k s.writers = wrote.rest ∙ ap (without_next k) h.writers in
-    let words = put_words k s.writers in
-    let moved = tail_twice r.ring.seg s.log (put_by k s.writers) (segment_pos r s h) in
-    let was = h.ring.tail_is in
-    let now = is.tail_is in
-    let segs = ap (λ (g : ℕ). tail unit_words g (s.log ++ put_by k s.writers)) wrote.seg in
-    let room = h.room in
+    let pos : 0 < r.cursor.seg = (let p = ring_pos r.ring s.log h.wrote.in_ring in let e = h.same in omega arith) in
     record {
-      ring = is;
-      ended = wrote.ended ∙ ap (λ (l : List (Option Log)). eqb (count_writers l) 0) rest;
+      wrote = at_written r.ring r.writers k left r.drawn r.drawn ring writers (written_at s) (written_at s) h.wrote wrote refl refl h.wrote.drawn_is;
       same = h.same ∙ sym wrote.seg;
-      cursor = stands_grows r.cursor s.log (put_by k s.writers) s.number pos h.cursor;
+      cursor = stays_longer (λ l. Stands r.cursor l s.number) (λ l u. stands_longer r.cursor l u s.number pos) s.log (put_by k s.writers) h.cursor;
       place = h.place;
-      writers = rest;
       reading = refl;
-      drawn = h.drawn;
       waits = λ e. cc e;
       newest = h.newest;
-      fit = subst (λ (g : ℕ). AreFit unit_words g (waiting (without_next k s.writers))) (sym wrote.seg) (put_is_fit r.ring.seg k s.writers h.fit).1;
-      room = omega arith;
     }
 
 -- a replay stays steady in a writer's turn
@@ -143,3 +151,34 @@ fewer_writer r old k left ring writers same wrote =
 -- what a writer's turn leads to
 pub writer_inside : (k : ℕ) (r old new : ReplayState) → r ≡ old → ((s : Stage) → IsAt r s → IsAt new (after_writer k s)) → (s : Stage) → IsAt old s → IsAt new (after_writer k s)
 writer_inside k r old new same at = subst (λ (o : ReplayState). (s : Stage) → IsAt o s → IsAt new (after_writer k s)) same at
+
+-- ---- before the first turn
+
+-- what was drawn is what a seed begins with
+first_drawn : (order : Option ℕ) (x : ℕ) → option_map first_draw order ≡ Some x → x ≡ first_draw (seed_of order)
+first_drawn None x e = cc e
+first_drawn (Some seed) x e = sym (same_Some (first_draw seed) x e)
+
+-- turns are drawn where there is a seed, and where one was
+pub still_drawn : (f : ℕ → ℕ) (order : Option ℕ) → is_drawn (option_map f order) ≡ is_drawn order
+still_drawn f None = refl
+still_drawn f (Some seed) = refl
+
+-- no writer has left
+pub counts_first : (feeds : List Log) (writers : List (Option Log)) (active : ℕ) → writers ≡ map Some feeds → active ≡ length writers → active ≡ count_writers writers
+counts_first feeds writers active ws count = count ∙ (ap (λ (l : List (Option Log)). length l) ws ∙ (length-map feeds Some ∙ (sym (first_count feeds) ∙ ap count_writers (sym ws))))
+
+-- where writers stand
+pub at_first : (seg : ℕ) (order : Option ℕ) (feeds : List Log) (ring : RingState) (writers : List (Option Log)) (active : ℕ) (drawn : Option ℕ) → All (AreFit unit_words seg) feeds → 2 * count_feed_words feeds ≤ last_tail → ring.seg ≡ seg → IsRingOf ring []
+    → ring.ended ≡ eqb active 0 → writers ≡ map Some feeds → active ≡ length writers → drawn ≡ option_map first_draw order → AreAt ring writers drawn (nothing_written (seed_of order) feeds)
+at_first seg order feeds ring writers active drawn fit few seg_is empty ended ws count draws =
+    let words = first_words feeds in
+    let at_zero : ring.tail ≡ 0 = empty.tail_is in
+    record {
+      in_ring = empty;
+      ended = ended ∙ ap (λ (n : ℕ). eqb n 0) (counts_first feeds writers active ws count ∙ ap count_writers ws);
+      writers_are = ws;
+      drawn_is = λ x e. first_drawn order x (sym draws ∙ e);
+      fit = subst (λ (g : ℕ). AreFit unit_words g (waiting (map Some feeds))) (sym seg_is) (first_is_fit seg feeds fit);
+      room = omega arith;
+    }

@@ -1,7 +1,6 @@
 -- What is still to come: at first, and after a turn.
-use Rattle.std.proofs.Common.{◌≡◌, ℕ, zero, suc, ◌*◌, ◌<◌, ◌≤◌, Bool, true, false, eqb, List, [], ◌∷◌, ◌++◌, length, map, sym, refl, ap, ◌∙◌, subst, arith, Option, Some, None, append_assoc}
+use Rattle.std.proofs.Common.{◌≡◌, ℕ, zero, suc, ◌*◌, ◌<◌, ◌≤◌, Bool, true, false, eqb, List, [], ◌∷◌, ◌++◌, length, map, sym, ap, ◌∙◌, subst, arith, Option, Some, None, append_assoc}
 use Rattle.std.proofs.lemmas.List.{append-nil, append_cancel_left, length-map}
-use Rattle.std.proofs.lemmas.Option.{same_Some}
 use Rattle.std.specs.List.{All}
 use Rattle.std.specs.Option.{option_map}
 use Rattle.vsl_record.specs.Unit.{LogUnit, Log}
@@ -14,24 +13,14 @@ use Rattle.traffic_feed.specs.Turns.{first_draw}
 use Rattle.ring_layout.specs.History.{HasRun}
 use Rattle.feed_schedule.specs.declared.replay.Advanced.{Advanced}
 use Rattle.feed_schedule.specs.declared.replay.Advanced.TheVariants.{Took, Overrun, Ended}
-use Rattle.feed_schedule.specs.Schedule.{Event, TookUnit, WasOverrun, Reads, Stage, first_stage, count_writers, has_ended, after_turn, after_turns, seed_of, is_drawn, IsScheduled, events_of, met}
-use Rattle.feed_schedule.specs.Replaying.{ReplayState, IsAt, waiting, IsToCome, Represents, Meets, count_feed_words}
+use Rattle.feed_schedule.specs.Schedule.{Event, TookUnit, WasOverrun, Reads, Stage, first_stage, has_ended, after_turn, after_turns, seed_of, is_drawn, IsScheduled, events_of, met}
+use Rattle.feed_schedule.specs.Replaying.{ReplayState, IsAt, IsToCome, Represents, Meets, count_feed_words}
 use Rattle.feed_schedule.specs.inside.Turning.{IsSteady, KeepsOrder, Adds}
 use Rattle.feed_schedule.proofs.TurnLemmas.{turns_after_end}
-use Rattle.feed_schedule.proofs.EventLemmas.{turn_keeps_run, events_go_on}
-use Rattle.feed_schedule.proofs.WaitingLemmas.{first_is_fit, first_words, first_count}
+use Rattle.feed_schedule.proofs.EventLemmas.{turn_later, events_go_on}
+use Rattle.feed_schedule.proofs.PuttingLemmas.{still_drawn, counts_first, at_first}
 
 -- ---- at first
-
--- the first draw is that of the seed
-first_drawn : (seed : Option ℕ) (x : ℕ) → option_map first_draw seed ≡ Some x → x ≡ first_draw (seed_of seed)
-first_drawn None x e = cc e
-first_drawn (Some seed) x e = sym (same_Some (first_draw seed) x e)
-
--- turns are drawn where there is a seed
-draws_seed : (seed : Option ℕ) → is_drawn (option_map first_draw seed) ≡ is_drawn seed
-draws_seed None = refl
-draws_seed (Some seed) = refl
 
 -- a replay that has put nothing, of these feeds
 pub record IsNew (r : ReplayState) (active seg : ℕ) (seed : Option ℕ) (feeds : List Log) : Type 0 where
@@ -48,37 +37,22 @@ pub record IsNew (r : ReplayState) (active seg : ℕ) (seed : Option ℕ) (feeds
   pub fit : All (AreFit unit_words seg) feeds
   pub few : 2 * count_feed_words feeds ≤ last_tail
 
--- its writers are counted
-counts_new : (r : ReplayState) (active seg : ℕ) (seed : Option ℕ) (feeds : List Log) → IsNew r active seg seed feeds → active ≡ count_writers r.writers
-counts_new r active seg seed feeds h =
-    let a = h.counted in
-    let b = ap (λ (l : List (Option Log)). length l) h.writers in
-    let c = ap count_writers h.writers in
-    let d = length-map feeds Some in
-    let e = first_count feeds in
-    omega arith
-
 -- it stands before the first turn
 pub at_new : (r : ReplayState) (active seg : ℕ) (seed : Option ℕ) (feeds : List Log) → IsNew r active seg seed feeds → IsAt r (first_stage (seed_of seed) feeds)
 at_new r active seg seed feeds h = record {
-  ring = h.empty;
-  ended = h.ended ∙ ap (λ (n : ℕ). eqb n 0) (counts_new r active seg seed feeds h) ∙ ap (λ (l : List (Option Log)). eqb (count_writers l) 0) h.writers;
+  wrote = at_first seg seed feeds r.ring r.writers active r.drawn h.fit h.few h.seg_is h.empty h.ended h.writers h.counted h.drawn;
   same = h.same;
   cursor = h.stands;
   place = h.place;
-  writers = h.writers;
   reading = h.reading;
-  drawn = λ x e. first_drawn seed x (sym h.drawn ∙ e);
   waits = λ e. cc e;
   newest = tt;
-  fit = subst (λ (g : ℕ). AreFit unit_words g (waiting (map Some feeds))) (sym h.seg_is) (first_is_fit seg feeds h.fit);
-  room = let t = h.empty.tail_is in let w = first_words feeds in let f = h.few in omega arith;
 }
 
 -- it is steady
 pub steady_new : (r : ReplayState) (active seg : ℕ) (seed : Option ℕ) (feeds : List Log) → IsNew r active seg seed feeds → length feeds < 4294967295 → IsSteady active r
 steady_new r active seg seed feeds h many = record {
-  counted = counts_new r active seg seed feeds h;
+  counted = counts_first feeds r.writers active h.writers h.counted;
   few = let a = h.counted in let b = ap (λ (l : List (Option Log)). length l) h.writers in let d = length-map feeds Some in omega arith;
   stage = first_stage (seed_of seed) feeds;
   at = at_new r active seg seed feeds h;
@@ -88,7 +62,7 @@ steady_new r active seg seed feeds h many = record {
 pub new_to_come : (r : ReplayState) (active seg : ℕ) (seed : Option ℕ) (feeds : List Log) (log : Log) (history : List (HistoryItem LogUnit)) → IsNew r active seg seed feeds → IsScheduled seg seed feeds log history → Represents r (events_of history)
 new_to_come r active seg seed feeds log history h scheduled =
     let s : Stage = first_stage (seed_of seed) feeds in
-    let drawing = ap is_drawn h.drawn ∙ draws_seed seed in
+    let drawing = ap is_drawn h.drawn ∙ still_drawn first_draw seed in
     let to_come : IsToCome seg (is_drawn seed) s (events_of history) = (scheduled.0, scheduled.1, ap events_of (sym scheduled.3)) in
     (s, at_new r active seg seed feeds h, subst (λ (b : Bool). IsToCome r.ring.seg b s (events_of history)) (sym drawing) (subst (λ (g : ℕ). IsToCome g (is_drawn seed) s (events_of history)) (sym h.seg_is) to_come))
 
@@ -100,7 +74,7 @@ come_after : (n seg : ℕ) (in_turns : Bool) (s : Stage) (events : List Event) �
 come_after zero seg in_turns s events run before e is = cc (e, before)
 come_after (suc n) seg in_turns s events run before e is =
     let t : Stage = after_turn seg in_turns s in
-    let p = events_go_on n seg in_turns t (turn_keeps_run seg in_turns s run) in
+    let p = events_go_on n seg in_turns t (turn_later seg in_turns s run).run in
     (p.rest, (n, e, p.is), sym is ∙ p.is)
 
 -- a replay whose stage is had its turn by these events represents the others

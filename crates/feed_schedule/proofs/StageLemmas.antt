@@ -6,20 +6,18 @@
 -- The measure falls with each turn before the end. It counts, with weights, the units still to be put and the writers that have not left; the units that the reader has still to pass; and whether
 -- the reader may have a turn. A writer's turn lessens the first. The reader passes a unit or more, or stops having turns until a writer has one. An overrun passes a unit too: the one that is due
 -- starts at most one segment after the reader's place, and the reader goes on two segments after it or later.
-use Rattle.std.proofs.Common.{◌≡◌, ℕ, zero, suc, ◌+◌, ◌-◌, ◌*◌, ◌/◌, ◌<◌, ◌≤◌, Bool, true, false, cond, eqb, List, [], ◌∷◌, ◌++◌, length, slice_get, sym, refl, ap, subst, ⊎_elim, arith, Some, None, length-append, append_assoc}
-use Rattle.std.proofs.lemmas.List.{append-nil}
+use Rattle.std.proofs.Common.{◌≡◌, ℕ, ◌+◌, ◌-◌, ◌*◌, ◌/◌, ◌<◌, Bool, true, false, cond, eqb, List, length, slice_get, refl, ap, ⊎_elim, inl, inr, arith, Some, None, length-append}
 use Rattle.std.proofs.lemmas.Bool.{cond_both, cases_Bool, leb-true}
 use Rattle.std.proofs.lemmas.Option.{slice_get_within}
 use Rattle.std.specs.List.{All}
 use Rattle.vsl_record.specs.Unit.{LogUnit, Log}
 use Rattle.vsl_record.specs.Words.{unit_words}
-use Rattle.ring_layout.specs.declared.history.HistoryItem.{HistoryItem}
 use Rattle.ring_layout.specs.Places.{AreFit}
 use Rattle.feed_schedule.specs.Schedule.{Stage, Reading, Reads, Waits, Ended, first_stage, count_writers, put_by, after_writer, after_taking, last_segment, is_overrun, after_overrun, is_reading, has_ended, after_turn, after_turns}
 use Rattle.feed_schedule.specs.Replaying.{waiting}
-use Rattle.feed_schedule.proofs.WriterLemmas.{leave_counts}
+use Rattle.feed_schedule.proofs.WriterLemmas.{leave_counts, stays_longer}
 use Rattle.feed_schedule.proofs.WaitingLemmas.{put_length, fit_append, put_is_fit, first_is_fit}
-use Rattle.feed_schedule.proofs.TurnLemmas.{MayStand, turn_cases, reader_cases, end_or_wait}
+use Rattle.feed_schedule.proofs.TurnLemmas.{come_to_end, MayStand, turn_cases, reader_cases, end_or_wait}
 use Rattle.feed_schedule.proofs.ReaderLemmas.{StandsAt, stands_stays, stands_first, stands_taken, stands_overrun, overrun_rises, none_there}
 
 -- what is so of each stage
@@ -36,11 +34,6 @@ abbrev pub turns_left : Stage → ℕ
 turns_left s = 4 * (length (waiting s.writers) + count_writers s.writers) + 2 * (length s.log + length (waiting s.writers) - s.number) + cond (is_reading s.reading) 1 0
 
 module _ (seg : ℕ) (pos : 0 < seg) where
-  -- puts leave where a reader stands
-  stands_grows : (log more : Log) (number place : ℕ) (history : List (HistoryItem LogUnit)) → StandsAt seg log number place history → StandsAt seg (log ++ more) number place history
-  stands_grows log [] number place history h = subst (λ l. StandsAt seg l number place history) (sym (append-nil log)) h
-  stands_grows log (u ∷ more) number place history h = subst (λ l. StandsAt seg l number place history) (append_assoc log (u ∷ []) more) (stands_grows (log ++ u ∷ []) more number place history (stands_stays seg pos log u number place history h))
-
   -- before the first turn
   pub sound_first : (seed : ℕ) (feeds : List Log) → All (AreFit unit_words seg) feeds → IsSound seg (first_stage seed feeds)
   sound_first seed feeds fit = record {
@@ -54,7 +47,7 @@ module _ (seg : ℕ) (pos : 0 < seg) where
   -- each kind of turn keeps a stage sound: a writer's
   sound_writer : (k : ℕ) (s : Stage) → IsSound seg s → IsSound seg (after_writer k s)
   sound_writer k s h = record {
-    stands = stands_grows s.log (put_by k s.writers) s.number s.place s.history h.stands;
+    stands = stays_longer (λ l. StandsAt seg l s.number s.place s.history) (λ l u. stands_stays seg pos l u s.number s.place s.history) s.log (put_by k s.writers) h.stands;
     fit = fit_append seg s.log (put_by k s.writers) h.fit (put_is_fit seg k s.writers h.to_put).0;
     to_put = (put_is_fit seg k s.writers h.to_put).1;
     may = tt;
@@ -127,7 +120,6 @@ module _ (seg : ℕ) (pos : 0 < seg) where
       (λ x reads. reader_cases (λ t. turns_left t < turns_left s) seg (record s { drawn = x }) (λ e. falls_overrun s e h) (λ u e f. falls_taken s u f h) (λ e f. falls_met_end s reads))
 
   -- turns come to an end
-  pub turns_end : (most : ℕ) (in_turns : Bool) (s : Stage) → IsSound seg s → turns_left s ≤ most → (n : ℕ) × (has_ended (after_turns n seg in_turns s).reading ≡ true)
-  turns_end zero in_turns s h l = ⊎_elim (λ e. (0, e)) (λ before. let f = turn_falls in_turns s h before in absurd (omega arith)) (cases_Bool (has_ended s.reading))
-  turns_end (suc most) in_turns s h l = ⊎_elim (λ e. (0, e)) (λ before. let f = turn_falls in_turns s h before in let r = turns_end most in_turns (after_turn seg in_turns s) (sound_turn in_turns s h) (omega arith) in (suc r.0, r.1))
-      (cases_Bool (has_ended s.reading))
+  pub turns_end : (in_turns : Bool) (s : Stage) → IsSound seg s → (n : ℕ) × (has_ended (after_turns n seg in_turns s).reading ≡ true)
+  turns_end in_turns s h = come_to_end (turns_left s) (after_turn seg in_turns) s (IsSound seg) (λ t. has_ended t.reading ≡ true) turns_left
+      (λ t sound. ⊎_elim (λ e. inl e) (λ before. inr (sound_turn in_turns t sound, turn_falls in_turns t sound before)) (cases_Bool (has_ended t.reading))) h (omega arith)

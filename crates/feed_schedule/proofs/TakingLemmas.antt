@@ -21,7 +21,7 @@ at_segment r s h = ap (λ (p : ℕ). p / r.cursor.seg) h.place ∙ ap (λ (g : �
 
 -- the ring's counter is the segment to which the writers have come
 at_last : (r : ReplayState) (s : Stage) → IsAt r s → r.ring.counter ≡ last_segment r.ring.seg s
-at_last r s h = h.ring.counter_is ∙ ap (λ (t : ℕ). t / r.ring.seg) h.ring.tail_is
+at_last r s h = h.wrote.in_ring.counter_is ∙ ap (λ (t : ℕ). t / r.ring.seg) h.wrote.in_ring.tail_is
 
 -- the cursor is overrun where the reader is
 at_far : (r : ReplayState) (s : Stage) → IsAt r s → IsOverrun r.ring r.cursor → is_overrun r.ring.seg s ≡ true
@@ -47,18 +47,13 @@ pub at_took : (r : ReplayState) (cursor : CursorState) (s : Stage) → IsAt r s 
 at_took r cursor s h seg near took =
     let same : cursor.seg ≡ r.ring.seg = seg ∙ h.same in
     subst (IsAt (record r { cursor = cursor })) (sym (reader_near r.ring.seg s (Some took.unit) (at_near r s h near) took.kth)) (record {
-      ring = h.ring;
-      ended = h.ended;
+      wrote = h.wrote;
       same = same;
       cursor = took.stands;
       place = took.place ∙ ap (λ (g : ℕ). tail unit_words g (take (s.number + 1) s.log)) same;
-      writers = h.writers;
       reading = h.reading;
-      drawn = h.drawn;
       waits = h.waits;
       newest = unit_keeps_run took.unit s.history h.newest;
-      fit = h.fit;
-      room = h.room;
     })
 
 -- it met that unit
@@ -73,18 +68,13 @@ at_lost r cursor s h seg far there =
     let start : segment_start unit_words r.ring.seg s.log (last_segment r.ring.seg s - 4) ≡ Some cursor.place = subst (λ (n : ℕ). segment_start unit_words r.ring.seg s.log n ≡ Some cursor.place) from
     (subst (λ (g : ℕ). segment_start unit_words g s.log (r.ring.counter - 4) ≡ Some cursor.place) same there.start) in
     subst (IsAt (record r { cursor = cursor })) (sym (reader_far r.ring.seg s (at_far r s h far))) (record {
-      ring = h.ring;
-      ended = h.ended;
+      wrote = h.wrote;
       same = same;
       cursor = subst (λ (n : ℕ). Stands cursor s.log (first_number unit_words r.ring.seg s.log n)) from (subst (λ (g : ℕ). Stands cursor s.log (first_number unit_words g s.log (r.ring.counter - 4))) same there.stands);
       place = sym (ap (λ (o : Option ℕ). unwrap_or o 0) start);
-      writers = h.writers;
       reading = h.reading;
-      drawn = h.drawn;
       waits = h.waits;
       newest = tt;
-      fit = h.fit;
-      room = h.room;
     })
 
 -- it met the overrun
@@ -96,29 +86,24 @@ met_lost r at seen s h far here last =
 
 -- the reader meets the end of the log
 meets_end : (r : ReplayState) (s : Stage) (b : Bool) → IsAt r s → ¬ (IsOverrun r.ring r.cursor) → s.number ≡ length s.log → r.ring.ended ≡ b → after_reader r.ring.seg s ≡ record s { reading = cond b Ended Waits }
-meets_end r s b h near last e = reader_near r.ring.seg s None (at_near r s h near) (slice_get_past s.log s.number (omega arith)) ∙ at_end b s r.ring.seg (sym h.ended ∙ e)
+meets_end r s b h near last e = reader_near r.ring.seg s None (at_near r s h near) (slice_get_past s.log s.number (omega arith)) ∙ at_end b s r.ring.seg (sym h.wrote.ended ∙ e)
 
 -- a cursor that stays leaves where a replay stands
 at_same : (r : ReplayState) (cursor : CursorState) (reading : Reading) (s : Stage) → IsAt r s → cursor ≡ r.cursor → (reading ≡ Waits → 0 < count_writers s.writers) → IsAt (record r { cursor = cursor; reading = reading }) (record s { reading = reading })
 at_same r cursor reading s h e waits = record {
-  ring = h.ring;
-  ended = h.ended;
+  wrote = h.wrote;
   same = ap (λ (x : CursorState). x.seg) e ∙ h.same;
   cursor = subst (λ (x : CursorState). Stands x s.log s.number) (sym e) h.cursor;
   place = ap (λ (x : CursorState). x.place) e ∙ h.place;
-  writers = h.writers;
   reading = refl;
-  drawn = h.drawn;
   waits = waits;
   newest = h.newest;
-  fit = h.fit;
-  room = h.room;
 }
 
 -- after it met the end of the log, while a writer hasn't left
 pub at_wait : (r : ReplayState) (cursor : CursorState) (s : Stage) → IsAt r s → ¬ (IsOverrun r.ring r.cursor) → s.number ≡ length s.log → r.ring.ended ≡ false → cursor ≡ r.cursor → IsAt (record r { cursor = cursor; reading = Waits }) (after_reader r.ring.seg s)
 at_wait r cursor s h near last running same = subst (IsAt (record r { cursor = cursor; reading = Waits })) (sym (meets_end r s false h near last running))
-    (at_same r cursor Waits s h same (λ e. let n = eqb-false (count_writers s.writers) 0 (sym h.ended ∙ running) in omega arith))
+    (at_same r cursor Waits s h same (λ e. let n = eqb-false (count_writers s.writers) 0 (sym h.wrote.ended ∙ running) in omega arith))
 
 -- it met nothing
 pub met_wait : (r : ReplayState) (s : Stage) → IsAt r s → ¬ (IsOverrun r.ring r.cursor) → s.number ≡ length s.log → r.ring.ended ≡ false → met (after_reader r.ring.seg s) ≡ met s

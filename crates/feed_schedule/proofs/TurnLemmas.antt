@@ -1,10 +1,42 @@
 -- The kinds of turns, and turns one after another.
-use Rattle.std.proofs.Common.{◌≡◌, ℕ, zero, suc, ◌+◌, ◌%◌, ◌<◌, ◌≤◌, Bool, true, false, cond, eqb, ltb, slice_get, sym, refl, ap, ◌∙◌, arith, Option, Some, None}
+use Rattle.std.proofs.Common.{◌≡◌, ◌⊎◌, ℕ, zero, suc, ◌+◌, ◌%◌, ◌<◌, ◌≤◌, Bool, true, false, cond, eqb, ltb, slice_get, sym, refl, ap, ◌∙◌, ⊎_elim, arith, Option, Some, None}
 use Rattle.std.proofs.lemmas.Bool.{cond_both, ltb-true, ltb-false, eqb-true, eqb-false}
 use Rattle.std.proofs.lemmas.Nat.{mod_below}
+use Rattle.std.specs.Fn.{iterate}
 use Rattle.vsl_record.specs.Unit.{LogUnit}
 use Rattle.traffic_feed.specs.Turns.{next_draw}
 use Rattle.feed_schedule.specs.Schedule.{Stage, Reading, Reads, Waits, Ended, count_writers, after_writer, after_taking, is_overrun, after_overrun, after_reader, is_reading, has_ended, count_active, after_turn_of, after_turn, after_turns}
+
+-- ---- turns, whatever a turn is
+
+module _ {S : Type 0} where
+  -- where a turn changes nothing, turns change nothing
+  pub stays_after : (n : ℕ) (turn : S → S) (s : S) → turn s ≡ s → iterate turn n s ≡ s
+  stays_after zero turn s e = refl
+  stays_after (suc n) turn s e = ap (iterate turn n) e ∙ stays_after n turn s e
+
+  -- one turn more
+  pub turn_more : (n : ℕ) (turn : S → S) (s : S) → iterate turn (suc n) s ≡ turn (iterate turn n s)
+  turn_more zero turn s = refl
+  turn_more (suc n) turn s = turn_more n turn (turn s)
+
+  -- what each turn keeps is so after any number of turns
+  pub turns_keep : (P : S → Type 0) (turn : S → S) → ((s : S) → P s → P (turn s)) → (n : ℕ) (s : S) → P s → P (iterate turn n s)
+  turns_keep P turn keep zero s h = h
+  turns_keep P turn keep (suc n) s h = turns_keep P turn keep n (turn s) (keep s h)
+
+  -- two ends of the same turns are one
+  pub one_end : (m n : ℕ) (turn : S → S) (s : S) (IsEnd : S → Type 0) → ((t : S) → IsEnd t → turn t ≡ t) → IsEnd (iterate turn m s) → IsEnd (iterate turn n s) → iterate turn m s ≡ iterate turn n s
+  one_end zero n turn s IsEnd stays a b = sym (stays_after n turn s (stays s a))
+  one_end (suc m) zero turn s IsEnd stays a b = stays_after (suc m) turn s (stays s b)
+  one_end (suc m) (suc n) turn s IsEnd stays a b = one_end m n turn (turn s) IsEnd stays a b
+
+  -- turns that come nearer to the end come to it
+  pub come_to_end : (most : ℕ) (turn : S → S) (s : S) (P IsEnd : S → Type 0) (left : S → ℕ) → ((t : S) → P t → IsEnd t ⊎ (P (turn t) × (left (turn t) < left t))) → P s → left s ≤ most → (n : ℕ) × IsEnd (iterate turn n s)
+  come_to_end zero turn s P IsEnd left nearer h l = ⊎_elim (λ e. (0, e)) (λ on. let falls = on.1 in absurd (omega arith)) (nearer s h)
+  come_to_end (suc most) turn s P IsEnd left nearer h l = ⊎_elim (λ e. (0, e)) (λ on. let falls = on.1 in let r = come_to_end most turn (turn s) P IsEnd left nearer on.0 (omega arith) in (suc r.0, r.1)) (nearer s h)
+
+-- ---- kinds of turns
 
 -- what the reader is about where so many writers haven't left: it waits only for a writer, and has ended only where there is none
 abbrev pub MayStand : Reading → ℕ → Type 0
@@ -61,18 +93,6 @@ turn_may_stand seg in_turns s may = turn_cases (λ t. MayStand t.reading (count_
 pub turn_after_end : (seg : ℕ) (in_turns : Bool) (s : Stage) → has_ended s.reading ≡ true → after_turn seg in_turns s ≡ s
 turn_after_end seg in_turns s e = ap (λ (b : Bool). cond b s (cond in_turns (after_turn_of seg (next_draw s.drawn % count_active s) (record s { drawn = next_draw s.drawn })) (after_turn_of seg 0 s))) e
 
--- after the end turns change nothing
+-- nor do turns
 pub turns_after_end : (n seg : ℕ) (in_turns : Bool) (s : Stage) → has_ended s.reading ≡ true → after_turns n seg in_turns s ≡ s
-turns_after_end zero seg in_turns s e = refl
-turns_after_end (suc n) seg in_turns s e = ap (after_turns n seg in_turns) (turn_after_end seg in_turns s e) ∙ turns_after_end n seg in_turns s e
-
--- what each turn keeps is so after any number of turns
-pub turns_keep : (P : Stage → Type 0) (seg : ℕ) (in_turns : Bool) → ((s : Stage) → P s → P (after_turn seg in_turns s)) → (n : ℕ) (s : Stage) → P s → P (after_turns n seg in_turns s)
-turns_keep P seg in_turns keep zero s h = h
-turns_keep P seg in_turns keep (suc n) s h = turns_keep P seg in_turns keep n (after_turn seg in_turns s) (keep s h)
-
--- two ends of the same turns are one stage
-pub one_end : (m n seg : ℕ) (in_turns : Bool) (s : Stage) → has_ended (after_turns m seg in_turns s).reading ≡ true → has_ended (after_turns n seg in_turns s).reading ≡ true → after_turns m seg in_turns s ≡ after_turns n seg in_turns s
-one_end zero n seg in_turns s a b = sym (turns_after_end n seg in_turns s a)
-one_end (suc m) zero seg in_turns s a b = turns_after_end (suc m) seg in_turns s b
-one_end (suc m) (suc n) seg in_turns s a b = one_end m n seg in_turns (after_turn seg in_turns s) a b
+turns_after_end n seg in_turns s e = stays_after n (after_turn seg in_turns) s (turn_after_end seg in_turns s e)

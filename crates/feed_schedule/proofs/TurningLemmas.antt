@@ -13,18 +13,13 @@ use Rattle.feed_schedule.specs.inside.Turning.{IsSteady, with_draw, choice, Adds
 -- after a number was drawn
 pub at_drawn : (r : ReplayState) (x : ℕ) (s : Stage) → IsAt r s → r.drawn ≡ Some x → IsAt (record r { drawn = Some (next_draw x) }) (record s { drawn = next_draw s.drawn })
 at_drawn r x s h e = record {
-  ring = h.ring;
-  ended = h.ended;
+  wrote = let w = h.wrote in record { in_ring = w.in_ring; ended = w.ended; writers_are = w.writers_are; drawn_is = λ y f. sym (same_Some (next_draw x) y f) ∙ ap next_draw (w.drawn_is x e); fit = w.fit; room = w.room };
   same = h.same;
   cursor = h.cursor;
   place = h.place;
-  writers = h.writers;
   reading = h.reading;
-  drawn = λ y f. sym (same_Some (next_draw x) y f) ∙ ap next_draw (h.drawn x e);
   waits = h.waits;
   newest = h.newest;
-  fit = h.fit;
-  room = h.room;
 }
 
 -- a replay stays steady where a number is drawn
@@ -73,7 +68,7 @@ adds_drawn true (Some answers.Ended) now s t h = h
 
 -- so many writers as are counted have not left in the stage
 pub counts_stage : (active : ℕ) (r mid old : ReplayState) (s : Stage) → r ≡ mid → active ≡ count_writers r.writers → mid.writers ≡ old.writers → IsAt old s → active ≡ count_writers s.writers
-counts_stage active r mid old s same counted kept h = counted ∙ ap (λ (o : ReplayState). count_writers o.writers) same ∙ ap count_writers kept ∙ ap count_writers h.writers
+counts_stage active r mid old s same counted kept h = counted ∙ ap (λ (o : ReplayState). count_writers o.writers) same ∙ ap count_writers kept ∙ ap count_writers h.wrote.writers_are
 
 -- after a turn that was a writer's
 pub at_turn_writer : (active k : ℕ) (old new : ReplayState) (s : Stage) → has_ended old.reading ≡ false → IsAt old s → active ≡ count_writers s.writers → k ≡ choice (is_drawn old.drawn) s → k < active

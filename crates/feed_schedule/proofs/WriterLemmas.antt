@@ -1,10 +1,16 @@
 -- A writer's turn: what is put, and what is still to be put.
-use Rattle.std.proofs.Common.{◌≡◌, ◌⊎◌, ℕ, zero, suc, ◌+◌, ◌<◌, ◌≤◌, Bool, cond, eqb, List, [], ◌∷◌, ◌++◌, length, map, get_or, slice_get, sym, refl, ap, ◌∙◌, subst, ⊎_elim, inl, inr, arith, Option, Some, None, ne_eqb}
+use Rattle.std.proofs.Common.{◌≡◌, ◌⊎◌, ℕ, zero, suc, ◌+◌, ◌<◌, ◌≤◌, Bool, cond, eqb, List, [], ◌∷◌, ◌++◌, length, map, get_or, slice_get, sym, refl, ap, ◌∙◌, subst, ⊎_elim, inl, inr, arith, Option, Some, None, ne_eqb, append_assoc}
+use Rattle.std.proofs.lemmas.List.{append-nil}
 use Rattle.std.proofs.Math.Dec.{eqb-suc-suc}
 use Rattle.std.specs.Option.{unwrap_or, option_map}
 use Rattle.log_model.specs.Interleaving.{given_to, IsInterleaving}
 use Rattle.vsl_record.specs.Unit.{LogUnit, Log}
 use Rattle.feed_schedule.specs.Schedule.{count_writers, put_by, without_next}
+
+-- what holds of a log holds of a longer one, where each unit more leaves it so
+pub stays_longer : (P : Log → Type 0) → ((log : Log) (u : LogUnit) → P log → P (log ++ u ∷ [])) → (log more : Log) → P log → P (log ++ more)
+stays_longer P longer log [] h = subst P (sym (append-nil log)) h
+stays_longer P longer log (u ∷ more) h = subst P (append_assoc log (u ∷ []) more) (stays_longer P longer (log ++ u ∷ []) more (longer log u h))
 
 -- a writer that puts nothing leaves
 pub leave_counts : (k : ℕ) (writers : List (Option Log)) → k < count_writers writers → count_writers (without_next k writers) + 1 ≡ length (put_by k writers) + count_writers writers
@@ -27,7 +33,7 @@ abbrev pub left_to_put : List (Option Log) → List Log
 left_to_put writers = map (λ (w : Option Log). unwrap_or w []) writers
 
 -- all have something to put at first
-pub first_to_put : (feeds : List Log) → left_to_put (map Some feeds) ≡ feeds
+first_to_put : (feeds : List Log) → left_to_put (map Some feeds) ≡ feeds
 first_to_put [] = refl
 first_to_put (feed ∷ feeds) = ap (λ l. feed ∷ l) (first_to_put feeds)
 
@@ -95,11 +101,29 @@ unit_more u j log lists longer l h = record {
     within (suc i) inside = let a = l.as_many in let b = h.are_lists i (omega arith) in omega arith
 
 -- what is put in a turn, before an interleaving of what is left to put then, is an interleaving of what was left to put
-pub turn_interleaves : (k : ℕ) (writers : List (Option Log)) (log : Log) → IsInterleaving log (left_to_put (without_next k writers)) → IsInterleaving (put_by k writers ++ log) (left_to_put writers)
+turn_interleaves : (k : ℕ) (writers : List (Option Log)) (log : Log) → IsInterleaving log (left_to_put (without_next k writers)) → IsInterleaving (put_by k writers ++ log) (left_to_put writers)
 turn_interleaves k writers log h = let lists : List Log = left_to_put (without_next k writers) in let longer : List Log = left_to_put writers in
     ⊎_elim (λ (a : (put_by k writers ≡ []) × (lists ≡ longer)). subst (λ l. IsInterleaving (l ++ log) longer) (sym a.0) (subst (λ l. IsInterleaving log l) a.1 h))
     (λ (b : (u : LogUnit) × (j : ℕ) × (put_by k writers ≡ u ∷ []) × IsLonger u j lists longer). subst (λ l. IsInterleaving (l ++ log) longer) (sym b.2) (unit_more b.0 b.1 log lists longer b.3 h)) (puts_from k writers)
 
 -- nothing is an interleaving of lists of nothing
-pub nothing_interleaves : (writers : List (Option Log)) → count_writers writers ≡ 0 → IsInterleaving [] (left_to_put writers)
+nothing_interleaves : (writers : List (Option Log)) → count_writers writers ≡ 0 → IsInterleaving [] (left_to_put writers)
 nothing_interleaves writers e = record { owners = []; one_each = refl; are_lists = λ i inside. absurd (omega arith); whole = λ i inside. all_left writers i e inside }
+
+-- ---- from a turn to the end
+
+-- a log is what was put, and then an interleaving of what was still to be put
+abbrev pub GoesOn : Log → Log → List (Option Log) → Type 0
+GoesOn log put writers = (more : Log) × (log ≡ put ++ more) × IsInterleaving more (left_to_put writers)
+
+-- so it is at the end, when all writers have left
+pub goes_on_end : (log : Log) (writers : List (Option Log)) → count_writers writers ≡ 0 → GoesOn log log writers
+goes_on_end log writers e = ([], sym (append-nil log), nothing_interleaves writers e)
+
+-- before a turn where it is so after it
+pub goes_on_turn : (k : ℕ) (log put : Log) (writers : List (Option Log)) → GoesOn log (put ++ put_by k writers) (without_next k writers) → GoesOn log put writers
+goes_on_turn k log put writers h = (put_by k writers ++ h.0, h.1 ∙ append_assoc put (put_by k writers) h.0, turn_interleaves k writers h.0 h.2)
+
+-- from the first turn on the log is an interleaving of the feeds
+pub goes_on_first : (log : Log) (feeds : List Log) → GoesOn log [] (map Some feeds) → IsInterleaving log feeds
+goes_on_first log feeds h = subst (λ l. IsInterleaving l feeds) (sym h.1) (subst (λ lists. IsInterleaving h.0 lists) (first_to_put feeds) h.2)

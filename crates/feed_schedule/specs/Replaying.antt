@@ -12,6 +12,7 @@ use Rattle.feed_schedule.specs.declared.replay.Advanced.{Advanced}
 use Rattle.feed_schedule.specs.declared.replay.Advanced.TheVariants.{Took, Overrun, Ended}
 use Rattle.ring_layout.specs.History.{HasRun}
 use Rattle.feed_schedule.specs.Schedule.{Event, TookUnit, WasOverrun, Reading, Waits, Stage, after_turns, count_writers, has_ended, is_drawn, met}
+use Rattle.feed_schedule.specs.Unread.{Written}
 
 -- how many words the units of feeds have
 abbrev pub count_feed_words : List Log → ℕ
@@ -32,22 +33,30 @@ pub record ReplayState : Type 0 where
   -- the number that was drawn last, where turns are drawn
   pub drawn : Option ℕ
 
--- they stand between two turns
+-- writers stand between two turns: what was put is in the ring, and what is still to be put can be
+pub record AreAt (ring : RingState) (writers : List (Option Log)) (drawn : Option ℕ) (s : Written) : Type 0 where
+  pub in_ring : IsRingOf ring s.log
+  pub ended : ring.ended ≡ (count_writers s.writers == 0)
+  pub writers_are : writers ≡ s.writers
+  pub drawn_is : (x : ℕ) → drawn ≡ Some x → x ≡ s.drawn
+  -- no unit has more words than a segment, and a unit moves the tail by at most twice its words
+  pub fit : AreFit unit_words ring.seg (waiting s.writers)
+  pub room : ring.tail + 2 * word_count (waiting s.writers) ≤ last_tail
+
+-- what writers did up to a stage
+abbrev pub written_at : Stage → Written
+written_at s = record { log = s.log; writers = s.writers; drawn = s.drawn }
+
+-- a replay stands between two turns
 pub record IsAt (r : ReplayState) (s : Stage) : Type 0 where
-  pub ring : IsRingOf r.ring s.log
-  pub ended : r.ring.ended ≡ (count_writers s.writers == 0)
+  pub wrote : AreAt r.ring r.writers r.drawn (written_at s)
   pub same : r.cursor.seg ≡ r.ring.seg
   pub cursor : Stands r.cursor s.log s.number
   pub place : r.cursor.place ≡ s.place
-  pub writers : r.writers ≡ s.writers
   pub reading : r.reading ≡ s.reading
-  pub drawn : (x : ℕ) → r.drawn ≡ Some x → x ≡ s.drawn
   -- the reader waits only for a writer
   pub waits : s.reading ≡ Waits → 0 < count_writers s.writers
   pub newest : HasRun s.history
-  -- what is still to be put can be: no unit has more words than a segment, and a unit moves the tail by at most twice its words
-  pub fit : AreFit unit_words r.ring.seg (waiting s.writers)
-  pub room : r.ring.tail + 2 * word_count (waiting s.writers) ≤ last_tail
 
 -- what is still to come of a stage: the events of its turns, up to the reader's end
 abbrev pub IsToCome : ℕ → Bool → Stage → List Event → Type 0

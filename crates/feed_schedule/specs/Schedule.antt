@@ -1,6 +1,7 @@
 -- The stated schedules: writers put the units of their feeds into a ring, and a reader takes them from it, one turn after another (this project's choice). It is said
 -- over the line of places alone. `seg` is the number of words of a segment.
 use Rattle.std.specs.Prelude.{◌≡◌, ℕ, zero, suc, ◌+◌, ◌-◌, ◌/◌, ◌%◌, ◌==◌, nat_lt, nat_le, if◌then◌else◌, Bool, true, false, List, [], ◌∷◌, ◌++◌, map, take, reverse, slice_get, unwrap_or, Option, Some, None}
+use Rattle.std.specs.Fn.{iterate}
 use Rattle.vsl_record.specs.Unit.{LogUnit, Log}
 use Rattle.vsl_record.specs.Words.{unit_words}
 use Rattle.ring_layout.specs.declared.history.HistoryItem.{HistoryItem}
@@ -138,8 +139,7 @@ after_turn seg in_turns s =
 
 -- so many turns
 abbrev pub after_turns : ℕ → ℕ → Bool → Stage → Stage
-after_turns zero seg in_turns s = s
-after_turns (suc n) seg in_turns s = after_turns n seg in_turns (after_turn seg in_turns s)
+after_turns n seg in_turns s = iterate (after_turn seg in_turns) n s
 
 -- ---- the whole
 

@@ -1,5 +1,6 @@
 -- Stated schedules in which nobody reads: writers put the units of their feeds into a ring, one turn after another (this project's choice).
-use Rattle.std.specs.Prelude.{◌≡◌, ℕ, zero, suc, ◌%◌, ◌==◌, if◌then◌else◌, Bool, List, [], ◌++◌, map, Option, Some}
+use Rattle.std.specs.Prelude.{◌≡◌, ℕ, ◌%◌, ◌==◌, if◌then◌else◌, Bool, List, [], ◌++◌, map, Option, Some}
+use Rattle.std.specs.Fn.{iterate}
 use Rattle.vsl_record.specs.Unit.{Log}
 use Rattle.traffic_feed.specs.Turns.{first_draw, next_draw}
 use Rattle.feed_schedule.specs.Schedule.{count_writers, put_by, without_next, seed_of, is_drawn}
@@ -26,8 +27,7 @@ after_write in_turns s =
 
 -- so many turns
 abbrev pub after_writes : ℕ → Bool → Written → Written
-after_writes zero in_turns s = s
-after_writes (suc n) in_turns s = after_writes n in_turns (after_write in_turns s)
+after_writes n in_turns s = iterate (after_write in_turns) n s
 
 -- in this order of turns, drawn from a seed on, or none for feed after feed, these feeds give this log, which nobody reads, when all writers have left
 abbrev pub IsUnread : Option ℕ → List Log → Log → Type 0

@@ -2,6 +2,7 @@
 
 ghost use Rattle.std.specs.Prelude.{◌≡◌, ◌*◌, ◌^◌, ◌<◌, ◌≤◌, ℕ, List, [], ◌∷◌, map, length, replicate, Option, IsSome, IfOk};
 ghost use Rattle.std.specs.List.{All};
+ghost use Rattle.std.specs.Option.{option_map};
 ghost use Rattle.vsl_record.specs.Unit.{Log};
 ghost use Rattle.vsl_record.specs.Words.{unit_words};
 ghost use Rattle.ring_layout.specs.Places.{AreFit, last_tail};
@@ -9,10 +10,11 @@ ghost use Rattle.ring_plain.specs.Ring.{count_wraps};
 ghost use Rattle.counter_segments.specs.Sums.{counter_count, most_passes};
 ghost use Rattle.traffic_feed.specs.Listing.{record_count};
 ghost use Rattle.traffic_feed.specs.Counted.{counter_values};
+ghost use Rattle.traffic_feed.specs.Turns.{next_draw};
 ghost use Rattle.feed_schedule.specs.Schedule.{count_writers, without_next};
 ghost use Rattle.feed_schedule.specs.Replaying.{count_feed_words};
 ghost use Rattle.feed_schedule.specs.Unread.{IsUnread};
-ghost use Rattle.feed_schedule.specs.inside.Counting.{tally, IsSound, IsCounted, IsChosen, HasWritten, HasTallied, turns_to_come};
+ghost use Rattle.feed_schedule.specs.inside.Counting.{tally, chosen_by, IsSound, IsCounted, HasWritten, HasTallied, turns_to_come};
 
 use crate::replay::{Writer, empty_ring, place_of, turns_of, writers_of};
 use counter_segments::{CounterPass, Counters, Values, close};
@@ -56,7 +58,8 @@ fn count_turn(writer: &Writer, cuts: u64, counts: &mut CounterPass, counters: &C
 fn choose(turns: &mut Option<Turns>, active: u32) -> u32
     requires { 0 < active }
     ensures below { result < active }
-    ensures chosen { IsChosen turns.old active result turns.new }
+    ensures chosen { result ≡ chosen_by turns.old active }
+    ensures drawn { turns.new ≡ option_map next_draw turns.old }
 {
     match turns {
         Some(turns) => turns.pick(active),

@@ -1,19 +1,17 @@
 -- What writers that count what they put have counted between two turns (this project's choice).
-use Rattle.std.specs.Prelude.{◌≡◌, ℕ, ◌+◌, ◌*◌, ◌%◌, ◌^◌, ◌<◌, ◌≤◌, ◌==◌, List, [], ◌∷◌, map, length, slice_get, Option, Some, None}
+use Rattle.std.specs.Prelude.{◌≡◌, ℕ, ◌+◌, ◌*◌, ◌%◌, ◌^◌, ◌<◌, List, [], ◌∷◌, map, length, slice_get, Option, Some, None}
 use Rattle.std.specs.List.{AllByRecursion, sum_by}
 use Rattle.vsl_record.specs.Unit.{Log}
-use Rattle.vsl_record.specs.Words.{unit_words}
-use Rattle.ring_layout.specs.Places.{AreFit, last_tail}
-use Rattle.ring_plain.specs.Ring.{RingState, IsRingOf}
+use Rattle.ring_plain.specs.Ring.{RingState}
 use Rattle.counter_segments.specs.Sums.{CounterSet, PassSums, counter_count, own_sum}
 use Rattle.traffic_feed.specs.declared.listing.Listing.{Listing}
-use Rattle.traffic_feed.specs.Listing.{record_count, word_count}
+use Rattle.traffic_feed.specs.Listing.{record_count}
 use Rattle.traffic_feed.specs.Turns.{next_draw}
 use Rattle.traffic_feed.specs.Counted.{causes, unit_share, cut_raise, listing_share}
 use Rattle.feed_schedule.specs.declared.counting.Counting.{Counting}
 use Rattle.feed_schedule.specs.Schedule.{count_writers, seed_of, is_drawn}
-use Rattle.feed_schedule.specs.Replaying.{waiting}
-use Rattle.feed_schedule.specs.Unread.{Written, nothing_written, after_writes}
+use Rattle.feed_schedule.specs.Replaying.{AreAt, waiting}
+use Rattle.feed_schedule.specs.Unread.{nothing_written, after_writes}
 
 -- what a writer has still to put, the cuts of its listing, and its pass
 pub record Tally : Type 0 where
@@ -66,29 +64,18 @@ pub record AreTallied (counters : CounterSet) (listings : List Listing) (writers
   pub sound : AllByRecursion (IsSound counters) (tallies writers cuts passes)
   pub shares : (which : ℕ) → which < counter_count → map (whole_share which) (tallies writers cuts passes) ≡ map (listing_share which) listings
 
--- whose turn it is, of so many that have not left, counted from the first of them, and what was drawn for it, where turns are drawn
-abbrev pub IsChosen : Option ℕ → ℕ → ℕ → Option ℕ → Type 0
-IsChosen None active k None = k ≡ 0
-IsChosen None active k (Some y) = ⊥
-IsChosen (Some x) active k None = ⊥
-IsChosen (Some x) active k (Some y) = (y ≡ next_draw x) × (k ≡ next_draw x % active)
+-- whose turn it is, of so many that have not left, counted from the first of them
+abbrev pub chosen_by : Option ℕ → ℕ → ℕ
+chosen_by None active = 0
+chosen_by (Some x) active = next_draw x % active
 
--- writers stand between two turns: what was put is in the ring, and what is still to be put can be
-pub record AreAt (ring : RingState) (writers : List (Option Log)) (active : ℕ) (drawn : Option ℕ) (s : Written) : Type 0 where
-  pub in_ring : IsRingOf ring s.log
-  pub ended : ring.ended ≡ (count_writers s.writers == 0)
-  pub writers_are : writers ≡ s.writers
-  pub active_are : active ≡ count_writers s.writers
-  pub drawn_is : (x : ℕ) → drawn ≡ Some x → x ≡ s.drawn
-  pub fit : AreFit unit_words ring.seg (waiting s.writers)
-  pub room : ring.tail + 2 * word_count (waiting s.writers) ≤ last_tail
-
--- they stand there after some turns of feeds, in an order
+-- writers, so many of which have not left, stand where some turns of feeds lead, in an order
 pub record HaveWritten (seg : ℕ) (order : Option ℕ) (feeds : List Log) (ring : RingState) (writers : List (Option Log)) (active : ℕ) (drawn : Option ℕ) : Type 0 where
   pub seg_is : ring.seg ≡ seg
   pub drawing : is_drawn drawn ≡ is_drawn order
+  pub counted : active ≡ count_writers writers
   pub turns : ℕ
-  pub at : AreAt ring writers active drawn (after_writes turns (is_drawn order) (nothing_written (seed_of order) feeds))
+  pub at : AreAt ring writers drawn (after_writes turns (is_drawn order) (nothing_written (seed_of order) feeds))
 
 -- so does what counts them
 abbrev pub HasWritten : ℕ → Option ℕ → List Log → Counting → Type 0

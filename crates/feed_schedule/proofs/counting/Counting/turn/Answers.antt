@@ -3,9 +3,9 @@ use Rattle.std.proofs.lemmas.Option.{same_Some}
 use Rattle.std.specs.Option.{IsSome}
 use Rattle.vsl_record.specs.Unit.{Log}
 use Rattle.feed_schedule.specs.Schedule.{count_writers, without_next}
-use Rattle.feed_schedule.proofs.PuttingLemmas.{Wrote, wrote_at}
+use Rattle.feed_schedule.proofs.PuttingLemmas.{Wrote, room_at, wrote_at}
 use Rattle.feed_schedule.proofs.TallyLemmas.{turn_of, sound_at, tallied_turn}
-use Rattle.feed_schedule.proofs.CountingLemmas.{counts_all, written_turn, room_for, fewer_turns}
+use Rattle.feed_schedule.proofs.CountingLemmas.{written_turn, fewer_turns}
 use Rattle.feed_schedule.proofs.counting.Counting.turn.Goals as goal
 
 pub count_turn-requires-clause-sound : goal.count_turn-requires-clause-sound
@@ -25,11 +25,11 @@ pub write-self-requires-clause-room : goal.write-self-requires-clause-room
 write-self-requires-clause-room c = λ u e.
     let place = c.place_of-place.ensures in
     let puts = turn_of _ _ _ _ _ _ _ _ _ _ _ c.requires.tallied.1 c.deref.ensures.value place.behind place.writer c.index_mut-2.ensures.value c.index-2.ensures c.index_mut.ensures.value in
-    room_for _ _ _ _ _ _ _ _ _ _ u c.requires.written.3 puts.writer e
+    room_at _ _ _ _ _ _ _ u c.requires.written.3.at puts.writer e
 
 -- so many had not left
 count : (c : goal.After-self-3-1) → c.args.self.now.active ≡ count_writers c.args.self.now.writers.items
-count c = counts_all _ _ _ _ _ _ _ c.requires.written.3
+count c = c.requires.written.3.counted
 
 -- the writer wrote
 wrote : (c : goal.After-self-3-1) → Wrote c.args.self.now.ring c.args.self.now.writers.items c.choose-chosen.result c.write-self.result c.write-self.new.ring (set c.args.self.now.writers.items c.place_of-place.result c.write-self.new.self)
@@ -42,7 +42,7 @@ wrote c =
     wrote_at _ _ _ _ _ _ _ _ _ puts.writer (omega arith) all e.shape e.put e.writer e.active e.ended
 
 pub returns-clause-written : goal.returns-clause-written
-returns-clause-written c = λ seg order feeds h. written_turn seg order feeds _ _ _ _ _ _ _ _ _ c.requires.active c.choose-chosen.ensures.chosen (wrote c) h
+returns-clause-written c = λ seg order feeds h. written_turn seg order feeds _ _ _ _ _ _ _ _ _ c.requires.active c.choose-chosen.ensures.chosen c.choose-chosen.ensures.drawn (wrote c) h
 
 pub returns-clause-tallied : goal.returns-clause-tallied
 returns-clause-tallied c = λ listings h.
