@@ -23,20 +23,16 @@ TOP = pathlib.Path(__file__).resolve().parent.parent
 CRATES = TOP / "crates"
 
 
-def cited(name):
-    """The crates that a crate's source cites."""
-    text = "".join(file.read_text() for file in sorted((CRATES / name / "src").rglob("*.rt")))
-    return [it.name for it in sorted(CRATES.iterdir()) if it.name != name and re.search(rf"\b{it.name}::", text)]
-
-
 def all_below(top):
-    """The crates below this one, each with those that it cites."""
-    found, left = {}, cited(top)
+    """The crates below this one, each with those that crates.txt has it use."""
+    rows = re.findall(r"^(\w+)[^:\n#]*:([^\n#]*)", (TOP / "crates.txt").read_text(), re.M)
+    uses = {name: words.split() for name, words in rows}
+    found, left = {}, [top]
     while left:
-        name = left.pop()
-        if name not in found:
-            found[name] = cited(name)
-            left += found[name]
+        for name in uses[left.pop()]:
+            if name in uses and name not in found:
+                found[name] = [it for it in uses[name] if it in uses]
+                left.append(name)
     return found
 
 
