@@ -27,10 +27,10 @@ gate: ## the merge gate: proofs, edits, tests, programs, documents and command l
 fmt: ## lays out every crate
 	set -e; for crate in crates/*; do (cd $$crate && rt fmt); done
 
-docs: ## checks the documents
-	tools/check_docs.sh
+docs: ## checks the documents, and the tables and the completion that are made
+	tools/check docs definitions options byte_table completion
 
-definitions: ## makes docs/DEFINITIONS.md from specs/ and src/
+definitions: ## makes docs/DEFINITIONS.md, which isn't committed, from specs/ and src/
 	tools/definitions.py --write
 
 build: ## proves and builds bin/vtools
@@ -51,9 +51,8 @@ uninstall: ## takes away the files of install, with the same PREFIX and DESTDIR
 	for page in $(pages); do rm -f $(installed)/share/man/man1/$$page || exit 1; done
 
 .PHONY: cases
-cases: build ## runs the command lines of cases/, and those that take a shell, over the proved program
-	tools/check_cases.sh
-	tools/check_edges.sh
+cases: build ## runs the command lines of cases/, and those that data can't say, over the proved program
+	tools/check cases edges --program bin/vtools
 
 demo: ## prints the first lines of a real log, by an unproved build that is thrown away
 	@tools/demo.sh

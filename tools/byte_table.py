@@ -3,20 +3,19 @@
 
 The file has two units: a backend's (VXID 3: Begin `bereq 2 fetch`, End) and a client's (VXID 2:
 Begin `req 1 rxreq`, Link `bereq 3 fetch`, End). For each of its 100 places and each of the 256
-values there, the decoder below says whether the file is whole and how many units it has. The
-decoder follows the rules of the format alone; no output of the program is used.
+values there, tools/reference/vslog.py, which follows the rules of the format alone, says whether
+the file is whole and how many units it has; no output of the program is used.
 
-    tools/byte_table.py | diff - crates/acceptance/src/byte_table.rt
+    tools/byte_table.py >crates/acceptance/src/byte_table.rt
 """
 
-import struct
+import pathlib
+import sys
 import textwrap
 
-HEADER = b"VSLOG-1\n"
-UNIT_TOP = 0xFE
-MOST_WORDS = 1048576
-MOST_PAYLOAD = 4000
-LAST_TAG = 92
+sys.dont_write_bytecode = True
+sys.path.append(str(pathlib.Path(__file__).resolve().parent / "reference"))
+from vslog import HEADER, NotRead, read_units, unit
 
 HEAD = """\
 //! What single-byte changes do to a log file. Printed by tools/byte_table.py, which has a decoder of
@@ -26,66 +25,15 @@ HEAD = """\
 /// `req 1 rxreq`, Link `bereq 3 fetch`, End).\
 """
 
-# tags by number, and the bits of a side
-BEGIN, LINK, END = 42, 43, 44
-CLIENT, BACKEND = 1 << 30, 1 << 31
-
-
-def spell(vxid, side, records):
-    """The words of a unit, as bytes with the lowest first."""
-    words = b""
-    for tag, payload in records:
-        filled = payload + bytes(-len(payload) % 4)
-        words += struct.pack("<II", tag << 24 | len(payload), side | vxid) + filled
-    return struct.pack("<I", UNIT_TOP << 24 | 1 + len(words) // 4) + words
-
-
-def unit_ends(data, at):
-    """Where the unit at this place ends, or None where no whole and correct unit stands there."""
-    if at + 4 > len(data):
-        return None
-    (head,) = struct.unpack_from("<I", data, at)
-    words = head & 0xFFFFFF
-    if head >> 24 != UNIT_TOP or not 3 <= words <= MOST_WORDS:
-        return None
-    end = at + 4 * words
-    if end > len(data):
-        return None
-    place = at + 4
-    first_id = None
-    while place < end:
-        if place + 8 > end:
-            return None
-        record, this_id = struct.unpack_from("<II", data, place)
-        tag, length = record >> 24, record & 0xFFFFFF
-        if not 1 <= tag <= LAST_TAG or length > MOST_PAYLOAD:
-            return None
-        if this_id >> 30 == 3:
-            return None
-        if first_id is not None and this_id != first_id:
-            return None
-        first_id = this_id
-        place += 8
-        after = place + (length + 3) // 4 * 4
-        if after > end:
-            return None
-        if any(data[place + length : after]):
-            return None
-        place = after
-    return end
-
 
 def read(data):
     """How many units the file has, and the byte at which it is wrong, or None where it is whole."""
-    for at, byte in enumerate(HEADER):
-        if data[at : at + 1] != bytes([byte]):
-            return 0, at
-    at, units = len(HEADER), 0
-    while at < len(data):
-        end = unit_ends(data, at)
-        if end is None:
-            return units, at
-        at, units = end, units + 1
+    units = 0
+    try:
+        for _ in read_units(data):
+            units += 1
+    except NotRead as damage:
+        return units, damage.at
     return units, None
 
 
@@ -108,15 +56,8 @@ def print_bytes(name, values, form):
     print("];")
 
 
-def main():
-    backend = spell(3, BACKEND, [(BEGIN, b"bereq 2 fetch"), (END, b"")])
-    client = spell(
-        2, CLIENT, [(BEGIN, b"req 1 rxreq"), (LINK, b"bereq 3 fetch"), (END, b"")]
-    )
-    data = HEADER + backend + client
-    assert len(data) == 100 and len(backend) == 36 and len(client) == 56
-    assert read(data) == (2, None)
-
+def changes(data, backend):
+    """The ranges round each byte with which the file stays whole, other such ranges, and units that end early."""
     first, last, also, early = [], [], [], []
     for place, old in enumerate(data):
         whole, left = [], {}
@@ -134,13 +75,23 @@ def main():
                 last.append(high)
             else:
                 also.append((place, low, high))
-        # the other values leave the units before the changed one, which is wrong, or a wrong header; the rest are listed
+        # other values leave the units before the changed one, which is wrong, or a wrong header; the rest are listed
         before = 0 if place < len(HEADER + backend) else 1
         begin = place if place < len(HEADER) else len(HEADER) + before * len(backend)
         for (units, wrong), values in left.items():
             if (units, wrong) != (before, begin):
                 early += [(place, value, units, wrong) for value in values]
     assert len(first) == 100
+    return first, last, also, early
+
+
+def main():
+    backend = unit(3, "b", [("Begin", b"bereq 2 fetch"), ("End", b"")])
+    client = unit(2, "c", [("Begin", b"req 1 rxreq"), ("Link", b"bereq 3 fetch"), ("End", b"")])
+    data = HEADER + backend + client
+    assert len(data) == 100 and len(backend) == 36 and len(client) == 56
+    assert read(data) == (2, None)
+    first, last, also, early = changes(data, backend)
 
     print(HEAD)
     print_bytes("REQUEST_WITH_FETCH", data, "0x%02x")

@@ -23,8 +23,8 @@ MOST_CALLS = 3
 
 HEAD = """# Definitions
 
-Every `pub` definition of `specs/`, by crate and file, the lowest crate first. `tools/definitions.py` makes this page
-from comments and clauses, and the gate compares it: after a change run `make definitions`.
+Every `pub` definition of `specs/`, by crate and file, the lowest crate first. `make definitions` makes this page from
+comments and clauses; it isn't committed.
 
 A sentence is the comment above the definition. A source is a section of the public manual or this project's choice; `-`
 where neither the definition nor the head of its file names one. The last column has the public calls whose clauses cite
@@ -517,27 +517,28 @@ def document(index):
 
 
 def unused(index):
-    """Prints what no public call reaches, what is inside and yet in a public clause, and what has no source."""
+    """What no public call reaches, what is inside and in a public clause, and files with a definition of no source."""
     nearest, private = index.reach()
     for spec in index.specs:
         items = [item for item in spec.items.values() if item.public]
+        place = f"crates/{spec.crate}/{spec.file}"
         for item in items:
-            direct = [call.label for distance, call in nearest.get(id(item), []) if distance == 0]
+            direct = any(distance == 0 for distance, _ in nearest.get(id(item), []))
             if item.is_inside() and direct:
-                print(f"crates/{item.crate}/{item.file}: {item.name} is inside, and {direct[0]} cites it")
+                yield f"{place}: {item.name} is inside, and a public call cites it"
             elif not item.is_inside() and id(item) not in nearest:
                 by = "private steps alone" if id(item) in private else "no clause"
-                print(f"crates/{item.crate}/{item.file}: {item.name} is cited by {by}")
-        bare = [item.name for item in items if not split_source(item.comment)[1] and not head_source(spec.head)]
+                yield f"{place}: {item.name} is cited by {by}"
+        bare = any(not split_source(item.comment)[1] and not head_source(spec.head) for item in items)
         if bare and not all(item.is_inside() for item in items):
-            print(f"crates/{spec.crate}/{spec.file}: no source for {', '.join(bare)}")
+            yield f"{place}: a definition without a source"
 
 
 def main():
     option = sys.argv[1] if len(sys.argv) > 1 else None
     index = Index()
     if option == "--unused":
-        unused(index)
+        print(*unused(index), sep="\n")
         return
     text, errors = document(index)
     if option == "--write":

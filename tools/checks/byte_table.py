@@ -1,0 +1,11 @@
+"""Compares the table of changed bytes in the tests of `acceptance` with what tools/byte_table.py prints."""
+
+from checks.running import TOP, made_by, same_text
+
+TABLE = "crates/acceptance/src/byte_table.rt"
+
+
+def check(_):
+    table = (TOP / TABLE).read_bytes()
+    same_text(TABLE, made_by("tools/byte_table.py"), table)
+    return "%d lines" % table.count(b"\n")

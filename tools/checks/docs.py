@@ -1,0 +1,125 @@
+"""Checks the documents beside the repository: crates, version, messages, edits of wrong bodies, and what is cited."""
+
+import re
+
+from checks.running import TOP, Failed
+
+PAGES = ["vtools", "vtools-varnishlog", "vtools-varnishncsa", "vtools-varnishtop", "vtools-varnishstat"]
+DOCUMENTS = [
+    *["README.md", "CHANGELOG.md", "CONTRIBUTING.md", "docs/ARCHITECTURE.md", "docs/PROOF.md", "docs/FORMATS.md"],
+    *["docs/DECISIONS.md", "docs/GUIDE.md", "docs/COMING_FROM_VARNISH.md", "docs/SPEED.md"],
+    *[f"docs/man/{page}.1" for page in PAGES],
+]
+# What is no text of the repository's own: what is made, and the data of examples, cases and programs.
+NO_TEXT = re.compile(r"(\.git|bin|examples)/|.*/out/|cases/[^/]*/|crates/[^/]*/data/|docs/DEFINITIONS\.md")
+NUMBERED = re.compile(
+    r"(^|[^A-Za-z0-9_])"
+    r"(D[0-9]{1,2}|T[1-5]\.[0-9]+|W[0-9]{1,2}|R(1?[0-9]|20)[a-z]?|F(18|19|20)|L(1?[0-9]))"
+    r"([^A-Za-z0-9_]|$)"
+)
+OUTSIDE = re.compile(r"\.\./share[d]|(^|[^A-Za-z0-9_.])/wor[k]([^A-Za-z0-9_]|$)")
+
+
+def read(name):
+    return (TOP / name).read_text()
+
+
+def found(pattern, text):
+    """What a pattern has in its only group, at each line of the text that it fits."""
+    return re.findall(pattern, text, re.M)
+
+
+def between(text, begin, end):
+    """The lines from the first that one pattern fits up to the next that another fits, with both."""
+    lines, taken = text.splitlines(), []
+    for line in lines:
+        if taken or re.match(begin, line):
+            taken.append(line)
+            if len(taken) > 1 and re.match(end, line):
+                break
+    return taken
+
+
+def documents():
+    for name in DOCUMENTS:
+        if not (TOP / name).is_file() or not read(name):
+            raise Failed(f"{name} is missing")
+    return len(DOCUMENTS)
+
+
+def crates():
+    """Each crate of crates.txt is named in PROOF and ARCHITECTURE."""
+    names = found(r"^([a-z0-9_]+)(?: staticlib)?:", read("crates.txt"))
+    if not names:
+        raise Failed("crates.txt names no crate")
+    for name in names:
+        for file in "docs/PROOF.md", "docs/ARCHITECTURE.md":
+            if f"`{name}`" not in read(file):
+                raise Failed(f"{file} does not name the crate {name}")
+    return len(names)
+
+
+def version():
+    """The newest release of CHANGELOG is what the program prints, FORMATS and the header of each man page have."""
+    printed = found(r'^const VERSION: &str = "(vtools .*)\\n";$', read("crates/vtools/src/answers.rt"))[0]
+    number, date = re.search(r"^## ([0-9][0-9.]*), ([0-9-]*)$", read("CHANGELOG.md"), re.M).groups()
+    if f"vtools {number}" != printed:
+        raise Failed(f"CHANGELOG.md has the release {number}, and the program is {printed}")
+    if f"`vtools --version` prints `{printed}`." not in read("docs/FORMATS.md").splitlines():
+        raise Failed(f"docs/FORMATS.md has not the version {printed}")
+    for page in sorted((TOP / "docs/man").glob("*.1")):
+        if f'"{date}" "{printed}"' not in page.read_text().split("\n")[0]:
+            raise Failed(f'the header of {page.name} has not "{date}" "{printed}"')
+    return 2 + len(PAGES)
+
+
+def messages():
+    """Each text of a message has a row in FORMATS with words that bring it."""
+    rows = between(read("docs/FORMATS.md"), "### Errors as a person reads them", "Each text of a message")
+    table = "\n".join(row for row in rows if row.startswith("|"))
+    faults = found(r"^(?:usage_message|query_message|message) (.*)", read("crates/varnish_tools/specs/Faults.antt"))
+    faults += found(r"^overrun_message (.*)", read("crates/text_printer/specs/Messages.antt"))
+    texts = {text.lstrip(": ") for line in faults for text in re.findall(r'codes "([^"]*)"', line)} - {""}
+    texts |= set(found(r'eprintln!\(rt; "vtools: ([^{"]*[^{"])', read("crates/vtools/src/answers.rt")))
+    if not texts:
+        raise Failed("the source has no messages")
+    for text in sorted(texts):
+        if text not in table:
+            raise Failed(f"docs/FORMATS.md has no words that bring the message `{text}`")
+    return len(texts)
+
+
+def edits():
+    """Each file that an edit of a wrong body changes is there."""
+    files = [edit for top in ("crates", "wrong") for edit in (TOP / top).rglob("*.edit")]
+    all_edits = [edit for edit in files if "/out/" not in str(edit)]
+    for edit in all_edits:
+        folder = edit.parent.parent if edit.parent.name == "must-fail" else edit.parent
+        changed = found(r"^file: (.*)$", edit.read_text())
+        if not changed:
+            raise Failed(f"{edit.relative_to(TOP)} names no file")
+        for name in changed:
+            if not (TOP / "crates" / folder.name / name).is_file():
+                raise Failed(f"{edit.relative_to(TOP)} changes crates/{folder.name}/{name}, which is missing")
+    return len(all_edits)
+
+
+def citations():
+    """No file cites a numbered paper, or a path outside the repository."""
+    count = 0
+    for path in sorted(TOP.rglob("*")):
+        name = path.relative_to(TOP).as_posix()
+        if NO_TEXT.match(name) or not path.is_file():
+            continue
+        count += 1
+        text = path.read_bytes().decode("latin-1")
+        for pattern, what in (NUMBERED, "cites a number"), (OUTSIDE, "names a path outside the repository"):
+            if re.search(pattern.pattern, text, re.M):
+                lines = [f"{at}: {line}" for at, line in enumerate(text.split("\n"), 1) if pattern.search(line)]
+                raise Failed("\n".join([f"{name} {what}:", *lines[:5]]))
+    return count
+
+
+def check(_):
+    counts = documents(), crates(), version(), messages(), edits(), citations()
+    return "%d documents, %d crates, %d places of the version, %d messages, %d edits, %d files" % counts

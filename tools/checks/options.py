@@ -1,0 +1,31 @@
+"""What is made of the rows of options in the source, the help, tables and pages of documents, is as it would be made."""
+
+import re
+
+import options
+from checks.docs import PAGES, read
+from checks.running import TOP, Failed
+
+
+def options_in(text):
+    """The options of a text: words that begin with `-` and a letter, and `-1`."""
+    return {word for word in re.split(r"[^A-Za-z0-9_-]+", text) if re.match(r"--?[A-Za-z]|-1$", word)}
+
+
+def of_pages():
+    """Each option of a man page is in FORMATS."""
+    known = options_in(read("docs/FORMATS.md"))
+    for page in PAGES:
+        lines = [line for line in read(f"docs/man/{page}.1").splitlines() if not line.startswith('.\\"')]
+        text = re.sub(r"\\f[BIRP]", " ", "\n".join(lines)).replace("\\-", "-")
+        unknown = options_in(text) - known
+        if unknown:
+            raise Failed(f"options of docs/man/{page}.1 that are not in docs/FORMATS.md: {' '.join(sorted(unknown))}")
+
+
+def check(_):
+    of_pages()
+    for path, text in options.all_made():
+        if path.read_text() != text:
+            raise Failed(f"{path.relative_to(TOP)} is not what `tools/options.py --write` writes")
+    return f"{len(options.all_options())} rows of the source"
