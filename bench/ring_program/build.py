@@ -1,15 +1,14 @@
-#!/usr/bin/env python3
-"""Proves and builds the program that `bench/ring` and `bench/ring_sweep` run, in a copy of the crates.
+"""Proves and builds the program that the benches ring and ring_sweep run, in a copy of the crates.
 
 Its source stands beside this script as text, since it is no crate of the repository.
-Usage: bench/ring_program/build.py FOLDER. The folder is empty or made, and the program is then
-FOLDER/crates/ring_bench/out/ring_bench.
 """
 
+import contextlib
 import pathlib
 import shutil
 import subprocess
 import sys
+import tempfile
 
 HERE = pathlib.Path(__file__).resolve().parent
 TOP = HERE.parent.parent
@@ -43,5 +42,11 @@ def build(folder):
     return str(program)
 
 
-if __name__ == "__main__":
-    print(build(sys.argv[1]))
+@contextlib.contextmanager
+def built(program):
+    """A program that is given, or one that is built in a temporary folder."""
+    if program:
+        yield program
+    else:
+        with tempfile.TemporaryDirectory() as folder:
+            yield build(folder)

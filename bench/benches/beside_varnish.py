@@ -1,12 +1,9 @@
-#!/usr/bin/env python3
-"""Times vtools beside Varnish's own tools on a log that varnishd wrote, and alone on that log repeated.
-
-Usage: bench/beside_varnish.py PROGRAM LOGS, at the top of the repository. LOGS is the folder where the logs are kept,
-or empty. It tests nothing but that both print the same raw lines.
+"""Times vtools beside Varnish's own tools on one log, which varnishd writes while wrk sends it requests, and then alone
+on that log two and four times as long, with the peaks of memory. It installs nothing, and works on 127.0.0.1 alone. It
+tests nothing but that both print the same raw lines.
 """
 
 import contextlib
-import ctypes
 import datetime
 import itertools
 import os
@@ -17,16 +14,14 @@ import signal
 import subprocess
 import sys
 import tempfile
-import time
-from typing import NamedTuple
 
-sys.dont_write_bytecode = True
-sys.path.insert(0, "bench")
-from varnish_log import VARNISH_HEADER, our_units, repeat
-from varnish_traffic import make_log
+from vslog import HEADER
 
-RUNS = 5
-HEADER = b"VSLOG-1\n"
+from benches.varnish_traffic import make_log
+from logs import our_units, repeat
+from timing import RUNS, best, run
+
+NEEDED = ["varnishlog", "varnishncsa", "varnishtop", "varnishd", "wrk"]
 COPIES = (1, 2, 4)
 OUT = "OUT"  # stands for the file that is written
 MOST_MEBIBYTES = 16
@@ -44,31 +39,6 @@ COMMANDS = [
     (TOP, ["varnishtop", "-1"]),
     (TOP, ["varnishtop", "-1", "-i", "ReqURL"]),
 ]
-# What starts a command once its input ends. The peak of a process begins with that of its parent, so a shell, which is
-# small, is the parent, and leaves it to this program.
-STARTER = 'exec 3<&0; { read -r _ <&3; exec "$@" 3<&-; } &'
-ADOPT = 36  # of prctl: PR_SET_CHILD_SUBREAPER
-
-
-class Run(NamedTuple):
-    """The seconds of a run, those of them for the user, and the peak of memory in MiB."""
-
-    seconds: float
-    user: float
-    peak: float
-
-
-def run(words):
-    """Runs a command to its end."""
-    shell = subprocess.Popen(["sh", "-c", STARTER, "sh", *words], stdin=subprocess.PIPE, stdout=subprocess.DEVNULL)
-    shell.wait()
-    begin = time.perf_counter()
-    shell.stdin.close()
-    _, status, used = os.wait4(-1, 0)
-    seconds = time.perf_counter() - begin
-    if status != 0:
-        sys.exit(f"{shlex.join(words)}: status {os.waitstatus_to_exitcode(status)}")
-    return Run(seconds, used.ru_utime, used.ru_maxrss / 1024)
 
 
 def in_turn(commands, out):
@@ -80,7 +50,7 @@ def in_turn(commands, out):
                 os.remove(out)
             taken.append(run([out if word == OUT else word for word in words]))
     runs = [taken[at :: len(commands)] for at in range(len(commands))]
-    return [min(of)._replace(peak=max(each.peak for each in of)) for of in runs]
+    return [best(of) for of in runs]
 
 
 def first_line(*words):
@@ -185,21 +155,18 @@ def folder_for(size):
     return "/dev/shm" if os.path.isdir("/dev/shm") and shutil.disk_usage("/dev/shm").free > size else None
 
 
-def main():
-    program, kept = sys.argv[1:]
+def bench(program, given):
+    missing = [tool for tool in NEEDED if shutil.which(tool) is None]
+    if missing:
+        sys.exit(f"not on the path: {' '.join(missing)}; apt-get install varnish wrk")
     for stop in (signal.SIGTERM, signal.SIGHUP):
         signal.signal(stop, lambda *_: sys.exit(1))  # so that what was started is stopped
-    ctypes.CDLL(None).prctl(ADOPT, 1, 0, 0, 0)
     with tempfile.TemporaryDirectory() as folder:
-        if kept:
-            os.makedirs(kept, exist_ok=True)
-        ours, theirs = logs_in(kept or folder)
+        if given.logs:
+            os.makedirs(given.logs, exist_ok=True)
+        ours, theirs = logs_in(given.logs or folder)
         print_facts(program, ours, theirs, compare_raw(program, ours, theirs))
         with tempfile.TemporaryDirectory(dir=folder_for(8 * os.path.getsize(ours))) as written:
             out = os.path.join(written, "out")
             print_beside(program, ours, theirs, out)
             print_growth(program, ours, folder, out)
-
-
-if __name__ == "__main__":
-    main()

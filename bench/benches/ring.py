@@ -1,23 +1,17 @@
-#!/usr/bin/env python3
 """Times the ring that threads share: a put beside a plain copy of the same words, writers together, readers beside a
 writer, and a queue of the kit beside both.
 
 A plain copy stores word after word into a table of the same atomic words under a rule that asks nothing; what the copy
 of the words into plain memory takes is shown too. Beside a writer are also readers of another ring, to which nobody
-puts: what these cost it is the processors' doing and not the ring's. The commands run in turn, in one run, and the least time of seven
-counts, where there are readers the least of those in which they took most of what was put; what they took is shown. A
-writer's time is up to its last unit. It tests nothing.
-Usage: bench/ring [PROGRAM]; PROGRAM is proved and built in a temporary folder if left out.
+puts: what these cost it is the processors' doing and not the ring's. The commands run in turn, in one run, and the
+least time of seven counts, where there are readers the least of those in which they took most of what was put; what
+they took is shown. A writer's time is up to its last unit.
 """
 
 import os
 import subprocess
-import sys
-import tempfile
 
-sys.dont_write_bytecode = True
-sys.path.insert(0, os.path.join(os.path.dirname(os.path.abspath(__file__)), "ring_program"))
-from build import build
+from ring_program.build import built
 
 RUNS = 7
 SIZES = (16, 64, 512)
@@ -82,13 +76,13 @@ def run(program, words):
 
 
 def best_of(words, runs):
-    """The run that counts: the quickest of those in which readers took most of what was put, or where they took most."""
+    """The run that counts: the quickest of those in which readers took most of what was put, or of most taken."""
     readers = words[2] if words[0] == "put" else 0
     full = [run for run in runs if run[2] >= MOST * readers * run[1]]
     return min(full) if full else max(runs, key=lambda run: run[2])
 
 
-def main(program):
+def print_times(program):
     processors = len(os.sched_getaffinity(0))
     commands = commands_of()
     # in turn, so that what else the machine does falls on all
@@ -119,7 +113,9 @@ def main(program):
         for sleep in (0, SLEEP):
             label = reading(readers, sleep)
             share = least[label][2] / (least[label][1] * readers)
-            wanted = "to take at least 0.8 of what is put" if readers == 1 else "units a second, at least 0.8 of one writer's"
+            wanted = "units a second, at least 0.8 of one writer's"
+            if readers == 1:
+                wanted = "to take at least 0.8 of what is put"
             line(label, alone / unit[label], f"{wanted}; each took {share:.2f}")
             line(apart(readers, sleep), alone / unit[apart(readers, sleep)])
     print(f"{'units a second, 1 writer and 1 reader':44} {'ring':>11} {'queue':>11} {'ratio':>7}  of the ring's, taken")
@@ -130,9 +126,6 @@ def main(program):
         print(f"{f'{size} words':44} {speeds}  {all_taken / all_put:.2f}, {overruns} overruns")
 
 
-if __name__ == "__main__":
-    if len(sys.argv) > 1:
-        main(sys.argv[1])
-    else:
-        with tempfile.TemporaryDirectory() as folder:
-            main(build(folder))
+def bench(given_program, _):
+    with built(given_program) as program:
+        print_times(program)

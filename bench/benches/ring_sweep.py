@@ -1,4 +1,3 @@
-#!/usr/bin/env python3
 """Checks on threads what readers take of the ring: 1 to 16 writers, 1 to 8 readers, segments of 64 to 4,096 words, and
 in all about ten million units; and far fewer of them under valgrind, if there is one, by both of its schedulers.
 
@@ -6,21 +5,14 @@ Each unit tells its writer and number and has the sum of its words. The program 
 writer's units come in their order, none twice, and none missing between two overruns, that no overrun came at a
 distance below six, that all readers agree which unit follows which, and that they end with the writers' last units.
 Status 1 and a message where one of these fails.
-Usage: bench/ring_sweep [--units N] [--valgrind-units N] [PROGRAM]; N in all; PROGRAM is proved and built in a temporary
-folder if left out.
 """
 
-import argparse
-import os
 import shutil
 import subprocess
 import sys
-import tempfile
 import time
 
-sys.dont_write_bytecode = True
-sys.path.insert(0, os.path.join(os.path.dirname(os.path.abspath(__file__)), "ring_program"))
-from build import build
+from ring_program.build import built
 
 WRITERS = range(1, 17)
 READERS = range(1, 9)
@@ -70,7 +62,7 @@ def sweep(label, runner, program, all_writers, all_readers, segments, total):
         )
 
 
-def main(program, units, valgrind_units):
+def sweep_all(program, units, valgrind_units):
     sweep("", [], program, WRITERS, READERS, SEGMENTS, units)
     valgrind = shutil.which("valgrind")
     if valgrind is None:
@@ -81,14 +73,6 @@ def main(program, units, valgrind_units):
         sweep(f"fair-sched={fair}, ", runner, program, FEW_WRITERS, FEW_READERS, FEW_SEGMENTS, valgrind_units)
 
 
-if __name__ == "__main__":
-    words = argparse.ArgumentParser()
-    words.add_argument("program", nargs="?")
-    words.add_argument("--units", type=int, default=10_000_000)
-    words.add_argument("--valgrind-units", type=int, default=24_000)
-    given = words.parse_args()
-    if given.program:
-        main(given.program, given.units, given.valgrind_units)
-    else:
-        with tempfile.TemporaryDirectory() as folder:
-            main(build(folder), given.units, given.valgrind_units)
+def bench(given_program, given):
+    with built(given_program) as program:
+        sweep_all(program, given.units, given.valgrind_units)
