@@ -23,7 +23,7 @@ use Rattle.query_grammar.specs.Grammar.{Written}
 use Rattle.query_grammar.specs.Fine.{IsFineQuery, IsFineText}
 use Rattle.query_grammar.specs.QueryFault.{query_fault}
 use Rattle.query_grammar.proofs.Lines.{lines_read}
-use Rattle.query_grammar.proofs.FineLines.{fine_lines_read}
+use Rattle.query_grammar.proofs.Fine.{fine_lines_read}
 use Rattle.query_grammar.proofs.TextFaults.{fault_is}
 use Rattle.query_grammar.proofs.Postfix.{one_truth}
 use Rattle.query_parser.specs.declared.query.Query.{Query}
