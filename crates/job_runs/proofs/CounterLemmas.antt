@@ -12,9 +12,8 @@ use Rattle.ring_plain.specs.Ring.{count_wraps}
 use Rattle.log_ring.specs.Closed.{ClosedState}
 use Rattle.counter_segments.specs.Sums.{counter_count}
 use Rattle.traffic_feed.specs.declared.listing.Listing.{Listing}
-use Rattle.traffic_feed.specs.Counted.{Cause, EachTag, EachRequest, EachFetch, EachCall, EachField, EachRecord, EachUnit, EachCut, EachWait, EachWrap, causes, counter_value, counter_values}
+use Rattle.traffic_feed.specs.Counted.{Cause, EachTag, EachRequest, EachFetch, EachCall, EachField, EachRecord, EachUnit, EachCut, EachWait, EachWrap, causes, counter_value, counter_values, wait_raise}
 use Rattle.feed_schedule.specs.Unread.{IsUnread}
-use Rattle.traffic_feed.specs.Feeding.{wait_raise}
 use Rattle.live_run.specs.Runs.{LiveCounted, live_value, live_values}
 use Rattle.vsl_stat.specs.Report.{stat_text, stat_json, stat_list}
 use Rattle.tool_words.specs.declared.job.Job.{Job}

@@ -15,9 +15,9 @@ use Rattle.log_ring.specs.Writers.{WriterState, busy_of, count_wrapped, entries_
 use Rattle.log_ring.specs.Closed.{entries_from}
 use Rattle.counter_segments.specs.Sums.{CounterSet, counter_count, own_sum, total, totals}
 use Rattle.traffic_feed.specs.declared.listing.Listing.{Listing}
-use Rattle.traffic_feed.specs.Counted.{Cause, EachTag, EachRequest, EachFetch, EachCall, EachField, EachRecord, EachUnit, EachCut, EachWait, EachWrap, causes, unit_share, wrap_raise, listing_share}
+use Rattle.traffic_feed.specs.Counted.{Cause, EachTag, EachRequest, EachFetch, EachCall, EachField, EachRecord, EachUnit, EachCut, EachWait, EachWrap, causes, unit_share, wait_raise, wrap_raise, listing_share}
 use Rattle.traffic_feed.specs.declared.feeding.Fed.{Fed}
-use Rattle.traffic_feed.specs.Feeding.{most_waits, wait_raise, wraps_of}
+use Rattle.traffic_feed.specs.Feeding.{most_waits, wraps_of}
 use Rattle.traffic_feed.specs.Workers.{AllFed}
 use Rattle.live_run.specs.inside.Opening.{lefts_of, counts_of, AreWhole}
 use Rattle.live_run.specs.Runs.{AreTold, live_value, live_values}

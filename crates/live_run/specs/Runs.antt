@@ -15,10 +15,10 @@ use Rattle.log_ring.specs.Closed.{ClosedState}
 use Rattle.counter_segments.specs.Sums.{counter_count}
 use Rattle.traffic_feed.specs.declared.listing.Listing.{Listing}
 use Rattle.traffic_feed.specs.Batches.{IsWithin}
-use Rattle.traffic_feed.specs.Counted.{causes, counter_value}
+use Rattle.traffic_feed.specs.Counted.{causes, counter_value, wait_raise}
 use Rattle.traffic_feed.specs.Listing.{record_count}
 use Rattle.feed_schedule.specs.Replaying.{count_feed_words}
-use Rattle.traffic_feed.specs.Feeding.{most_records, most_waits, wait_raise}
+use Rattle.traffic_feed.specs.Feeding.{most_records, most_waits}
 
 -- the units of listings, list by list
 abbrev pub feeds_of : List Listing → List Log

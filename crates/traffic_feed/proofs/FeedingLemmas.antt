@@ -14,10 +14,10 @@ use Rattle.log_ring.specs.Writers.{WriterState, IsRefusedAtLast, count_wrapped, 
 use Rattle.counter_segments.specs.Sums.{CounterSet, PassSums, counter_count, own_sum}
 use Rattle.traffic_feed.specs.declared.listing.Listing.{Listing}
 use Rattle.traffic_feed.specs.Batches.{IsWithin}
-use Rattle.traffic_feed.specs.Counted.{causes, unit_share, cut_raise, wrap_raise}
+use Rattle.traffic_feed.specs.Counted.{causes, unit_share, cut_raise, wait_raise, wrap_raise}
 use Rattle.traffic_feed.specs.Listing.{record_count}
 use Rattle.traffic_feed.proofs.CountedLemmas.{no_unit_share, unit_share_bound}
-use Rattle.traffic_feed.specs.Feeding.{IsFed, IsFullAt, most_records, wait_raise, wraps_of}
+use Rattle.traffic_feed.specs.Feeding.{IsFed, IsFullAt, most_records, wraps_of}
 use Rattle.traffic_feed.specs.inside.Putting.{HasAdded, HasPutFirst, StoppedAt}
 
 -- units raise a counter by at most 2^32 for each of their records

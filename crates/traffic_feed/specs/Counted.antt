@@ -157,6 +157,12 @@ cut_raise None cuts = 0
 cut_raise (Some EachCut) cuts = cuts
 cut_raise (Some cause) cuts = 0
 
+-- the same for a writer's waits
+abbrev pub wait_raise : Option Cause → ℕ → ℕ
+wait_raise None waits = 0
+wait_raise (Some EachWait) waits = waits
+wait_raise (Some cause) waits = 0
+
 -- the same for units that wrap in the ring
 abbrev pub wrap_raise : Option Cause → ℕ → ℕ
 wrap_raise None wraps = 0

@@ -10,7 +10,7 @@ use Rattle.log_ring.specs.Writers.{WriterState, count_wrapped, new_writer, units
 use Rattle.counter_segments.specs.Sums.{CounterSet, PassSums, counter_count, own_sum, new_pass}
 use Rattle.traffic_feed.specs.declared.listing.Listing.{Listing}
 use Rattle.traffic_feed.specs.Batches.{IsWithin}
-use Rattle.traffic_feed.specs.Counted.{Cause, EachWait, causes, unit_share, cut_raise, wrap_raise}
+use Rattle.traffic_feed.specs.Counted.{causes, unit_share, cut_raise, wait_raise, wrap_raise}
 use Rattle.traffic_feed.specs.Listing.{record_count}
 use Rattle.traffic_feed.specs.declared.feeding.Fed.{Fed}
 
@@ -29,12 +29,6 @@ pub record IsReady (ring : RingSet) (counters : CounterSet) (writer : WriterStat
   pub within : All (IsWithin ring.seg) listing.units
   pub few : record_count listing.units ≤ most_records
   pub cuts : listing.cuts ≤ record_count listing.units
-
--- by how much a writer's waits raise a counter of this cause
-abbrev pub wait_raise : Option Cause → ℕ → ℕ
-wait_raise None waits = 0
-wait_raise (Some EachWait) waits = waits
-wait_raise (Some cause) waits = 0
 
 -- by how much a worker raises a counter: by the units that it put, the cuts of its listing, its waits, and its units that wrapped
 abbrev pub fed_share : ℕ → Log → ℕ → ℕ → ℕ → ℕ

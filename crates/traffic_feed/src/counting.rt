@@ -2,7 +2,7 @@
 
 ghost use Rattle.std.specs.Prelude.{◌≡◌, ◌≢◌, ◌+◌, ◌^◌, ◌<◌, ◌≤◌, ℕ, length, slice_get};
 ghost use Rattle.counter_segments.specs.Sums.{counter_count, ceiling, own_sum};
-ghost use Rattle.traffic_feed.specs.Counted.{causes, cut_raise, unit_share, wrap_raise};
+ghost use Rattle.traffic_feed.specs.Counted.{causes, cut_raise, unit_share, wait_raise, wrap_raise};
 
 use crate::shares::shares;
 use counter_segments::{CounterPass, Counters};
@@ -10,6 +10,9 @@ use vsl_record::Unit;
 
 /// The number of the counter that cuts raise; units and their records raise those before it.
 const CUTS: u32 = 18;
+
+/// The number of the counter that waits raise.
+const WAITS: u32 = 19;
 
 /// The number of the counter that wraps raise.
 const WRAPS: u32 = 20;
@@ -59,6 +62,19 @@ pub fn count_cuts(counts: &mut CounterPass, counters: &Counters, cuts: u64)
     ensures counted { (which : ℕ) → which < counter_count → own_sum which counts.new ≡ own_sum which counts.old + cut_raise (slice_get causes which) cuts }
 {
     add(counts, counters, CUTS, cuts);
+}
+
+/// Counts how often a writer waited for another.
+///
+/// Source: this project's choice.
+pub fn count_waits(counts: &mut CounterPass, counters: &Counters, waits: u64)
+    requires ours { counts.old.counters ≡ counters.now }
+    requires low { own_sum 19 counts.old + waits ≤ ceiling }
+    ensures same { counts.new.counters ≡ counts.old.counters }
+    ensures whole { length counts.new.sums ≡ length counts.old.sums }
+    ensures counted { (which : ℕ) → which < counter_count → own_sum which counts.new ≡ own_sum which counts.old + wait_raise (slice_get causes which) waits }
+{
+    add(counts, counters, WAITS, waits);
 }
 
 /// Counts the units that wrapped in a ring.

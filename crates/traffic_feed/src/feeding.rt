@@ -12,8 +12,8 @@ ghost use Rattle.traffic_feed.specs.Feeding.{IsFed, IsReady, WasAskedEach, most_
 ghost use Rattle.traffic_feed.specs.inside.Putting.{HasAdded, StoppedAt};
 
 use crate::gate::Gate;
-use crate::waiting::{add_waits, count_waits};
-use crate::{Listing, count_cuts, count_unit, count_wraps};
+use crate::waiting::add_waits;
+use crate::{Listing, count_cuts, count_unit, count_waits, count_wraps};
 use counter_segments::{CounterPass, Counters};
 use log_ring::{LeftWriter, Ring, WriterPass};
 use ring_layout::PutFault;

@@ -31,7 +31,7 @@ mod turns;
 mod waiting;
 mod worker;
 
-pub use counting::{count_cuts, count_unit, count_wraps};
+pub use counting::{count_cuts, count_unit, count_waits, count_wraps};
 pub use fault::ListFault;
 pub use feeding::{Fed, feed};
 pub use gate::{Gate, OpenGate};
