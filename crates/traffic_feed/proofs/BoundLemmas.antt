@@ -13,7 +13,7 @@ use Rattle.traffic_feed.specs.Listing.{record_count, word_count}
 use Rattle.traffic_feed.specs.inside.Gathering.{Gathered, begins, ended, taken_by, stepped, nothing, gathered_lines}
 use Rattle.traffic_feed.proofs.BegunUnitLemmas.{record_size, size_more, unit_size}
 use Rattle.traffic_feed.proofs.LineLemmas.{is_feed, split_some}
-use Rattle.traffic_feed.proofs.NameLemmas.{IsPlain-from}
+use Rattle.vsl_tags.proofs.CalledLemmas.{IsPlain-from}
 
 -- ---- bytes
 

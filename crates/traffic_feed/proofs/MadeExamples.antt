@@ -2,59 +2,11 @@
 use Rattle.std.proofs.Common.{◌≡◌, ℕ, ◌∷◌, [], List, length, drop, take, refl}
 use Rattle.std.specs.Prelude.{codes}
 use Rattle.std.specs.Fmt.{digits}
-use Rattle.vsl_tags.specs.Tags.{tag_name}
 use Rattle.vsl_record.specs.declared.mark.Mark.TheVariants.{Client, Backend}
 use Rattle.vsl_record.specs.declared.record_type.Record.{Record}
 use Rattle.vsl_record.specs.Unit.{LogUnit}
 use Rattle.vsl_record.specs.Words.{unit_words}
 use Rattle.traffic_feed.specs.Made.{draw_of, made_units, made_cuts}
-use Rattle.traffic_feed.specs.TagNumbers.{sess_open_tag, sess_close_tag, backend_open_tag, fetch_error_tag, vcl_call_tag, req_start_tag, req_acct_tag, bereq_acct_tag, hit_tag, hit_miss_tag, hit_pass_tag, req_method_tag, req_url_tag, req_protocol_tag, req_header_tag, resp_status_tag, bereq_method_tag, bereq_url_tag, beresp_status_tag}
-
--- each tag has the name that its comment says
-names : (
-    tag_name sess_open_tag ∷
-    tag_name sess_close_tag ∷
-    tag_name backend_open_tag ∷
-    tag_name fetch_error_tag ∷
-    tag_name vcl_call_tag ∷
-    tag_name req_start_tag ∷
-    tag_name req_acct_tag ∷
-    tag_name bereq_acct_tag ∷
-    tag_name hit_tag ∷
-    tag_name hit_miss_tag ∷
-    tag_name hit_pass_tag ∷
-    tag_name req_method_tag ∷
-    tag_name req_url_tag ∷
-    tag_name req_protocol_tag ∷
-    tag_name req_header_tag ∷
-    tag_name resp_status_tag ∷
-    tag_name bereq_method_tag ∷
-    tag_name bereq_url_tag ∷
-    tag_name beresp_status_tag ∷
-    []
-    ) ≡ (
-    codes "SessOpen" ∷
-    codes "SessClose" ∷
-    codes "BackendOpen" ∷
-    codes "FetchError" ∷
-    codes "VCL_call" ∷
-    codes "ReqStart" ∷
-    codes "ReqAcct" ∷
-    codes "BereqAcct" ∷
-    codes "Hit" ∷
-    codes "HitMiss" ∷
-    codes "HitPass" ∷
-    codes "ReqMethod" ∷
-    codes "ReqURL" ∷
-    codes "ReqProtocol" ∷
-    codes "ReqHeader" ∷
-    codes "RespStatus" ∷
-    codes "BereqMethod" ∷
-    codes "BereqURL" ∷
-    codes "BerespStatus" ∷
-    []
-    )
-names = refl
 
 -- the draw of the first request
 first_draw_of_7 : draw_of 7 0 ≡ 599

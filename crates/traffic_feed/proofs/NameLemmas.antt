@@ -1,96 +1,25 @@
--- The names of tags: a name finds its tag and has no space.
-use Rattle.std.proofs.Common.{◌≡◌, ◌≢◌, ℕ, ◌+◌, ◌-◌, ◌<◌, ◌≤◌, Bool, true, ◌&&◌, leb, ltb, List, [], length, get_or, map, Option, Some, None, refl, sym, ap, ◌∙◌, arith, rules, tests}
-use Rattle.std.specs.Prelude.{if◌then◌else◌, IfNone, IfSome}
-use Rattle.std.specs.Char.{to_ascii_lowercase}
-use Rattle.std.specs.List.{AllPass, list_all, position_or_len}
-use Rattle.std.specs.Str.{IsAscii, bytes_eq, str_to_ascii_lowercase}
-use Rattle.std.proofs.Math.ListN as whole
-use Rattle.std.proofs.lemmas.Bool.{and_parts, leb-true}
-use Rattle.std.proofs.lemmas.Bool.Decides.{nat_tests}
-use Rattle.std.proofs.lemmas.List.{length-map}
-use Rattle.std.proofs.lemmas.List.Folds.{list_all-map}
-use Rattle.std.proofs.lemmas.List.Sums.{AllPass-from_list_all, passes_at_first}
-use Rattle.std.proofs.lemmas.Slice.Eq.{bytes_eq-Decides}
-use Rattle.std.proofs.lemmas.Str.Ascii.{IsAscii-from_all}
-use Rattle.vsl_tags.specs.Tags.{IsTag, last_tag, lower_names, number_of_lower, tag_name, tag_names}
-use Rattle.vsl_tags.proofs.NameLemmas.{name_finds_tag}
-use Rattle.traffic_feed.specs.Lines.{IsNameOf}
+-- The names of tags, for lines: a name finds its tag, and what finds a tag is its name.
+use Rattle.std.proofs.Common.{◌≡◌, ℕ, List, Option, Some, refl, sym, ap, ◌∙◌}
+use Rattle.std.specs.Str.{str_to_ascii_lowercase}
+use Rattle.vsl_tags.specs.Tags.{IsTag, tag_name}
+use Rattle.vsl_tags.specs.Called as called
+use Rattle.vsl_tags.specs.Called.{IsTagName}
+use Rattle.vsl_tags.proofs.CalledLemmas as names
 use Rattle.traffic_feed.specs.inside.Reading.{tag_called}
 
--- the tag with this number, where there is one
-abbrev numbered : ℕ → Option ℕ
-numbered n = if leb n last_tag then Some n else None
-
-within : (n : ℕ) → n ≤ last_tag → numbered n ≡ Some n
-within n few = search (tests, rules)
+-- the tag of a name in lines is that of a name
+pub same_tag : (name : List ℕ) → called.tag_called name ≡ tag_called name
+unfolding tag_called
+same_tag name = refl
 
 -- a name finds its tag
-pub tag_found : (tag : ℕ) (name : List ℕ) → IsNameOf name tag → tag_called name ≡ Some tag
-unfolding tag_called
-tag_found tag name is = ap numbered (ap number_of_lower is.1 ∙ name_finds_tag tag is.0) ∙ within tag is.0.1
+pub tag_found : (tag : ℕ) (name : List ℕ) → IsTagName tag name → tag_called name ≡ Some tag
+tag_found tag name is = sym (same_tag name) ∙ names.tag_found tag name is
+
+-- what finds a tag is its name
+pub named_by : (tag : ℕ) (name : List ℕ) → tag_called name ≡ Some tag → IsTagName tag name
+named_by tag name e = names.IsTagName-from tag name (same_tag name ∙ e)
 
 -- a name that differs from a tag's in case at most finds it
 pub called_so : (tag : ℕ) (name text : List ℕ) → IsTag tag → text ≡ tag_name tag → str_to_ascii_lowercase text ≡ str_to_ascii_lowercase name → Some tag ≡ tag_called name
 called_so tag name text is text_is same = sym (tag_found tag name (is, sym same ∙ ap str_to_ascii_lowercase text_is))
-
--- a text that is the first of some names, in lower case, is that name
-name_found : (names : List (List ℕ)) (text : List ℕ) (n : ℕ) → 1 + position_or_len (λ lower. bytes_eq lower text) (map str_to_ascii_lowercase names) ≡ n → n ≤ length names
-    → (1 ≤ n) × (text ≡ str_to_ascii_lowercase (get_or names (n - 1) []))
-name_found names text n number few =
-    let is = λ (lower : List ℕ). bytes_eq lower text in
-    let lowers : List (List ℕ) = map str_to_ascii_lowercase names in
-    let place : n - 1 ≡ position_or_len is lowers = omega arith in
-    let count : length lowers ≡ length names = length-map names str_to_ascii_lowercase in
-    let found : position_or_len is lowers < length lowers = omega arith in
-    (omega arith, sym (ap (λ k. str_to_ascii_lowercase (get_or names k [])) place ∙ sym (whole.get_or-map str_to_ascii_lowercase names (position_or_len is lowers) []) ∙ (bytes_eq-Decides _ _).0 (passes_at_first is lowers [] found)))
-
--- a tag that is found is called so
-pub IsNameOf-from : (tag : ℕ) (name : List ℕ) → tag_called name ≡ Some tag → IsNameOf name tag
-unfolding tag_called
-IsNameOf-from tag name e =
-    let number = number_of_lower (str_to_ascii_lowercase name) in
-    let parts : (number ≤ last_tag) × (number ≡ tag) = grind (arith, leb-true number last_tag) in
-    let found = name_found tag_names (str_to_ascii_lowercase name) tag parts.1 (omega arith) in
-    ((found.0, omega arith), found.1)
-
--- the tag that was found, or that there is none
-pub tag_is : (name : List ℕ) (o : Option ℕ) → IfSome o (λ tag. str_to_ascii_lowercase (tag_name tag) ≡ str_to_ascii_lowercase name) → IfSome o (λ tag. IsTag tag)
-    → IfNone o ((tag : ℕ) → IsTag tag → str_to_ascii_lowercase (tag_name tag) ≢ str_to_ascii_lowercase name) → o ≡ tag_called name
-tag_is name (Some tag) named is refused = sym (tag_found tag name (is, sym named))
-tag_is name None named is refused =
-    elim (tag_called name) as (λ o. tag_called name ≡ o → None ≡ o) [
-      | None ↦ λ _. refl
-      | Some tag ↦ λ e. let is = IsNameOf-from tag name e in absurd (refused tag is.0 (sym is.1))
-    ] refl
-
--- whether a byte may be of a name in lower case
-abbrev is_plain : ℕ → Bool
-is_plain b = leb 33 b && ltb b 128
-
--- whether a name in lower case has 3 bytes or more, and all may be of one
-abbrev is_lower_name : List ℕ → Bool
-is_lower_name name = leb 3 (length name) && list_all is_plain name
-
-names_plain : list_all is_lower_name lower_names ≡ true
-names_plain = refl
-
--- the bytes of a name are ASCII and no spaces, and there are three or more
-pub record IsPlain (name : List ℕ) : Type 0 where
-  pub ascii : IsAscii name
-  pub no_space : AllPass (λ b. leb 33 b) name
-  pub some : 3 ≤ length name
-
-plain_byte : (b : ℕ) → is_plain (to_ascii_lowercase b) ≡ true → (b < 128) × (leb 33 b ≡ true)
-plain_byte b e = (grind (arith, nat_tests), grind (arith, nat_tests))
-
-pub IsPlain-from : (tag : ℕ) (name : List ℕ) → IsNameOf name tag → IsPlain name
-IsPlain-from tag name is =
-    let place : tag - 1 < length lower_names = omega arith in
-    let lower : is_lower_name (str_to_ascii_lowercase (tag_name tag)) ≡ true = rw (whole.get_or-map str_to_ascii_lowercase tag_names (tag - 1) []) at (AllPass-from_list_all is_lower_name lower_names names_plain (tag - 1) [] place) in
-    let parts : (leb 3 (length (str_to_ascii_lowercase name)) ≡ true) × (list_all is_plain (str_to_ascii_lowercase name) ≡ true) = and_parts _ _ (ap is_lower_name is.1 ∙ lower) in
-    let all : AllPass (λ b. is_plain (to_ascii_lowercase b)) name = AllPass-from_list_all (λ b. is_plain (to_ascii_lowercase b)) name (sym (list_all-map is_plain to_ascii_lowercase name) ∙ parts.1) in
-    record {
-      ascii = IsAscii-from_all name (λ k d at. (plain_byte _ (all k d at)).0);
-      no_space = λ k d at. (plain_byte _ (all k d at)).1;
-      some = omega (arith, leb-true _ _ parts.0, length-map name to_ascii_lowercase);
-    }

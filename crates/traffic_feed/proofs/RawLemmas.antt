@@ -29,7 +29,7 @@ use Rattle.traffic_feed.specs.Listing.{IsListing}
 use Rattle.traffic_feed.specs.RawLog.{AreBatches, ArePartedBy, IsPlainPayload, IsReadBack, OnlyLastEnds}
 use Rattle.traffic_feed.proofs.BatchLemmas.{GoesOn-from, is_end}
 use Rattle.traffic_feed.proofs.LineLemmas.{is_feed, parts_lines}
-use Rattle.traffic_feed.proofs.NameLemmas.{IsPlain-from}
+use Rattle.vsl_tags.proofs.CalledLemmas.{IsPlain-from}
 
 -- ---- a line
 

@@ -15,7 +15,8 @@ use Rattle.vsl_record.specs.Unit.{vxid_end}
 use Rattle.vsl_select.specs.RawLine.{mark_letter}
 use Rattle.traffic_feed.specs.Lines.{space, comment_mark, LoggedRecord, Line, BlankLine, CommentLine, RecordLine, WrittenRecord, IsVxid, IsWritten, IsLine, payload_of, print_payload, print_record}
 use Rattle.traffic_feed.specs.inside.Reading.{is_space, without_spaces, behind_spaces, digits_of, behind_digits, word_of, behind_word, vxid_of, tag_called, mark_of, payload_behind, marked, record_of, unindented, meaning}
-use Rattle.traffic_feed.proofs.NameLemmas.{tag_found, IsNameOf-from, IsPlain-from}
+use Rattle.vsl_tags.proofs.CalledLemmas.{IsPlain-from}
+use Rattle.traffic_feed.proofs.NameLemmas.{tag_found, named_by}
 
 -- ---- spaces
 
@@ -219,7 +220,7 @@ record_is n text l e =
       record {
         vxid = rw (← same) (IsVxid-from (digits_of text) vxid (all_digits_of text) at_vxid);
         before_name = before_name.1;
-        name = rw (← same) (IsNameOf-from tag (word_of named) at_tag);
+        name = rw (← same) (named_by tag (word_of named) at_tag);
         before_mark = before_mark.1;
         mark = ap (λ (x : LoggedRecord). x.rec.mark) same;
         payload = ap (λ (x : LoggedRecord). x.rec.payload) same;

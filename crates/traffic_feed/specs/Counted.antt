@@ -14,7 +14,7 @@ use Rattle.txn_rows.specs.declared.group.Reason.TheVariants.{Rxreq, Esi, Other}
 use Rattle.txn_rows.specs.Claim.{claim_of, digits_value, is_digit}
 use Rattle.counter_segments.specs.Sums.{counter_count}
 use Rattle.traffic_feed.specs.declared.listing.Listing.{Listing}
-use Rattle.traffic_feed.specs.TagNumbers.{sess_open_tag, backend_open_tag, fetch_error_tag, vcl_call_tag, req_acct_tag, hit_tag, hit_miss_tag, hit_pass_tag}
+use Rattle.vsl_tags.specs.declared.named.TheConstants.{SESS_OPEN, BACKEND_OPEN, FETCH_ERROR, VCL_CALL, REQ_ACCT, HIT, HIT_MISS, HIT_PASS}
 
 -- what raises a counter
 pub data Cause : Type 0 where
@@ -42,15 +42,15 @@ pub data Cause : Type 0 where
 -- what raises the counters, in the order of their numbers, from 0
 abbrev pub causes : List Cause
 causes =
-    EachTag sess_open_tag ∷
+    EachTag SESS_OPEN ∷
     EachRequest ∷
-    EachTag hit_tag ∷
-    EachTag hit_pass_tag ∷
-    EachTag hit_miss_tag ∷
+    EachTag HIT ∷
+    EachTag HIT_PASS ∷
+    EachTag HIT_MISS ∷
     EachCall (codes "MISS") ∷
-    EachTag backend_open_tag ∷
+    EachTag BACKEND_OPEN ∷
     EachFetch ∷
-    EachTag fetch_error_tag ∷
+    EachTag FETCH_ERROR ∷
     EachCall (codes "PIPE") ∷
     EachCall (codes "PASS") ∷
     EachCall (codes "SYNTH") ∷
@@ -115,8 +115,8 @@ abbrev pub raise : Cause → Record → ℕ
 raise (EachTag tag) rec = one_if (rec.tag == tag)
 raise EachRequest rec = one_if ((rec.tag == begin_tag) && is_request (claim_of rec.payload))
 raise EachFetch rec = one_if ((rec.tag == begin_tag) && is_fetch (claim_of rec.payload))
-raise (EachCall name) rec = one_if ((rec.tag == vcl_call_tag) && bytes_eq (str_to_ascii_lowercase rec.payload) (str_to_ascii_lowercase name))
-raise (EachField n) rec = if rec.tag == req_acct_tag then field_value (field_of rec.payload n) else 0
+raise (EachCall name) rec = one_if ((rec.tag == VCL_CALL) && bytes_eq (str_to_ascii_lowercase rec.payload) (str_to_ascii_lowercase name))
+raise (EachField n) rec = if rec.tag == REQ_ACCT then field_value (field_of rec.payload n) else 0
 raise EachRecord rec = 1
 raise EachUnit rec = 0
 raise EachCut rec = 0

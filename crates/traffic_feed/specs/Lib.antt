@@ -4,7 +4,6 @@ pub mod Lines
 pub mod Listing
 pub mod Made
 pub mod RawLog
-pub mod TagNumbers
 pub mod Turns
 pub mod inside
 pub mod Feeding

@@ -3,10 +3,9 @@
 -- carriage return.
 use Rattle.std.specs.Prelude.{◌≡◌, ℕ, ◌+◌, ◌<◌, ◌≤◌, List, [], ◌∷◌, ◌++◌, length, replicate, Option, None, Some}
 use Rattle.std.specs.List.{AllZip}
-use Rattle.std.specs.Str.{str_to_ascii_lowercase}
 use Rattle.std.specs.Str.Lines.{lines}
 use Rattle.std.specs.Str.Parse.{AllDigits, digits_value}
-use Rattle.vsl_tags.specs.Tags.{IsTag, tag_name}
+use Rattle.vsl_tags.specs.Called.{IsTagName}
 use Rattle.vsl_record.specs.declared.mark.Mark.{Mark}
 use Rattle.vsl_record.specs.declared.record_type.Record.{Record}
 use Rattle.vsl_record.specs.Unit.{vxid_end}
@@ -60,10 +59,6 @@ most_digits = 10
 abbrev pub IsVxid : List ℕ → ℕ → Type 0
 IsVxid digits vxid = AllDigits 10 digits × (0 < length digits) × (length digits ≤ most_digits) × (digits_value 10 digits ≡ vxid) × (vxid < vxid_end)
 
--- a name is that of a tag, without regard to case
-abbrev pub IsNameOf : List ℕ → ℕ → Type 0
-IsNameOf name tag = IsTag tag × (str_to_ascii_lowercase name ≡ str_to_ascii_lowercase (tag_name tag))
-
 -- the payload that is written; none is an empty one
 abbrev pub payload_of : Option (List ℕ) → List ℕ
 payload_of None = []
@@ -73,7 +68,7 @@ payload_of (Some payload) = payload
 pub record IsWritten (w : WrittenRecord) (l : LoggedRecord) : Type 0 where
   pub vxid : IsVxid w.vxid l.vxid
   pub before_name : 0 < w.before_name
-  pub name : IsNameOf w.name l.rec.tag
+  pub name : IsTagName l.rec.tag w.name
   pub before_mark : 0 < w.before_mark
   pub mark : w.mark ≡ l.rec.mark
   pub payload : payload_of w.payload ≡ l.rec.payload

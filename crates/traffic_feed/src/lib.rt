@@ -25,7 +25,6 @@ mod raises;
 mod requests;
 mod shares;
 mod tag_cache;
-mod tag_numbers;
 mod traffic;
 mod turns;
 mod waiting;

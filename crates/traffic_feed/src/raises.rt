@@ -8,13 +8,13 @@ ghost use Rattle.counter_segments.specs.Sums.{counter_count};
 ghost use Rattle.traffic_feed.specs.Counted.{EachTag, EachRequest, EachFetch, EachCall, EachField, causes, field_value, is_fetch, is_request, raise};
 ghost use Rattle.traffic_feed.specs.inside.Raises.{raise_at};
 
-use crate::tag_numbers::{
-    BACKEND_OPEN, FETCH_ERROR, HIT, HIT_MISS, HIT_PASS, REQ_ACCT, SESS_OPEN, VCL_CALL,
-};
 use txn_rows::{Claim, Kind, Reason, read_claim};
 use vsl_decimal::field;
 use vsl_record::Record;
 use vsl_tags::Tag;
+use vsl_tags::named::{
+    BACKEND_OPEN, FETCH_ERROR, HIT, HIT_MISS, HIT_PASS, REQ_ACCT, SESS_OPEN, VCL_CALL,
+};
 
 /// One more than the highest value of a field that counts.
 const FIELD_END: u64 = 1 << 32;

@@ -1,12 +1,12 @@
 //! What is said of each request that is made: a row for each record, in order.
 
-use crate::tag_numbers::{
+use Number::{Item, Nothing, Seconds, SizesFetched, SizesSent, VxidOf};
+use Whose::{Fetch, Hit, Miss, Request, Session};
+use vsl_tags::named::{
     BACKEND_OPEN, BEGIN, BEREQ_ACCT, BEREQ_METHOD, BEREQ_URL, BERESP_STATUS, END, HIT, LINK,
     REQ_ACCT, REQ_HEADER, REQ_METHOD, REQ_PROTOCOL, REQ_START, REQ_URL, RESP_STATUS, SESS_CLOSE,
     SESS_OPEN, TIMESTAMP, VCL_CALL,
 };
-use Number::{Item, Nothing, Seconds, SizesFetched, SizesSent, VxidOf};
-use Whose::{Fetch, Hit, Miss, Request, Session};
 
 /// Whose record it is, and of which requests.
 #[derive(Clone, Copy)]

@@ -7,11 +7,11 @@ ghost use Rattle.traffic_feed.specs.Counted.{causes, unit_share};
 ghost use Rattle.traffic_feed.specs.inside.Raises.{raise_at};
 
 use crate::raises::raised;
-use crate::tag_numbers::{
-    BACKEND_OPEN, BEGIN, FETCH_ERROR, HIT, HIT_MISS, HIT_PASS, REQ_ACCT, SESS_OPEN, VCL_CALL,
-};
 use counter_segments::COUNTERS;
 use vsl_record::{Record, Unit};
+use vsl_tags::named::{
+    BACKEND_OPEN, BEGIN, FETCH_ERROR, HIT, HIT_MISS, HIT_PASS, REQ_ACCT, SESS_OPEN, VCL_CALL,
+};
 
 /// A number for each counter.
 type Sums = [u64; COUNTERS as usize];

@@ -3,8 +3,7 @@
 ghost use Rattle.std.specs.Prelude.{◌≡◌, ◌<◌};
 ghost use Rattle.traffic_feed.specs.inside.Reading.{tag_called};
 
-use std::str;
-use vsl_tags::{Tag, name_of, tag_of};
+use vsl_tags::{Tag, name_of, tag_called};
 
 /// How many tags are kept. With the numbers in `place_of`, 88 of the 92 names have places of their own.
 const PLACES: usize = 256;
@@ -29,16 +28,6 @@ fn place_of(name: &[u8]) -> usize
     (first + 63 * middle + 7 * last + 43 * (size % PLACES)) % PLACES
 }
 
-/// The tag that a name finds among all.
-fn tag_called(name: &[u8]) -> Option<Tag>
-    ensures { result ≡ tag_called name.now }
-{
-    match str::from_utf8(name) {
-        Ok(name) => tag_of(name),
-        Err(_) => None,
-    }
-}
-
 impl TagCache {
     pub fn new() -> TagCache {
         TagCache {
@@ -47,6 +36,7 @@ impl TagCache {
     }
 
     /// The tag that a name finds.
+    #[tactic(auto, using(crate::proofs::NameLemmas::same_tag))]
     pub fn tag_called(&mut self, name: &[u8]) -> Option<Tag>
         ensures { result ≡ tag_called name.now }
     {

@@ -2,9 +2,8 @@
 use Rattle.std.specs.Prelude.{ℕ, ◌==◌, ◌&&◌, nat_lt, nat_le, if◌then◌else◌, Bool, List, [], ◌∷◌, length, drop, take_while, Option, None, Some, option_and_then, option_map}
 use Rattle.std.specs.Char.{is_ascii_digit}
 use Rattle.std.specs.List.{prefix_len, position_or_len, before_first}
-use Rattle.std.specs.Str.{str_to_ascii_lowercase}
 use Rattle.std.specs.Str.Parse.{digits_value}
-use Rattle.vsl_tags.specs.Tags.{last_tag, number_of_lower}
+use Rattle.vsl_tags.specs.Called as called
 use Rattle.vsl_record.specs.declared.mark.Mark.{Mark}
 use Rattle.vsl_record.specs.declared.mark.Mark.TheVariants.{Client, Backend, Plain}
 use Rattle.vsl_record.specs.Unit.{vxid_end}
@@ -51,7 +50,7 @@ vxid_of digits = if nat_lt 0 (length digits) && nat_le (length digits) most_digi
 
 -- the tag that a name finds
 unfoldable pub tag_called : List ℕ → Option ℕ
-tag_called name = let number = number_of_lower (str_to_ascii_lowercase name) in if nat_le number last_tag then Some number else None
+tag_called name = called.tag_called name
 
 -- the mark of a letter
 unfoldable pub mark_of : ℕ → Option Mark
