@@ -1,7 +1,8 @@
 #!/usr/bin/env bash
 # Checks that completion/vtools.bash is what tools/completion.py writes, and what it offers for command lines, row by
 # row, in bash without a terminal. A row is a command line with `|` at the cursor, `=>`, and what is offered, in order,
-# with `_` for a blank in a name; `OPTIONS TOOL` stands for all that the tool takes, by the rows of the source.
+# with `_` for a blank in a name; `OPTIONS TOOL` stands for all that the tool takes, by the rows of the
+# source, and `TAGS` for the names of all tags, by FORMATS.
 set -euo pipefail
 cd "$(dirname "${BASH_SOURCE[0]}")/.."
 LC_ALL=C
@@ -17,6 +18,7 @@ source completion/vtools.bash
 [ "$(complete -p vtools)" = "complete -F _vtools vtools" ] || fail "_vtools doesn't complete vtools"
 
 listed=$(tools/options.py)
+tags=$(PYTHONPATH=tools/reference python3 -B -c 'import vslog; print(*sorted(vslog.TAGS[1:]))')
 work=$(mktemp -d)
 trap 'rm -rf "$work"' EXIT
 cd "$work"
@@ -64,6 +66,7 @@ check_rows() {
         [[ "$row" =~ $row_form ]] || fail "not a row: $row"
         before=${BASH_REMATCH[1]}
         wanted=${BASH_REMATCH[3]# }
+        [ "$wanted" != TAGS ] || wanted=$tags
         [[ "$wanted" != "OPTIONS "* ]] || wanted=$(options_of "${wanted#OPTIONS }")
         take_apart "$before${BASH_REMATCH[2]}" "${#before}"
         COMPREPLY=(unset)
@@ -108,7 +111,7 @@ vtools varnishlog -iVCL_c| => -iVCL_call
 vtools varnishlog -x End,Req*,Hit| => End,Req*,Hit End,Req*,HitMiss End,Req*,HitPass
 vtools varnishlog -i 'Req*,Vf| => Req*,VfpAcct
 vtools varnishlog -i Req\*,Vf| => Req\*,VfpAcct
-vtools varnishtop -1 -x "| => BackendClose BackendOpen Backend_health Begin BereqAcct BereqHeader BereqLost BereqMethod BereqProtocol BereqReason BereqStatus BereqURL BereqUnset BerespHeader BerespLost BerespMethod BerespProtocol BerespReason BerespStatus BerespURL BerespUnset BogoHeader CLI Debug ESI_xmlerror End Error ExpBan ExpKill FetchError Fetch_Body Filters Gzip H2RxBody H2RxHdr H2TxBody H2TxHdr Hash Hit HitMiss HitPass HttpGarbage Length Link LostHeader Notice ObjHeader ObjLost ObjMethod ObjProtocol ObjReason ObjStatus ObjURL ObjUnset PipeAcct Proxy ProxyGarbage ReqAcct ReqHeader ReqLost ReqMethod ReqProtocol ReqReason ReqStart ReqStatus ReqURL ReqUnset RespHeader RespLost RespMethod RespProtocol RespReason RespStatus RespURL RespUnset SessClose SessError SessOpen Storage TTL Timestamp VCL_Error VCL_Log VCL_acl VCL_call VCL_return VCL_trace VCL_use VSL VfpAcct Witness WorkThread
+vtools varnishtop -1 -x "| => TAGS
 vtools varnishlog -I Req| =>
 vtools varnishlog -I ReqHeader:^Host: -C| => -C
 vtools varnishlog -k | =>

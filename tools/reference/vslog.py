@@ -3,20 +3,28 @@
 A unit is its VXID, its mark (`c`, `b` or `-`), and its records, each the name of a tag and a payload.
 """
 
+import pathlib
 import re
 import struct
 
 HEADER = b"VSLOG-1\n"
 UNIT_TOP = 0xFE
 MOST_WORDS, MOST_PAYLOAD, MOST_VXID = 1048576, 4000, 1073741823
+FORMATS = pathlib.Path(__file__).resolve().parents[2] / "docs" / "FORMATS.md"
 MARKS = "-cb"  # by the two bits above a VXID
-TAGS = """none Debug Error CLI SessOpen SessClose SessError BackendOpen BackendClose Backend_health HttpGarbage Proxy
-    ProxyGarbage Length FetchError Fetch_Body BogoHeader LostHeader TTL VCL_acl VCL_call VCL_trace VCL_return VCL_use
-    VCL_Log VCL_Error ReqStart ReqAcct BereqAcct PipeAcct VfpAcct Hit HitMiss HitPass ExpBan ExpKill WorkThread
-    ESI_xmlerror Hash Gzip Storage Timestamp Begin Link End VSL Witness Filters Notice H2RxHdr H2RxBody H2TxHdr
-    H2TxBody""".split()
-for message in "Req Resp Bereq Beresp Obj".split():
-    TAGS += [message + part for part in "Method URL Status Reason Protocol Header Unset Lost".split()]
+
+
+def listed_tags():
+    """The names of the tags by their numbers, by FORMATS, "Tags"; no tag has the number 0."""
+    text = FORMATS.read_text().split("\n## Tags\n")[1].split("\n## ")[0]
+    tags = {int(number): name for number, name in re.findall(r"(\d+) (\w+) \|", text)}
+    endings, *messages = [line.strip("| ").split(" | ") for line in text.split("with eight tags each:")[1].split("\n") if line[:1] == "|"]
+    for message, *numbers in messages[1:]:
+        tags.update((int(number), message + ending) for number, ending in zip(numbers, endings))
+    return ["none"] + [tags[number] for number in range(1, len(tags) + 1)]
+
+
+TAGS = listed_tags()
 NUMBERS = {name: number for number, name in enumerate(TAGS)}
 
 

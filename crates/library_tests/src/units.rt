@@ -187,7 +187,7 @@ fn a_first_record_at_fault_is_told(rt: HostRuntime) {
             WordFault::BadTag { at: 1 },
         ),
         (
-            [0xfe00_0003, 0x5d00_0000, 0, 0],
+            [0xfe00_0003, 0xff00_0000, 0, 0],
             WordFault::BadTag { at: 1 },
         ),
         (
@@ -227,7 +227,7 @@ fn a_later_record_at_fault_is_told(rt: HostRuntime) {
         ([0x2c00_0000, 0x4000_0008, 0], WordFault::Mixed { at: 4 }),
         ([0x2c00_0000, 0xc000_0007, 0], WordFault::Mixed { at: 4 }),
         (
-            [0x5d00_0001, 0x4000_0008, 0x0100_0061],
+            [0xff00_0001, 0x4000_0008, 0x0100_0061],
             WordFault::BadTag { at: 3 },
         ),
         (

@@ -5,7 +5,7 @@ ghost use Rattle.traffic_feed.specs.inside.Reading.{tag_called};
 
 use vsl_tags::{Tag, name_of, tag_called};
 
-/// How many tags are kept. With the numbers in `place_of`, 88 of the 92 names have places of their own.
+/// How many tags are kept. With the numbers in `place_of`, nearly all names have places of their own.
 const PLACES: usize = 256;
 
 /// Tags that were found, each at the place of its name. They only save time: whatever stands there, a name finds its own tag.

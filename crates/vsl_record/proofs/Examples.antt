@@ -1,5 +1,5 @@
 -- Worked examples of words and of first faults, computed from the definitions.
-use Rattle.std.proofs.Common.{◌≡◌, ℕ, suc, ◌%◌, ◌<◌, List, [], ◌∷◌, length, take, drop, get_or, Some, None, inl, inr, refl, arith}
+use Rattle.std.proofs.Common.{◌≡◌, ℕ, suc, ◌+◌, ◌*◌, ◌%◌, ◌<◌, List, [], ◌∷◌, length, take, drop, get_or, Some, None, inl, inr, refl, arith}
 use Rattle.std.specs.Prelude.{codes}
 use Rattle.vsl_record.specs.declared.mark.Mark.TheVariants.{Client, Backend, Plain}
 use Rattle.vsl_record.specs.declared.record_type.Record.{Record}
@@ -8,6 +8,7 @@ use Rattle.vsl_record.specs.declared.fault.WordFault.TheVariants.{Short, BadTag,
 use Rattle.vsl_record.specs.Unit.{LogUnit}
 use Rattle.vsl_record.specs.WordFaults.{header_fault, is_filled, record_fault, FirstFault}
 use Rattle.vsl_record.specs.Words.{unit_words, word_bytes}
+use Rattle.vsl_tags.specs.Tags.{last_tag}
 
 -- one record CLI "Rd ping", of no transaction and no mark
 abbrev pub one_ping : LogUnit
@@ -86,9 +87,9 @@ tag_0 : FirstFault (0xfe000003 ∷ 0x00000000 ∷ 0x00000000 ∷ []) (BadTag 1)
 unfolding header_fault record_fault
 tag_0 = in_first (0xfe000003 ∷ 0x00000000 ∷ 0x00000000 ∷ []) (BadTag 1) refl refl (omega arith) refl
 
-tag_93 : FirstFault (0xfe000003 ∷ 0x5d000000 ∷ 0x00000000 ∷ []) (BadTag 1)
+behind_the_last_tag : FirstFault (0xfe000003 ∷ (16777216 * (last_tag + 1)) ∷ 0x00000000 ∷ []) (BadTag 1)
 unfolding header_fault record_fault
-tag_93 = in_first (0xfe000003 ∷ 0x5d000000 ∷ 0x00000000 ∷ []) (BadTag 1) refl refl (omega arith) refl
+behind_the_last_tag = in_first (0xfe000003 ∷ (16777216 * (last_tag + 1)) ∷ 0x00000000 ∷ []) (BadTag 1) refl refl (omega arith) refl
 
 -- 4,001 bytes; the tag is looked at first, and the id word after
 length_4001 : FirstFault (0xfe000003 ∷ 0x03000fa1 ∷ 0xc0000000 ∷ []) (BadLength 1)
@@ -142,9 +143,9 @@ unfolding header_fault record_fault
 both_marks_later = in_second 0xfe000005 (0x2c000000 ∷ 0xc0000007 ∷ []) (Mixed 4) refl refl (omega arith) refl
 
 -- the tag of a record before its padding
-tag_then_padding : FirstFault (0xfe000006 ∷ 0x2c000000 ∷ 0x40000007 ∷ 0x5d000001 ∷ 0x40000007 ∷ 0x01000061 ∷ []) (BadTag 3)
+tag_then_padding : FirstFault (0xfe000006 ∷ 0x2c000000 ∷ 0x40000007 ∷ 0xff000001 ∷ 0x40000007 ∷ 0x01000061 ∷ []) (BadTag 3)
 unfolding header_fault record_fault
-tag_then_padding = in_second 0xfe000006 (0x5d000001 ∷ 0x40000007 ∷ 0x01000061 ∷ []) (BadTag 3) refl refl (omega arith) refl
+tag_then_padding = in_second 0xfe000006 (0xff000001 ∷ 0x40000007 ∷ 0x01000061 ∷ []) (BadTag 3) refl refl (omega arith) refl
 
 -- of a record only the first word lies in the unit
 one_word_left : FirstFault (0xfe000004 ∷ 0x2c000000 ∷ 0x40000007 ∷ 0x2c000000 ∷ []) (BadLength 3)

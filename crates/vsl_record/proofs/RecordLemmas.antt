@@ -27,7 +27,7 @@ abbrev pub after_record : List ℕ → List ℕ
 after_record words = drop (payload_words (get_or words 0 0 % 16777216)) (drop 2 words)
 
 -- a head word, an id word and a payload are a record
-pub record_parts : (id head : ℕ) (words payload after : List ℕ) → get_or words 0 0 ≡ head → get_or words 1 0 ≡ id → 2 ≤ length words → 1 ≤ head / 16777216 → head / 16777216 ≤ 92 → id < 3221225472
+pub record_parts : (id head : ℕ) (words payload after : List ℕ) → get_or words 0 0 ≡ head → get_or words 1 0 ≡ id → 2 ≤ length words → 1 ≤ head / 16777216 → head / 16777216 ≤ last_tag → id < 3221225472
     → IsPayloadRead (head % 16777216) (drop 2 words) payload after → IsRecordRead id words (record { tag = head / 16777216; mark = mark_of id; payload = payload }) after
 record_parts id head [] payload after head_is id_is two low high small read = absurd (omega (arith, two))
 record_parts id head (h ∷ []) payload after head_is id_is two low high small read = absurd (omega (arith, two))
@@ -54,7 +54,7 @@ record_taken id at words all e =
     let g = unless_none _ _ _ f.1 in
     let is_tag = and_parts (leb first_tag (head / 16777216)) (leb (head / 16777216) last_tag) a.0 in
     let low : 1 ≤ head / 16777216 = leb-true _ _ is_tag.0 in
-    let high : head / 16777216 ≤ 92 = leb-true _ _ is_tag.1 in
+    let high : head / 16777216 ≤ last_tag = leb-true _ _ is_tag.1 in
     let short : n ≤ 4000 = leb-true _ _ b.0 in
     let enough : 2 + payload_words n ≤ length words = leb-true _ _ c.0 in
     let same : get_or words 1 0 ≡ id = eqb-true _ _ d.0 in
@@ -76,7 +76,7 @@ record_again vxid m at rec rest small fits =
     let tells = id_tells vxid m small in
     let short : length rec.payload ≤ 4000 = fits.payload.short in
     let low : 1 ≤ rec.tag = fits.tag.0 in
-    let high : rec.tag ≤ 92 = fits.tag.1 in
+    let high : rec.tag ≤ last_tag = fits.tag.1 in
     let tag_is : (16777216 * rec.tag + length rec.payload) / 16777216 ≡ rec.tag = omega arith in
     let len_is : (16777216 * rec.tag + length rec.payload) % 16777216 ≡ length rec.payload = omega arith in
     let is_tag : (leb first_tag rec.tag && leb rec.tag last_tag) ≡ true = and_from _ _ (le-leb _ _ low) (le-leb _ _ high) in
@@ -214,7 +214,7 @@ pub records_small : (vxid : ℕ) (m : Mark) (records : List Record) → vxid < 1
 records_small vxid m [] small fits = λ i. omega arith
 records_small vxid m (rec ∷ records) small fits =
     let short : length rec.payload ≤ 4000 = fits.0.payload.short in
-    let high : rec.tag ≤ 92 = fits.0.tag.1 in
+    let high : rec.tag ≤ last_tag = fits.0.tag.1 in
     let after = below_append (2 ^ 32) (packed rec.payload) (flat_map (record_words vxid) records) (packed_small rec.payload fits.0.payload.bytes) (records_small vxid m records small fits.1) in
     below_cons (2 ^ 32) (16777216 * rec.tag + length rec.payload) ((vxid + mark_bits rec.mark) ∷ (packed rec.payload ++ flat_map (record_words vxid) records)) (omega arith)
     (below_cons (2 ^ 32) (vxid + mark_bits rec.mark) (packed rec.payload ++ flat_map (record_words vxid) records) (id_tells vxid rec.mark small).small after)

@@ -42,7 +42,7 @@ pub enum WordFault {
     /// There is no word, or there are fewer words than the unit's header counts.
     #[error("too few words")]
     Short,
-    /// The unit's header has another top byte than 0xFE, or a record's tag is not 1 to 92.
+    /// The unit's header has another top byte than 0xFE, or a record's number is no tag's.
     #[error("word {at}: bad tag")]
     BadTag {
         /// The unit's header, 0, or the record's first word.

@@ -10,7 +10,7 @@ use Rattle.std.specs.Str.{str_to_ascii_lowercase}
 use Rattle.std.specs.Str.{trim_end, chars}
 use Rattle.vsl_tags.specs.Tags.{in_columns, name_columns, IsTag, first_tag, last_tag, tag_names, tag_name, longest_name, lower_names, number_of_lower}
 
--- the names in lower case find the numbers from 1 to 92, in order
+-- the names in lower case find the numbers of the tags, in order
 numbers_in_order : map number_of_lower lower_names ≡ range_with_len first_tag last_tag
 numbers_in_order = refl
 

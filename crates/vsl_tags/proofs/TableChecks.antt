@@ -27,8 +27,8 @@ vsl_is_named = refl
 first_of_messages_is_53 : tag_name 53 ≡ codes "ReqMethod"
 first_of_messages_is_53 = refl
 
-last_is_92 : tag_name last_tag ≡ codes "ObjLost"
-last_is_92 = refl
+last_of_messages_is_92 : tag_name 92 ≡ codes "ObjLost"
+last_of_messages_is_92 = refl
 
 -- no name has a star or a comma
 no_name_has_a_star : list_any (list_any (λ b. b == star)) tag_names ≡ false

@@ -8,7 +8,7 @@ use Rattle.std.proofs.lemmas.Grind.{common_steps}
 use Rattle.std.proofs.lemmas.List.Splits.{slice_split_first, slice_split_none}
 use Rattle.std.proofs.lemmas.Str.Pattern.{IsSplitOnceResult, NoCharPasses-char, split_once_first}
 use Rattle.std.specs.List.{list_any}
-use Rattle.vsl_tags.specs.Tags.{IsTag, tag_name, tag_names}
+use Rattle.vsl_tags.specs.Tags.{IsTag, last_tag, tag_name, tag_names}
 use Rattle.vsl_tags.specs.TagSet.{comma, elements}
 
 -- a taglist that is cut at its first comma has the element before it and the elements after it
@@ -34,12 +34,12 @@ more_names p n tag =
     rw place (list_any_more p tag_names (n - 1) [] (omega arith))
 
 -- all names are those of the tags to the last
-pub all_names : (p : List ℕ → Bool) (n : ℕ) → 92 < n → list_any p (take (n - 1) tag_names) ≡ list_any p tag_names
+pub all_names : (p : List ℕ → Bool) (n : ℕ) → last_tag < n → list_any p (take (n - 1) tag_names) ≡ list_any p tag_names
 all_names p n past = ap (list_any p) (take_all (n - 1) tag_names (omega arith))
 
 -- no number is of a set of no tag
-pub none_in_empty : (n : ℕ) → IsTag n → get_or (replicate 93 false) n false ≡ false
-none_in_empty n tag = get_or-replicate 93 n false false (omega arith)
+pub none_in_empty : (n : ℕ) → IsTag n → get_or (replicate (last_tag + 1) false) n false ≡ false
+none_in_empty n tag = get_or-replicate (last_tag + 1) n false false (omega arith)
 
 -- a set to which one number was added, if it fits, has what it had and the numbers up to that one that fit
 pub one_more : (was : List Bool) (fits old : ℕ → Bool) (i : ℕ) → i < length was

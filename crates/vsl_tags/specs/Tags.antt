@@ -128,6 +128,6 @@ name_columns n = in_columns (tag_name n)
 abbrev pub lower_names : List (List ℕ)
 lower_names = map str_to_ascii_lowercase tag_names
 
--- the number of the first tag whose name in lower case is this text, or 93 where there is none
+-- the number of the first tag whose name in lower case is this text, or the one behind the last where there is none
 abbrev pub number_of_lower : List ℕ → ℕ
 number_of_lower text = first_tag + position_or_len (λ name. bytes_eq name text) lower_names

@@ -1,8 +1,8 @@
-//! The tags of log records: each a number from 1 to 92 with a name, as `ReqMethod`.
+//! The tags of log records: each a number with a name, as `ReqMethod`.
 //!
 //! A number from a log or a name goes in and a `Tag` comes out, or nothing where no tag has it; a `Tag`
-//! tells its number and its name; `named` has the numbers that other crates name. A taglist, as `Req*,End`, goes in and a `TagSet` comes out, or its
-//! first fault. No two names are alike, also without regard to case. Nothing here takes memory.
+//! tells its number and its name; `named` has the numbers that other crates name. A taglist, as
+//! `Req*,End`, goes in and a `TagSet` comes out, or its first fault. No two names are alike, also without regard to case. Nothing here takes memory.
 //!
 //! Start with `specs/Tags.antt`, then `specs/TagSet.antt`. Source of the names: vsl(7), in this project's subset; the numbers
 //! are this project's choice.

@@ -4,9 +4,12 @@ ghost use Rattle.std.specs.Prelude.{◌≡◌, ◌≢◌, ◌≤◌, ℕ, length
 ghost use Rattle.std.specs.Str.{str_to_ascii_lowercase};
 ghost use Rattle.vsl_tags.specs.Tags.{IsTag, longest_name, name_columns, tag_name};
 
-use crate::number::{LAST, Tag};
+use crate::number::Tag;
 
-/// The names of tags 1 to 92, in this order, each before spaces in 15 columns.
+/// The number of the last tag; the first is 1.
+pub(crate) const LAST: u8 = 92;
+
+/// The names of the tags from 1 on, in this order, each before spaces in 15 columns.
 static COLUMNS: [&str; 92] = [
     "Debug          ",
     "Error          ",

@@ -3,17 +3,15 @@
 ghost use Rattle.std.specs.Prelude.{◌≡◌, IfSome, OnSome, IfNone};
 ghost use Rattle.vsl_tags.specs.Tags.{IsTag};
 
+use crate::names::LAST;
 use std::marker::Model;
 
-/// The number of the last tag; the first is 1.
-pub(crate) const LAST: u8 = 92;
-
-/// What a record is about, as `Begin` or `ReqMethod`. Contracts see it as its number, from 1 to 92.
+/// What a record is about, as `Begin` or `ReqMethod`. Contracts see it as its number.
 ///
 /// Source: vsl(7), in this project's subset. The numbers are this project's choice.
 #[derive(Clone, Copy, PartialEq, Eq, PartialOrd, Ord, Debug, Drop)]
 pub struct Tag {
-    /// From 1 to 92.
+    /// From 1 to `LAST`.
     number: u8,
 }
 

@@ -6,8 +6,8 @@ ghost use Rattle.vsl_tags.specs.Glob.{matches};
 ghost use Rattle.vsl_tags.specs.Tags.{IsTag, tag_name};
 
 use crate::glob::matches;
-use crate::names::name_of;
-use crate::number::{LAST, Tag};
+use crate::names::{LAST, name_of};
+use crate::number::Tag;
 use thiserror::Error;
 
 /// Why a taglist is refused: its first fault.
@@ -27,11 +27,14 @@ pub enum TagFault {
     },
 }
 
+/// A place for each tag, and one for 0.
+const PLACES: usize = LAST as usize + 1;
+
 /// A set of tags, as `Req*,End` writes one.
 #[derive(Clone, Copy, Debug, PartialEq, Eq, Drop)]
 pub struct TagSet {
     /// Whether the tag with each number is in the set. No tag has the number 0.
-    members: [bool; 93],
+    members: [bool; PLACES],
 }
 
 impl TagSet {
@@ -67,7 +70,7 @@ impl TagSet {
         ensures { (n : ℕ) → IsTag n → has_tag result n ≡ false }
     {
         TagSet {
-            members: [false; 93],
+            members: [false; PLACES],
         }
     }
 
