@@ -1,5 +1,5 @@
 -- Where reading stops: a byte at which no reading goes on, behind bytes with which some reading ends well.
-use Rattle.std.proofs.Common.{◌≡◌, ℕ, zero, suc, ◌&&◌, true, false, List, [], ◌∷◌, ◌++◌, Some, refl, sym, ap, subst, ◌∙◌, inl, inr, arith, ◌⊎◌}
+use Rattle.std.proofs.Common.{◌≡◌, ℕ, zero, suc, ◌&&◌, true, false, List, [], ◌∷◌, ◌++◌, Some, None, refl, sym, ap, subst, ◌∙◌, inl, inr, arith, ◌⊎◌}
 use Rattle.std.specs.Prelude.{codes}
 use Rattle.std.specs.Str.{bytes_eq}
 use Rattle.std.proofs.lemmas.Bool.{and_from, and_parts, and_right, or_cases, not_from_false}
@@ -14,22 +14,29 @@ use Rattle.query_grammar.specs.declared.lex.Lex.TheVariants.{Begin}
 use Rattle.query_grammar.specs.Lexical.{operand_begin, begins_from, is_one_of, begins_one_of, operators, words}
 use Rattle.query_grammar.specs.Grammar.{Token, CriterionToken, OperatorToken, OperandToken, AndWord, OrWord, OpenMark, CloseMark, token_text, is_token, is_ended}
 use Rattle.query_grammar.specs.Moves.{Kept, State, can_close, closes, all_closed, tightened, loosened, rested, waits_for, tested, taken, taken_after_unary}
-use Rattle.query_grammar.specs.Scanner.{free, joining, begins, begins_after_unary}
+use Rattle.query_grammar.specs.Scanner.{Rules, free, joining, begins, begins_after_unary}
 use Rattle.query_grammar.proofs.Lexing.{same_bytes, is_plain, plain_append, plain_parts, plain_word, completed, completed_one, over_equal, over_blank}
 use Rattle.query_grammar.proofs.Marks.{tightened_can}
 use Rattle.query_grammar.proofs.Scan.{Reads, token_read, blank_read, end_read}
 
 -- ---- each state goes on
 
--- bytes without a line feed with which reading ends well from here
-pub record Alive (m : Mode) (k : Kept) (w : List ℕ) : Type 0 where
+-- bytes without a line feed with which reading under rules ends well from here
+pub record AliveIn (rules : Rules) (m : Mode) (k : Kept) (w : List ℕ) : Type 0 where
   pub more : List ℕ
   pub out : List Step
-  pub ends : Reads free m k w more out
+  pub ends : Reads rules m k w more out
   pub plain : is_plain more ≡ true
 
+-- the same by the grammar alone
+abbrev pub Alive : Mode → Kept → List ℕ → Type 0
+Alive m k w = AliveIn free m k w
+
+token_by : (rules : Rules) (m : Mode) (k : Kept) (w more rest : List ℕ) (out : List Step) (t : Token) (x : State) → ((from place : ℕ) → rules.fault from place m k t ≡ None) → is_plain more ≡ true → is_plain rest ≡ true → token_text t ≡ w ++ more → is_token t ≡ true → is_ended t rest ≡ true → taken m k t ≡ Some x → Reads rules x.0 x.1 [] rest out → AliveIn rules m k w
+token_by rules m k w more rest out t x none p q text good ended e h = record { more = more ++ rest; out = out; ends = token_read rules more m k t x w rest out none text good ended e h; plain = plain_append more rest p q }
+
 by_token : (m : Mode) (k : Kept) (w more rest : List ℕ) (out : List Step) (t : Token) (x : State) → is_plain more ≡ true → is_plain rest ≡ true → token_text t ≡ w ++ more → is_token t ≡ true → is_ended t rest ≡ true → taken m k t ≡ Some x → Reads free x.0 x.1 [] rest out → Alive m k w
-by_token m k w more rest out t x p q text good ended e h = record { more = more ++ rest; out = out; ends = token_read free more m k t x w rest out (λ from place. refl) text good ended e h; plain = plain_append more rest p q }
+by_token m k w more rest out t x p q text good ended e h = token_by free m k w more rest out t x (λ from place. refl) p q text good ended e h
 
 -- how many parentheses are open
 abbrev parens : List Waiting → ℕ
@@ -57,29 +64,36 @@ loosened_inner (waits.Not ∷ ws) done = loosened_inner ws (done ++ steps.Not �
 loosened_inner (waits.And ∷ ws) done = loosened_inner ws (done ++ steps.And ∷ [])
 loosened_inner (waits.Or ∷ ws) done = loosened_inner ws (done ++ steps.Or ∷ [])
 
-ends_now : (k : Kept) → (loosened k.waiting k.steps).0 ≡ [] → Alive AfterUnary k []
-ends_now k e =
-    let x = loosened k.waiting k.steps in
-    record { more = []; out = x.1; ends = end_read free AfterUnary k x.1 (λ from place. refl) (ap (λ (ws : List Waiting). all_closed (ws, x.1)) e); plain = refl }
+-- the rules find no fault behind a unary
+abbrev pub NoneBehind : Rules → Type 0
+NoneBehind rules = (from place : ℕ) (k : Kept) (t : Token) → rules.fault from place AfterUnary k t ≡ None
 
-behind_by : (n : ℕ) (k : Kept) → parens k.waiting ≡ n → Alive AfterUnary k []
-behind_by zero k e =
+ends_now : (rules : Rules) → NoneBehind rules → (k : Kept) → (loosened k.waiting k.steps).0 ≡ [] → AliveIn rules AfterUnary k []
+ends_now rules none k e =
+    let x = loosened k.waiting k.steps in
+    record { more = []; out = x.1; ends = end_read rules AfterUnary k x.1 (λ from place. none from place k CloseMark) (ap (λ (ws : List Waiting). all_closed (ws, x.1)) e); plain = refl }
+
+behind_by : (rules : Rules) → NoneBehind rules → (n : ℕ) (k : Kept) → parens k.waiting ≡ n → AliveIn rules AfterUnary k []
+behind_by rules clean zero k e =
     elim (loosened_inner k.waiting k.steps) [
-      | inl none ↦ ends_now k none
+      | inl none ↦ ends_now rules clean k none
       | inr some ↦ absurd (omega (arith, some.2, e))
     ]
-behind_by (suc n) k e =
+behind_by rules clean (suc n) k e =
     elim (loosened_inner k.waiting k.steps) [
-      | inl none ↦ ends_now k none
+      | inl none ↦ ends_now rules clean k none
       | inr some ↦
           let x = tightened some.0 (loosened k.waiting k.steps).1 in
           let fewer : parens x.0 ≡ n = omega (arith, tightened_parens some.0 (loosened k.waiting k.steps).1, some.2, e) in
-          let h = behind_by n (rested x).1 fewer in
-          by_token AfterUnary k [] (41 ∷ []) h.more h.out CloseMark (rested x) refl h.plain refl refl refl (ap (λ (ws : List Waiting). closes (ws, (loosened k.waiting k.steps).1)) some.1) h.ends
+          let h = behind_by rules clean n (rested x).1 fewer in
+          token_by rules AfterUnary k [] (41 ∷ []) h.more h.out CloseMark (rested x) (λ from place. clean from place k CloseMark) refl h.plain refl refl refl (ap (λ (ws : List Waiting). closes (ws, (loosened k.waiting k.steps).1)) some.1) h.ends
     ]
 
+pub behind_in : (rules : Rules) → NoneBehind rules → (k : Kept) → AliveIn rules AfterUnary k []
+behind_in rules none k = behind_by rules none (parens k.waiting) k refl
+
 behind : (k : Kept) → Alive AfterUnary k []
-behind k = behind_by (parens k.waiting) k refl
+behind k = behind_in free (λ from place k t. refl) k
 
 in_value : (k : Kept) (w : List ℕ) → begins_from operand_begin w ≡ true → Alive BeforeOperand k w
 in_value k w b =

@@ -17,7 +17,7 @@ sign_taken None rest = refl
 sign_taken (Some OrMore) rest = refl
 sign_taken (Some OrLess) rest = refl
 
-level_taken : (digits : List ℕ) (operator : Option LevelSign) (rest : List ℕ) → is_all is_digit digits ≡ true → lexed LevelOpen (digits ++ (sign_text operator ++ 125 ∷ rest)) ≡ lexed NameNext rest
+pub level_taken : (digits : List ℕ) (operator : Option LevelSign) (rest : List ℕ) → is_all is_digit digits ≡ true → lexed LevelOpen (digits ++ (sign_text operator ++ 125 ∷ rest)) ≡ lexed NameNext rest
 level_taken [] operator rest e = absurd cc
 level_taken (c ∷ w) operator rest e =
     let all = and_parts (is_digit c) (list_all is_digit w) (and_parts (nat_lt 0 (length (c ∷ w))) (list_all is_digit (c ∷ w)) e).1 in

@@ -66,7 +66,7 @@ last_state (Some l) e = refl
 begins_front : (l : Lex) (p q : List ℕ) → begins_from l (p ++ q) ≡ true → begins_from l p ≡ true
 begins_front l p q e = state_front q (lexed_from p (Some l)) (ap is_state (sym (lexed-append p q (Some l))) ∙ e)
 
-whole_begins : (l : Lex) (w : List ℕ) → whole_from l w ≡ true → begins_from l w ≡ true
+pub whole_begins : (l : Lex) (w : List ℕ) → whole_from l w ≡ true → begins_from l w ≡ true
 whole_begins l w e = last_state (lexed l w) e
 
 pub whole_grows : (l : Lex) (w p : List ℕ) (c : ℕ) (q : List ℕ) → whole_from l w ≡ true → w ≡ p ++ c ∷ q → begins_from l (p ++ c ∷ []) ≡ true

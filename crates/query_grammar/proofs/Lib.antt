@@ -23,3 +23,5 @@ pub mod Postfix
 pub mod OneParts
 pub mod TextFaults
 pub mod Meanings
+pub mod Faulty
+pub mod Stands

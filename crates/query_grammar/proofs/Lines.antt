@@ -15,12 +15,12 @@ use Rattle.query_grammar.proofs.Trees.{is_fine, lenient_fine, tokens_read}
 use Rattle.query_grammar.proofs.Found.{found}
 
 -- the steps of a query, where one was read
-abbrev steps_in : Option Written → Option (List Step)
+abbrev pub steps_in : Option Written → Option (List Step)
 steps_in None = None
 steps_in (Some q) = Some (steps_of q)
 
 -- the steps of queries joined are their steps joined
-joined_is : (before : Option Written) (q : Written) → joined_steps (steps_in before) (steps_of q) ≡ steps_of (joined before q)
+pub joined_is : (before : Option Written) (q : Written) → joined_steps (steps_in before) (steps_of q) ≡ steps_of (joined before q)
 joined_is None q = refl
 joined_is (Some p) q = refl
 

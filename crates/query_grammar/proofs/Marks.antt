@@ -210,7 +210,7 @@ is_known AfterUnary k w rest t none e = known_after w rest t e
 
 -- ---- a blank begins nothing
 
-blank_cases : (P : ℕ → Type 0) → P 32 → P 9 → P 13 → (c : ℕ) → is_blank c ≡ true → P c
+pub blank_cases : (P : ℕ → Type 0) → P 32 → P 9 → P 13 → (c : ℕ) → is_blank c ≡ true → P c
 blank_cases P space tab return c e =
     elim (or_cases ((c == 32) || (c == 9)) (c == 13) e) [
       | inl two ↦ elim (or_cases (c == 32) (c == 9) two) [

@@ -9,14 +9,10 @@ use Rattle.query_grammar.specs.declared.lex.Quote.{Quote}
 use Rattle.query_grammar.specs.declared.lex.Quote.TheVariants.{Double, Single}
 use Rattle.query_grammar.specs.Bytes.{is_digit, is_name_byte, is_word_byte, quote_byte}
 use Rattle.query_grammar.specs.Criterion.{is_all, Text, Plain, Quoted, text_of, is_inside, is_text, is_some_text, prefix_text, joined_names, field_text, is_field, LevelSign, OrMore, OrLess, Level, sign_text, level_text, is_level, Parts, names_of, criterion_text, is_criterion}
+pub use Rattle.query_grammar.specs.Faulty.{ends_there}
 use Rattle.query_grammar.proofs.Levels.{begins_there, name_begins, regroup, is_good}
 
 -- ---- where bytes of one kind end
-
--- bytes that don't begin with a byte that passes
-abbrev pub ends_there : (ℕ → Bool) → List ℕ → Bool
-ends_there test [] = true
-ends_there test (c ∷ w) = not (test c)
 
 -- bytes that pass end in one place, where no byte that passes comes next
 cut_all : (test : ℕ → Bool) (w v a b : List ℕ) → list_all test w ≡ true → list_all test v ≡ true → ends_there test a ≡ true → ends_there test b ≡ true → w ++ a ≡ v ++ b → (w ≡ v) × (a ≡ b)
@@ -253,7 +249,7 @@ pub no_name_brace : (c : ℕ) → is_name_byte c ≡ true → (c == 123) ≡ fal
 no_name_brace c e = grind (arith, nat_tests)
 
 -- names don't begin as a level does
-no_level_name : (v b : List ℕ) → begins_there is_name_byte v ≡ true → v ≡ 123 ∷ b → ⊥
+pub no_level_name : (v b : List ℕ) → begins_there is_name_byte v ≡ true → v ≡ 123 ∷ b → ⊥
 no_level_name [] b e same = absurd cc
 no_level_name (c ∷ w) b e same = no_same_first c 123 w b (no_name_brace c e) same
 

@@ -7,6 +7,8 @@ pub mod Moves
 pub mod Scanner
 pub mod Judging
 pub mod Fine
+pub mod Faulty
+pub mod Stands
 pub mod Munches
 pub mod Lines
 pub mod Tree

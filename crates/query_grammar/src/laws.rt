@@ -12,14 +12,15 @@ ghost use Rattle.query_grammar.specs.Grammar.{Written, IsQuery, StopsAt};
 ghost use Rattle.query_grammar.specs.Judging.{rules_of};
 ghost use Rattle.query_grammar.specs.Fine.{IsFine, IsFineText};
 ghost use Rattle.query_grammar.specs.Lines.{IsText, lines_of, read_lines};
+ghost use Rattle.query_grammar.specs.Stands.{Language, StandsIn, Stands};
 ghost use Rattle.query_grammar.specs.QueryFault.{query_fault};
 ghost use Rattle.query_grammar.specs.Steps.{steps_of};
 ghost use Rattle.query_grammar.specs.Tree.{Query, is_true, tree_of, tree_steps, truths_of};
-ghost use Rattle.query_grammar.specs.Scanner.{Rules, AreRules, Syntax, free, run, begin};
+ghost use Rattle.query_grammar.specs.Scanner.{Fault, Rules, AreRules, Syntax, free, run, begin};
 
 /// A query is read as its steps, and what is read is a query, whatever the rules. A fault of syntax is
 /// at the first byte at which no query can go on. Under the rules of tags, numbers and depth the
-/// queries without a fault are read, and no others.
+/// queries without a fault are read, and no others, and at each other fault stands what it names.
 pub fn reading()
     ensures complete { (line : List ℕ) (q : Written) → IsQuery line q → run free 0 begin line ≡ Ok (steps_of q) }
     ensures sound { (rules : Rules) → AreRules rules → (line : List ℕ) (out : List Step) → run rules 0 begin line ≡ Ok out → (q : Written) × IsQuery line q × (steps_of q ≡ out) }
@@ -27,6 +28,7 @@ pub fn reading()
     ensures rules { (is_tag is_decimal is_pattern : List ℕ → Bool) (most : ℕ) → AreRules (rules_of is_tag is_decimal is_pattern most) }
     ensures fine { (is_tag is_decimal is_pattern : List ℕ → Bool) (most : ℕ) (line : List ℕ) (q : Written) → IsQuery line q → IsFine is_tag is_decimal is_pattern most 0 q → run (rules_of is_tag is_decimal is_pattern most) 0 begin line ≡ Ok (steps_of q) }
     ensures only_fine { (is_tag is_decimal is_pattern : List ℕ → Bool) (most : ℕ) (line : List ℕ) (out : List Step) → run (rules_of is_tag is_decimal is_pattern most) 0 begin line ≡ Ok out → (q : Written) × IsQuery line q × IsFine is_tag is_decimal is_pattern most 0 q × (steps_of q ≡ out) }
+    ensures stands { (l : Language) (line : List ℕ) (f : Fault) → run (rules_of l.is_tag l.is_decimal l.is_pattern l.most) 0 begin line ≡ Err f → StandsIn l 0 line f }
     ensures one_tree { (line : List ℕ) (p q : Written) → IsQuery line p → IsQuery line q → tree_of p ≡ tree_of q }
 {}
 
@@ -65,9 +67,11 @@ pub fn steps_of_trees()
 {}
 
 /// A text in UTF-8 is queries without a fault just where it has no first fault, so it never has both. Its first
-/// fault of syntax is at the first byte at which no text of queries can go on.
+/// fault of syntax is at the first byte at which no text of queries can go on. At each other fault stands what it
+/// names: a name that is no tag, a number or a pattern that is none, or a parenthesis or a `not` too many.
 pub fn text_faults()
     ensures none { (is_tag is_decimal is_pattern : List ℕ → Bool) (most : ℕ) (text : List ℕ) → query_fault is_tag is_decimal is_pattern most text ≡ None → IsUtf8 text × (q : Written) × IsFineText is_tag is_decimal is_pattern most text q }
     ensures only_none { (is_tag is_decimal is_pattern : List ℕ → Bool) (most : ℕ) (text : List ℕ) (q : Written) → IsUtf8 text → IsFineText is_tag is_decimal is_pattern most text q → query_fault is_tag is_decimal is_pattern most text ≡ None }
     ensures syntax { (is_tag is_decimal is_pattern : List ℕ → Bool) (most : ℕ) (text : List ℕ) (at : ℕ) → IsUtf8 text → query_fault is_tag is_decimal is_pattern most text ≡ Some (Syntax at) → StopsAt IsText text at }
+    ensures stands { (l : Language) (text : List ℕ) (f : Fault) → IsUtf8 text → query_fault l.is_tag l.is_decimal l.is_pattern l.most text ≡ Some f → Stands l text f }
 {}

@@ -8,6 +8,7 @@ use Rattle.query_grammar.proofs.Looser.{run_looser}
 use Rattle.query_grammar.proofs.Rulings.{are_rules}
 use Rattle.query_grammar.proofs.Fine.{fine_lines_read, fine_lines_found}
 use Rattle.query_grammar.proofs.Postfix.{one_tree}
+use Rattle.query_grammar.proofs.Stands.{stands}
 use Rattle.query_grammar.proofs.laws.reading.Goals as goal
 
 pub returns-clause-complete : goal.returns-clause-complete
@@ -34,3 +35,6 @@ pub returns-clause-only_fine : goal.returns-clause-only_fine
 returns-clause-only_fine c = λ is_tag is_decimal is_pattern most line out e.
     let h = (fine_lines_found is_tag is_decimal is_pattern most).each 0 line out e in
     (h.query, h.is.0, h.is.1, h.steps)
+
+pub returns-clause-stands : goal.returns-clause-stands
+returns-clause-stands c = λ l line f e. stands l 0 line f e

@@ -9,6 +9,7 @@ use Rattle.query_grammar.proofs.Looser.{lines_looser}
 use Rattle.query_grammar.proofs.Rulings.{are_rules}
 use Rattle.query_grammar.proofs.TextStops.{text_stops_at}
 use Rattle.query_grammar.proofs.TextFaults.{faultless, fault_is, fault_read}
+use Rattle.query_grammar.proofs.Stands.{text_stands}
 use Rattle.query_grammar.proofs.laws.text_faults.Goals as goal
 
 pub returns-clause-none : goal.returns-clause-none
@@ -26,3 +27,6 @@ pub returns-clause-syntax : goal.returns-clause-syntax
 returns-clause-syntax c = λ is_tag is_decimal is_pattern most text at u e.
     let stopped = fault_read _ _ (sym (fault_is is_tag is_decimal is_pattern most text u) ∙ e) in
     text_stops_at text at ((lines_looser (rules_of is_tag is_decimal is_pattern most) (lines_of text) 0 None (are_rules is_tag is_decimal is_pattern most)).same_stop at stopped)
+
+pub returns-clause-stands : goal.returns-clause-stands
+returns-clause-stands c = λ l text f u e. text_stands l text f (fault_read _ _ (sym (fault_is l.is_tag l.is_decimal l.is_pattern l.most text u) ∙ e))
