@@ -11,11 +11,11 @@ use Rattle.vsl_decimal.specs.inside.Digits.{SpellsSize}
 use Rattle.vsl_decimal.proofs.DecimalLemmas.{some_none, Spells-plain, Spells-minus}
 
 -- the test of digits, both ways
-all_digits : (w : List ℕ) → AllDigits 10 w → list_all (λ c. is_digit c 10) w ≡ true
+pub all_digits : (w : List ℕ) → AllDigits 10 w → list_all (λ c. is_digit c 10) w ≡ true
 all_digits [] d = refl
 all_digits (c ∷ w) d = and_from _ _ (lt-ltb (digit_value c) 10 d.0) (all_digits w d.1)
 
-AllDigits-from : (w : List ℕ) → list_all (λ c. is_digit c 10) w ≡ true → AllDigits 10 w
+pub AllDigits-from : (w : List ℕ) → list_all (λ c. is_digit c 10) w ≡ true → AllDigits 10 w
 AllDigits-from [] e = tt
 AllDigits-from (c ∷ w) e = let both = and_parts (is_digit c 10) (list_all (λ x. is_digit x 10) w) e in (ltb-true (digit_value c) 10 both.0, AllDigits-from w both.1)
 

@@ -4,3 +4,4 @@ mod DecimalLemmas
 mod FieldLemmas
 pub mod PrefixFunctions
 mod PrefixLemmas
+pub mod WholeLemmas

@@ -1,4 +1,5 @@
 pub mod Decimal
 pub mod Field
 pub mod Prefix
+pub mod Whole
 pub mod inside
