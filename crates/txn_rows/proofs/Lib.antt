@@ -1,4 +1,3 @@
-mod ClaimLemmas
 pub mod GroupingLemmas
 mod Examples
 pub mod LineLemmas

@@ -25,7 +25,7 @@ mod table;
 mod take;
 mod time;
 
-pub use claim::{Claim, read_claim};
+pub use claim::{Claim, read_claim, read_vxid};
 pub use group::{Cause, Group, GroupOptions, Grouping, Kind, Member, Members, ParentLink, Reason};
 pub use laws::{
     each_member_ends, each_record_once, each_transaction_once, every_line_ends, groups_are_walks,
