@@ -1,7 +1,9 @@
 -- Every job keeps to the limits.
 use Rattle.std.proofs.Common.{◌≡◌, ℕ, ◌+◌, ◌≤◌, Bool, true, false, ◌&&◌, List, [], ◌∷◌, Option, Some, None, Result, Ok, Err, length, arith, lit≤, refl, subst, leb}
 use Rattle.std.specs.Prelude.{IfSome, IfOk, unwrap_or, position, take, drop, if◌then◌else◌}
-use Rattle.std.proofs.lemmas.Bool.{and_parts, leb-true}
+use Rattle.std.proofs.lemmas.Option.{IfSome_then}
+use Rattle.vsl_decimal.specs.Whole.{whole_number}
+use Rattle.vsl_decimal.proofs.WholeLemmas.{whole_number-writes}
 use Rattle.tool_words.specs.declared.fault.UsageFault.{UsageFault}
 use Rattle.tool_words.specs.declared.fault.UsageFault.TheVariants.{NoOnce, NoLog, TwoLogs}
 use Rattle.tool_words.specs.declared.fault.WordsFault.{WordsFault}
@@ -14,26 +16,17 @@ use Rattle.tool_words.specs.declared.reading.Reading.{Reading}
 use Rattle.tool_words.specs.Answers.{Gives}
 use Rattle.tool_words.specs.Fold.{number_for, plain_job, with_choice, with_options}
 use Rattle.tool_words.specs.Job.{job_from, job_of, job_read, lacks_log, has_two_logs}
-use Rattle.tool_words.specs.Number.{is_short_number, digits_value, number_in, both, count_and_seed_at, is_comma}
+use Rattle.tool_words.specs.Number.{number_in, both, count_and_seed_at, is_comma}
 use Rattle.tool_words.specs.Reading.{nothing, read_all}
 use Rattle.tool_words.specs.Sound.{IsWithin, AreInRange, IsSound}
 use Rattle.tool_words.proofs.ListingLemmas.{listings, all-few, feeds-with_options}
 
--- a number that passed the tests is in its range
-within : (short : Bool) (low high n : ℕ) → ((short && leb low n) && leb n high) ≡ true → IsWithin low high n
-within short low high n passed =
-    let outer = and_parts _ _ passed in
-    let inner = and_parts _ _ outer.0 in
-    (leb-true _ _ inner.1, leb-true _ _ outer.1)
-
--- a number or none, by a test that says that it is in the range
-picked : (test : Bool) (low high n : ℕ) → (test ≡ true → IsWithin low high n) → IfSome (if test then Some n else None) (λ m. IsWithin low high m)
-picked true low high n said = said refl
-picked false low high n said = tt
-
 -- a number that is read is in its range
 pub number_in-range : (low high : ℕ) (text : List ℕ) → IfSome (number_in low high text) (λ n. IsWithin low high n)
-number_in-range low high text = picked _ low high (digits_value 0 text) (within (is_short_number text) low high (digits_value 0 text))
+number_in-range low high text = elim (leb (length text) 9) as (λ short. IfSome (if short then whole_number low high text else None) (λ n. IsWithin low high n)) [
+  | true ↦ IfSome_then (whole_number low high text) (whole_number-writes low high text) (λ n is. (is.3, is.4))
+  | false ↦ tt
+]
 
 -- a number that is read, or another in the range
 or_within : (o : Option ℕ) (low high before : ℕ) → IfSome o (λ n. IsWithin low high n) → IsWithin low high before → IsWithin low high (unwrap_or o before)

@@ -1,27 +1,13 @@
 -- The numbers and names that a word states. Numbers are decimal, and leading zeros are taken (this project's choice).
-use Rattle.std.specs.Prelude.{ℕ, ◌+◌, ◌-◌, ◌*◌, ◌==◌, ◌&&◌, nat_le, if◌then◌else◌, Bool, List, [], ◌∷◌, length, take, drop, position, Option, Some, None, codes}
+use Rattle.std.specs.Prelude.{ℕ, ◌+◌, ◌==◌, nat_le, if◌then◌else◌, Bool, List, length, take, drop, position, Option, Some, None, codes}
 use Rattle.std.specs.Str.{bytes_eq}
-use Rattle.std.specs.List.{list_all}
+use Rattle.vsl_decimal.specs.Whole.{whole_number}
 use Rattle.txn_rows.specs.declared.group.Grouping.{Grouping}
 use Rattle.txn_rows.specs.declared.group.Grouping.TheVariants.{Raw, Vxid, Request, Session}
 
--- whether a byte is a decimal digit
-abbrev pub is_digit : ℕ → Bool
-is_digit b = nat_le 48 b && nat_le b 57
-
--- the value of decimal digits, after those that were worth so much
-abbrev pub digits_value : ℕ → List ℕ → ℕ
-digits_value before [] = before
-digits_value before (b ∷ text) = digits_value (10 * before + (b - 48)) text
-
--- whether a text is 1 to 9 digits
-abbrev pub is_short_number : List ℕ → Bool
-is_short_number text = nat_le 1 (length text) && nat_le (length text) 9 && list_all is_digit text
-
 -- the number of a text of 1 to 9 digits, where it is in this range
 abbrev pub number_in : ℕ → ℕ → List ℕ → Option ℕ
-number_in low high text =
-    if is_short_number text && nat_le low (digits_value 0 text) && nat_le (digits_value 0 text) high then Some (digits_value 0 text) else None
+number_in low high text = if nat_le (length text) 9 then whole_number low high text else None
 
 -- whether a byte is a comma
 abbrev pub is_comma : ℕ → Bool

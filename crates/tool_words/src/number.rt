@@ -1,58 +1,19 @@
 //! Numbers and names in the values of options.
 
-ghost use Rattle.std.specs.Prelude.{◌≡◌, ◌≤◌, ◌<◌, ◌&&◌, if◌then◌else◌, nat_le, length, position, IfSome};
-ghost use Rattle.std.specs.List.{list_all};
-ghost use Rattle.tool_words.specs.Number.{both, count_and_seed, is_comma, digits_value, grouping_named, is_digit, is_short_number, number_in};
+ghost use Rattle.std.specs.Prelude.{◌≡◌, ◌<◌, length, position, IfSome};
+ghost use Rattle.tool_words.specs.Number.{both, count_and_seed, is_comma, grouping_named, number_in};
 
 use txn_rows::Grouping;
+use vsl_decimal::whole_number;
 
 /// The number of a text of 1 to 9 digits, where it is in this range.
 pub(crate) fn read_number(text: &[u8], low: u32, high: u32) -> Option<u32>
     ensures { result ≡ number_in low high text.now }
 {
-    if !is_short(text) {
+    if text.len() > 9 {
         return None;
     }
-    let value = read_digits(text, high)?;
-    if value < low {
-        return None;
-    }
-    Some(value)
-}
-
-/// Whether a text is 1 to 9 decimal digits.
-fn is_short(text: &[u8]) -> bool
-    ensures { result ≡ is_short_number text.now }
-{
-    text.len() >= 1 && text.len() <= 9 && are_decimal(text)
-}
-
-/// Whether all bytes are decimal digits.
-fn are_decimal(text: &[u8]) -> bool
-    ensures { result ≡ list_all is_digit text.now }
-{
-    text.iter().all(|b| is_decimal(*b))
-}
-
-/// Whether a byte is a decimal digit.
-fn is_decimal(b: u8) -> bool
-    ensures { result ≡ is_digit b }
-{
-    b'0' <= b && b <= b'9'
-}
-
-/// The value of decimal digits, where it is at most so much.
-fn read_digits(digits: &[u8], high: u32) -> Option<u32>
-    ensures { result ≡ (if nat_le (digits_value 0 digits.now) high then Some (digits_value 0 digits.now) else None) }
-{
-    let mut value: u64 = 0;
-    for b in digits {
-        value = 10 * value + u64::from(b.saturating_sub(b'0'));
-        if value > high as u64 {
-            return None;
-        }
-    }
-    Some(value as u32)
+    whole_number(text, low, high)
 }
 
 /// The place of the first comma.
