@@ -1,17 +1,19 @@
 -- By how much units raise the counters.
-use Rattle.std.proofs.Common.{◌≡◌, ◌≢◌, ℕ, ◌+◌, ◌-◌, ◌*◌, ◌<◌, ◌≤◌, Bool, true, false, List, [], ◌∷◌, length, Option, None, Some, refl, sym, subst, arith}
+use Rattle.std.proofs.Common.{◌≡◌, ◌≢◌, ℕ, ◌+◌, ◌*◌, ◌<◌, ◌≤◌, Bool, true, false, List, [], ◌∷◌, length, Option, None, Some, refl, sym, subst, arith}
 use Rattle.std.specs.List.{flat_map, sum_by}
-use Rattle.std.specs.Prelude.{slice_get, slice_index, slice_set}
+use Rattle.std.specs.Prelude.{IfSome, slice_get, slice_index, slice_set, unwrap_or}
 use Rattle.std.proofs.lemmas.Bool.Decides.{eqb_tells}
 use Rattle.std.proofs.lemmas.List.{get_or-set_other, get_or-set_same, length-append}
 use Rattle.std.proofs.lemmas.List.Sums.{sum_by-cons}
+use Rattle.std.proofs.lemmas.Option.{IfSome_then}
+use Rattle.vsl_decimal.specs.Whole.{whole_number}
+use Rattle.vsl_decimal.proofs.WholeLemmas.{whole_number-writes}
 use Rattle.vsl_record.specs.declared.record_type.Record.{Record}
 use Rattle.vsl_record.specs.Unit.{LogUnit}
 use Rattle.vsl_record.specs.Words.{IsUnit, record_words}
 use mathlib.Core.Logic.{dite, inl, inr}
 use native.Mathlib.Decide.{dec_lt}
 use Rattle.counter_segments.specs.Sums.{counter_count}
-use Rattle.txn_rows.specs.Claim.{digits_value}
 use Rattle.traffic_feed.specs.Counted.{Cause, EachTag, EachRequest, EachFetch, EachCall, EachField, EachRecord, EachUnit, EachCut, EachWait, EachWrap, causes, one_if, field_value, raise, unit_raise, share_at, unit_share}
 use Rattle.traffic_feed.specs.inside.Raises.{raise_at, unit_raise_at}
 
@@ -21,9 +23,15 @@ one_if_small : (b : Bool) → one_if b ≤ 4294967295
 one_if_small true = omega arith
 one_if_small false = omega arith
 
+or_small : (o : Option ℕ) → IfSome o (λ n. n ≤ 4294967295) → unwrap_or o 0 ≤ 4294967295
+or_small None small = omega arith
+or_small (Some n) small = small
+
 field_value_small : (o : Option (List ℕ)) → field_value o ≤ 4294967295
 field_value_small None = omega arith
-field_value_small (Some text) = grind arith
+field_value_small (Some text) =
+    let value = or_small (whole_number 0 4294967295 text) (IfSome_then (whole_number 0 4294967295 text) (whole_number-writes 0 4294967295 text) (λ n is. is.4)) in
+    grind arith
 
 raise_small : (cause : Cause) (rec : Record) → raise cause rec ≤ 4294967295
 raise_small (EachTag tag) rec = one_if_small _
@@ -114,10 +122,3 @@ no_unit_share which u low high =
     (λ above. dite (dec_lt which 20)
     (λ is. let e : which ≡ 19 = omega arith in rw e (no_share (Some EachWait) u (λ rec. refl) refl))
     (λ highest. let e : which ≡ 20 = omega arith in rw e (no_share (Some EachWrap) u (λ rec. refl) refl)))
-
--- ---- digits
-
--- digits are worth no less than what was before them
-pub digits_value-least : (before : ℕ) (text : List ℕ) → before ≤ digits_value before text
-digits_value-least before [] = omega arith
-digits_value-least before (b ∷ text) = omega (arith, digits_value-least (10 * before + (b - 48)) text)

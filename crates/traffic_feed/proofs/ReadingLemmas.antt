@@ -1,20 +1,22 @@
 -- Reading a line finds its meaning, and finds none where there is none.
-use Rattle.std.proofs.Common.{◌≡◌, ◌≢◌, ℕ, zero, suc, ◌+◌, ◌<◌, ◌≤◌, true, false, ◌==◌, cond, leb, List, [], ◌∷◌, ◌++◌, length, take, replicate, Option, Some, None, refl, sym, ap, subst, ◌∙◌, arith, one-add, rules, tests}
-use Rattle.std.specs.Prelude.{if◌then◌else◌, option_map}
-use Rattle.std.specs.Char.{digit_value, is_ascii_digit}
+use Rattle.std.proofs.Common.{◌≡◌, ◌≢◌, ℕ, zero, suc, ◌+◌, ◌<◌, ◌≤◌, Bool, true, false, ◌==◌, cond, leb, List, [], ◌∷◌, ◌++◌, length, take, replicate, Option, Some, None, refl, sym, ap, subst, ◌∙◌, arith, one-add, rules, tests}
+use Rattle.std.specs.Prelude.{IfSome, if◌then◌else◌, option_map}
+use Rattle.std.specs.Char.{is_ascii_digit}
 use Rattle.std.specs.List.{AllPass, prefix_len, position_or_len}
-use Rattle.std.specs.Str.Parse.{AllDigits, digits_value}
-use Rattle.std.proofs.lemmas.Bool.{eqb-true, leb-true}
+use Rattle.std.specs.Str.Parse.{AllDigits}
+use Rattle.std.proofs.lemmas.Bool.{eqb-true, le-leb, leb-true}
 use Rattle.std.proofs.lemmas.Bool.Decides.{nat_tests}
 use Rattle.std.proofs.lemmas.List.{append-nil, take-append-drop, append_assoc, take_at, drop_at}
 use Rattle.std.proofs.lemmas.Option.{option_and_then_some, same_Some}
 use Rattle.std.proofs.lemmas.List.Elements.{All-head, All-tail}
 use Rattle.vsl_record.specs.declared.mark.Mark.{Mark}
 use Rattle.vsl_record.specs.declared.mark.Mark.TheVariants.{Client, Backend, Plain}
-use Rattle.vsl_record.specs.Unit.{vxid_end}
+use Rattle.vsl_decimal.specs.Whole.{whole_number}
+use Rattle.vsl_decimal.proofs.WholeLemmas.{Writes, whole_number-reads, whole_number-writes}
+use Rattle.txn_rows.specs.Claim.{vxid_named}
 use Rattle.vsl_select.specs.RawLine.{mark_letter}
 use Rattle.traffic_feed.specs.Lines.{space, comment_mark, LoggedRecord, Line, BlankLine, CommentLine, RecordLine, WrittenRecord, IsVxid, IsWritten, IsLine, payload_of, print_payload, print_record}
-use Rattle.traffic_feed.specs.inside.Reading.{is_space, without_spaces, behind_spaces, digits_of, behind_digits, word_of, behind_word, vxid_of, tag_called, mark_of, payload_behind, marked, record_of, unindented, meaning}
+use Rattle.traffic_feed.specs.inside.Reading.{is_space, without_spaces, behind_spaces, digits_of, behind_digits, word_of, behind_word, tag_called, mark_of, payload_behind, marked, record_of, unindented, meaning}
 use Rattle.vsl_tags.proofs.CalledLemmas.{IsPlain-from}
 use Rattle.traffic_feed.proofs.NameLemmas.{tag_found, named_by}
 
@@ -78,29 +80,20 @@ pub digits_are : (text : List ℕ) → text ≡ digits_of text ++ behind_digits 
 unfolding digits_of behind_digits
 digits_are text = sym (take-append-drop (prefix_len is_ascii_digit text) text)
 
-all_digits_first : (text : List ℕ) → AllDigits 10 (take (prefix_len is_ascii_digit text) text)
-all_digits_first [] = tt
-all_digits_first (b ∷ text) =
-    elim (is_ascii_digit b) as (λ t. is_ascii_digit b ≡ t → AllDigits 10 (take (cond t (1 + prefix_len is_ascii_digit text) 0) (b ∷ text))) [
-      | true ↦ λ e. let digit : digit_value b < 10 = grind (arith, nat_tests) in rw one-add (digit, all_digits_first text)
-      | false ↦ λ _. tt
-    ] refl
-
-pub all_digits_of : (text : List ℕ) → AllDigits 10 (digits_of text)
-unfolding digits_of
-all_digits_of text = all_digits_first text
-
 -- ---- the VXID, the name, the mark and the payload
 
-pub vxid_found : (digits : List ℕ) (vxid : ℕ) → IsVxid digits vxid → vxid_of digits ≡ Some vxid
-unfolding vxid_of
-vxid_found digits vxid is = let value : digits_value 10 digits ≡ vxid = is.3 in rw value (search (tests, rules))
+pub vxid_found : (digits : List ℕ) (vxid : ℕ) → IsVxid digits vxid → vxid_named digits ≡ Some vxid
+vxid_found digits vxid is =
+    rw (le-leb (length digits) 10 is.2) (whole_number-reads 0 1073741823 digits vxid (is.0, is.1, is.3, omega arith, omega (arith, is.4)))
 
-pub IsVxid-from : (digits : List ℕ) (vxid : ℕ) → AllDigits 10 digits → vxid_of digits ≡ Some vxid → IsVxid digits vxid
-unfolding vxid_of
-IsVxid-from digits vxid all e =
-    let parts : (0 < length digits) × (length digits ≤ 10) × (digits_value 10 digits ≡ vxid) × (digits_value 10 digits < vxid_end) = grind (arith, nat_tests) in
-    (all, parts.0, parts.1, parts.2, rw (← parts.2) parts.3)
+few_digits : (digits : List ℕ) (vxid : ℕ) (few : Bool) → leb (length digits) 10 ≡ few → (if few then whole_number 0 1073741823 digits else None) ≡ Some vxid → IsVxid digits vxid
+few_digits digits vxid false is e = absurd cc
+few_digits digits vxid true is e =
+    let writes = subst (λ o. IfSome o (Writes 0 1073741823 digits)) e (whole_number-writes 0 1073741823 digits) in
+    (writes.0, writes.1, leb-true _ _ is, writes.2, omega (arith, writes.4))
+
+pub IsVxid-from : (digits : List ℕ) (vxid : ℕ) → vxid_named digits ≡ Some vxid → IsVxid digits vxid
+IsVxid-from digits vxid e = few_digits digits vxid (leb (length digits) 10) refl e
 
 word_count : (name text : List ℕ) → AllPass (λ b. leb 33 b) name → position_or_len is_space (name ++ space ∷ text) ≡ length name
 word_count [] text no_space = refl
@@ -204,7 +197,7 @@ marked_is vxid tag (letter ∷ text) l e =
 record_is : (n : ℕ) (text : List ℕ) (l : LoggedRecord) → record_of text ≡ Some l → (w : WrittenRecord) × IsWritten w l × (print_record w ≡ replicate n space ++ text)
 unfolding record_of
 record_is n text l e =
-    option_and_then_some _ (vxid_of (digits_of text)) l e (λ vxid at_vxid e.
+    option_and_then_some _ (vxid_named (digits_of text)) l e (λ vxid at_vxid e.
     option_and_then_some _ (behind_spaces (behind_digits text)) l e (λ named at_named e.
     option_and_then_some _ (tag_called (word_of named)) l e (λ tag at_tag e.
     option_and_then_some _ (behind_spaces (behind_word named)) l e (λ rest at_rest e.
@@ -218,7 +211,7 @@ record_is n text l e =
     let from_the_vxid : text ≡ from_vxid w = digits_are text ∙ ap (λ t. digits_of text ++ t) (before_name.2 ∙ ap (λ t. replicate before_name.0 space ++ t) from_the_name) in (
       w,
       record {
-        vxid = rw (← same) (IsVxid-from (digits_of text) vxid (all_digits_of text) at_vxid);
+        vxid = rw (← same) (IsVxid-from (digits_of text) vxid at_vxid);
         before_name = before_name.1;
         name = rw (← same) (named_by tag (word_of named) at_tag);
         before_mark = before_mark.1;

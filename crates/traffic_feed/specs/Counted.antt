@@ -1,9 +1,10 @@
 -- What raises the counters of varnish-counters(7) under `MAIN.` (what raises each is this project's choice).
-use Rattle.std.specs.Prelude.{ℕ, ◌+◌, ◌^◌, ◌==◌, ◌&&◌, nat_le, nat_lt, if◌then◌else◌, Bool, true, false, List, [], ◌∷◌, map, length, slice_get, codes, Option, Some, None}
-use Rattle.std.specs.List.{list_all, range_with_len, sum_by}
+use Rattle.std.specs.Prelude.{ℕ, ◌+◌, ◌-◌, ◌^◌, ◌==◌, ◌&&◌, nat_le, nat_lt, unwrap_or, if◌then◌else◌, Bool, true, false, List, [], ◌∷◌, map, length, slice_get, codes, Option, Some, None}
+use Rattle.std.specs.List.{range_with_len, sum_by}
 use Rattle.std.specs.Str.{bytes_eq, str_to_ascii_lowercase}
 use Rattle.vsl_tags.specs.Tags.{begin_tag}
 use Rattle.vsl_decimal.specs.Field.{field_of}
+use Rattle.vsl_decimal.specs.Whole.{whole_number}
 use Rattle.vsl_record.specs.declared.record_type.Record.{Record}
 use Rattle.vsl_record.specs.Unit.{LogUnit}
 use Rattle.txn_rows.specs.declared.claim.Claim.{Claim}
@@ -11,7 +12,7 @@ use Rattle.txn_rows.specs.declared.group.Kind.{Kind}
 use Rattle.txn_rows.specs.declared.group.Kind.TheVariants as kinds
 use Rattle.txn_rows.specs.declared.group.Reason.{Reason}
 use Rattle.txn_rows.specs.declared.group.Reason.TheVariants.{Rxreq, Esi, Other}
-use Rattle.txn_rows.specs.Claim.{claim_of, digits_value, is_digit}
+use Rattle.txn_rows.specs.Claim.{claim_of}
 use Rattle.counter_segments.specs.Sums.{counter_count}
 use Rattle.traffic_feed.specs.declared.listing.Listing.{Listing}
 use Rattle.vsl_tags.specs.declared.named.TheConstants.{SESS_OPEN, BACKEND_OPEN, FETCH_ERROR, VCL_CALL, REQ_ACCT, HIT, HIT_MISS, HIT_PASS}
@@ -107,8 +108,7 @@ one_if false = 0
 -- the value of a field, which counts where it is 1 to 10 digits and below 2^32
 abbrev pub field_value : Option (List ℕ) → ℕ
 field_value None = 0
-field_value (Some text) =
-    if nat_le 1 (length text) && nat_le (length text) 10 && list_all is_digit text && nat_lt (digits_value 0 text) (2 ^ 32) then digits_value 0 text else 0
+field_value (Some text) = if nat_le (length text) 10 then unwrap_or (whole_number 0 (2 ^ 32 - 1) text) 0 else 0
 
 -- by how much a record raises a counter of this cause
 abbrev pub raise : Cause → Record → ℕ

@@ -3,18 +3,15 @@
 ghost use Rattle.std.specs.Prelude.{◌≡◌, ◌≤◌, length, option_map, IfSome, IfNone};
 ghost use Rattle.std.specs.Char.{is_ascii_digit};
 ghost use Rattle.std.specs.List.{prefix_len, position_or_len};
-ghost use Rattle.std.specs.Str.Parse.{AllDigits};
 ghost use Rattle.traffic_feed.specs.Lines.{IsLine, Line, RecordLine};
-ghost use Rattle.traffic_feed.specs.inside.Reading.{is_space, without_spaces, behind_spaces, digits_of, behind_digits, word_of, behind_word, vxid_of, mark_of, payload_behind, marked, record_of, unindented, meaning};
+ghost use Rattle.traffic_feed.specs.inside.Reading.{is_space, without_spaces, behind_spaces, digits_of, behind_digits, word_of, behind_word, mark_of, payload_behind, marked, record_of, unindented, meaning};
 ghost use Rattle.traffic_feed.specs.inside.Gathering.{IsInRange};
 ghost use Rattle.traffic_feed.specs.inside.LineRead.{line_of};
 
 use crate::tag_cache::TagCache;
-use vsl_record::{Mark, VXID_END, Vxid};
+use txn_rows::read_vxid;
+use vsl_record::{Mark, Vxid};
 use vsl_tags::Tag;
-
-/// The most digits of a VXID.
-const MOST_DIGITS: usize = 10;
 
 /// What a line means.
 #[derive(Clone, Copy)]
@@ -108,26 +105,6 @@ fn split_word(text: &[u8]) -> (&[u8], &[u8])
     text.split_at(word_length(text))
 }
 
-/// The VXID that digits write.
-#[tactic(auto, unfolding(crate::specs::inside::Reading::vxid_of))]
-fn vxid_of(digits: &[u8]) -> Option<Vxid>
-    requires { AllDigits 10 digits.now }
-    ensures { result ≡ vxid_of digits.now }
-{
-    if digits.is_empty() || digits.len() > MOST_DIGITS {
-        return None;
-    }
-    let mut value: u64 = 0;
-    for digit in digits {
-        value = value * 10 + u64::from(*digit - b'0');
-    }
-    if value < u64::from(VXID_END) {
-        Some(value as Vxid)
-    } else {
-        None
-    }
-}
-
 /// The mark of a letter.
 #[tactic(auto, unfolding(crate::specs::inside::Reading::mark_of))]
 fn mark_of(letter: u8) -> Option<Mark>
@@ -174,7 +151,7 @@ fn record_of<'a>(text: &'a [u8], tags: &mut TagCache) -> Option<LineRead<'a>>
     ensures { option_map line_of result ≡ option_map RecordLine (record_of text.now) }
 {
     let (digits, behind) = split_digits(text);
-    let vxid = vxid_of(digits)?;
+    let vxid = read_vxid(digits)?;
     let (name, behind) = split_word(behind_spaces(behind)?);
     let tag = tags.tag_called(name)?;
     marked(vxid, tag, behind_spaces(behind)?)

@@ -1,23 +1,18 @@
 //! By how much a record raises a counter.
 
-ghost use Rattle.std.specs.Prelude.{◌≡◌, ◌^◌, ◌<◌, ◌==◌, ◌&&◌, if◌then◌else◌, nat_le, nat_lt, codes, length, slice_get};
-ghost use Rattle.std.specs.List.{list_all};
+ghost use Rattle.std.specs.Prelude.{◌≡◌, ◌^◌, ◌<◌, ◌==◌, codes, slice_get};
 ghost use Rattle.std.specs.Option.{option_copied};
-ghost use Rattle.txn_rows.specs.Claim.{digits_value, is_digit};
 ghost use Rattle.counter_segments.specs.Sums.{counter_count};
 ghost use Rattle.traffic_feed.specs.Counted.{EachTag, EachRequest, EachFetch, EachCall, EachField, causes, field_value, is_fetch, is_request, raise};
 ghost use Rattle.traffic_feed.specs.inside.Raises.{raise_at};
 
 use txn_rows::{Claim, Kind, Reason, read_claim};
-use vsl_decimal::field;
+use vsl_decimal::{field, whole_number};
 use vsl_record::Record;
 use vsl_tags::Tag;
 use vsl_tags::named::{
     BACKEND_OPEN, FETCH_ERROR, HIT, HIT_MISS, HIT_PASS, REQ_ACCT, SESS_OPEN, VCL_CALL,
 };
-
-/// One more than the highest value of a field that counts.
-const FIELD_END: u64 = 1 << 32;
 
 /// By how much a record raises a counter, as the table of varnish-counters(7), `MAIN.`, goes by number here. Units, cuts, waits and
 /// wraps raise the last four, and records don't.
@@ -149,45 +144,8 @@ fn read_value(text: &[u8]) -> u64
     ensures value { result ≡ field_value (Some text.now) }
     ensures small { result < 2 ^ 32 }
 {
-    if is_short_number(text) {
-        read_digits(text)
-    } else {
-        0
+    if text.len() > 10 {
+        return 0;
     }
-}
-
-/// Whether a text is 1 to 10 decimal digits.
-fn is_short_number(text: &[u8]) -> bool
-    ensures { result ≡ (nat_le 1 (length text.now) && nat_le (length text.now) 10 && list_all is_digit text.now) }
-{
-    text.len() >= 1 && text.len() <= 10 && are_decimal(text)
-}
-
-/// Whether all bytes are decimal digits.
-fn are_decimal(text: &[u8]) -> bool
-    ensures { result ≡ list_all is_digit text.now }
-{
-    text.iter().all(|b| is_decimal(*b))
-}
-
-/// Whether a byte is a decimal digit.
-fn is_decimal(b: u8) -> bool
-    ensures { result ≡ is_digit b }
-{
-    b'0' <= b && b <= b'9'
-}
-
-/// The value of decimal digits, or 0 where it is 2^32 or more.
-fn read_digits(digits: &[u8]) -> u64
-    ensures value { result ≡ (if nat_lt (digits_value 0 digits.now) (2 ^ 32) then digits_value 0 digits.now else 0) }
-    ensures small { result < 2 ^ 32 }
-{
-    let mut value: u64 = 0;
-    for b in digits {
-        value = 10 * value + u64::from(b.saturating_sub(b'0'));
-        if value >= FIELD_END {
-            return 0;
-        }
-    }
-    value
+    u64::from(whole_number(text, 0, u32::MAX).unwrap_or(0))
 }

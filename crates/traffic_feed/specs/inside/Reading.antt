@@ -1,13 +1,12 @@
 -- How the lines of a listing are read.
-use Rattle.std.specs.Prelude.{ℕ, ◌==◌, ◌&&◌, nat_lt, nat_le, if◌then◌else◌, Bool, List, [], ◌∷◌, length, drop, take_while, Option, None, Some, option_and_then, option_map}
+use Rattle.std.specs.Prelude.{ℕ, ◌==◌, if◌then◌else◌, Bool, List, [], ◌∷◌, drop, take_while, Option, None, Some, option_and_then, option_map}
 use Rattle.std.specs.Char.{is_ascii_digit}
 use Rattle.std.specs.List.{prefix_len, position_or_len, before_first}
-use Rattle.std.specs.Str.Parse.{digits_value}
 use Rattle.vsl_tags.specs.Called as called
 use Rattle.vsl_record.specs.declared.mark.Mark.{Mark}
 use Rattle.vsl_record.specs.declared.mark.Mark.TheVariants.{Client, Backend, Plain}
-use Rattle.vsl_record.specs.Unit.{vxid_end}
-use Rattle.traffic_feed.specs.Lines.{most_digits, space, comment_mark, LoggedRecord, Line, BlankLine, CommentLine, RecordLine}
+use Rattle.txn_rows.specs.Claim.{vxid_named}
+use Rattle.traffic_feed.specs.Lines.{space, comment_mark, LoggedRecord, Line, BlankLine, CommentLine, RecordLine}
 
 -- what is read of what was read, where something was
 infixl 10 ◌>>=◌
@@ -44,10 +43,6 @@ word_of text = before_first is_space text
 unfoldable pub behind_word : List ℕ → List ℕ
 behind_word text = drop (position_or_len is_space text) text
 
--- the VXID that digits write
-unfoldable pub vxid_of : List ℕ → Option ℕ
-vxid_of digits = if nat_lt 0 (length digits) && nat_le (length digits) most_digits && nat_lt (digits_value 10 digits) vxid_end then Some (digits_value 10 digits) else None
-
 -- the tag that a name finds
 unfoldable pub tag_called : List ℕ → Option ℕ
 tag_called name = called.tag_called name
@@ -72,7 +67,7 @@ marked vxid tag (letter ∷ text) = do
 -- the record that a text without spaces at its beginning is
 unfoldable pub record_of : List ℕ → Option LoggedRecord
 record_of text = do
-  vxid ← vxid_of (digits_of text)
+  vxid ← vxid_named (digits_of text)
   named ← behind_spaces (behind_digits text)
   tag ← tag_called (word_of named)
   text ← behind_spaces (behind_word named)
