@@ -32,7 +32,9 @@ pub use payload::{MAX_PAYLOAD, Payload};
 pub use reading::read_unit_bytes;
 pub use record_type::Record;
 pub use records::Records;
-pub use unit::{MAX_UNIT_WORDS, Unit, VXID_END, Vxid};
+pub use unit::{
+    HEADER_MARK, MAX_UNIT_WORDS, TOP_BYTE, UNIT_MARK, Unit, VXID_END, Vxid, count_words,
+};
 pub use units::Units;
 pub use views::{RecordView, UnitView};
 pub use words::read_unit;

@@ -25,7 +25,7 @@ pub enum Mark {
 
 impl Mark {
     /// What the mark adds to the word of a VXID.
-    pub(crate) fn bits(self) -> u32
+    pub fn bits(self) -> u32
         ensures { result ≡ mark_bits self }
     {
         match self {

@@ -13,16 +13,10 @@ use crate::laws::are_bytes;
 use crate::mark::Mark;
 use crate::payload::{MAX_PAYLOAD, Payload};
 use crate::record_type::Record;
-use crate::unit::{MAX_UNIT_WORDS, Unit, VXID_END};
+use crate::unit::{MAX_UNIT_WORDS, TOP_BYTE, UNIT_MARK, Unit, VXID_END};
 use bytes::Bytes;
 use std::alloc::{AllocError, Global};
 use vsl_tags::Tag;
-
-/// A head word is its top byte so many times, and a length or a count below that.
-pub(crate) const TOP_BYTE: u32 = 16_777_216;
-
-/// The top byte of a unit's header; a record's is its tag.
-const UNIT_MARK: u32 = 0xfe;
 
 /// An id word from here on has both marks.
 const BOTH_MARKS: u32 = 0xc000_0000;

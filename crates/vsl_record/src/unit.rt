@@ -21,6 +21,16 @@ pub const VXID_END: Vxid = 1_073_741_824;
 /// The most words that a unit has. This project's choice.
 pub const MAX_UNIT_WORDS: usize = 1_048_576;
 
+/// A record's first word is its tag so many times, and below that the payload's length.
+/// A unit's is `UNIT_MARK` so many times, and below that its number of words. This project's choice.
+pub const TOP_BYTE: u32 = 16_777_216;
+
+/// The top byte of a unit's header word. This project's choice.
+pub const UNIT_MARK: u32 = 0xfe;
+
+/// What a unit's header word is above its number of words. This project's choice.
+pub const HEADER_MARK: u32 = 0xfe00_0000;
+
 /// What a worker writes at once: one or more records of one transaction and one mark (vsl(7)).
 #[derive(Debug, Drop)]
 pub struct Unit {
@@ -106,7 +116,7 @@ impl Unit {
 }
 
 /// How many words the records and a unit's header take, or 2^64 - 1 where that is greater.
-pub(crate) fn count_words(records: &[Record]) -> u64
+pub fn count_words(records: &[Record]) -> u64
     ensures words { (vxid : ℕ) → result ≡ min (1 + length (flat_map (record_words vxid) records.now)) (2 ^ 64 - 1) }
     ensures tags { All (λ r. IsTag r.tag) records.now }
     ensures payloads { All (λ r. IsPayload r.payload) records.now }

@@ -8,8 +8,8 @@ ghost use Rattle.vsl_record.specs.Words.{words_in};
 
 use crate::laws::are_bytes;
 use crate::mark::Mark;
-use crate::reading::{TOP_BYTE, header_word, read_unit_bytes, second_word};
-use crate::unit::{Unit, VXID_END, Vxid};
+use crate::reading::{header_word, read_unit_bytes, second_word};
+use crate::unit::{TOP_BYTE, Unit, VXID_END, Vxid};
 use bytes::Bytes;
 use log_model::NoMemory;
 use std::alloc::Global;

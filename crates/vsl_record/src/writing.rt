@@ -7,14 +7,10 @@ ghost use Rattle.vsl_record.specs.Unit.{vxid_end};
 ghost use Rattle.vsl_record.specs.inside.Writing.{Wrote};
 ghost use Rattle.vsl_record.specs.Words.{header_mark, mark_bits, most_words, packed, record_words, unit_words, word_bytes};
 
-use crate::reading::TOP_BYTE;
 use crate::record_type::Record;
-use crate::unit::{Unit, Vxid, count_words};
+use crate::unit::{HEADER_MARK, TOP_BYTE, Unit, Vxid, count_words};
 use log_model::NoMemory;
 use std::alloc::Global;
-
-/// What a unit's header word is above its number of words.
-const HEADER_MARK: u32 = 0xfe00_0000;
 
 impl Unit {
     /// How many words the unit has, its header word included: 3 to 1,048,576.
