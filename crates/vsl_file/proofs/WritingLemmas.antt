@@ -60,11 +60,6 @@ record_added vxid head id rec old a new all fits head_is id_is first second =
     second ∙ ap (λ (x : List ℕ). x ++ filled rec.payload) first ∙ append_assoc old (to_le_bytes w64 (head + 4294967296 * id)) (filled rec.payload)
     ∙ ap (λ (x : List ℕ). old ++ (x ++ filled rec.payload)) words ∙ ap (λ (x : List ℕ). old ++ (to_le_bytes w32 (16777216 * rec.tag + length rec.payload) ++ to_le_bytes w32 (vxid + mark_bits rec.mark) ++ x)) (sym (packed_bytes rec.payload all))
 
--- one more record's words
-pub words_more : (vxid : ℕ) (records : List Record) (i : ℕ) (rec : Record) → i < length records → rec ≡ get_or records i rec
-    → length (flat_map (record_words vxid) (take (i + 1) records)) ≡ length (flat_map (record_words vxid) (take i records)) + length (record_words vxid rec)
-words_more vxid records i rec within is = rw (take_more records i rec within, ← is, flat_map-append, length-append) (simp length-append (omega arith))
-
 -- the bytes of records' words are the records' bytes
 pub body_bytes : (vxid : ℕ) (records : List Record) → word_bytes (flat_map (record_words vxid) records) ≡ flat_map (record_bytes vxid) records
 body_bytes vxid [] = refl

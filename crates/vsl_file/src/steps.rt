@@ -11,16 +11,10 @@ use crate::filling::fill_to;
 use bytes::{Bytes, BytesMut};
 use std::alloc::Global;
 use vio::{Failed, NoMemory, World};
-use vsl_record::{MAX_UNIT_WORDS, Unit, WordFault, read_unit_bytes};
+use vsl_record::{MAX_UNIT_WORDS, TOP_BYTE, UNIT_MARK, Unit, WordFault, read_unit_bytes};
 
 /// The bytes of a word.
 pub(crate) const WORD: usize = 4;
-
-/// A head word is its top byte so many times, and a count below that.
-pub(crate) const TOP_BYTE: u32 = 16_777_216;
-
-/// The top byte of a unit's header.
-pub(crate) const UNIT_MARK: u32 = 0xfe;
 
 /// The fewest words of a unit: its header, and two of a record.
 const FEWEST_WORDS: u32 = 3;

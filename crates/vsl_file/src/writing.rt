@@ -1,18 +1,18 @@
 //! Writing a log file: its header and its units.
 
-ghost use Rattle.std.specs.Prelude.{◌≡◌, ◌+◌, ◌-◌, ◌^◌, ◌≤◌, ◌++◌, ℕ, min, length, OnOk, OnErr};
+ghost use Rattle.std.specs.Prelude.{◌≡◌, ◌≤◌, ◌++◌, length, OnOk, OnErr};
 ghost use Rattle.std.specs.Int.{w32, to_le_bytes};
 ghost use Rattle.std.specs.List.{flat_map};
 ghost use Rattle.log_model.specs.Prefix.{IsPrefix};
 ghost use Rattle.vsl_record.specs.declared.mark.Mark.{Mark as LogMark};
-ghost use Rattle.vsl_record.specs.Words.{mark_bits, record_words, most_words, unit_words};
+ghost use Rattle.vsl_record.specs.Words.{most_words, unit_words};
 ghost use Rattle.vsl_file.specs.File.{file_header, unit_bytes};
 ghost use Rattle.vsl_file.specs.inside.Writing.{record_bytes, filled};
 
 use crate::header::HEADER;
-use crate::steps::{TOP_BYTE, UNIT_MARK, WORD};
+use crate::steps::WORD;
 use vio::NoMemory;
-use vsl_record::{Mark, Payload, Record, Unit, Vxid};
+use vsl_record::{HEADER_MARK, Payload, Record, TOP_BYTE, Unit, Vxid, count_words};
 
 /// One more than the highest word.
 const WORD_END: u64 = 0x1_0000_0000;
@@ -27,17 +27,6 @@ pub fn put_header(out: &mut Vec<u8>) -> Result<(), NoMemory>
 {
     out.extend_from_slice(&HEADER)?;
     Ok(())
-}
-
-/// What a mark adds to the word of a VXID.
-fn mark_bits(mark: Mark) -> u32
-    ensures { result ≡ mark_bits mark }
-{
-    match mark {
-        Mark::Client => 1 << 30,
-        Mark::Backend => 1 << 31,
-        Mark::Plain => 0,
-    }
 }
 
 /// Adds a payload, and zero bytes up to a whole word.
@@ -60,7 +49,7 @@ fn put_record(vxid: Vxid, rec: &Record, out: &mut Vec<u8>) -> Result<(), NoMemor
     ensures keeps { IsPrefix out.old.items out.new.items }
 {
     let head = TOP_BYTE * u32::from(rec.tag.number()) + rec.payload.as_slice().len() as u32;
-    let id = vxid.wrapping_add(mark_bits(rec.mark));
+    let id = vxid.wrapping_add(rec.mark.bits());
     let both = u64::from(head) + WORD_END * u64::from(id);
     out.extend_from_slice(&both.to_le_bytes())?;
     put_payload(&rec.payload, out)
@@ -78,17 +67,6 @@ fn put_body(vxid: Vxid, records: &[Record], out: &mut Vec<u8>) -> Result<(), NoM
     Ok(())
 }
 
-/// How many words the records and a unit's header take, or 2^64 - 1 where that is greater.
-fn count_words(records: &[Record]) -> u64
-    ensures { (vxid : ℕ) → result ≡ min (1 + length (flat_map (record_words vxid) records.now)) (2 ^ 64 - 1) }
-{
-    let mut words: u64 = 1;
-    for rec in records {
-        words = words.saturating_add(rec.words() as u64);
-    }
-    words
-}
-
 /// Adds the header and the records of a unit, or a part of them.
 #[tactic(auto, using(log_model::proofs::PrefixLemmas::adding))]
 fn put_words(vxid: Vxid, records: &[Record], out: &mut Vec<u8>) -> Result<(), NoMemory>
@@ -98,7 +76,7 @@ fn put_words(vxid: Vxid, records: &[Record], out: &mut Vec<u8>) -> Result<(), No
 {
     let words = count_words(records);
     out.reserve(WORD * words as usize)?;
-    let head = TOP_BYTE * UNIT_MARK + words as u32;
+    let head = HEADER_MARK + words as u32;
     out.extend_from_slice(&head.to_le_bytes())?;
     put_body(vxid, records, out)
 }
