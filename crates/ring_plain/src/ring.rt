@@ -18,10 +18,7 @@ use ring_layout::{
 };
 use std::alloc::Global;
 use std::marker::Model;
-use vsl_record::{Unit, is_unit};
-
-/// A unit's header is its top byte so many times, and its number of words below that.
-const TOP_BYTE: u32 = 16_777_216;
+use vsl_record::{TOP_BYTE, Unit, is_unit};
 
 /// Words of a ring that follow one another.
 #[derive(Clone, Copy)]
