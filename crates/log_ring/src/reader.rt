@@ -16,10 +16,7 @@ use ring_layout::{
     END_MARK, OVERRUN_DISTANCE, SEEK_DISTANCE, SEGMENTS, Sought, Step, WORD, WRAP_MARK, segment_of,
 };
 use std::marker::Model;
-use vsl_record::UnitView;
-
-/// What a unit's header word is above its number of words.
-const HEADER_MARK: u32 = 0xfe00_0000;
+use vsl_record::{HEADER_MARK, UnitView};
 
 /// The right to read a ring, and what was taken by it. Contracts see these.
 #[derive(Drop)]
