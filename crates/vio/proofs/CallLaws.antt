@@ -5,12 +5,11 @@ use Rattle.std.proofs.lemmas.List.{append-nil}
 use Rattle.log_model.specs.Faults.{HasNewFault}
 use Rattle.vio.specs.World.{Seen, CallKind, Reading, Writing, Gains, Loses, Wrote, Read, NoCountFalls, IsAtEnd}
 use Rattle.vio.specs.declared.world.TheConstants.{ERRORS}
-use Rattle.vio.specs.Touches.{IsOneOf, IsNewHandle}
-use Rattle.vio.specs.Named.{GivesAtMost}
+use Rattle.vio.specs.Touches.{IsOneOf}
 use Rattle.vio.proofs.WholeLemmas.{Gains-then, Loses-then}
-use Rattle.vio.proofs.TouchLemmas.{did_touch, new_handle, one_of_left, one_of_right, touch_own}
+use Rattle.vio.proofs.TouchLemmas.{did_touch, touch_own}
 use Rattle.vio.proofs.CallLemmas.{did_counts}
-use Rattle.vio.specs.Calls.{Mark, Call, Take, Write, Open, Create, Refuse, Lack, Marks, Does, Did, AreOn, OnlyOpen, opened_in, created_in, handles_given, count_given, written_by, taken_by, of_handle, has_read, is_end, IsFailed}
+use Rattle.vio.specs.Calls.{Mark, Call, Take, Write, Open, Create, Refuse, Lack, Marks, Does, Did, AreOn, OnlyOpen, opened_in, created_in, written_by, taken_by, of_handle, has_read, is_end, IsFailed}
 
 -- ---- what is written
 
@@ -59,26 +58,6 @@ did_lose h (call ∷ calls) s t given did =
 pub did_keep : (names : List (List ℕ)) (calls : List Call) (s t : Seen) (name bytes : List ℕ) → OnlyOpen names calls → Did calls s t → s.held name ≡ Some bytes → t.held name ≡ Some bytes
 did_keep names calls s t name bytes only did told = (did_touch [] [] names [] calls s t only.0 did).held name bytes told (λ one. one) (λ h one. absurd one)
 
-none_new : (h : ℕ) (now : Seen) → IsNewHandle [] [] h now → ⊥
-none_new h now (inl new) = new.1
-none_new h now (inr new) = new.1
-
-new_one : (call : Call) (s t : Seen) (h : ℕ) → Does call s t → s.given h ≡ false → t.given h ≡ true → IsOneOf h (opened_in call ++ created_in call)
-new_one (Open name k) s t h p none new = inl (new_handle s t k h p.other_given none new)
-new_one (Create append name k empty) s t h p none new = inl (new_handle s t k h p.other_given none new)
-new_one call s t h p none new = absurd (none_new h t ((touch_own call s t p).fresh h none new))
-
-new_of : (calls : List Call) (s t : Seen) (h : ℕ) → Did calls s t → s.given h ≡ false → t.given h ≡ true → IsOneOf h (handles_given calls)
-new_of [] s t h did none new = let same = ap (λ (x : Seen). x.given h) did in absurd cc
-new_of (call ∷ calls) s t h did none new = elim (cases_Bool (did.0.given h)) [
-  | inl e ↦ one_of_left h (opened_in call ++ created_in call) (handles_given calls) (new_one call s did.0 h did.1 none e)
-  | inr e ↦ one_of_right h (opened_in call ++ created_in call) (handles_given calls) (new_of calls did.0 t h did.2 e new)
-]
-
--- they give no more handles than they count
-pub did_give : (calls : List Call) (s t : Seen) → Did calls s t → GivesAtMost (count_given calls) s t
-did_give calls s t did = (handles_given calls, omega arith, λ h none new. new_of calls s t h did none new)
-
 -- ---- what failed
 
 fault_first : (kind : CallKind) (name : List ℕ) (s t u : Seen) → HasNewFault (s.faults kind name) (t.faults kind name) → NoCountFalls t u → HasNewFault (s.faults kind name) (u.faults kind name)
@@ -100,18 +79,6 @@ did_fail kind name call (c ∷ calls) s t (inl e) failed did =
     fault_first kind name s did.0 t (one_failed kind name c s did.0 (subst (λ (x : Call). IsFailed kind name x) e failed) did.1) (did_counts calls did.0 t did.2)
 did_fail kind name call (c ∷ calls) s t (inr is) failed did =
     fault_later kind name s did.0 t (touch_own c s did.0 did.1).counts (did_fail kind name call calls did.0 t is failed did.2)
-
-each_failed : (h : ℕ) (part name : List ℕ) (s t : Seen) → s.names Reading h name ≡ true → Does (Take h part Mark.FailedEach) s t → HasNewFault (s.faults Reading name) (t.faults Reading name)
-each_failed h part name s t named does = (does.1).each name named
-
--- where a read of a handle failed that was given before, the count of failed reads rose for each name that it had
-pub did_fail_each : (h : ℕ) (part name : List ℕ) (calls : List Call) (s t : Seen) → s.given h ≡ true → s.names Reading h name ≡ true → IsOneOf (Take h part Mark.FailedEach) calls → Did calls s t → HasNewFault (s.faults Reading name) (t.faults Reading name)
-did_fail_each h part name [] s t given named is did = absurd is
-did_fail_each h part name (c ∷ calls) s t given named (inl e) did =
-    fault_first Reading name s did.0 t (each_failed h part name s did.0 named (subst (λ (x : Call). Does x s did.0) (sym e) did.1)) (did_counts calls did.0 t did.2)
-did_fail_each h part name (c ∷ calls) s t given named (inr is) did =
-    let q = touch_own c s did.0 did.1 in
-    fault_later Reading name s did.0 t q.counts (did_fail_each h part name calls did.0 t (q.given h given) (q.names Reading h name given ∙ named) is did.2)
 
 -- ---- what a file holds
 

@@ -3,7 +3,7 @@ use Rattle.std.proofs.Common.{◌≡◌, ◌⊎◌, ℕ, true, false, List, [], 
 use Rattle.std.proofs.lemmas.Bool.{cases_Bool, cases_eq}
 use Rattle.vio.specs.World.{Seen, CallKind, Reading, Writing, OnlyCounts, NoCountFalls}
 use Rattle.vio.proofs.WholeLemmas.{NoCountFalls-then, OnlyCounts-none}
-use Rattle.vio.specs.Touches.{IsOneOf, IsNewHandle, IsOtherSink, Touches}
+use Rattle.vio.specs.Touches.{IsOneOf, IsOtherSink, Touches}
 use Rattle.vio.specs.Calls.{Call, Take, Write, Open, Create, Refuse, Lack, Does, Did, IsWithin, AreWithin, opened_in, created_in}
 
 pub only_one : {A : Type 0} (x y : A) → IsOneOf x (y ∷ []) → x ≡ y
@@ -31,33 +31,25 @@ one_of_either x (y ∷ xs) ys (inr is) = elim (one_of_either x xs ys is) [ inl f
 other_handle : (s : Seen) (h i : ℕ) → s.given h ≡ false → s.given i ≡ true → ¬ (i ≡ h)
 other_handle s h i fresh given e = absurd cc
 
--- a handle that is now given, but wasn't before, is the new one
-pub new_handle : (s t : Seen) (h i : ℕ) → ((j : ℕ) → ¬ (j ≡ h) → t.given j ≡ s.given j) → s.given i ≡ false → t.given i ≡ true → i ≡ h
-new_handle s t h i others none given = elim (cases_eq i h) [
-  | inl e ↦ e
-  | inr other ↦ let same = others i other in absurd cc
-]
-
 module _ (r w : List ℕ) (o c : List (List ℕ)) (s t : Seen) where
   -- a call that gives no handle and leaves all names
   still : NoCountFalls s t → ((i : ℕ) → ¬ (IsOneOf i w) → t.written i ≡ s.written i) → ((i : ℕ) → ¬ (IsOneOf i r) → t.left i ≡ s.left i) → ((k : CallKind) (i : ℕ) (n : List ℕ) → t.names k i n ≡ s.names k i n)
-      → ((i : ℕ) → t.given i ≡ s.given i) → ((n bytes : List ℕ) → s.held n ≡ Some bytes → ((h : ℕ) → IsOneOf h w → IsOtherSink h n s) → t.held n ≡ Some bytes) → ((n : List ℕ) → t.lacks n ≡ s.lacks n) → Touches r w o c s t
+      → ((i : ℕ) → t.given i ≡ s.given i) → ((n bytes : List ℕ) → s.held n ≡ Some bytes → ((h : ℕ) → IsOneOf h w → IsOtherSink h n s) → t.held n ≡ Some bytes) → ((n : List ℕ) → t.lacks n ≡ s.lacks n) → Touches r w c s t
   still counts written left names given held lacks = record {
     counts = counts;
     written = λ i was. written i;
     left = λ i was. left i;
     names = λ k i n was. names k i n;
     given = λ i was. given i ∙ was;
-    fresh = λ i none new. let same = given i in absurd cc;
     held = λ n bytes told other. held n bytes told;
     lacks = λ n other. lacks n;
   }
 
-  touch_counts : OnlyCounts s t → Touches r w o c s t
+  touch_counts : OnlyCounts s t → Touches r w c s t
   touch_counts p = still p.counts (λ i other. p.written i) (λ i other. p.left i) p.names p.given (λ n bytes told sinks. p.held n ∙ told) p.lacks
 
   -- a call within these touches no more
-  pub touch_one : (call : Call) → IsWithin r w o c call → Does call s t → Touches r w o c s t
+  pub touch_one : (call : Call) → IsWithin r w o c call → Does call s t → Touches r w c s t
   touch_one (Take h bytes mark) is d =
       let p = d.0 in still p.counts (λ i other. p.written i) (λ i other. p.other_left i (λ e. other (subst (λ (j : ℕ). IsOneOf j r) (sym e) is))) p.names p.given (λ n held told sinks. p.held n ∙ told) p.lacks
   touch_one (Write h bytes mark) is d =
@@ -68,7 +60,6 @@ module _ (r w : List ℕ) (o c : List (List ℕ)) (s t : Seen) where
     left = λ i was other. p.other_left i (other_handle s h i p.fresh was);
     names = λ k i n was. p.other_names k i n (other_handle s h i p.fresh was);
     given = λ i was. p.other_given i (other_handle s h i p.fresh was) ∙ was;
-    fresh = λ i none new. inl (name, is, rw (new_handle s t h i p.other_given none new) p.is_named);
     held = λ n bytes told other sinks. p.held n ∙ told;
     lacks = λ n other. p.lacks n;
   }
@@ -78,7 +69,6 @@ module _ (r w : List ℕ) (o c : List (List ℕ)) (s t : Seen) where
     left = λ i was other. p.left i;
     names = λ k i n was. p.other_names k i n (other_handle s h i p.fresh was);
     given = λ i was. p.other_given i (other_handle s h i p.fresh was) ∙ was;
-    fresh = λ i none new. inr (name, is, rw (new_handle s t h i p.other_given none new) p.is_named);
     held = λ n bytes told other sinks. p.other_held n (λ e. other (subst (λ (m : List ℕ). IsOneOf m c) (sym e) is)) ∙ told;
     lacks = λ n other. p.other_lacks n (λ e. other (subst (λ (m : List ℕ). IsOneOf m c) (sym e) is));
   }
@@ -100,7 +90,7 @@ named_in (Create append name h empty) = name ∷ []
 named_in call = []
 
 -- a call touches no more than that
-pub touch_own : (call : Call) (s t : Seen) → Does call s t → Touches (read_in call) (sunk_in call) (named_in call) (named_in call) s t
+pub touch_own : (call : Call) (s t : Seen) → Does call s t → Touches (read_in call) (sunk_in call) (named_in call) s t
 touch_own call s t does = touch_one (read_in call) (sunk_in call) (named_in call) (named_in call) s t call (own call) does
   where
     own : (call : Call) → IsWithin (read_in call) (sunk_in call) (named_in call) (named_in call) call
@@ -111,11 +101,6 @@ touch_own call s t does = touch_one (read_in call) (sunk_in call) (named_in call
     own call = tt
 
 -- ---- several calls, one after the other
-
--- a handle that is new after the first part stays so in the second
-new_still : (r w : List ℕ) (o c : List (List ℕ)) (h : ℕ) (t u : Seen) → Touches r w o c t u → t.given h ≡ true → IsNewHandle o c h t → IsNewHandle o c h u
-new_still r w o c h t u q given (inl new) = inl (new.0, new.1, q.names Reading h new.0 given ∙ new.2)
-new_still r w o c h t u q given (inr new) = inr (new.0, new.1, q.names Writing h new.0 given ∙ new.2)
 
 -- a handle that wasn't given writes, now that it is, no told file but those that were created
 pub record IsNewSink (created : List (List ℕ)) (k : ℕ) (before now : Seen) : Type 0 where
@@ -138,9 +123,9 @@ new_sink created writes reads opened (Create append name i empty) s t is p k (in
 new_sink created writes reads opened call s t is p k known = inr known
 
 -- the second part may also read handles that the first gave, and write to those that it gave for files that it created
-pub touches_over : (r r2 w w2 : List ℕ) (o c : List (List ℕ)) (s t u : Seen) → Touches r w o c s t → Touches r2 w2 o c t u
-    → ((h : ℕ) → IsOneOf h r2 → (s.given h ≡ false) ⊎ IsOneOf h r) → ((k : ℕ) → IsOneOf k w2 → IsNewSink c k s t ⊎ IsOneOf k w) → Touches r w o c s u
-touches_over r r2 w w2 o c s t u p q sources sinks = record {
+pub touches_over : (r r2 w w2 : List ℕ) (c : List (List ℕ)) (s t u : Seen) → Touches r w c s t → Touches r2 w2 c t u
+    → ((h : ℕ) → IsOneOf h r2 → (s.given h ≡ false) ⊎ IsOneOf h r) → ((k : ℕ) → IsOneOf k w2 → IsNewSink c k s t ⊎ IsOneOf k w) → Touches r w c s u
+touches_over r r2 w w2 c s t u p q sources sinks = record {
   counts = NoCountFalls-then p.counts q.counts;
   written = λ h given other. q.written h (p.given h given) (λ is. elim (sinks h is) [
     | inl new ↦ let fresh = new.fresh in absurd cc
@@ -152,7 +137,6 @@ touches_over r r2 w w2 o c s t u p q sources sinks = record {
   ]) ∙ p.left h given other;
   names = λ k h name given. q.names k h name (p.given h given) ∙ p.names k h name given;
   given = λ h given. q.given h (p.given h given);
-  fresh = λ h none given. elim (cases_Bool (t.given h)) [ inl e ↦ new_still r2 w2 o c h t u q e (p.fresh h none e) | inr e ↦ q.fresh h e given ];
   held = λ n bytes told other known.
       let still = p.held n bytes told other known in
       q.held n bytes still other (λ k is. elim (sinks k is) [
@@ -163,7 +147,7 @@ touches_over r r2 w w2 o c s t u p q sources sinks = record {
 }
 
 -- calls touch no more than what they are within
-pub did_touch : (reads writes : List ℕ) (opened created : List (List ℕ)) (calls : List Call) (s t : Seen) → AreWithin reads writes opened created calls → Did calls s t → Touches reads writes opened created s t
-did_touch r w o c [] s t is did = subst (λ (x : Seen). Touches r w o c s x) (sym did) (touch_counts r w o c s s (OnlyCounts-none s))
-did_touch r w o c (call ∷ calls) s t is did = touches_over r (opened_in call ++ r) w (created_in call ++ w) o c s did.0 t (touch_one r w o c s did.0 call is.0 did.1)
+pub did_touch : (reads writes : List ℕ) (opened created : List (List ℕ)) (calls : List Call) (s t : Seen) → AreWithin reads writes opened created calls → Did calls s t → Touches reads writes created s t
+did_touch r w o c [] s t is did = subst (λ (x : Seen). Touches r w c s x) (sym did) (touch_counts r w o c s s (OnlyCounts-none s))
+did_touch r w o c (call ∷ calls) s t is did = touches_over r (opened_in call ++ r) w (created_in call ++ w) c s did.0 t (touch_one r w o c s did.0 call is.0 did.1)
     (did_touch (opened_in call ++ r) (created_in call ++ w) o c calls did.0 t is.1 did.2) (new_source r call s did.0 did.1) (new_sink c w r o call s did.0 is.0 did.1)

@@ -1,15 +1,10 @@
 -- A file that is found by its name and read whole (this project's choice).
-use Rattle.std.specs.Prelude.{◌≡◌, ℕ, ◌<◌, ◌≤◌, ◌⊎◌, true, false, List, [], ◌∷◌, length}
+use Rattle.std.specs.Prelude.{◌≡◌, ℕ, ◌<◌, ◌≤◌, ◌⊎◌, List, [], ◌∷◌, length}
 use Rattle.vio.specs.declared.fault.NamedFault.{NamedFault}
 use Rattle.vio.specs.declared.fault.NamedFault.TheVariants.{NoOpen, Failed, TooLarge}
-use Rattle.vio.specs.World.{Seen, Opening}
-use Rattle.vio.specs.Touches.{IsOneOf}
+use Rattle.vio.specs.World.{Opening}
 use Rattle.vio.specs.Calls.{Went, MetEnd, Call, Take, Open, Refuse, Lack}
 use Rattle.vio.specs.Calls as calling
-
--- at most so many handles are new
-abbrev pub GivesAtMost : ℕ → Seen → Seen → Type 0
-GivesAtMost most before now = (new : List ℕ) × (length new ≤ most) × ((h : ℕ) → before.given h ≡ false → now.given h ≡ true → IsOneOf h new)
 
 -- the file of this name was opened and read to its end, and these are its bytes, which are within the limit
 abbrev pub IsReadBy : ℕ → List ℕ → List ℕ → List Call → Type 0
