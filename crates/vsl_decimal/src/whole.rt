@@ -22,5 +22,9 @@ pub fn whole_number(text: &[u8], low: u32, high: u32) -> Option<u32>
             return None;
         }
     }
-    if value < u64::from(low) { None } else { Some(value as u32) }
+    if value < u64::from(low) {
+        None
+    } else {
+        Some(value as u32)
+    }
 }
