@@ -38,7 +38,7 @@ sink job = MakeSink job.append (write_of job) ∷ []
 both_create : (xs ys : List Step) → creates_of xs ≡ [] → creates_of ys ≡ [] → creates_of (xs ++ ys) ≡ []
 both_create xs ys p q = flat_map-append creates xs ys ∙ (λ k. p k ++ q k)
 
-formatted_create : (job : Job) → creates_of (queries job ++ format job) ≡ []
+pub formatted_create : (job : Job) → creates_of (queries job ++ format job) ≡ []
 formatted_create job = both_create (queries job) (format job) (queries_create job.caseless 0 job.queries) refl
 
 either_create : (b : Bool) (xs ys : List Step) → creates_of xs ≡ [] → creates_of ys ≡ [] → creates_of (if b then xs else ys) ≡ []

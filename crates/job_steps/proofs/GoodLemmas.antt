@@ -51,7 +51,7 @@ file_failed true name word held why calls s t file told did p = refused_failed m
 file_failed false name word held why calls s t file told did p = absurd cc
 
 -- the text of a query that was read is the one that is told
-text_told : (b : Bool) (name word held text : List ℕ) (calls : List Call) (s t : Seen) → MatchBool b ((s.held name ≡ Some held) × (length held ≤ most_query_bytes)) (held ≡ word) → Did calls s t
+pub text_told : (b : Bool) (name word held text : List ℕ) (calls : List Call) (s t : Seen) → MatchBool b ((s.held name ≡ Some held) × (length held ≤ most_query_bytes)) (held ≡ word) → Did calls s t
     → MatchBool b (IsReadBy most_query_bytes name text calls) ((text ≡ word) × (calls ≡ [])) → text ≡ held
 text_told true name word held text calls s t told did p = told_read most_query_bytes name text held calls s t p did told.0
 text_told false name word held text calls s t told did p = p.0 ∙ sym told
@@ -88,7 +88,7 @@ step_failed none (MakeSink append name) fault calls s t good did p = refuse_fail
 -- ---- behind others
 
 -- the text of a query stays told
-text_kept : (b : Bool) (name word held : List ℕ) (s t : Seen) → Keeps s t → MatchBool b ((s.held name ≡ Some held) × (length held ≤ most_query_bytes)) (held ≡ word) → MatchBool b ((t.held name ≡ Some held) × (length held ≤ most_query_bytes)) (held ≡ word)
+pub text_kept : (b : Bool) (name word held : List ℕ) (s t : Seen) → Keeps s t → MatchBool b ((s.held name ≡ Some held) × (length held ≤ most_query_bytes)) (held ≡ word) → MatchBool b ((t.held name ≡ Some held) × (length held ≤ most_query_bytes)) (held ≡ word)
 text_kept true name word held s t keeps told = (keeps name held told.0, told.1)
 text_kept false name word held s t keeps told = told
 

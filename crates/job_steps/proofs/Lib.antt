@@ -5,5 +5,5 @@ pub mod TookLemmas
 mod QueryLemmas
 mod FeedStepLemmas
 mod FitLemmas
-mod BegunLemmas
-mod GoodLemmas
+pub mod BegunLemmas
+pub mod GoodLemmas
