@@ -1,9 +1,9 @@
 -- A run over one source as a row: what is due is the job's, and what came is said of its source.
-use Rattle.std.proofs.Common.{◌≡◌, ◌≢◌, ◌⊎◌, ℕ, ◌||◌, Bool, true, false, List, [], ◌∷◌, ◌++◌, Option, sym, ap, subst, ◌∙◌, inl, inr}
+use Rattle.std.proofs.Common.{◌≡◌, ◌≢◌, ◌⊎◌, ℕ, ◌≤◌, ◌||◌, Bool, true, false, List, [], ◌∷◌, ◌++◌, length, Option, sym, ap, subst, ◌∙◌, inl, inr}
 use Rattle.std.specs.Prelude.{filter}
 use Rattle.vio.specs.declared.world.TheConstants.{ERRORS}
 use Rattle.vio.specs.World.{Seen, Writing}
-use Rattle.vio.specs.Calls.{Call, Called, AreOn}
+use Rattle.vio.specs.Calls.{Call, Called, Did, AreOn, last_failed}
 use Rattle.txn_rows.specs.declared.group.Group.{Group}
 use Rattle.txn_rows.specs.Grouping.{groups_of}
 use Rattle.ring_layout.specs.declared.item.Item.{Item}
@@ -44,6 +44,16 @@ due_where holds head job = record {
 due_is : (job : Job) (query : Query) (ask : Ask) (handle : ℕ) (empty : Bool) (head : List ℕ) → HoldsAsAsked query ask → head ≡ head_text job empty → due_of head (job_plan job query handle) ≡ job_due job ask empty
 due_is job query ask handle empty head holds same = λ i. due_where (λ group. holds.each group i) (same i) job
 
+-- a run came to an end at a sink by these calls
+row_of : (reads : List ℕ) (came : List Call → List Item → Bool → Type 0) (stops : FileStop → List Call → List Item → Type 0) (records : List Item → Type 0) (sink : ℕ) (d : Due) (answer : RunEnd TextEnding FileStop → Option ToolFault) (end : RunEnd TextEnding FileStop) (met : Met) (fault : Option ToolFault) (s t : Seen)
+    (done last : List Item) (all : Bool) (calls : List Call) → Did calls s t → AreOn reads (ERRORS ∷ sink ∷ []) calls → last_failed calls ≡ true → length last ≤ 1 → IsMet met (done ++ last)
+    → runs.EndsBy came stops (TextWritten sink d) (TextEnded sink d) (ERRORS ∷ sink ∷ []) end calls done last all → fault ≡ answer end → ((list : List Item) → IsMet met list → records list) → Called (RanSo (RanFor reads came stops records sink d answer fault)) s t
+row_of reads came stops records sink d answer end met fault s t done last all calls did on fail one count by is_answer counts = record {
+  calls = calls;
+  did = did;
+  is = (record { on = on; end = end; met = met; ran = record { done = done; last = last; all = all; one = one; count = count; ends = by }; answers = is_answer; recorded = counts (done ++ last) count }, fail);
+}
+
 module _ {C : Type 0} (keep : C → Option ℕ) (output : C → List Group → Bool → List ℕ) (represents : C → List Group → Bool → List ℕ → Type 0) where
   -- an output of a job may be begun
   pub can_begin : (job : Job) (query : Query) (handle : ℕ) (empty : Bool) (o : TextOutput C) (s : Seen) → IsJobOutput keep output represents job query handle empty o → s.names Writing handle (write_of job) ≡ true → handle ≢ ERRORS
@@ -58,26 +68,9 @@ module _ {C : Type 0} (keep : C → Option ℕ) (output : C → List Group → B
   job_dues job query ask handle empty o is holds = ap (λ (p : Plan). due_of o.head.items p) is.plan ∙ due_is job query ask handle empty o.head.items holds is.head
 
   module _ (job : Job) (query : Query) (ask : Ask) (handle : ℕ) (empty : Bool) (o : TextOutput C) (is : IsJobOutput keep output represents job query handle empty o) (holds : HoldsAsAsked query ask) where
-    sink_is : (printer_state o.printer).sink ≡ handle
-    sink_is = ap (λ (p : Plan). p.sink) is.plan
-
-    due : output_due keep output o ≡ job_due job ask empty
-    due = job_dues job query ask handle empty o is holds
-
-    ended_as : (ending : TextEnding) (calls : List Call) (done last : List Item) (all : Bool) → TextEnded (printer_state o.printer).sink (output_due keep output o) ending calls done last all → TextEnded handle (job_due job ask empty) ending calls done last all
-    ended_as ending calls done last all p = subst (λ (h : ℕ). TextEnded h (job_due job ask empty) ending calls done last all) sink_is (subst (λ (d : Due). TextEnded (printer_state o.printer).sink d ending calls done last all) due p)
-
-    written_as : (q : PrinterState C) (calls : List Call) (done : List Item) → TextPrinted keep output represents o.head.items (output_plan keep output o) q calls done → TextWritten handle (job_due job ask empty) calls done
-    written_as q calls done p = subst (λ (h : ℕ). TextWritten h (job_due job ask empty) calls done) sink_is (subst (λ (d : Due). TextWritten (printer_state o.printer).sink d calls done) due p.wrote)
-
-    short_as : (calls : List Call) (met : List Item) (all : Bool) → TextShort (printer_state o.printer).sink (output_due keep output o) calls met all → TextShort handle (job_due job ask empty) calls met all
-    short_as calls met all p = subst (λ (h : ℕ). TextShort h (job_due job ask empty) calls met all) sink_is (subst (λ (d : Due). TextShort (printer_state o.printer).sink d calls met all) due p)
-
-    on_as : (reads : List ℕ) (calls : List Call) → AreOn reads (ERRORS ∷ (printer_state o.printer).sink ∷ []) calls → AreOn reads (ERRORS ∷ handle ∷ []) calls
-    on_as reads calls p = subst (λ (h : ℕ). AreOn reads (ERRORS ∷ h ∷ []) calls) sink_is p
-
-    wrote_as : (calls : List Call) → AreOn [] (ERRORS ∷ (printer_state o.printer).sink ∷ []) calls → AreOn [] (ERRORS ∷ handle ∷ []) calls
-    wrote_as calls p = on_as [] calls p
+    -- what is so of the sink of an output, and of what is due there, is so of those of the job
+    as_job : (IsSo : ℕ → Due → Type 0) → IsSo (printer_state o.printer).sink (output_due keep output o) → IsSo handle (job_due job ask empty)
+    as_job IsSo p = subst (λ (h : ℕ). IsSo h (job_due job ask empty)) (ap (λ (q : Plan). q.sink) is.plan) (subst (λ (d : Due). IsSo (printer_state o.printer).sink d) (job_dues job query ask handle empty o is holds) p)
 
     -- its output ended
     pub ended_row : {F : Type 0} (gave came : List Call → List Item → Bool → Type 0) (stopped : F → List Call → List Item → Type 0) (stops : FileStop → List Call → List Item → Type 0) (reads : List ℕ) (q : PrinterState C) (ending : TextEnding) (met : Met) (fault : Option ToolFault) (records : List Item → Type 0)
@@ -86,28 +79,10 @@ module _ {C : Type 0} (keep : C → Option ℕ) (output : C → List Group → B
         → runs.Made false reads (ERRORS ∷ (printer_state o.printer).sink ∷ []) (runs.Ran gave stopped (TextPrinted keep output represents o.head.items (output_plan keep output o) q) (TextEnded (printer_state o.printer).sink (output_due keep output o)) (ERRORS ∷ (printer_state o.printer).sink ∷ []) (ends.ByOutput ending) met) s t
         → Called (RanSo (RanFor reads came stops records handle (job_due job ask empty) answer fault)) s t
     ended_row gave came stopped stops reads q ending met fault records answer s t from is_answer counts made =
-        let r = made.is in record {
-          calls = made.calls;
-          did = made.did;
-          is = (
-            record {
-              on = on_as reads made.calls made.on;
-              end = ends.ByOutput ending;
-              met = met;
-              ran = record {
-                done = r.done;
-                last = r.last;
-                all = r.all;
-                one = r.one;
-                count = r.count;
-                ends = (r.ends.0, r.ends.1, r.ends.2, wrote_as r.ends.1 r.ends.3, from r.ends.0 (r.done ++ r.last) r.all r.ends.4, ended_as ending made.calls r.done r.last r.all r.ends.5);
-              };
-              answers = is_answer;
-              recorded = counts (r.done ++ r.last) r.count;
-            },
-            made.fail,
-          );
-        }
+        let r = made.is in
+        let e = r.ends in
+        as_job (λ h d. Called (RanSo (RanFor reads came stops records h d answer fault)) s t)
+        (row_of reads came stops records (printer_state o.printer).sink (output_due keep output o) answer (ends.ByOutput ending) met fault s t r.done r.last r.all made.calls made.did made.on made.fail r.one r.count (e.0, e.1, e.2, e.3, from e.0 (r.done ++ r.last) r.all e.4, e.5) is_answer counts)
 
     -- its source stopped
     pub stopped_row : (gave came : List Call → List Item → Bool → Type 0) (stops : FileStop → List Call → List Item → Type 0) (reads : List ℕ) (q : PrinterState C) (stop : FileStop) (met : Met) (fault : Option ToolFault) (records : List Item → Type 0)
@@ -116,54 +91,33 @@ module _ {C : Type 0} (keep : C → Option ℕ) (output : C → List Group → B
         → runs.Made false reads (ERRORS ∷ (printer_state o.printer).sink ∷ []) (runs.Ran gave stops (TextPrinted keep output represents o.head.items (output_plan keep output o) q) (TextEnded (printer_state o.printer).sink (output_due keep output o)) (ERRORS ∷ (printer_state o.printer).sink ∷ []) (ends.BySource stop) met) s t
         → Called (RanSo (RanFor reads came stops records handle (job_due job ask empty) answer fault)) s t
     stopped_row gave came stops reads q stop met fault records answer s t is_answer counts made =
-        let r = made.is in record {
-          calls = made.calls;
-          did = made.did;
-          is = (
-            record {
-              on = on_as reads made.calls made.on;
-              end = ends.BySource stop;
-              met = met;
-              ran = record { done = r.done; last = r.last; all = r.all; one = r.one; count = r.count; ends = (r.ends.0, r.ends.1, written_as q made.calls r.done r.ends.2) };
-              answers = is_answer;
-              recorded = counts (r.done ++ r.last) r.count;
-            },
-            made.fail,
-          );
-        }
+        let r = made.is in
+        as_job (λ h d. Called (RanSo (RanFor reads came stops records h d answer fault)) s t)
+        (row_of reads came stops records (printer_state o.printer).sink (output_due keep output o) answer (ends.BySource stop) met fault s t r.done r.last r.all made.calls made.did made.on made.fail r.one r.count (r.ends.0, r.ends.1, (r.ends.2).wrote) is_answer counts)
 
-    -- there was no memory
-    short_by : (came : List Call → List Item → Bool → Type 0) (reads : List ℕ) (calls : List Call) (met : List Item) (all : Bool) → AreOn reads (ERRORS ∷ (printer_state o.printer).sink ∷ []) calls → came calls met all
-        → TextShort handle (job_due job ask empty) calls met all → RanShort reads came handle (job_due job ask empty) calls
-    short_by came reads calls met all on came_so text = inr (met, all, on_as reads calls on, came_so, text)
-
-    short_ends : (gave came : List Call → List Item → Bool → Type 0) (lacking : List Call → List Item → Type 0) (reads : List ℕ) (q : PrinterState C) (calls : List Call) (met : List Item) (all : Bool)
+    -- there was no memory: perhaps nothing was done
+    short_of : (gave came : List Call → List Item → Bool → Type 0) (lacking : List Call → List Item → Type 0) (reads : List ℕ) (q : PrinterState C) (calls : List Call)
         → ((list : List Item) (all : Bool) → gave calls list all → came calls list all) → ((list : List Item) (all : Bool) → came calls list all → came calls list false) → ((list : List Item) → lacking calls list → came calls list false)
         → AreOn reads (ERRORS ∷ (printer_state o.printer).sink ∷ []) calls
-        → (gave calls met all × TextShort (printer_state o.printer).sink (output_due keep output o) calls met all) ⊎ ((gave calls met all ⊎ lacking calls met) × TextPrinted keep output represents o.head.items (output_plan keep output o) q calls met)
-        → RanShort reads came handle (job_due job ask empty) calls
-    short_ends gave came lacking reads q calls met all from late lacked on (inl p) = short_by came reads calls met all on (from met all p.0) (short_as calls met all p.1)
-    short_ends gave came lacking reads q calls met all from late lacked on (inr (inl p, printed)) = short_by came reads calls met false on (late met all (from met all p)) (written_short handle (job_due job ask empty) calls met (written_as q calls met printed))
-    short_ends gave came lacking reads q calls met all from late lacked on (inr (inr p, printed)) = short_by came reads calls met false on (lacked met p) (written_short handle (job_due job ask empty) calls met (written_as q calls met printed))
+        → (calls ≡ []) ⊎ runs.RanShort gave lacking (TextPrinted keep output represents o.head.items (output_plan keep output o) q) (TextShort (printer_state o.printer).sink (output_due keep output o)) calls
+        → RanShort reads came (printer_state o.printer).sink (output_due keep output o) calls
+    short_of gave came lacking reads q calls from late lacked on (inl none) = inl none
+    short_of gave came lacking reads q calls from late lacked on (inr p) = inr (elim p.ends [
+      | inl so ↦ (p.met, p.all, on, from p.met p.all so.0, so.1)
+      | inr so ↦ (p.met, false, on, elim so.0 [ inl given ↦ late p.met p.all (from p.met p.all given) | inr lacks ↦ lacked p.met lacks ], written_short (printer_state o.printer).sink (output_due keep output o) calls p.met (so.1).wrote)
+    ])
 
     pub short_row : (gave came : List Call → List Item → Bool → Type 0) (lacking : List Call → List Item → Type 0) (reads : List ℕ) (q : PrinterState C) (s t : Seen)
         → ((calls : List Call) (list : List Item) (all : Bool) → gave calls list all → came calls list all) → ((calls : List Call) (list : List Item) (all : Bool) → came calls list all → came calls list false) → ((calls : List Call) (list : List Item) → lacking calls list → came calls list false)
         → runs.Made false reads (ERRORS ∷ (printer_state o.printer).sink ∷ []) (runs.RanShort gave lacking (TextPrinted keep output represents o.head.items (output_plan keep output o) q) (TextShort (printer_state o.printer).sink (output_due keep output o))) s t
         → Called (RanShort reads came handle (job_due job ask empty)) s t
-    short_row gave came lacking reads q s t from late lacked made =
-        record { calls = made.calls; did = made.did; is = short_ends gave came lacking reads q made.calls made.is.met made.is.all (from made.calls) (late made.calls) (lacked made.calls) made.on made.is.ends }
+    short_row gave came lacking reads q s t from late lacked made = as_job (λ h d. Called (RanShort reads came h d) s t)
+        (record { calls = made.calls; did = made.did; is = short_of gave came lacking reads q made.calls (from made.calls) (late made.calls) (lacked made.calls) made.on (inr made.is) })
 
-    -- the same where perhaps nothing was done, and no item was lacking
-    live_ends : (began came : List Call → List Item → Bool → Type 0) (q : PrinterState C) (calls : List Call)
-        → ((list : List Item) (all : Bool) → began calls list all → came calls list all) → ((list : List Item) (all : Bool) → came calls list all → came calls list false)
-        → AreOn [] (ERRORS ∷ (printer_state o.printer).sink ∷ []) calls
-        → (calls ≡ []) ⊎ runs.RanShort began (λ cs met. ⊥) (TextPrinted keep output represents o.head.items (output_plan keep output o) q) (TextShort (printer_state o.printer).sink (output_due keep output o)) calls
-        → RanShort [] came handle (job_due job ask empty) calls
-    live_ends began came q calls from late on (inl none) = inl none
-    live_ends began came q calls from late on (inr p) = short_ends began came (λ cs met. ⊥) [] q calls p.met p.all from late (λ list no. absurd no) on p.ends
-
+    -- no item was lacking
     pub live_short_row : (began came : List Call → List Item → Bool → Type 0) (q : PrinterState C) (s t : Seen)
         → ((calls : List Call) (list : List Item) (all : Bool) → began calls list all → came calls list all) → ((calls : List Call) (list : List Item) (all : Bool) → came calls list all → came calls list false)
         → runs.Made false [] (ERRORS ∷ (printer_state o.printer).sink ∷ []) (λ calls. (calls ≡ []) ⊎ runs.RanShort began (λ cs met. ⊥) (TextPrinted keep output represents o.head.items (output_plan keep output o) q) (TextShort (printer_state o.printer).sink (output_due keep output o)) calls) s t
         → Called (RanShort [] came handle (job_due job ask empty)) s t
-    live_short_row began came q s t from late made = record { calls = made.calls; did = made.did; is = live_ends began came q made.calls (from made.calls) (late made.calls) made.on made.is }
+    live_short_row began came q s t from late made = as_job (λ h d. Called (RanShort [] came h d) s t)
+        (record { calls = made.calls; did = made.did; is = short_of began came (λ cs met. ⊥) [] q made.calls (from made.calls) (late made.calls) (λ list no. absurd no) made.on made.is })

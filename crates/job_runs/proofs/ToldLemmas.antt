@@ -260,29 +260,14 @@ short_log job found h others units ending calls before now is tells did p =
     (p.0, p.1, p.2, p.5, short_of job p.0 p.2 p.1 (unit_items units) (is_whole ending) calls met all (began_are h units ending calls before now met all tells did began) p.8)
 
 -- and of feeds: in a stated order all that a reader meets has come to an end
-short_by : (b : Bool) (job : Job) (found : List Found) (calls : List Call) → is_on_threads job ≡ b → logs_of found ≡ [] → GroupsShort job found calls → WritesFedPart job found calls
-short_by false job found calls stated is p =
-    let met = p.3 in let all = p.4 in
-    let came : FedCame job (listings_of found) met all = subst (λ (logs : List ℕ). BeganOf logs job (listings_of found) calls met all) is p.7 in record {
-      log = came.log;
-      history = came.history;
-      fed = came.fed;
-      ended = true;
-      stated = λ e. refl;
-      tail = λ e. (came.fed.turns stated).1;
-      writes = (p.0, p.1, p.2, p.5, short_of job p.0 p.2 p.1 (items_of came.history) true calls met all (fed_are job (listings_of found) met all came) p.8);
-    }
-short_by true job found calls threads is p =
-    let met = p.3 in let all = p.4 in
-    let came : FedCame job (listings_of found) met all = subst (λ (logs : List ℕ). BeganOf logs job (listings_of found) calls met all) is p.7 in record {
-      log = came.log;
-      history = came.history;
-      fed = came.fed;
-      ended = all;
-      stated = λ stated. let no : true ≡ false = sym threads ∙ stated in absurd cc;
-      tail = λ e. (came.whole e).1;
-      writes = (p.0, p.1, p.2, p.5, short_of job p.0 p.2 p.1 (items_of came.history) all calls met all (live_are job (listings_of found) met all came) p.8);
-    }
+module _ (job : Job) (found : List Found) (calls : List Call) (p : GroupsShort job found calls) (came : FedCame job (listings_of found) p.3 p.4) where
+  fed_part : (ended : Bool) → (is_on_threads job ≡ false → ended ≡ true) → (ended ≡ true → ReachesTail came.log came.history) → AreOf p.3 p.4 (items_of came.history) ended → WritesFedPart job found calls
+  fed_part ended stated tail are =
+      record { log = came.log; history = came.history; fed = came.fed; ended = ended; stated = stated; tail = tail; writes = (p.0, p.1, p.2, p.5, short_of job p.0 p.2 p.1 (items_of came.history) ended calls p.3 p.4 are p.8) }
+
+  short_by : (b : Bool) → is_on_threads job ≡ b → WritesFedPart job found calls
+  short_by false stated = fed_part true (λ e. refl) (λ e. (came.fed.turns stated).1) (fed_are job (listings_of found) p.3 p.4 came)
+  short_by true threads = fed_part p.4 (λ stated. let no : true ≡ false = sym threads ∙ stated in absurd cc) (λ e. (came.whole e).1) (live_are job (listings_of found) p.3 p.4 came)
 
 pub short_feeds : (job : Job) (found : List Found) (calls : List Call) → logs_of found ≡ [] → GroupsShort job found calls → WritesFedPart job found calls
-short_feeds job found calls is p = short_by (is_on_threads job) job found calls refl is p
+short_feeds job found calls is p = short_by job found calls p (subst (λ (logs : List ℕ). BeganOf logs job (listings_of found) calls p.3 p.4) is p.7) (is_on_threads job) refl
