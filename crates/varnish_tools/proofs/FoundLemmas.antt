@@ -3,112 +3,74 @@ use Rattle.std.specs.Bool.{MatchBool}
 use Rattle.std.specs.List.{flat_map}
 use Rattle.std.specs.Str.{bytes_eq}
 use Rattle.std.proofs.Common.{◌≡◌, ◌⊎◌, ℕ, Bool, true, false, if◌then◌else◌, List, [], ◌∷◌, ◌++◌, map, refl, sym, ap, subst, ◌∙◌, inl, inr, codes}
-use Rattle.std.proofs.lemmas.List.{append-nil}
+use Rattle.std.proofs.lemmas.List.{append-nil, map-append}
 use Rattle.std.proofs.lemmas.Grind.{flat_map-append}
 use Rattle.vio.specs.declared.world.TheConstants.{INPUT, OUTPUT}
 use Rattle.vio.specs.Touches.{IsOneOf}
-use Rattle.vio.specs.Calls.{Call, Take, Write, Open, Create, Refuse, Lack}
+use Rattle.vio.specs.Calls.{Call, Open, Create, opened_in, created_in}
 use Rattle.vio.specs.Steps.{Passed}
 use Rattle.vio.proofs.CallLemmas.{handles_opened, handles_created}
-use Rattle.vio.proofs.TouchLemmas.{one_of_left, one_of_right}
+use Rattle.vio.proofs.TouchLemmas.{one_of_left, one_of_right, one_of_either}
 use Rattle.traffic_feed.specs.declared.listing.Listing.{Listing}
-use Rattle.job_steps.specs.Steps.{Step, RefuseWords, TakeRules, TakeQuery, TakeFormat, OpenLog, ReadFeed, MakeSink, Found, FoundNone, FoundText, FoundLog, FoundListing, FoundSink, Passes, Stops, text_in, listing_in, log_in, sink_in, texts_of, listings_of, logs_of, sinks_of, reads, writes}
+use Rattle.job_steps.specs.Steps.{Step, RefuseWords, TakeRules, TakeQuery, TakeFormat, OpenLog, ReadFeed, MakeSink, Found, FoundNone, FoundText, FoundLog, FoundListing, FoundSink, Passes, Stops, text_in, listing_in, log_in, sink_in, texts_of, listings_of, logs_of, sinks_of, reads, writes, reads_of, writes_of}
 
--- one of two lists is one of the first or of the second
-pub one_of_either : (h : ℕ) (xs ys : List ℕ) → IsOneOf h (xs ++ ys) → IsOneOf h xs ⊎ IsOneOf h ys
-one_of_either h [] ys is = inr is
-one_of_either h (x ∷ xs) ys (inl e) = inl (inl e)
-one_of_either h (x ∷ xs) ys (inr is) = elim (one_of_either h xs ys is) [ inl first ↦ inl (inr first) | inr last ↦ inr last ]
+-- one of the first of two lists, or of the second, is one of both
+pub one_of_both : (h : ℕ) (xs ys : List ℕ) → IsOneOf h xs ⊎ IsOneOf h ys → IsOneOf h (xs ++ ys)
+one_of_both h xs ys (inl first) = one_of_left h xs ys first
+one_of_both h xs ys (inr last) = one_of_right h xs ys last
 
--- and of them with one more between them
-pub one_of_more : (h k : ℕ) (xs ys : List ℕ) → IsOneOf h (xs ++ ys) → IsOneOf h (xs ++ k ∷ ys)
-one_of_more h k xs ys is = elim (one_of_either h xs ys is) [ inl first ↦ one_of_left h xs (k ∷ ys) first | inr last ↦ one_of_right h xs (k ∷ ys) (inr last) ]
-
--- a handle of a list of calls, or of more calls behind them, by what each step found
-module _ (handles : List Call → List ℕ) (apart : (xs ys : List Call) → handles (xs ++ ys) ≡ handles xs ++ handles ys) (streams : Step → List ℕ) (pick : Found → List ℕ)
-    (one : (step : Step) (u : Found) (calls : List Call) (h : ℕ) → Passes step u calls → IsOneOf h (pick u) → IsOneOf h (handles calls ++ streams step)) where
-  in_first : (h : ℕ) (xs ys : List Call) (a b : List ℕ) → IsOneOf h (handles xs ++ a) → IsOneOf h (handles (xs ++ ys) ++ (a ++ b))
-  in_first h xs ys a b is = elim (one_of_either h (handles xs) a is) [
-    | inl first ↦ one_of_left h (handles (xs ++ ys)) (a ++ b) (subst (λ (hs : List ℕ). IsOneOf h hs) (sym (apart xs ys)) (one_of_left h (handles xs) (handles ys) first))
-    | inr last ↦ one_of_right h (handles (xs ++ ys)) (a ++ b) (one_of_left h a b last)
-  ]
-
-  in_last : (h : ℕ) (xs ys : List Call) (a b : List ℕ) → IsOneOf h (handles ys ++ b) → IsOneOf h (handles (xs ++ ys) ++ (a ++ b))
-  in_last h xs ys a b is = elim (one_of_either h (handles ys) b is) [
-    | inl first ↦ one_of_left h (handles (xs ++ ys)) (a ++ b) (subst (λ (hs : List ℕ). IsOneOf h hs) (sym (apart xs ys)) (one_of_right h (handles xs) (handles ys) first))
-    | inr last ↦ one_of_right h (handles (xs ++ ys)) (a ++ b) (one_of_right h a b last)
-  ]
-
-  found_handle : (steps : List Step) (found : List Found) (calls : List Call) (h : ℕ) → Passed Passes Stops steps found calls → IsOneOf h (flat_map pick found) → IsOneOf h (handles calls ++ flat_map streams steps)
+-- a handle that each step which finds it gave, or has as a standard stream, is one that steps gave, or a stream of theirs
+module _ (gave : Call → List ℕ) (streams : Step → List ℕ) (pick : Found → List ℕ)
+    (one : (step : Step) (u : Found) (calls : List Call) (h : ℕ) → Passes step u calls → IsOneOf h (pick u) → IsOneOf h (flat_map gave calls) ⊎ IsOneOf h (streams step)) where
+  found_handle : (steps : List Step) (found : List Found) (calls : List Call) (h : ℕ) → Passed Passes Stops steps found calls → IsOneOf h (flat_map pick found) → IsOneOf h (flat_map gave calls) ⊎ IsOneOf h (flat_map streams steps)
   found_handle [] [] calls h p is = absurd is
   found_handle [] (u ∷ us) calls h p is = absurd p
   found_handle (step ∷ steps) [] calls h p is = absurd p
-  found_handle (step ∷ steps) (u ∷ us) calls h p is = rw p.2 (elim (one_of_either h (pick u) (flat_map pick us) is) [
-    | inl first ↦ in_first h p.0 p.1 (streams step) (flat_map streams steps) (one step u p.0 h p.3 first)
-    | inr later ↦ in_last h p.0 p.1 (streams step) (flat_map streams steps) (found_handle steps us p.1 h p.4 later)
+  found_handle (step ∷ steps) (u ∷ us) calls h p is = rw (p.2, flat_map-append gave p.0 p.1) (elim (one_of_either h (pick u) (flat_map pick us) is) [
+    | inl first ↦ elim (one step u p.0 h p.3 first) [
+      | inl new ↦ inl (one_of_left h (flat_map gave p.0) (flat_map gave p.1) new)
+      | inr stream ↦ inr (one_of_left h (streams step) (flat_map streams steps) stream)
+    ]
+    | inr later ↦ elim (found_handle steps us p.1 h p.4 later) [
+      | inl new ↦ inl (one_of_right h (flat_map gave p.0) (flat_map gave p.1) new)
+      | inr stream ↦ inr (one_of_right h (streams step) (flat_map streams steps) stream)
+    ]
   ])
-
--- ---- logs
-
-opened_apart : (xs ys : List Call) → handles_opened (xs ++ ys) ≡ handles_opened xs ++ handles_opened ys
-opened_apart [] ys = refl
-opened_apart (Take h bytes mark ∷ xs) ys = opened_apart xs ys
-opened_apart (Write h bytes mark ∷ xs) ys = opened_apart xs ys
-opened_apart (Open name h ∷ xs) ys = ap (λ (hs : List ℕ). h ∷ hs) (opened_apart xs ys)
-opened_apart (Create append name h empty ∷ xs) ys = opened_apart xs ys
-opened_apart (Refuse kind name ∷ xs) ys = opened_apart xs ys
-opened_apart (Lack ∷ xs) ys = opened_apart xs ys
-
-opened_log : (b : Bool) (name : List ℕ) (k h : ℕ) (calls : List Call) → MatchBool b ((k ≡ INPUT) × (calls ≡ [])) (calls ≡ Open name k ∷ []) → IsOneOf h (k ∷ []) → IsOneOf h (handles_opened calls ++ (if b then INPUT ∷ [] else []))
-opened_log true name k h calls p is = rw p.1 (subst (λ (i : ℕ). IsOneOf h (i ∷ [])) p.0 is)
-opened_log false name k h calls p is = rw p is
-
-step_log : (step : Step) (u : Found) (calls : List Call) (h : ℕ) → Passes step u calls → IsOneOf h (log_in u) → IsOneOf h (handles_opened calls ++ reads step)
-step_log (RefuseWords why) u calls h p is = absurd p
-step_log (TakeRules caseless texts) u calls h p is = absurd (subst (λ (x : Found). IsOneOf h (log_in x)) p.0 is)
-step_log (TakeQuery caseless n query) u calls h p is = absurd (subst (λ (x : Found). IsOneOf h (log_in x)) p.1 is)
-step_log (TakeFormat tool text) u calls h p is = absurd (subst (λ (x : Found). IsOneOf h (log_in x)) p.0 is)
-step_log (OpenLog name) u calls h p is = opened_log (bytes_eq name (codes "-")) name p.0 h calls p.2 (subst (λ (x : Found). IsOneOf h (log_in x)) p.1 is)
-step_log (ReadFeed reclen seg feed) u calls h p is = absurd (subst (λ (x : Found). IsOneOf h (log_in x)) p.1 is)
-step_log (MakeSink append name) u calls h p is = absurd (subst (λ (x : Found). IsOneOf h (log_in x)) p.2 is)
-
--- the handle of a log that was found is that of a file that the steps opened, or standard input
-pub found_log : (steps : List Step) (found : List Found) (calls : List Call) (h : ℕ) → Passed Passes Stops steps found calls → IsOneOf h (logs_of found) → IsOneOf h (handles_opened calls ++ flat_map reads steps)
-found_log = found_handle handles_opened opened_apart reads log_in step_log
-
--- ---- what is written
-
-created_apart : (xs ys : List Call) → handles_created (xs ++ ys) ≡ handles_created xs ++ handles_created ys
-created_apart [] ys = refl
-created_apart (Take h bytes mark ∷ xs) ys = created_apart xs ys
-created_apart (Write h bytes mark ∷ xs) ys = created_apart xs ys
-created_apart (Open name h ∷ xs) ys = created_apart xs ys
-created_apart (Create append name h empty ∷ xs) ys = ap (λ (hs : List ℕ). h ∷ hs) (created_apart xs ys)
-created_apart (Refuse kind name ∷ xs) ys = created_apart xs ys
-created_apart (Lack ∷ xs) ys = created_apart xs ys
 
 -- the handle of what is written, where it was found
 abbrev pub handle_in : Found → List ℕ
-handle_in (FoundSink h empty) = h ∷ []
-handle_in other = []
+handle_in u = map (λ (sink : ℕ × Bool). sink.0) (sink_in u)
+
+-- where a step found a handle: of a log, and of what is written
+record FindsHandle (step : Step) (u : Found) (calls : List Call) (h : ℕ) : Type 0 where
+  log : IsOneOf h (log_in u) → IsOneOf h (handles_opened calls) ⊎ IsOneOf h (reads step)
+  sink : IsOneOf h (handle_in u) → IsOneOf h (handles_created calls) ⊎ IsOneOf h (writes step)
+
+opened_log : (b : Bool) (name : List ℕ) (k h : ℕ) (calls : List Call) → MatchBool b ((k ≡ INPUT) × (calls ≡ [])) (calls ≡ Open name k ∷ []) → IsOneOf h (k ∷ []) → IsOneOf h (handles_opened calls) ⊎ IsOneOf h (if b then INPUT ∷ [] else [])
+opened_log true name k h calls p is = inr (subst (λ (i : ℕ). IsOneOf h (i ∷ [])) p.0 is)
+opened_log false name k h calls p is = inl (rw p is)
 
 made_sink : (b append : Bool) (name : List ℕ) (k h : ℕ) (empty : Bool) (calls : List Call) → MatchBool b ((k ≡ OUTPUT) × (empty ≡ true) × (calls ≡ [])) (calls ≡ Create append name k empty ∷ []) → IsOneOf h (k ∷ [])
-    → IsOneOf h (handles_created calls ++ (if b then OUTPUT ∷ [] else []))
-made_sink true append name k h empty calls p is = rw p.2 (subst (λ (i : ℕ). IsOneOf h (i ∷ [])) p.0 is)
-made_sink false append name k h empty calls p is = rw p is
+    → IsOneOf h (handles_created calls) ⊎ IsOneOf h (if b then OUTPUT ∷ [] else [])
+made_sink true append name k h empty calls p is = inr (subst (λ (i : ℕ). IsOneOf h (i ∷ [])) p.0 is)
+made_sink false append name k h empty calls p is = inl (rw p is)
 
-step_sink : (step : Step) (u : Found) (calls : List Call) (h : ℕ) → Passes step u calls → IsOneOf h (handle_in u) → IsOneOf h (handles_created calls ++ writes step)
-step_sink (RefuseWords why) u calls h p is = absurd p
-step_sink (TakeRules caseless texts) u calls h p is = absurd (subst (λ (x : Found). IsOneOf h (handle_in x)) p.0 is)
-step_sink (TakeQuery caseless n query) u calls h p is = absurd (subst (λ (x : Found). IsOneOf h (handle_in x)) p.1 is)
-step_sink (TakeFormat tool text) u calls h p is = absurd (subst (λ (x : Found). IsOneOf h (handle_in x)) p.0 is)
-step_sink (OpenLog name) u calls h p is = absurd (subst (λ (x : Found). IsOneOf h (handle_in x)) p.1 is)
-step_sink (ReadFeed reclen seg feed) u calls h p is = absurd (subst (λ (x : Found). IsOneOf h (handle_in x)) p.1 is)
-step_sink (MakeSink append name) u calls h p is = made_sink (bytes_eq name (codes "-")) append name p.0 h p.1 calls p.3 (subst (λ (x : Found). IsOneOf h (handle_in x)) p.2 is)
+finds_handle : (step : Step) (u : Found) (calls : List Call) (h : ℕ) → Passes step u calls → FindsHandle step u calls h
+finds_handle (RefuseWords why) u calls h p = absurd p
+finds_handle (TakeRules caseless texts) u calls h p = rw p.0 (record { log = λ is. absurd is; sink = λ is. absurd is })
+finds_handle (TakeQuery caseless n query) u calls h p = rw p.1 (record { log = λ is. absurd is; sink = λ is. absurd is })
+finds_handle (TakeFormat tool text) u calls h p = rw p.0 (record { log = λ is. absurd is; sink = λ is. absurd is })
+finds_handle (OpenLog name) u calls h p = rw p.1 (record { log = λ is. opened_log (bytes_eq name (codes "-")) name p.0 h calls p.2 is; sink = λ is. absurd is })
+finds_handle (ReadFeed reclen seg feed) u calls h p = rw p.1 (record { log = λ is. absurd is; sink = λ is. absurd is })
+finds_handle (MakeSink append name) u calls h p = rw p.2 (record { log = λ is. absurd is; sink = λ is. made_sink (bytes_eq name (codes "-")) append name p.0 h p.1 calls p.3 is })
+
+-- the handle of a log that was found is that of a file that the steps opened, or standard input
+pub found_log : (steps : List Step) (found : List Found) (calls : List Call) (h : ℕ) → Passed Passes Stops steps found calls → IsOneOf h (logs_of found) → IsOneOf h (handles_opened calls) ⊎ IsOneOf h (reads_of steps)
+found_log = found_handle opened_in reads log_in (λ step u calls h p. (finds_handle step u calls h p).log)
 
 -- the handle of what is written is that of a file that the steps created, or standard output
-pub found_sink : (steps : List Step) (found : List Found) (calls : List Call) (h : ℕ) → Passed Passes Stops steps found calls → IsOneOf h (flat_map handle_in found) → IsOneOf h (handles_created calls ++ flat_map writes steps)
-found_sink = found_handle handles_created created_apart writes handle_in step_sink
+pub found_sink : (steps : List Step) (found : List Found) (calls : List Call) (h : ℕ) → Passed Passes Stops steps found calls → IsOneOf h (flat_map handle_in found) → IsOneOf h (handles_created calls) ⊎ IsOneOf h (writes_of steps)
+found_sink = found_handle created_in writes handle_in (λ step u calls h p. (finds_handle step u calls h p).sink)
 
 -- the handles of what is written are those of the sinks that were found
 pub sink_is : (found : List Found) (h : ℕ) (empty : Bool) → sinks_of found ≡ (h, empty) ∷ [] → flat_map handle_in found ≡ h ∷ []
@@ -116,11 +78,7 @@ sink_is found h empty is = sym (handles_are found) ∙ ap (λ (sinks : List (ℕ
   where
     handles_are : (found : List Found) → map (λ (sink : ℕ × Bool). sink.0) (sinks_of found) ≡ flat_map handle_in found
     handles_are [] = refl
-    handles_are (FoundNone ∷ found) = handles_are found
-    handles_are (FoundText text ∷ found) = handles_are found
-    handles_are (FoundLog k ∷ found) = handles_are found
-    handles_are (FoundListing listing ∷ found) = handles_are found
-    handles_are (FoundSink k b ∷ found) = ap (λ (hs : List ℕ). k ∷ hs) (handles_are found)
+    handles_are (u ∷ found) = map-append (λ (sink : ℕ × Bool). sink.0) (sink_in u) (sinks_of found) ∙ ap (λ (hs : List ℕ). handle_in u ++ hs) (handles_are found)
 
 -- ---- what the steps of a job that prints groups found
 
@@ -156,8 +114,8 @@ pub record FoundSo (found : List Found) (texts : List (List ℕ)) (logs : List �
   pub listings_are : listings_of found ≡ listings
   pub sinks_are : sinks_of found ≡ (sink, empty) ∷ []
 
-pub found_so : (texts : List (List ℕ)) (inputs found : List Found) (sink : ℕ) (empty : Bool) (logs : List ℕ) (listings : List Listing) → found ≡ map FoundText texts ++ (FoundNone ∷ []) ++ inputs ++ FoundSink sink empty ∷ []
-    → flat_map text_in inputs ≡ [] → flat_map log_in inputs ≡ logs → flat_map listing_in inputs ≡ listings → flat_map sink_in inputs ≡ [] → FoundSo (found_behind found) texts logs listings sink empty
+pub found_so : (texts : List (List ℕ)) (inputs found : List Found) (sink : ℕ) (empty : Bool) (logs : List ℕ) (listings : List Listing) → found ≡ found_behind (map FoundText texts ++ (FoundNone ∷ []) ++ inputs ++ FoundSink sink empty ∷ [])
+    → flat_map text_in inputs ≡ [] → flat_map log_in inputs ≡ logs → flat_map listing_in inputs ≡ listings → flat_map sink_in inputs ≡ [] → FoundSo found texts logs listings sink empty
 found_so texts inputs found sink empty logs listings are no_texts are_logs are_listings no_sinks = rw are (record {
   texts_are = parts_of text_in texts inputs (FoundSink sink empty) refl ∙ rw (no_texts, flat_same text_in FoundText texts (λ x. refl), append-nil texts, append-nil texts) refl;
   logs_are = parts_of log_in texts inputs (FoundSink sink empty) refl ∙ rw (are_logs, flat_none log_in FoundText texts (λ x. refl), append-nil logs) refl;
@@ -166,20 +124,26 @@ found_so texts inputs found sink empty logs listings are no_texts are_logs are_l
 })
 
 -- of a log, and of feeds
-pub found_file : (texts : List (List ℕ)) (inputs found : List Found) (log sink : ℕ) (empty : Bool) → found ≡ map FoundText texts ++ (FoundNone ∷ []) ++ inputs ++ FoundSink sink empty ∷ [] → inputs ≡ FoundLog log ∷ []
-    → FoundSo (found_behind found) texts (log ∷ []) [] sink empty
+pub found_file : (texts : List (List ℕ)) (inputs found : List Found) (log sink : ℕ) (empty : Bool) → found ≡ found_behind (map FoundText texts ++ (FoundNone ∷ []) ++ inputs ++ FoundSink sink empty ∷ []) → inputs ≡ FoundLog log ∷ []
+    → FoundSo found texts (log ∷ []) [] sink empty
 found_file texts inputs found log sink empty are is = found_so texts inputs found sink empty (log ∷ []) [] are (ap (λ (us : List Found). flat_map text_in us) is) (ap (λ (us : List Found). flat_map log_in us) is) (ap (λ (us : List Found). flat_map listing_in us) is)
     (ap (λ (us : List Found). flat_map sink_in us) is)
 
-pub found_feeds : (texts : List (List ℕ)) (inputs found : List Found) (listings : List Listing) (sink : ℕ) (empty : Bool) → found ≡ map FoundText texts ++ (FoundNone ∷ []) ++ inputs ++ FoundSink sink empty ∷ [] → inputs ≡ map FoundListing listings
-    → FoundSo (found_behind found) texts [] listings sink empty
+pub found_feeds : (texts : List (List ℕ)) (inputs found : List Found) (listings : List Listing) (sink : ℕ) (empty : Bool) → found ≡ found_behind (map FoundText texts ++ (FoundNone ∷ []) ++ inputs ++ FoundSink sink empty ∷ []) → inputs ≡ map FoundListing listings
+    → FoundSo found texts [] listings sink empty
 found_feeds texts inputs found listings sink empty are is = found_so texts inputs found sink empty [] listings are (ap (λ (us : List Found). flat_map text_in us) is ∙ flat_none text_in FoundListing listings (λ x. refl))
     (ap (λ (us : List Found). flat_map log_in us) is ∙ flat_none log_in FoundListing listings (λ x. refl)) (ap (λ (us : List Found). flat_map listing_in us) is ∙ flat_same listing_in FoundListing listings (λ x. refl))
     (ap (λ (us : List Found). flat_map sink_in us) is ∙ flat_none sink_in FoundListing listings (λ x. refl))
 
--- of counters
-pub found_counting : (listings : List Listing) (found : List Found) (sink : ℕ) (empty : Bool) → found ≡ map FoundListing listings ++ FoundSink sink empty ∷ [] → (listings_of (found_behind found) ≡ listings) × (sinks_of (found_behind found) ≡ (sink, empty) ∷ [])
-found_counting listings found sink empty are = rw are (
-  rw (flat_map-append listing_in (map FoundListing listings) (FoundSink sink empty ∷ []), flat_same listing_in FoundListing listings (λ x. refl), append-nil listings) refl,
-  rw (flat_map-append sink_in (map FoundListing listings) (FoundSink sink empty ∷ []), flat_none sink_in FoundListing listings (λ x. refl)) refl,
-)
+-- of counters, whose steps find no log
+pub record CountingSo (found : List Found) (listings : List Listing) (sink : ℕ) (empty : Bool) : Type 0 where
+  pub logs_are : logs_of found ≡ []
+  pub listings_are : listings_of found ≡ listings
+  pub sinks_are : sinks_of found ≡ (sink, empty) ∷ []
+
+pub found_counting : (listings : List Listing) (found : List Found) (sink : ℕ) (empty : Bool) → found ≡ found_behind (map FoundListing listings ++ FoundSink sink empty ∷ []) → CountingSo found listings sink empty
+found_counting listings found sink empty are = rw are (record {
+  logs_are = rw (flat_map-append log_in (map FoundListing listings) (FoundSink sink empty ∷ []), flat_none log_in FoundListing listings (λ x. refl)) refl;
+  listings_are = rw (flat_map-append listing_in (map FoundListing listings) (FoundSink sink empty ∷ []), flat_same listing_in FoundListing listings (λ x. refl), append-nil listings) refl;
+  sinks_are = rw (flat_map-append sink_in (map FoundListing listings) (FoundSink sink empty ∷ []), flat_none sink_in FoundListing listings (λ x. refl)) refl;
+})

@@ -1,14 +1,25 @@
--- The steps of a job that passed, by parts.
-use Rattle.std.specs.List.{AllByRecursion}
-use Rattle.std.proofs.Common.{◌≡◌, ℕ, ◌+◌, Bool, true, false, if◌then◌else◌, is_some, List, [], ◌∷◌, ◌++◌, map, Ok, refl, sym, ap, subst, ◌∙◌, append_assoc}
+-- The steps of a job that passed, by parts, and what each part found.
+use Rattle.std.proofs.Common.{◌≡◌, ℕ, ◌+◌, Bool, true, false, if◌then◌else◌, List, [], ◌∷◌, ◌++◌, map, Some, Ok, refl, sym, ap, subst, ◌∙◌, append_assoc, codes}
 use Rattle.std.proofs.lemmas.List.{append-nil}
-use Rattle.std.proofs.lemmas.Grind.{flat_map-append}
-use Rattle.vio.specs.Calls.{Call}
+use Rattle.vio.specs.World.{Seen}
+use Rattle.vio.specs.Touches.{Touches}
+use Rattle.vio.specs.Calls.{Call, Did}
 use Rattle.vio.specs.Steps.{Passed}
+use Rattle.vio.proofs.CallLaws.{did_keep}
+use Rattle.vio.proofs.CallLemmas.{did_apart}
+use Rattle.vio.proofs.StepLemmas.{passed_one}
+use Rattle.vio.proofs.TouchLemmas.{did_touch}
+use Rattle.traffic_feed.specs.declared.listing.Listing.{Listing}
+use Rattle.feed_files.specs.Feeds.{Feed}
 use Rattle.tool_words.specs.declared.job.Job.{Job}
 use Rattle.tool_words.specs.declared.job.QueryText.{QueryText}
-use Rattle.job_steps.specs.Jobs.{file_of, format_text, is_counting, write_of}
-use Rattle.job_steps.specs.Steps.{Step, RefuseWords, TakeRules, TakeQuery, TakeFormat, OpenLog, ReadFeed, MakeSink, Found, Passes, Stops, counter_steps, creates, creates_of, feed_steps, group_steps, log_in, logs_of, queries_from, steps_of, word_steps}
+use Rattle.job_steps.specs.Jobs.{format_text, is_counting, write_of}
+use Rattle.job_steps.specs.Steps.{Step, TakeQuery, TakeFormat, ReadFeed, MakeSink, Found, FoundNone, FoundText, FoundListing, FoundSink, IsMadeBy, Passes, Stops, counter_steps, feed_steps, group_steps, input_steps, logs_of, opens_of, queries_from, steps_of, word_steps}
+use Rattle.job_steps.proofs.BegunLemmas.{read_create}
+use Rattle.job_steps.proofs.GoodLemmas.{text_kept, text_told}
+use Rattle.job_steps.proofs.TookLemmas.{opens_alone}
+use Rattle.varnish_tools.specs.Told.{AreTexts}
+use Rattle.varnish_tools.proofs.FoundLemmas.{found_behind, found_counting}
 
 -- ---- steps that passed, by parts
 
@@ -45,79 +56,121 @@ passed_alone x [] calls p = absurd p
 passed_alone x (u ∷ []) calls p = (u, refl, subst (λ (cs : List Call). Passes x u cs) (sym (p.2 ∙ ap (λ (cs : List Call). p.0 ++ cs) p.4 ∙ append-nil p.0)) p.3)
 passed_alone x (u ∷ v ∷ us) calls p = absurd p.4
 
--- ---- steps that open no log
+-- ---- what feeds and queries found
 
--- a step opens no log
-abbrev IsNoLog : Step → Type 0
-IsNoLog (OpenLog name) = ⊥
-IsNoLog step = Unit {0}
+-- the steps of feeds found their listings
+pub feeds_found : (reclen seg : ℕ) (feeds : List Feed) (found : List Found) (calls : List Call) → Passed Passes Stops (map (ReadFeed reclen seg) feeds) found calls → (listings : List Listing) × (found ≡ map FoundListing listings)
+feeds_found reclen seg [] [] calls p = ([], refl)
+feeds_found reclen seg [] (u ∷ us) calls p = absurd p
+feeds_found reclen seg (feed ∷ feeds) [] calls p = absurd p
+feeds_found reclen seg (feed ∷ feeds) (u ∷ us) calls p = let rest = feeds_found reclen seg feeds us p.1 p.4 in (p.3.0 ∷ rest.0, (λ i. p.3.1 i ∷ rest.1 i))
 
--- none of the steps does
-abbrev pub AreNoLogs : List Step → Type 0
-AreNoLogs steps = AllByRecursion IsNoLog steps
+-- texts that are told behind calls that keep files are told before them
+texts_before : (s t : Seen) (queries : List QueryText) (texts : List (List ℕ)) → ((n bytes : List ℕ) → s.held n ≡ Some bytes → t.held n ≡ Some bytes) → AreTexts t queries texts → AreTexts s queries texts
+texts_before s t [] [] keeps p = p
+texts_before s t (query ∷ queries) (text ∷ texts) keeps p = ((λ told is. p.0 told (text_kept query.file query.text query.text told s t keeps is)), texts_before s t queries texts keeps p.1)
+texts_before s t [] (text ∷ texts) keeps p = absurd p
+texts_before s t (query ∷ queries) [] keeps p = absurd p
 
-no_log : (step : Step) (u : Found) (calls : List Call) → IsNoLog step → Passes step u calls → log_in u ≡ []
-no_log (RefuseWords why) u calls none p = absurd p
-no_log (TakeRules caseless texts) u calls none p = ap log_in p.0
-no_log (TakeQuery caseless n query) u calls none p = ap log_in p.1
-no_log (TakeFormat tool text) u calls none p = ap log_in p.0
-no_log (OpenLog name) u calls none p = absurd none
-no_log (ReadFeed reclen seg feed) u calls none p = ap log_in p.1
-no_log (MakeSink append name) u calls none p = ap log_in p.2
+-- the steps of queries found their texts, which are the ones that are told
+texts_found : (caseless : Bool) (n : ℕ) (queries : List QueryText) (found : List Found) (calls : List Call) (s t : Seen) → Passed Passes Stops (queries_from caseless n queries) found calls → Did calls s t
+    → (texts : List (List ℕ)) × (found ≡ map FoundText texts) × AreTexts s queries texts
+texts_found caseless n [] [] calls s t p did = ([], refl, tt)
+texts_found caseless n [] (u ∷ us) calls s t p did = absurd p
+texts_found caseless n (query ∷ queries) [] calls s t p did = absurd p
+texts_found caseless n (query ∷ queries) (u ∷ us) calls s t p did =
+    let step = TakeQuery caseless n query ∷ [] in
+    let parts = did_apart p.0 p.1 s t (subst (λ (cs : List Call). Did cs s t) p.2 did) in
+    let rest = texts_found caseless (n + 1) queries us p.1 parts.0 t p.4 parts.2 in
+    let opens = opens_alone step (u ∷ []) p.0 refl (passed_one Passes Stops (TakeQuery caseless n query) u p.0 p.3) in
+    let later = texts_before s parts.0 queries rest.0 (λ name bytes told. did_keep (opens_of step) p.0 s parts.0 name bytes opens parts.1 told) rest.2 in
+    (p.3.0 ∷ rest.0, (λ i. p.3.1 i ∷ rest.1 i), ((λ told is. text_told query.file query.text query.text told p.3.0 p.0 s parts.0 is parts.1 p.3.2), later))
 
--- such steps found none
-pub no_logs : (steps : List Step) (found : List Found) (calls : List Call) → AreNoLogs steps → Passed Passes Stops steps found calls → logs_of found ≡ []
-no_logs [] [] calls none p = refl
-no_logs [] (u ∷ us) calls none p = absurd p
-no_logs (step ∷ steps) [] calls none p = absurd p
-no_logs (step ∷ steps) (u ∷ us) calls none p = (λ i. no_log step u p.0 none.0 p.3 i ++ no_logs steps us p.1 none.1 p.4 i)
-
-pub no_logs_then : (xs ys : List Step) → AreNoLogs xs → AreNoLogs ys → AreNoLogs (xs ++ ys)
-no_logs_then [] ys p q = q
-no_logs_then (x ∷ xs) ys p q = (p.0, no_logs_then xs ys p.1 q)
-
--- queries and feeds are such steps
-queries_no_log : (caseless : Bool) (n : ℕ) (queries : List QueryText) → AreNoLogs (queries_from caseless n queries)
-queries_no_log caseless n [] = tt
-queries_no_log caseless n (query ∷ queries) = (tt, queries_no_log caseless (n + 1) queries)
-
-each_no_log : {A : Type 0} (step : A → Step) (xs : List A) → ((x : A) → IsNoLog (step x)) → AreNoLogs (map step xs)
-each_no_log step [] none = tt
-each_no_log step (x ∷ xs) none = (none x, each_no_log step xs none)
-
-pub feeds_no_log : (job : Job) → AreNoLogs (feed_steps job)
-feeds_no_log job = each_no_log (ReadFeed job.reclen job.seg) _ (λ feed. tt)
-
--- ---- the steps of a job by parts
+-- ---- the steps of a job that prints groups
 
 -- those before its input
 abbrev pub early : Job → List Step
 early job = word_steps (Ok job) ++ (queries_from job.caseless 0 job.queries ++ TakeFormat job.tool (format_text job) ∷ [])
 
-pub early_no_log : (job : Job) → AreNoLogs (early job)
-early_no_log job = (tt, no_logs_then (queries_from job.caseless 0 job.queries) (TakeFormat job.tool (format_text job) ∷ []) (queries_no_log job.caseless 0 job.queries) (tt, tt))
+-- they found the texts of its queries
+early_found : (job : Job) (found : List Found) (calls : List Call) (s t : Seen) → Passed Passes Stops (early job) found calls → Did calls s t
+    → (texts : List (List ℕ)) × (found ≡ found_behind (map FoundText texts ++ FoundNone ∷ [])) × AreTexts s job.queries texts
+early_found job [] calls s t p did = absurd p
+early_found job (u ∷ us) calls s t p did =
+    let a = passed_apart (queries_from job.caseless 0 job.queries) (TakeFormat job.tool (format_text job) ∷ []) us p.1 p.4 in
+    let one = passed_alone (TakeFormat job.tool (format_text job)) a.found_last a.last a.passed_last in
+    let are : calls ≡ a.first ++ a.last = p.2 ∙ ap (λ (cs : List Call). cs ++ p.1) p.3.1 ∙ a.are in
+    let parts = did_apart a.first a.last s t (subst (λ (cs : List Call). Did cs s t) are did) in
+    let q = texts_found job.caseless 0 job.queries a.found_first a.first s parts.0 a.passed_first parts.1 in
+    let last : a.found_last ≡ FoundNone ∷ [] = one.1 ∙ ap (λ (v : Found). v ∷ []) one.2.0 in
+    let us_are : us ≡ map FoundText q.0 ++ FoundNone ∷ [] = a.found_are ∙ (λ i. q.1 i ++ last i) in
+    (q.0, (λ i. p.3.0 i ∷ us_are i), q.2)
 
--- they create no file
-queries_create : (caseless : Bool) (n : ℕ) (queries : List QueryText) → creates_of (queries_from caseless n queries) ≡ []
-queries_create caseless n [] = refl
-queries_create caseless n (query ∷ queries) = queries_create caseless (n + 1) queries
+-- they passed, by parts: the texts of its queries, what its input found, and what it writes, with the calls of each
+pub record GroupParts (job : Job) (found : List Found) (s t : Seen) : Type 0 where
+  pub texts : List (List ℕ)
+  pub are_texts : AreTexts s job.queries texts
+  pub inputs : List Found
+  pub sink : ℕ
+  pub empty : Bool
+  pub are : found ≡ found_behind (map FoundText texts ++ (FoundNone ∷ []) ++ inputs ++ FoundSink sink empty ∷ [])
+  pub before : List Found
+  pub first : List Call
+  pub mid : Seen
+  pub passed : Passed Passes Stops (early job) before first
+  pub did : Did first s mid
+  pub own : List Call
+  pub at : Seen
+  pub passed_own : Passed Passes Stops (input_steps job) inputs own
+  pub did_own : Did own mid at
+  pub touches : Touches [] [] (opens_of (early job ++ input_steps job)) [] s at
+  pub made : List Call
+  pub is_made : IsMadeBy job.append (write_of job) sink empty made
+  pub did_made : Did made at t
 
-pub early_create : (job : Job) → creates_of (early job) ≡ []
-early_create job =
-    flat_map-append creates (queries_from job.caseless 0 job.queries) (TakeFormat job.tool (format_text job) ∷ []) ∙ (λ i. queries_create job.caseless 0 job.queries i ++ [])
+pub group_parts : (job : Job) (found : List Found) (calls : List Call) (s t : Seen) → is_counting job.tool ≡ false → Passed Passes Stops (steps_of (Ok job)) found calls → Did calls s t → GroupParts job found s t
+group_parts job found calls s t groups passed did =
+    let reading = early job ++ input_steps job in
+    let whole : Passed Passes Stops (word_steps (Ok job) ++ group_steps job) found calls = subst (λ (b : Bool). Passed Passes Stops (word_steps (Ok job) ++ (if b then counter_steps job else group_steps job)) found calls) groups passed in
+    let a = passed_apart reading (MakeSink job.append (write_of job) ∷ []) found calls whole in
+    let b = passed_apart (early job) (input_steps job) a.found_first a.first a.passed_first in
+    let one = passed_alone (MakeSink job.append (write_of job)) a.found_last a.last a.passed_last in
+    let later = did_apart a.first a.last s t (subst (λ (cs : List Call). Did cs s t) a.are did) in
+    let parts = did_apart b.first b.last s later.0 (subst (λ (cs : List Call). Did cs s later.0) b.are later.1) in
+    let q = early_found job b.found_first b.first s parts.0 b.passed_first parts.1 in
+    let read : a.found_first ≡ found_behind (map FoundText q.0 ++ FoundNone ∷ []) ++ b.found_last = b.found_are ∙ ap (λ (us : List Found). us ++ b.found_last) q.1 in
+    let last : a.found_last ≡ FoundSink one.2.0 one.2.1 ∷ [] = one.1 ∙ ap (λ (u : Found). u ∷ []) one.2.2 in
+    record {
+      texts = q.0;
+      are_texts = q.2;
+      inputs = b.found_last;
+      sink = one.2.0;
+      empty = one.2.1;
+      are = a.found_are ∙ (λ i. read i ++ last i);
+      before = b.found_first;
+      first = b.first;
+      mid = parts.0;
+      passed = b.passed_first;
+      did = parts.1;
+      own = b.last;
+      at = later.0;
+      passed_own = b.passed_last;
+      did_own = parts.2;
+      touches = did_touch [] [] (opens_of reading) [] a.first s later.0 (opens_alone reading a.found_first a.first (read_create job) a.passed_first).0 later.1;
+      made = a.last;
+      is_made = one.2.3;
+      did_made = later.2;
+    }
 
--- the steps of a job that has a log
-abbrev log_steps : Job → List Step
-log_steps job = (early job ++ OpenLog (file_of job) ∷ []) ++ MakeSink job.append (write_of job) ∷ []
+-- ---- the steps of counters
 
-pub group_are : (job : Job) → is_counting job.tool ≡ false → steps_of (Ok job) ≡ word_steps (Ok job) ++ group_steps job
-group_are job groups = ap (λ (b : Bool). word_steps (Ok job) ++ (if b then counter_steps job else group_steps job)) groups
-
-pub counter_are : (job : Job) → is_counting job.tool ≡ true → steps_of (Ok job) ≡ word_steps (Ok job) ++ counter_steps job
-counter_are job counts = ap (λ (b : Bool). word_steps (Ok job) ++ (if b then counter_steps job else group_steps job)) counts
-
-pub input_are : (job : Job) (b : Bool) → is_some job.file ≡ b → word_steps (Ok job) ++ group_steps job ≡ (early job ++ (if b then OpenLog (file_of job) ∷ [] else feed_steps job)) ++ MakeSink job.append (write_of job) ∷ []
-input_are job b is = ap (λ (c : Bool). (early job ++ (if c then OpenLog (file_of job) ∷ [] else feed_steps job)) ++ MakeSink job.append (write_of job) ∷ []) is
-
-pub log_are : (job : Job) → is_counting job.tool ≡ false → is_some job.file ≡ true → steps_of (Ok job) ≡ log_steps job
-log_are job groups file = group_are job groups ∙ input_are job true file
+-- they found no log
+pub counters_found : (job : Job) (found : List Found) (calls : List Call) → is_counting job.tool ≡ true → Passed Passes Stops (steps_of (Ok job)) found calls → logs_of found ≡ []
+counters_found job [] calls counts p = absurd p
+counters_found job (u ∷ us) calls counts p =
+    let later : Passed Passes Stops (counter_steps job) us p.1 = subst (λ (b : Bool). Passed Passes Stops (if b then counter_steps job else group_steps job) us p.1) counts p.4 in
+    let a = passed_apart (feed_steps job) (MakeSink false (codes "-") ∷ []) us p.1 later in
+    let fed = feeds_found job.reclen job.seg _ a.found_first a.first a.passed_first in
+    let one = passed_alone (MakeSink false (codes "-")) a.found_last a.last a.passed_last in
+    let us_are : us ≡ map FoundListing fed.0 ++ FoundSink one.2.0 one.2.1 ∷ [] = a.found_are ∙ (λ i. fed.1 i ++ (one.1 ∙ ap (λ (v : Found). v ∷ []) one.2.2) i) in
+    (found_counting fed.0 (u ∷ us) one.2.0 one.2.1 (λ i. p.3.0 i ∷ us_are i)).logs_are

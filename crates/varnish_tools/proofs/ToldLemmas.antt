@@ -1,9 +1,8 @@
 -- What the main theorem comes to, where the world tells what the log of a job holds.
 use Rattle.std.specs.Bool.{MatchBool}
 use Rattle.std.specs.Str.{bytes_eq}
-use Rattle.std.proofs.Common.{◌≡◌, ◌⊎◌, ℕ, Bool, true, false, is_some, List, [], ◌∷◌, ◌++◌, Option, Some, None, Result, Ok, refl, sym, ap, subst, ◌∙◌, inl, inr, codes}
+use Rattle.std.proofs.Common.{◌≡◌, ◌⊎◌, ℕ, Bool, true, false, if◌then◌else◌, is_some, List, [], ◌∷◌, ◌++◌, Option, Some, None, Result, Ok, refl, sym, ap, subst, ◌∙◌, inl, inr, codes}
 use Rattle.std.proofs.lemmas.List.{append-nil}
-use Rattle.std.proofs.lemmas.Grind.{flat_map-append}
 use Rattle.vio.specs.declared.world.TheConstants.{ERRORS, INPUT}
 use Rattle.vio.specs.World.{Gains, HasStreams, Seen, Writing}
 use Rattle.vio.specs.Touches.{IsOneOf}
@@ -11,6 +10,7 @@ use Rattle.vio.specs.Calls.{Call, Did, Open, SomeFailed, none_failed, written_by
 use Rattle.vio.specs.Steps.{Passed, Stopped}
 use Rattle.vio.proofs.CallLaws.{did_keep}
 use Rattle.vio.proofs.CallLemmas.{did_apart, did_then, none_or_some, on_append, some_behind, written_append}
+use Rattle.vio.proofs.StepLemmas.{passed_one}
 use Rattle.vio.proofs.TouchLemmas.{did_touch, only_one}
 use Rattle.vsl_record.specs.Unit.{Log}
 use Rattle.vsl_file.specs.File.{FileEnding, IsFile, Whole, is_whole}
@@ -24,8 +24,9 @@ use Rattle.tool_words.specs.Job.{job_of}
 use Rattle.job_steps.specs.declared.fault.ToolFault.{ToolFault}
 use Rattle.job_steps.specs.Good.{AreGoodSteps}
 use Rattle.job_steps.specs.Jobs.{file_of, is_counting, write_of}
-use Rattle.job_steps.specs.Queries.{Ask}
-use Rattle.job_steps.specs.Steps.{Step, OpenLog, MakeSink, Found, IsOpenedBy, Passes, Stops, counter_steps, creates_of, feed_steps, listings_of, log_in, logs_of, opens_of, steps_of, texts_of, word_steps}
+use Rattle.job_steps.specs.Queries.{Ask, AreAsked}
+use Rattle.job_steps.specs.Steps.{Step, OpenLog, MakeSink, Found, FoundSink, Passes, Stops, creates_of, feed_steps, input_steps, listings_of, logs_of, opens_of, steps_of}
+use Rattle.job_steps.proofs.BegunLemmas.{formatted_create}
 use Rattle.job_steps.proofs.StepFacts.{passed_within}
 use Rattle.job_steps.proofs.TookLemmas.{opens_alone}
 use Rattle.job_runs.specs.declared.record.RunRecord.{RunRecord}
@@ -39,8 +40,9 @@ use Rattle.varnish_tools.specs.declared.outcome.Outcome.{Outcome}
 use Rattle.varnish_tools.specs.Faults.{fault_message}
 use Rattle.varnish_tools.specs.Theorem.{IsFaithful, StatedRan, WorksOff}
 use Rattle.varnish_tools.specs.Told.{PrintsLog, TellsInput}
-use Rattle.varnish_tools.proofs.PartLemmas.{AreNoLogs, counter_are, early, early_create, early_no_log, feeds_no_log, group_are, input_are, log_are, no_logs, no_logs_then, passed_alone, passed_apart}
-use Rattle.varnish_tools.proofs.OutLemmas.{made_out, out_by, says_apart, sink_apart}
+use Rattle.varnish_tools.proofs.FoundLemmas.{FoundSo, found_feeds, found_file}
+use Rattle.varnish_tools.proofs.PartLemmas.{GroupParts, counters_found, early, feeds_found, group_parts, passed_alone}
+use Rattle.varnish_tools.proofs.OutLemmas.{out_by, says_apart, sink_apart}
 
 -- ---- a log that is told
 
@@ -61,66 +63,28 @@ opened_told false name bytes h units ending calls r s t told opens file streams 
     let opened = made.1 in
     subst (λ (u : Seen). TellsLog h units ending u) (sym made.2) (record { given = opened.given; bytes = bytes; told = opened.left ∙ held told; file = file })
 
--- a log was opened behind steps that open none, and before such steps
-record AroundLog (earlier later : List Step) (name : List ℕ) (found : List Found) (calls : List Call) : Type 0 where
+-- the one log that a job's steps opened, whose handle tells what was told of it, among all that they found
+record LogFound (job : Job) (units : Log) (ending : FileEnding) (found : List Found) (s t : Seen) : Type 0 where
+  parts : GroupParts job found s t
   h : ℕ
-  logs : logs_of found ≡ h ∷ []
-  found_first : List Found
-  found_last : List Found
-  first : List Call
-  own : List Call
-  last : List Call
-  are : calls ≡ first ++ own ++ last
-  passed_first : Passed Passes Stops earlier found_first first
-  opens : IsOpenedBy name h own
-  passed_last : Passed Passes Stops later found_last last
+  so : FoundSo found parts.texts (h ∷ []) [] parts.sink parts.empty
+  tells : TellsLog h units ending t
 
-logs_apart : (found first last : List Found) (us vs : List ℕ) → found ≡ first ++ last → logs_of first ≡ us → logs_of last ≡ vs → logs_of found ≡ us ++ vs
-logs_apart found first last us vs are p q = ap logs_of are ∙ flat_map-append log_in first last ∙ (λ i. p i ++ q i)
-
-around_log : (earlier later : List Step) (name : List ℕ) (found : List Found) (calls : List Call) → AreNoLogs earlier → AreNoLogs later → Passed Passes Stops (earlier ++ OpenLog name ∷ [] ++ later) found calls → AroundLog earlier later name found calls
-around_log earlier later name found calls none_first none_last p =
-    let a = passed_apart (earlier ++ OpenLog name ∷ []) later found calls p in
-    let b = passed_apart earlier (OpenLog name ∷ []) a.found_first a.first a.passed_first in
-    let one = passed_alone (OpenLog name) b.found_last b.last b.passed_last in
-    let own : logs_of b.found_last ≡ one.2.0 ∷ [] = ap logs_of one.1 ∙ ap (λ (u : Found). logs_of (u ∷ [])) one.2.1 in
-    let early : logs_of a.found_first ≡ one.2.0 ∷ [] = logs_apart a.found_first b.found_first b.found_last [] (one.2.0 ∷ []) b.found_are (no_logs earlier b.found_first b.first none_first b.passed_first) own in
+log_found : (job : Job) (units : Log) (ending : FileEnding) (found : List Found) (calls : List Call) (s t : Seen) → is_counting job.tool ≡ false → is_some job.file ≡ true → HasStreams s → TellsInput job units ending s → Passed Passes Stops (steps_of (Ok job)) found calls
+    → Did calls s t → LogFound job units ending found s t
+log_found job units ending found calls s t groups file streams tells passed did =
+    let g = group_parts job found calls s t groups passed did in
+    let one = passed_alone (OpenLog (file_of job)) g.inputs g.own (subst (λ (b : Bool). Passed Passes Stops (if b then OpenLog (file_of job) ∷ [] else feed_steps job) g.inputs g.own) file g.passed_own) in
+    let opens = opens_alone (early job) g.before g.first (formatted_create job) g.passed in
+    let opened = opened_told (bytes_eq (file_of job) (codes "-")) (file_of job) tells.bytes one.2.0 units ending g.own s g.mid g.at tells.told one.2.2 tells.file streams
+    (kept_told (early job) g.before g.first INPUT units ending s g.mid g.passed g.did) (did_keep (opens_of (early job)) g.first s g.mid (file_of job) tells.bytes opens g.did) g.did_own in
+    let made = passed_one Passes Stops (MakeSink job.append (write_of job)) (FoundSink g.sink g.empty) g.made (g.sink, g.empty, refl, g.is_made) in
     record {
+      parts = g;
       h = one.2.0;
-      logs = logs_apart found a.found_first a.found_last (one.2.0 ∷ []) [] a.found_are early (no_logs later a.found_last a.last none_last a.passed_last);
-      found_first = b.found_first;
-      found_last = a.found_last;
-      first = b.first;
-      own = b.last;
-      last = a.last;
-      are = a.are ∙ ap (λ (cs : List Call). cs ++ a.last) b.are;
-      passed_first = b.passed_first;
-      opens = one.2.2;
-      passed_last = a.passed_last;
+      so = found_file g.texts g.inputs found one.2.0 g.sink g.empty g.are (one.1 ∙ ap (λ (u : Found). u ∷ []) one.2.1);
+      tells = kept_told (MakeSink job.append (write_of job) ∷ []) (FoundSink g.sink g.empty ∷ []) g.made one.2.0 units ending g.at t made g.did_made opened;
     }
-
--- steps that passed found one log, whose handle tells what was told of the job's log
-record FoundTold (found : List Found) (units : Log) (ending : FileEnding) (now : Seen) : Type 0 where
-  h : ℕ
-  logs : logs_of found ≡ h ∷ []
-  tells : TellsLog h units ending now
-
-around_told : (job : Job) (units : Log) (ending : FileEnding) (later : List Step) (found : List Found) (calls : List Call) (s t : Seen) → HasStreams s → TellsInput job units ending s → AroundLog (early job) later (file_of job) found calls → Did calls s t
-    → FoundTold found units ending t
-around_told job units ending later found calls s t streams tells a did =
-    let behind = did_apart (a.first ++ a.own) a.last s t (subst (λ (cs : List Call). Did cs s t) a.are did) in
-    let before = did_apart a.first a.own s behind.0 behind.1 in
-    let opens_first = opens_alone (early job) a.found_first a.first (early_create job) a.passed_first in
-    let opened = opened_told (bytes_eq (file_of job) (codes "-")) (file_of job) tells.bytes a.h units ending a.own s before.0 behind.0 tells.told a.opens tells.file streams
-    (kept_told (early job) a.found_first a.first INPUT units ending s before.0 a.passed_first before.1) (did_keep (opens_of (early job)) a.first s before.0 (file_of job) tells.bytes opens_first before.1) before.2 in
-    record { h = a.h; logs = a.logs; tells = kept_told later a.found_last a.last a.h units ending behind.0 t a.passed_last behind.2 opened }
-
-found_told : (job : Job) (units : Log) (ending : FileEnding) (found : List Found) (calls : List Call) (s t : Seen) → is_counting job.tool ≡ false → is_some job.file ≡ true → HasStreams s → TellsInput job units ending s → Passed Passes Stops (steps_of (Ok job)) found calls
-    → Did calls s t → FoundTold found units ending t
-found_told job units ending found calls s t groups file streams tells passed did =
-    let sink = MakeSink job.append (write_of job) ∷ [] in
-    around_told job units ending sink found calls s t streams tells
-    (around_log (early job) sink (file_of job) found calls (early_no_log job) (tt, tt) (subst (λ (steps : List Step). Passed Passes Stops steps found calls) (log_are job groups file) passed)) did
 
 -- ---- what a run over a told log comes to
 
@@ -129,36 +93,41 @@ abbrev pub TellsWrites : Type 0
 TellsWrites = (job : Job) (ask : Ask) (h : ℕ) (others : List ℕ) (sink : ℕ) (empty : Bool) (units : Log) (ending : FileEnding) (fault : Option ToolFault) (recorded : RunRecord) (calls : List Call) (before now : Seen) → TellsLog h units ending before → Did calls before now
     → RanFor (h ∷ others) (FileCame h) (λ why cs met. FileStopped h why cs met now) (RecordsCount recorded) sink (job_due job ask empty) (end_answer job) fault calls → WritesOf sink (job_due job ask empty) fault (unit_items units) (is_whole ending) calls
 
+same_one : {A : Type 0} (x y : A) → x ∷ [] ≡ y ∷ [] → x ≡ y
+same_one x y same = cc
+
 module _ (writes_told : TellsWrites) (job : Job) (units : Log) (ending : FileEnding) (groups : is_counting job.tool ≡ false) (file : is_some job.file ≡ true) where
   work_prints : (message : List ℕ) (fault : Option ToolFault) (recorded : RunRecord) (s t : Seen) → HasStreams s → TellsInput job units ending s → WorksOff (Says message) (Ok job) fault recorded s t → (recorded ≡ Nothing) ⊎ PrintsLog job fault units ending s t
   work_prints message fault recorded s t streams tells q = elim q.works [
     | inl early ↦ inl early.none
     | inr ran ↦
         let parts = did_apart ran.first ran.last s q.at (subst (λ (cs : List Call). Did cs s q.at) ran.are q.did) in
-        let of = found_told job units ending ran.found ran.first s parts.0 groups file streams tells ran.passed parts.1 in
+        let of = log_found job units ending ran.found ran.first s parts.0 groups file streams tells ran.passed parts.1 in
+        let out = of.parts in
+        let h = of.h in
+        let sink = out.sink in
         let g = subst (λ (b : Bool). MatchBool b (PrintsCounters job fault recorded ran.found ran.last) (PrintsGroups job q.at fault recorded ran.found ran.last)) groups ran.ran in
-        let sink = g.1 in
-        let over = subst (λ (logs : List ℕ). RanFor logs (CameOf logs job (listings_of ran.found) recorded) (StopsOf logs q.at) (RecordsOf logs job recorded) sink (job_due job g.0 g.2) (end_answer job) fault ran.last) of.logs g.4 in
-        let so = writes_told job g.0 of.h [] sink g.2 units ending fault recorded ran.last parts.0 q.at of.tells parts.2 over in
-        let apart = sink_apart (steps_of (Ok job)) ran.found ran.first sink g.2 s parts.0 ran.passed parts.1 (g.3).is_sink in
+        let same : (g.1, g.2) ≡ (sink, out.empty) = same_one (g.1, g.2) (sink, out.empty) (sym (g.3).is_sink ∙ of.so.sinks_are) in
+        let over = subst (λ (logs : List ℕ). RanFor logs (CameOf logs job (listings_of ran.found) recorded) (StopsOf logs q.at) (RecordsOf logs job recorded) sink (job_due job g.0 out.empty) (end_answer job) fault ran.last) of.so.logs_are
+        (subst (λ (z : ℕ × Bool). RanFor (logs_of ran.found) (CameOf (logs_of ran.found) job (listings_of ran.found) recorded) (StopsOf (logs_of ran.found) q.at) (RecordsOf (logs_of ran.found) job recorded) z.0 (job_due job g.0 z.1) (end_answer job) fault ran.last) same g.4) in
+        let so = writes_told job g.0 h [] sink out.empty units ending fault recorded ran.last parts.0 q.at of.tells parts.2 over in
+        let apart = sink_apart (bytes_eq (write_of job) (codes "-")) job.append (write_of job) sink out.empty out.made out.at parts.0 out.is_made out.did_made in
         let gained = promised_gain Passes Stops (StatedRan (Ok job)) Nothing (Says message) (steps_of (Ok job)) fault recorded sink s t (λ calls says. said_other sink message calls apart says) q in
+        let within = passed_within (steps_of (Ok job)) ran.found ran.first ran.passed in
         let last : written_by sink q.work ≡ written_by sink ran.last =
-        ap (λ (cs : List Call). written_by sink cs) ran.are ∙ written_append sink ran.first ran.last ∙ ap (λ (xs : List ℕ). xs ++ written_by sink ran.last) ((passed_within (steps_of (Ok job)) ran.found ran.first ran.passed).writes sink) in
-        let out = made_out job ran.found ran.first sink g.2 s parts.0 groups file ran.passed parts.1 (g.3).is_sink in
-        let touches = did_touch [] [] (opens_of (steps_of (Ok job))) (creates_of (steps_of (Ok job))) ran.first s parts.0 (passed_within (steps_of (Ok job)) ran.found ran.first ran.passed).within parts.1 in
-        let reads = of.h ∷ [] in
+        ap (λ (cs : List Call). written_by sink cs) ran.are ∙ written_append sink ran.first ran.last ∙ ap (λ (xs : List ℕ). xs ++ written_by sink ran.last) (within.writes sink) in
+        let touches = did_touch [] [] (opens_of (steps_of (Ok job))) (creates_of (steps_of (Ok job))) ran.first s parts.0 within.within parts.1 in
         let silent : written_by sink (ran.last ++ q.said) ≡ written_by sink ran.last = written_append sink ran.last q.said ∙ ap (λ (xs : List ℕ). written_by sink ran.last ++ xs) (said_other sink message q.said apart q.says) ∙ append-nil (written_by sink ran.last) in
-        let is_out = out_by job.append (write_of job) sink g.2 reads (written_by sink ran.last) (ran.last ++ q.said) s out.at parts.0 t (bytes_eq (write_of job) (codes "-")) out.made out.is out.did out.lacks out.keeps (out.given sink)
-        (touches.names Writing ERRORS (write_of job) streams.error_given) (on_append reads (ERRORS ∷ sink ∷ []) ran.last q.said over.on (says_apart reads sink message q.said q.says)) (did_then ran.last q.said parts.0 q.at t parts.2 q.told) silent in
         inr (record {
-          are_texts = out.texts;
-          is_out = is_out;
           ask = g.0;
           sink = sink;
-          empty = g.2;
-          texts = texts_of ran.found;
-          asked = (g.3).asked;
+          empty = out.empty;
+          texts = out.texts;
+          are_texts = out.are_texts;
+          asked = subst (λ (texts : List (List ℕ)). AreAsked job.caseless None texts g.0) of.so.texts_are (g.3).asked;
           text = written_by sink ran.last;
+          is_out = out_by job.append (write_of job) sink out.empty (h ∷ []) (written_by sink ran.last) (ran.last ++ q.said) s out.at parts.0 t (opens_of (early job ++ input_steps job)) out.touches (touches.names Writing ERRORS (write_of job) streams.error_given)
+              (on_append (h ∷ []) (ERRORS ∷ sink ∷ []) ran.last q.said over.on (says_apart (h ∷ []) sink message q.said q.says)) (did_then ran.last q.said parts.0 q.at t parts.2 q.told) silent (bytes_eq (write_of job) (codes "-")) out.made out.is_made out.did_made;
           part = so.part;
           done = so.done;
           gains = subst (λ (text : List ℕ). Gains (s.written sink) (t.written sink) text) last gained;
@@ -195,18 +164,16 @@ none_found h logs none is = subst (λ (hs : List ℕ). IsOneOf h hs) none is
 -- a log that was told to be whole stops no run; there is none for feeds and for counters
 log_stops : WholeRuns → (b c : Bool) (job : Job) (found : List Found) (first last : List Call) (h : ℕ) (fault : ToolFault) (r s t : Seen) → is_counting job.tool ≡ b → is_some job.file ≡ c → HasStreams r → TellsWhole job r → Passed Passes Stops (steps_of (Ok job)) found first
     → Did first r s → Did last s t → IsOneOf h (logs_of found) → StoppedByLog h (file_of job) fault last t → ⊥
-log_stops whole true c job found first last h fault r s t counts is streams tells passed did more one stopped =
-    let none = no_logs_then (feed_steps job) (MakeSink false (codes "-") ∷ []) (feeds_no_log job) (tt, tt) in
-    none_found h (logs_of found) (no_logs (word_steps (Ok job) ++ counter_steps job) found first (tt, none) (subst (λ (steps : List Step). Passed Passes Stops steps found first) (counter_are job counts) passed)) one
+log_stops whole true c job found first last h fault r s t counts is streams tells passed did more one stopped = none_found h (logs_of found) (counters_found job found first counts passed) one
 log_stops whole false true job found first last h fault r s t groups is streams tells passed did more one stopped =
     let told = tells is groups in
-    let of = found_told job told.0 Whole found first r s groups is streams told.1 passed did in
-    let same : h ≡ of.h = only_one h of.h (subst (λ (hs : List ℕ). IsOneOf h hs) of.logs one) in
+    let of = log_found job told.0 Whole found first r s groups is streams told.1 passed did in
+    let same : h ≡ of.h = only_one h of.h (subst (λ (hs : List ℕ). IsOneOf h hs) of.so.logs_are one) in
     whole h (file_of job) fault told.0 last s t (subst (λ (i : ℕ). TellsLog i told.0 Whole s) (sym same) of.tells) more stopped
 log_stops whole false false job found first last h fault r s t groups is streams tells passed did more one stopped =
-    let none = no_logs_then (early job ++ feed_steps job) (MakeSink job.append (write_of job) ∷ []) (no_logs_then (early job) (feed_steps job) (early_no_log job) (feeds_no_log job)) (tt, tt) in
-    none_found h (logs_of found)
-    (no_logs ((early job ++ feed_steps job) ++ MakeSink job.append (write_of job) ∷ []) found first none (subst (λ (steps : List Step). Passed Passes Stops steps found first) (group_are job groups ∙ input_are job false is) passed)) one
+    let g = group_parts job found first r s groups passed did in
+    let fed = feeds_found job.reclen job.seg _ g.inputs g.own (subst (λ (b : Bool). Passed Passes Stops (if b then OpenLog (file_of job) ∷ [] else feed_steps job) g.inputs g.own) is g.passed_own) in
+    none_found h (logs_of found) (found_feeds g.texts g.inputs found fed.0 g.sink g.empty g.are fed.1).logs_are one
 
 module _ (pass : GoodPass) (cause : FaultCause) (whole : WholeRuns) (job : Job) (s t : Seen) (streams : HasStreams s) (good : AreGoodSteps s (steps_of (Ok job))) (tells : TellsWhole job s) where
   work_failed : (fault : ToolFault) (recorded : RunRecord) (work : List Call) → Did work s t → Works Passes Stops (StatedRan (Ok job)) Nothing (steps_of (Ok job)) t (Some fault) recorded work → SomeFailed work

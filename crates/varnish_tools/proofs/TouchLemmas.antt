@@ -1,7 +1,7 @@
 -- What the work touches: what its steps name, and nothing where the words are refused.
 use Rattle.std.specs.Bool.{MatchBool}
 use Rattle.std.specs.List.{flat_map}
-use Rattle.std.proofs.Common.{◌≡◌, ◌⊎◌, ℕ, Bool, true, false, List, [], ◌∷◌, ◌++◌, length-append, Option, None, Result, Ok, Err, refl, sym, ap, subst, ◌∙◌, inl, inr, arith}
+use Rattle.std.proofs.Common.{◌≡◌, ◌⊎◌, ℕ, Bool, true, false, List, [], ◌∷◌, ◌++◌, length-append, if◌then◌else◌, is_some, Option, Some, None, Result, Ok, Err, refl, sym, ap, subst, ◌∙◌, inl, inr, arith}
 use Rattle.vio.specs.declared.world.TheConstants.{ERRORS}
 use Rattle.vio.specs.World.{Seen}
 use Rattle.vio.specs.Touches.{IsOneOf}
@@ -10,6 +10,7 @@ use Rattle.vio.specs.Steps.{Passed, Stopped}
 use Rattle.vio.proofs.CallLemmas.{did_then, given_append, handles_created, handles_opened, on_given, on_within, within_behind, within_more}
 use Rattle.vio.proofs.TouchLemmas.{one_of_left, one_of_right}
 use Rattle.one_run.specs.Promise.{Says, SaysPart, Works}
+use Rattle.vsl_select.specs.declared.rule_text.SelectFault.{SelectFault}
 use Rattle.vsl_select.specs.Shown.{rules_fault}
 use Rattle.tool_words.specs.declared.fault.UsageFault.{UsageFault}
 use Rattle.tool_words.specs.declared.fault.UsageFault.TheVariants.{NoTool}
@@ -26,7 +27,7 @@ use Rattle.job_runs.specs.Rows.{GroupsShort, JobRan, JobShort, PrintsGroups}
 use Rattle.varnish_tools.specs.Faults.{message}
 use Rattle.varnish_tools.specs.Theorem.{LacksWork, StatedRan, TouchesJob, TouchesSteps, asked_of}
 use Rattle.varnish_tools.specs.inside.Works.{DidWork, SaysPartOf}
-use Rattle.varnish_tools.proofs.FoundLemmas.{found_log, found_sink, handle_in, one_of_more, sink_is}
+use Rattle.varnish_tools.proofs.FoundLemmas.{found_log, found_sink, handle_in, one_of_both, sink_is}
 
 -- calls that stay within the names of steps touch what these name
 touch_within : (steps : List Step) (calls : List Call) → StaysWithin (opens_of steps) (creates_of steps) calls → TouchesSteps steps calls
@@ -48,13 +49,14 @@ touch_on steps found first last passed on =
     let R = reads_of steps in let W = ERRORS ∷ writes_of steps in let O = opens_of steps in let C = creates_of steps in (
       within_behind R W O C first last (touch_within steps first stays).0
           (within_more (logs_of found) (handles_opened first ++ R) (ERRORS ∷ flat_map handle_in found) (handles_created first ++ W) [] O [] C last
-          (λ h is. found_log steps found first h passed is) (λ h is. sink_more h is) (λ n is. absurd is) (λ n is. absurd is) (on_within (logs_of found) (ERRORS ∷ flat_map handle_in found) last on)),
+          (λ h is. one_of_both h (handles_opened first) R (found_log steps found first h passed is)) (λ h is. one_of_both h (handles_created first) W (sink_more h is)) (λ n is. absurd is) (λ n is. absurd is)
+          (on_within (logs_of found) (ERRORS ∷ flat_map handle_in found) last on)),
       omega (arith, stays.few, length-append O C, given_append first last, on_given (logs_of found) (ERRORS ∷ flat_map handle_in found) last on),
     )
   where
-    sink_more : (h : ℕ) → IsOneOf h (ERRORS ∷ flat_map handle_in found) → IsOneOf h (handles_created first ++ (ERRORS ∷ writes_of steps))
-    sink_more h (inl e) = one_of_right h (handles_created first) (ERRORS ∷ writes_of steps) (inl e)
-    sink_more h (inr is) = one_of_more h ERRORS (handles_created first) (writes_of steps) (found_sink steps found first h passed is)
+    sink_more : (h : ℕ) → IsOneOf h (ERRORS ∷ flat_map handle_in found) → IsOneOf h (handles_created first) ⊎ IsOneOf h (ERRORS ∷ writes_of steps)
+    sink_more h (inl e) = inr (inl e)
+    sink_more h (inr is) = elim (found_sink steps found first h passed is) [ inl new ↦ inl new | inr stream ↦ inr (inr stream) ]
 
 write_on : (found : List Found) (sink : ℕ) (text : List ℕ) (fault : Option ToolFault) (calls : List Call) → flat_map handle_in found ≡ sink ∷ [] → WritesText sink text fault calls → AreOn (logs_of found) (ERRORS ∷ flat_map handle_in found) calls
 write_on found sink text fault calls is (inl p) = rw (p.1, is) (inr (inl refl), tt)
@@ -95,44 +97,32 @@ pub asked_passed : (job : Job) (found : List Found) (calls : List Call) → Pass
 asked_passed job (u ∷ us) calls p = asked_good job p.3.2
 asked_passed job [] calls p = absurd p
 
--- steps of words that passed call nothing, and leave the others their calls
-passed_words : (job : Job) (found : List Found) (calls : List Call) → Passed Passes Stops (steps_of (Ok job)) found calls → (us : List Found) × Passed Passes Stops (job_steps job) us calls × (logs_of found ≡ logs_of us) × (flat_map handle_in found ≡ flat_map handle_in us)
-passed_words job (u ∷ us) calls p = (us, subst (λ (c : List Call). Passed Passes Stops (job_steps job) us c) (sym (p.2 ∙ rw p.3.1 refl)) p.4, rw p.3.0 refl, rw p.3.0 refl)
-passed_words job [] calls p = absurd p
-
 abbrev head_of : List Step → Step
 head_of [] = RefuseWords NoTool
 head_of (step ∷ steps) = step
 
--- words that stop the work at their own steps call nothing, and those behind them come to a job that is asked
-stopped_words : (job : Job) (earlier later : List Step) (step : Step) (found : List Found) (first last : List Call) (fault : ToolFault) → steps_of (Ok job) ≡ earlier ++ step ∷ later → Passed Passes Stops earlier found first → Stops step fault last
-    → (first ++ last ≡ []) ⊎ (asked_of (Ok job) ≡ job_steps job)
-stopped_words job [] later step [] first last fault e p s =
-    let stops : Stops (TakeRules job.caseless job.rules) fault last = subst (λ (x : Step). Stops x fault last) (sym (ap head_of e)) s in inl (rw (p, stops.0) refl)
-stopped_words job [] later step (u ∷ us) first last fault e p s = absurd p
-stopped_words job (x ∷ earlier) later step (u ∷ us) first last fault e p s =
-    let rules : Passes (TakeRules job.caseless job.rules) u p.0 = subst (λ (z : Step). Passes z u p.0) (sym (ap head_of e)) p.3 in inr (asked_good job rules.2)
-stopped_words job (x ∷ earlier) later step [] first last fault e p s = absurd p
+-- a first step that doesn't pass stops the work, and calls nothing
+stopped_first : (x : Step) (steps earlier later : List Step) (step : Step) (found : List Found) (first last : List Call) (fault : ToolFault) → ((u : Found) (calls : List Call) → Passes x u calls → ⊥) → ((calls : List Call) → Stops x fault calls → calls ≡ []) → x ∷ steps ≡ earlier ++ step ∷ later
+    → Passed Passes Stops earlier found first → Stops step fault last → first ++ last ≡ []
+stopped_first x steps [] later step [] first last fault never silent e p s = rw (p, silent last (subst (λ (y : Step). Stops y fault last) (sym (ap head_of e)) s)) refl
+stopped_first x steps [] later step (u ∷ us) first last fault never silent e p s = absurd p
+stopped_first x steps (y ∷ earlier) later step [] first last fault never silent e p s = absurd p
+stopped_first x steps (y ∷ earlier) later step (u ∷ us) first last fault never silent e p s = absurd (never u p.0 (subst (λ (z : Step). Passes z u p.0) (sym (ap head_of e)) p.3))
 
--- words that are refused call nothing
-refused_words : (why : UsageFault) (earlier later : List Step) (step : Step) (found : List Found) (first last : List Call) (fault : ToolFault) → steps_of (Err why) ≡ earlier ++ step ∷ later → Passed Passes Stops earlier found first → Stops step fault last → first ++ last ≡ []
-refused_words why [] later step [] first last fault e p s = let stops : Stops (RefuseWords why) fault last = subst (λ (x : Step). Stops x fault last) (sym (ap head_of e)) s in rw (p, stops.0) refl
-refused_words why [] later step (u ∷ us) first last fault e p s = absurd p
-refused_words why (x ∷ earlier) later step [] first last fault e p s = absurd p
-refused_words why (x ∷ earlier) later step (u ∷ us) first last fault e p s = absurd (subst (λ (y : Step). Passes y u p.0) (sym (ap head_of e)) p.3)
+-- words that are refused, and rules, call nothing; a job whose rules are good stays within its steps
+job_touch : (job : Job) (why : Option SelectFault) (fault : ToolFault) (calls : List Call) → rules_fault job.caseless job.rules ≡ why → Stopped Passes Stops (steps_of (Ok job)) fault calls → TouchesSteps (if is_some why then [] else job_steps job) calls
+job_touch job None fault calls rules p = touch_within (job_steps job) calls (stopped_within (steps_of (Ok job)) fault calls p)
+job_touch job (Some why) fault calls rules p = touch_none [] calls (p.are
+    ∙ stopped_first (TakeRules job.caseless job.rules) (job_steps job) p.earlier p.later p.step p.found p.first p.last fault (λ u cs passes. let no : Some why ≡ None = sym rules ∙ passes.2 in absurd cc) (λ cs stops. stops.0) p.parts p.passed p.stops)
 
 stopped_touch : (stated : Result Job UsageFault) (fault : ToolFault) (calls : List Call) → Stopped Passes Stops (steps_of stated) fault calls → TouchesSteps (asked_of stated) calls
-stopped_touch (Err why) fault calls p = touch_none [] calls (p.are ∙ refused_words why p.earlier p.later p.step p.found p.first p.last fault p.parts p.passed p.stops)
-stopped_touch (Ok job) fault calls p = elim (stopped_words job p.earlier p.later p.step p.found p.first p.last fault p.parts p.passed p.stops) [
-  | inl none ↦ touch_none (asked_of (Ok job)) calls (p.are ∙ none)
-  | inr asked ↦ rw asked (touch_within (job_steps job) calls (stopped_within (steps_of (Ok job)) fault calls p))
-]
+stopped_touch (Err why) fault calls p = touch_none [] calls (p.are ∙ stopped_first (RefuseWords why) [] p.earlier p.later p.step p.found p.first p.last fault (λ u cs passes. passes) (λ cs stops. stops.0) p.parts p.passed p.stops)
+stopped_touch (Ok job) fault calls p = job_touch job (rules_fault job.caseless job.rules) fault calls refl p
 
 -- ---- the work
 
 ran_touch : (job : Job) (found : List Found) (first last : List Call) → Passed Passes Stops (steps_of (Ok job)) found first → AreOn (logs_of found) (ERRORS ∷ flat_map handle_in found) last → TouchesSteps (asked_of (Ok job)) (first ++ last)
-ran_touch job found first last passed on = rw (asked_passed job found first passed)
-    (let us = passed_words job found first passed in touch_on (job_steps job) us.0 first last us.1 (rw (sym us.2, sym us.3) on))
+ran_touch job found first last passed on = rw (asked_passed job found first passed) (touch_on (steps_of (Ok job)) found first last passed on)
 
 -- what was worked off touches what its steps name
 pub works_touch : (stated : Result Job UsageFault) (at : Seen) (fault : Option ToolFault) (recorded : RunRecord) (calls : List Call) → Works Passes Stops (StatedRan stated) Nothing (steps_of stated) at fault recorded calls → TouchesSteps (asked_of stated) calls

@@ -1,5 +1,5 @@
 -- The work, from the words to the run.
-use Rattle.std.proofs.Common.{◌≡◌, ℕ, Bool, true, false, List, [], ◌∷◌, ◌++◌, map, Option, None, Result, Ok, Err, refl, sym, subst, inl, inr, arith}
+use Rattle.std.proofs.Common.{◌≡◌, ℕ, Bool, true, false, List, [], ◌∷◌, ◌++◌, map, Option, None, Result, Ok, Err, refl, sym, ap, subst, inl, inr, arith}
 use Rattle.log_model.specs.declared.fault.Halt.{Halt}
 use Rattle.log_model.specs.declared.fault.Halt.TheVariants.{Fault, NoMemory}
 use Rattle.log_model.specs.Halts.{IfFault}
@@ -24,16 +24,17 @@ use Rattle.job_steps.specs.Begun.{HasInput, IsBegun, IsCounting, IsShown}
 use Rattle.job_steps.specs.Jobs.{is_counting}
 use Rattle.job_steps.specs.Queries.{Ask, AreAsked, HoldsAsAsked}
 use Rattle.job_steps.specs.Steps.{Step, RefuseWords, Found, FoundListing, FoundNone, Passes, Stops, counter_steps, group_steps, job_steps, word_steps, opens_of}
+use Rattle.job_steps.proofs.TookLemmas.{called_so}
 use Rattle.job_runs.specs.declared.record.Ran.{Ran}
 use Rattle.job_runs.specs.declared.record.RunRecord.{RunRecord}
 use Rattle.job_runs.specs.declared.record.RunRecord.TheVariants.{Nothing}
 use Rattle.job_runs.specs.Sources.{BeganOf, CameOf, FedCame, FeedsCame, LogBegan, RecordsCount, RecordsOf, StopsOf}
-use Rattle.job_runs.specs.Counters.{CountsSo, PrintsCounters, WritesText}
-use Rattle.job_runs.specs.Rows.{JobRan, JobShort, RanFor, end_answer, job_due}
+use Rattle.job_runs.specs.Counters.{CountsSo, WritesText}
+use Rattle.job_runs.specs.Rows.{IsAsked, JobRan, JobShort, RanFor, end_answer, job_due}
 use Rattle.job_runs.specs.Runs.{CountsShort, RanShort, RanSo}
 use Rattle.varnish_tools.specs.Theorem.{StatedRan, asked_of}
 use Rattle.varnish_tools.specs.inside.Works.{IsWorked}
-use Rattle.varnish_tools.proofs.FoundLemmas.{FoundSo, found_behind, found_counting, found_feeds, found_file}
+use Rattle.varnish_tools.proofs.FoundLemmas.{CountingSo, FoundSo, found_behind, found_counting, found_feeds, found_file}
 use Rattle.varnish_tools.proofs.TouchLemmas.{asked_good}
 
 -- the words ended the work
@@ -65,34 +66,24 @@ module _ (job : Job) (selection : Showing) (rules : PassedRules job selection) w
 
   -- a step of the job ended the work
   steps_end : (halt : Halt ToolFault) (s t : Seen) → Called (Halted Passes Stops (opens_of (job_steps job)) (job_steps job) halt) s t → Called (IsWorked (Ok job) t (Err halt)) s t
-  steps_end (Fault fault) s t p = record {
-    calls = p.calls;
-    did = p.did;
-    is = (early_behind Passes Stops (StatedRan (Ok job)) Nothing (word_steps (Ok job)) (job_steps job) t fault (FoundNone ∷ []) [] p.calls passed_rules p.is.0, p.is.1);
-  }
-  steps_end NoMemory s t p = record { calls = p.calls; did = p.did; is = inl (subst (λ (steps : List Step). OnlyOpen (opens_of steps) p.calls) (sym asked) p.is) }
+  steps_end (Fault fault) s t p = called_so (λ calls q. (early_behind Passes Stops (StatedRan (Ok job)) Nothing (word_steps (Ok job)) (job_steps job) t fault (FoundNone ∷ []) [] calls passed_rules q.0, q.1)) p
+  steps_end NoMemory s t p = called_so (λ calls q. inl (subst (λ (steps : List Step). OnlyOpen (opens_of steps) calls) (sym asked) q)) p
 
   pub job_end : (steps : List Step) (halt : Halt ToolFault) (s t : Seen) → steps ≡ job_steps job → Called (Halted Passes Stops (opens_of steps) steps halt) s t → Called (IsWorked (Ok job) t (Err halt)) s t
   job_end steps halt s t are p = steps_end halt s t (subst (λ (xs : List Step). Called (Halted Passes Stops (opens_of xs) xs halt) s t) are p)
 
-  -- the steps of the job passed, and then it ran
+  -- the steps of the job passed
+  passed_all : (IsSo : List Found → Type 0) (steps : List Step) (calls : List Call) → steps ≡ job_steps job → (p : PassedSo Passes Stops IsSo steps calls) → Passed Passes Stops (word_steps (Ok job) ++ job_steps job) (found_behind p.found) calls
+  passed_all IsSo steps calls are p = passed_then Passes Stops (word_steps (Ok job)) (job_steps job) (FoundNone ∷ []) p.found [] calls passed_rules (subst (λ (xs : List Step). Passed Passes Stops xs p.found calls) are p.passed)
+
+  -- and then it ran
   pub job_ran : (IsSo : List Found → Type 0) (steps : List Step) (ran : Ran) (s t u : Seen) → steps ≡ job_steps job → Called (PassedSo Passes Stops IsSo steps) s t
       → ((us : List Found) → IsSo us → Called (RanSo (JobRan job u ran.fault ran.run (found_behind us))) t u) → Called (IsWorked (Ok job) u (Ok ran)) s u
   job_ran IsSo steps ran s t u are p run =
       let q = run p.is.found p.is.is in record {
         calls = p.calls ++ q.calls;
         did = did_then p.calls q.calls s t u p.did q.did;
-        is = (
-          inr (record {
-            found = found_behind p.is.found;
-            first = p.calls;
-            last = q.calls;
-            are = refl;
-            passed = passed_then Passes Stops (word_steps (Ok job)) (job_steps job) (FoundNone ∷ []) p.is.found [] p.calls passed_rules (subst (λ (xs : List Step). Passed Passes Stops xs p.is.found p.calls) are p.is.passed);
-            ran = q.is.0;
-          }),
-          last_failed_then p.calls q.calls p.is.fail q.is.1,
-        );
+        is = (inr (record { found = found_behind p.is.found; first = p.calls; last = q.calls; are = refl; passed = passed_all IsSo steps p.calls are p.is; ran = q.is.0 }), last_failed_then p.calls q.calls p.is.fail q.is.1);
       }
 
   -- or had no memory
@@ -102,15 +93,7 @@ module _ (job : Job) (selection : Showing) (rules : PassedRules job selection) w
       let q = run p.is.found p.is.is in record {
         calls = p.calls ++ q.calls;
         did = did_then p.calls q.calls s t u p.did q.did;
-        is = inr (record {
-          found = found_behind p.is.found;
-          first = p.calls;
-          last = q.calls;
-          are = refl;
-          passed = passed_then Passes Stops (word_steps (Ok job)) (job_steps job) (FoundNone ∷ []) p.is.found [] p.calls passed_rules (subst (λ (xs : List Step). Passed Passes Stops xs p.is.found p.calls) are p.is.passed);
-          fail = p.is.fail;
-          short = q.is;
-        });
+        is = inr (record { found = found_behind p.is.found; first = p.calls; last = q.calls; are = refl; passed = passed_all IsSo steps p.calls are p.is; fail = p.is.fail; short = q.is });
       }
 
 -- nothing was done for want of memory
@@ -126,70 +109,66 @@ counter_job job counts = rw counts refl
 
 -- ---- groups
 
-module _ (job : Job) (reads : is_counting job.tool ≡ false) (texts : List (List ℕ)) (logs : List ℕ) (listings : List Listing) (sink : ℕ) (empty : Bool) (ask : Ask) (asked : AreAsked job.caseless None texts ask) where
-  ran_as : (found : List Found) (u : Seen) (fault : Option ToolFault) (recorded : RunRecord) (calls : List Call) → FoundSo found texts logs listings sink empty
-      → RanFor logs (CameOf logs job listings recorded) (StopsOf logs u) (RecordsOf logs job recorded) sink (job_due job ask empty) (end_answer job) fault calls → JobRan job u fault recorded found calls
-  ran_as found u fault recorded calls so ran = rw (reads, so.logs_are, so.listings_are) (ask, sink, empty, record { asked = rw so.texts_are asked; is_sink = so.sinks_are }, ran)
+module _ (job : Job) (reads : is_counting job.tool ≡ false) (texts : List (List ℕ)) (logs : List ℕ) (listings : List Listing) (sink : ℕ) (empty : Bool) (ask : Ask) (asked : AreAsked job.caseless None texts ask) (found : List Found) (so : FoundSo found texts logs listings sink empty) where
+  asked_so : IsAsked job found ask sink empty
+  asked_so = record { asked = rw so.texts_are asked; is_sink = so.sinks_are }
 
-  short_as : (found : List Found) (calls : List Call) → FoundSo found texts logs listings sink empty → RanShort logs (BeganOf logs job listings) sink (job_due job ask empty) calls → JobShort job found calls
-  short_as found calls so (inl none) = inl none
-  short_as found calls so (inr p) = rw (reads, so.logs_are, so.listings_are) (inr (ask, sink, empty, p.0, p.1, record { asked = rw so.texts_are asked; is_sink = so.sinks_are }, p.2, p.3, p.4))
+  short_as : (calls : List Call) → RanShort logs (BeganOf logs job listings) sink (job_due job ask empty) calls → JobShort job found calls
+  short_as calls (inl none) = inl none
+  short_as calls (inr p) = rw (reads, so.logs_are, so.listings_are) (inr (ask, sink, empty, p.0, p.1, asked_so, p.2, p.3, p.4))
 
-  groups_ran : (found : List Found) (fault : Option ToolFault) (recorded : RunRecord) (t u : Seen) → FoundSo found texts logs listings sink empty
-      → Called (RanSo (RanFor logs (CameOf logs job listings recorded) (StopsOf logs u) (RecordsOf logs job recorded) sink (job_due job ask empty) (end_answer job) fault)) t u → Called (RanSo (JobRan job u fault recorded found)) t u
-  groups_ran found fault recorded t u so p = record { calls = p.calls; did = p.did; is = (ran_as found u fault recorded p.calls so p.is.0, p.is.1) }
+  groups_ran : (fault : Option ToolFault) (recorded : RunRecord) (t u : Seen) → Called (RanSo (RanFor logs (CameOf logs job listings recorded) (StopsOf logs u) (RecordsOf logs job recorded) sink (job_due job ask empty) (end_answer job) fault)) t u → Called (RanSo (JobRan job u fault recorded found)) t u
+  groups_ran fault recorded t u p = record { calls = p.calls; did = p.did; is = (rw (reads, so.logs_are, so.listings_are) (ask, sink, empty, asked_so, p.is.0), p.is.1) }
 
-  groups_short : (found : List Found) (t u : Seen) → FoundSo found texts logs listings sink empty → Called (RanShort logs (BeganOf logs job listings) sink (job_due job ask empty)) t u → Called (JobShort job found) t u
-  groups_short found t u so p = record { calls = p.calls; did = p.did; is = short_as found p.calls so p.is }
-
--- what was found of an input
-found_input : (job : Job) (begun : Begun) (us : List Found) (input : Input) → begun.input ≡ input → (p : IsBegun job begun us) → HasInput input p.inputs
-found_input job begun us input is p = subst (λ (i : Input). HasInput i p.inputs) is p.input
+  groups_short : (t u : Seen) → Called (RanShort logs (BeganOf logs job listings) sink (job_due job ask empty)) t u → Called (JobShort job found) t u
+  groups_short t u = called_so short_as
 
 module _ (job : Job) (begun : Begun) (us : List Found) (reads : is_counting job.tool ≡ false) (p : IsBegun job begun us) where
   -- of a log
+  opened : (h : ℕ) → begun.input ≡ inputs.Log h → FoundSo (found_behind us) p.texts (h ∷ []) [] begun.sink.handle begun.sink.empty
+  opened h is = found_file p.texts p.inputs (found_behind us) h begun.sink.handle begun.sink.empty (ap found_behind p.are) (subst (λ (i : Input). HasInput i p.inputs) is p.input)
+
   pub log_ran : (h : ℕ) (fault : Option ToolFault) (recorded : RunRecord) (t u : Seen) → begun.input ≡ inputs.Log h
       → ((ask : Ask) → HoldsAsAsked begun.query ask → Called (RanSo (RanFor (h ∷ []) (FileCame h) (λ why calls met. FileStopped h why calls met u) (RecordsCount recorded) begun.sink.handle (job_due job ask begun.sink.empty) (end_answer job) fault)) t u)
       → Called (RanSo (JobRan job u fault recorded (found_behind us))) t u
-  log_ran h fault recorded t u is ran = groups_ran job reads p.texts (h ∷ []) [] begun.sink.handle begun.sink.empty p.ask p.asked (found_behind us) fault recorded t u
-      (found_file p.texts p.inputs us h begun.sink.handle begun.sink.empty p.are (found_input job begun us (inputs.Log h) is p)) (ran p.ask p.holds)
+  log_ran h fault recorded t u is ran = groups_ran job reads p.texts (h ∷ []) [] begun.sink.handle begun.sink.empty p.ask p.asked (found_behind us) (opened h is) fault recorded t u (ran p.ask p.holds)
 
   pub log_short : (h : ℕ) (t u : Seen) → begun.input ≡ inputs.Log h → ((ask : Ask) → HoldsAsAsked begun.query ask → Called (RanShort (h ∷ []) (LogBegan h) begun.sink.handle (job_due job ask begun.sink.empty)) t u) → Called (JobShort job (found_behind us)) t u
-  log_short h t u is short = groups_short job reads p.texts (h ∷ []) [] begun.sink.handle begun.sink.empty p.ask p.asked (found_behind us) t u
-      (found_file p.texts p.inputs us h begun.sink.handle begun.sink.empty p.are (found_input job begun us (inputs.Log h) is p)) (short p.ask p.holds)
+  log_short h t u is short = groups_short job reads p.texts (h ∷ []) [] begun.sink.handle begun.sink.empty p.ask p.asked (found_behind us) (opened h is) t u (short p.ask p.holds)
 
   -- of feeds
   fed : (input : Input) (listings : List Listing) → begun.input ≡ input → ((vs : List Found) → HasInput input vs → vs ≡ map FoundListing listings) → FoundSo (found_behind us) p.texts [] listings begun.sink.handle begun.sink.empty
-  fed input listings is are = found_feeds p.texts p.inputs us listings begun.sink.handle begun.sink.empty p.are (are p.inputs (found_input job begun us input is p))
+  fed input listings is are = found_feeds p.texts p.inputs (found_behind us) listings begun.sink.handle begun.sink.empty (ap found_behind p.are) (are p.inputs (subst (λ (i : Input). HasInput i p.inputs) is p.input))
 
   pub feeds_ran : (input : Input) (listings : List Listing) (fault : Option ToolFault) (recorded : RunRecord) (t u : Seen) → begun.input ≡ input → ((vs : List Found) → HasInput input vs → vs ≡ map FoundListing listings)
       → ((ask : Ask) → HoldsAsAsked begun.query ask → Called (RanSo (RanFor [] (λ calls. FeedsCame job listings recorded) (λ why calls met. ⊥) (RecordsOf [] job recorded) begun.sink.handle (job_due job ask begun.sink.empty) (end_answer job) fault)) t u)
       → Called (RanSo (JobRan job u fault recorded (found_behind us))) t u
-  feeds_ran input listings fault recorded t u is are ran = groups_ran job reads p.texts [] listings begun.sink.handle begun.sink.empty p.ask p.asked (found_behind us) fault recorded t u (fed input listings is are) (ran p.ask p.holds)
+  feeds_ran input listings fault recorded t u is are ran = groups_ran job reads p.texts [] listings begun.sink.handle begun.sink.empty p.ask p.asked (found_behind us) (fed input listings is are) fault recorded t u (ran p.ask p.holds)
 
   pub feeds_short : (input : Input) (listings : List Listing) (t u : Seen) → begun.input ≡ input → ((vs : List Found) → HasInput input vs → vs ≡ map FoundListing listings)
       → ((ask : Ask) → HoldsAsAsked begun.query ask → Called (RanShort [] (λ calls. FedCame job listings) begun.sink.handle (job_due job ask begun.sink.empty)) t u) → Called (JobShort job (found_behind us)) t u
-  feeds_short input listings t u is are short = groups_short job reads p.texts [] listings begun.sink.handle begun.sink.empty p.ask p.asked (found_behind us) t u (fed input listings is are) (short p.ask p.holds)
+  feeds_short input listings t u is are short = groups_short job reads p.texts [] listings begun.sink.handle begun.sink.empty p.ask p.asked (found_behind us) (fed input listings is are) t u (short p.ask p.holds)
 
 -- ---- counters
 
 module _ (job : Job) (counting : Counting) (us : List Found) (counts : is_counting job.tool ≡ true) (found : IsCounting counting us) where
-  counters_so : (fault : Option ToolFault) (recorded : RunRecord) (calls : List Call) → CountsSo job counting.listings.items counting.sink.handle fault recorded calls → PrintsCounters job fault recorded (found_behind us) calls
-  counters_so fault recorded calls p = let so = found_counting counting.listings.items us counting.sink.handle counting.sink.empty found in
-      (counting.sink.handle, counting.sink.empty, so.1, rw so.0 p)
+  counting_so : CountingSo (found_behind us) counting.listings.items counting.sink.handle counting.sink.empty
+  counting_so = found_counting counting.listings.items (found_behind us) counting.sink.handle counting.sink.empty (ap found_behind found)
 
   written_last : (h : ℕ) (text : List ℕ) (fault : Option ToolFault) (calls : List Call) → WritesText h text fault calls → last_failed calls ≡ true
   written_last h text fault calls (inl p) = rw p.1 refl
   written_last h text fault calls (inr p) = rw p.1.2 refl
 
   pub counters_ran : (fault : Option ToolFault) (recorded : RunRecord) (t u : Seen) → Called (CountsSo job counting.listings.items counting.sink.handle fault recorded) t u → Called (RanSo (JobRan job u fault recorded (found_behind us))) t u
-  counters_ran fault recorded t u p =
-      record { calls = p.calls; did = p.did; is = (rw counts (counters_so fault recorded p.calls p.is), written_last counting.sink.handle _ fault p.calls p.is.writes) }
+  counters_ran fault recorded t u p = record {
+    calls = p.calls;
+    did = p.did;
+    is = (rw counts (counting.sink.handle, counting.sink.empty, counting_so.sinks_are, rw counting_so.listings_are p.is), written_last counting.sink.handle _ fault p.calls p.is.writes);
+  }
 
   counters_part : (calls : List Call) → CountsShort job counting.listings.items counting.sink.handle calls → JobShort job (found_behind us) calls
   counters_part calls (inl none) = inl none
-  counters_part calls (inr p) = let so = found_counting counting.listings.items us counting.sink.handle counting.sink.empty found in
-      rw counts (inr (counting.sink.handle, counting.sink.empty, so.1, rw so.0 p))
+  counters_part calls (inr p) = rw counts (inr (counting.sink.handle, counting.sink.empty, counting_so.sinks_are, rw counting_so.listings_are p))
 
   pub counters_short : (t u : Seen) → Called (CountsShort job counting.listings.items counting.sink.handle) t u → Called (JobShort job (found_behind us)) t u
-  counters_short t u p = record { calls = p.calls; did = p.did; is = counters_part p.calls p.is }
+  counters_short t u = called_so counters_part
