@@ -89,9 +89,6 @@ stated_told ends interleaved job listings all seg values text recorded stated ma
       text_is = is ∙ ap (λ (vs : List ℕ). printed job.stat job.globs vs) (comes ∙ values_are (with_made job listings) (count_wraps job.seg law.0));
     }
 
-none_of : (kept waits : ℕ) → waits ≤ kept → kept ≡ 0 → waits ≡ 0
-none_of kept waits most none = omega (arith, most, none)
-
 -- on threads
 pub live_told : (job : Job) (listings all : List Listing) (seg : ℕ) (ring : ClosedState) (values text : List ℕ) (recorded : RunRecord) → is_on_threads job ≡ true → all ≡ with_made job listings → seg ≡ job.seg → recorded ≡ Closed ring → LiveCounted seg all ring values
     → text ≡ printed job.stat job.globs values → IsToldOf job listings recorded text
@@ -100,7 +97,7 @@ live_told job listings all seg ring values text recorded threads made seg_is is 
     record {
       log = ring.log;
       waits = p.waits;
-      put = record { turns = λ stated. absurd (never_both (is_on_threads job) stated threads); interleaved = p.interleaved; alone = λ one. none_of ring.busy p.waits p.told.most (p.alone one) };
+      put = record { turns = λ stated. absurd (never_both (is_on_threads job) stated threads); interleaved = p.interleaved; alone = λ one. omega (arith, p.told.most, p.alone one) };
       counted = λ stated. absurd (never_both (is_on_threads job) stated threads);
       ring = λ on. record { ring = ring; is = is; log_is = refl; unread = p.unread; told = p.told };
       text_is = text_is ∙ ap (λ (vs : List ℕ). printed job.stat job.globs vs) p.values_are;

@@ -58,13 +58,6 @@ words_few seg listings p few = omega (arith, words_by seg listings (recursion_fr
 pub put_fit : (job : Job) (all : List Listing) (seg : ℕ) → seg ≡ job.seg → All (FitsRing job.seg) all → All (AreFit unit_words seg) (units_of all)
 put_fit job all seg same fit = subst (λ (k : ℕ). All (AreFit unit_words k) (units_of all)) (sym same) (units_fit job.seg all fit)
 
--- each has few records, and no more cuts
-pub records_few : (seg : ℕ) (listings : List Listing) → All (FitsRing seg) listings → All (λ l. record_count l.units ≤ 4194304) listings
-records_few seg listings p = λ k d inside. let f : FitsRing seg (get_or listings k d) = p k d inside in omega (arith, f.few_records)
-
-pub cuts_few : (seg : ℕ) (listings : List Listing) → All (FitsRing seg) listings → All (λ l. l.cuts ≤ record_count l.units) listings
-cuts_few seg listings p = λ k d inside. let f : FitsRing seg (get_or listings k d) = p k d inside in f.few_cuts
-
 -- a new replay is that of the listings in the order of a job, and what its laws say
 abbrev EverySchedule : Type 0
 EverySchedule = (seg : ℕ) (order : Option ℕ) (feeds : List Log) → IsSegment seg → All (AreFit unit_words seg) feeds → (log : Log) × (history : List (HistoryItem LogUnit)) × IsScheduled seg order feeds log history
@@ -114,6 +107,6 @@ may_be_put job listings all seg same threads fit made fits = rw same (record {
   many = writers_few job listings all fit.few made;
   within = λ k d inside. let f : FitsRing job.seg (get_or all k d) = fits k d inside in f.units;
   words = words_few job.seg all fits (writers_few job listings all fit.few made);
-  records = records_few job.seg all fits;
-  cuts = cuts_few job.seg all fits;
+  records = λ k d inside. let f : FitsRing job.seg (get_or all k d) = fits k d inside in f.few_records;
+  cuts = λ k d inside. let f : FitsRing job.seg (get_or all k d) = fits k d inside in f.few_cuts;
 })
