@@ -1,25 +1,18 @@
 -- What a job writes: it is made behind calls that keep the files, and isn't standard error.
 use Rattle.std.specs.Bool.{MatchBool}
-use Rattle.std.proofs.Common.{◌≡◌, ◌≢◌, ℕ, ◌<◌, Bool, true, false, if◌then◌else◌, List, [], ◌∷◌, ◌++◌, Option, option_map, Some, None, refl, sym, ap, subst, ◌∙◌, inl, inr, arith}
+use Rattle.std.proofs.Common.{◌≡◌, ◌≢◌, ℕ, ◌<◌, Bool, true, false, if◌then◌else◌, List, [], ◌∷◌, ◌++◌, Option, option_map, Some, None, refl, sym, ap, subst, ◌∙◌, arith}
 use Rattle.vio.specs.declared.world.TheConstants.{ERRORS, OUTPUT}
 use Rattle.vio.specs.World.{FileCreated, Seen, Writing, begins_with}
 use Rattle.vio.specs.Touches.{Touches}
 use Rattle.vio.specs.Calls.{AreOn, Call, Create, Did, written_by}
 use Rattle.vio.proofs.CallLaws.{did_given, did_hold}
 use Rattle.vio.proofs.CallLemmas.{on_names}
-use Rattle.one_run.specs.Promise.{Says}
 use Rattle.varnish_tools.specs.Told.{IsFileSink}
-
-is_beyond : (h : ℕ) → 2 < h → h ≢ ERRORS
-is_beyond h beyond e = let no : 2 < 2 = subst (λ (i : ℕ). 2 < i) e beyond in omega (arith, no)
-
-is_output : (h : ℕ) → h ≡ OUTPUT → h ≢ ERRORS
-is_output h out e = let no : OUTPUT ≡ ERRORS = sym out ∙ e in cc
 
 -- the handle of what is written isn't that of standard error
 pub sink_apart : (b append : Bool) (name : List ℕ) (h : ℕ) (empty : Bool) (calls : List Call) (s t : Seen) → MatchBool b ((h ≡ OUTPUT) × (empty ≡ true) × (calls ≡ [])) (calls ≡ Create append name h empty ∷ []) → Did calls s t → h ≢ ERRORS
-sink_apart true append name h empty calls s t made did = is_output h made.0
-sink_apart false append name h empty calls s t made did = is_beyond h (subst (λ (cs : List Call). Did cs s t) made did).1.no_stream
+sink_apart true append name h empty calls s t made did e = let no : OUTPUT ≡ ERRORS = sym made.0 ∙ e in cc
+sink_apart false append name h empty calls s t made did e = let no : 2 < 2 = subst (λ (i : ℕ). 2 < i) e (subst (λ (cs : List Call). Did cs s t) made did).1.no_stream in omega (arith, no)
 
 -- what a file has when writing to it begins is what it had before calls that keep it
 begins_still : (lacks append : Bool) (held kept : Option (List ℕ)) (first : List ℕ) → ((bytes : List ℕ) → held ≡ Some bytes → kept ≡ Some bytes) → (if lacks then Some [] else (if append then held else option_map (λ bytes. []) held)) ≡ Some first
@@ -36,12 +29,6 @@ begins_kept append name first s t lacks keeps p =
 fresh_before : (b c : Bool) → (b ≡ true → c ≡ true) → c ≡ false → b ≡ false
 fresh_before true c stays none = let given = stays refl in cc
 fresh_before false c stays none = refl
-
--- what a message writes is none of it
-pub says_apart : (reads : List ℕ) (sink : ℕ) (text : List ℕ) (calls : List Call) → Says text calls → AreOn reads (ERRORS ∷ sink ∷ []) calls
-says_apart reads sink text calls (inl none) = rw none.1 tt
-says_apart reads sink text calls (inr (inl all)) = rw all (inl refl, tt)
-says_apart reads sink text calls (inr (inr part)) = rw part.2 (inl refl, tt)
 
 -- what was made behind calls that keep the files, and what was written to it behind that
 module _ (append : Bool) (name : List ℕ) (h : ℕ) (empty : Bool) (reads : List ℕ) (text : List ℕ) (calls : List Call) (r s t now : Seen) (opened : List (List ℕ)) (touches : Touches [] [] opened [] r s) (errors : t.names Writing ERRORS name ≡ r.names Writing ERRORS name)

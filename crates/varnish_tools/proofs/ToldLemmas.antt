@@ -42,7 +42,8 @@ use Rattle.varnish_tools.specs.Theorem.{IsFaithful, StatedRan, WorksOff}
 use Rattle.varnish_tools.specs.Told.{PrintsLog, TellsInput}
 use Rattle.varnish_tools.proofs.FoundLemmas.{FoundSo, found_feeds, found_file}
 use Rattle.varnish_tools.proofs.PartLemmas.{GroupParts, counters_found, early, feeds_found, group_parts, passed_alone}
-use Rattle.varnish_tools.proofs.OutLemmas.{out_by, says_apart, sink_apart}
+use Rattle.varnish_tools.proofs.OutLemmas.{out_by, sink_apart}
+use Rattle.varnish_tools.proofs.TouchLemmas.{says_on}
 
 -- ---- a log that is told
 
@@ -127,7 +128,7 @@ module _ (writes_told : TellsWrites) (job : Job) (units : Log) (ending : FileEnd
           asked = subst (λ (texts : List (List ℕ)). AreAsked job.caseless None texts g.0) of.so.texts_are (g.3).asked;
           text = written_by sink ran.last;
           is_out = out_by job.append (write_of job) sink out.empty (h ∷ []) (written_by sink ran.last) (ran.last ++ q.said) s out.at parts.0 t (opens_of (early job ++ input_steps job)) out.touches (touches.names Writing ERRORS (write_of job) streams.error_given)
-              (on_append (h ∷ []) (ERRORS ∷ sink ∷ []) ran.last q.said over.on (says_apart (h ∷ []) sink message q.said q.says)) (did_then ran.last q.said parts.0 q.at t parts.2 q.told) silent (bytes_eq (write_of job) (codes "-")) out.made out.is_made out.did_made;
+              (on_append (h ∷ []) (ERRORS ∷ sink ∷ []) ran.last q.said over.on (says_on (h ∷ []) (sink ∷ []) message q.said q.says)) (did_then ran.last q.said parts.0 q.at t parts.2 q.told) silent (bytes_eq (write_of job) (codes "-")) out.made out.is_made out.did_made;
           part = so.part;
           done = so.done;
           gains = subst (λ (text : List ℕ). Gains (s.written sink) (t.written sink) text) last gained;

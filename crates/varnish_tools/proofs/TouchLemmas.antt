@@ -141,10 +141,10 @@ lacks_touch (Ok job) calls (inr p) = rw p.are (ran_touch job p.found p.first p.l
 
 -- ---- the message
 
-says_on : (text : List ℕ) (calls : List Call) → Says text calls → AreOn [] (ERRORS ∷ []) calls
-says_on text calls (inl none) = rw none.1 tt
-says_on text calls (inr (inl whole)) = rw whole (inl refl, tt)
-says_on text calls (inr (inr part)) = rw part.2 (inl refl, tt)
+pub says_on : (reads more : List ℕ) (text : List ℕ) (calls : List Call) → Says text calls → AreOn reads (ERRORS ∷ more) calls
+says_on reads more text calls (inl none) = rw none.1 tt
+says_on reads more text calls (inr (inl whole)) = rw whole (inl refl, tt)
+says_on reads more text calls (inr (inr part)) = rw part.2 (inl refl, tt)
 
 part_on : (text : List ℕ) (calls : List Call) → SaysPart text calls → AreOn [] (ERRORS ∷ []) calls
 part_on text calls (inl none) = rw none tt
@@ -171,7 +171,7 @@ said_touches IsSaid stated fault recorded s t u on p q = record {
 
 -- whether all of the message was said, or not
 pub whole_touches : (stated : Result Job UsageFault) (fault : Option ToolFault) (recorded : RunRecord) (text : List ℕ) (s t u : Seen) → Called (DidWork stated t fault recorded) s t → Called (Says text) t u → Called (TouchesSteps (asked_of stated)) s u
-whole_touches stated fault recorded text s t u = said_touches (Says text) stated fault recorded s t u (says_on text)
+whole_touches stated fault recorded text s t u = said_touches (Says text) stated fault recorded s t u (says_on [] [] text)
 
 pub part_touches : (words : List (List ℕ)) (fault : Option ToolFault) (recorded : RunRecord) (s t u : Seen) → Called (DidWork (job_of words) t fault recorded) s t → Called (SaysPartOf words fault) t u → Called (TouchesJob words) s u
 part_touches words fault recorded s t u = said_touches (SaysPartOf words fault) (job_of words) fault recorded s t u (λ calls is. part_on (message words is.0) calls is.2)
