@@ -6,7 +6,7 @@ use Rattle.vio.specs.World.{Seen}
 use Rattle.vio.specs.Calls.{Call, Take, Write, Failed, FailedEach, Did, SomeFailed}
 use Rattle.vsl_record.specs.Unit.{Log}
 use Rattle.ring_layout.specs.declared.item.Item.{Item}
-use Rattle.vsl_file.specs.File.{FileEnding, IsFile, Whole}
+use Rattle.vsl_file.specs.File.{Whole}
 use Rattle.vsl_file.specs.File as file
 use Rattle.tool_words.specs.declared.job.Job.{Job}
 use Rattle.one_run.specs.declared.met.Met.{Met}
@@ -28,7 +28,7 @@ use Rattle.job_runs.specs.declared.record.RunRecord.{RunRecord}
 use Rattle.job_runs.specs.Good.{HasCause, StoppedByLog}
 use Rattle.job_runs.specs.Sources.{StopsOf}
 use Rattle.job_runs.specs.Counters.{PrintsCounters, WritesText}
-use Rattle.job_runs.specs.Rows.{JobRan, PrintsGroups, RanFor, end_answer, job_due, output_answer, stop_answer}
+use Rattle.job_runs.specs.Rows.{JobRan, PrintsGroups, end_answer, job_due, output_answer, stop_answer}
 
 -- ---- a run's end
 
@@ -38,23 +38,6 @@ output_failed sink d endings.Whole fault calls e cause = absurd cc
 output_failed sink d endings.Kept fault calls e cause = absurd cc
 output_failed sink d (endings.Unwritten name) fault calls e cause = (Write sink cause.0 (Failed d.name), cause.1, refl)
 output_failed sink d endings.Unreported fault calls e cause = (Write ERRORS cause.0 (Failed (codes "stderr")), cause.1, refl)
-
--- a source stopped so, and that is the fault
-record SourceStopped (stopped : FileStop → List Call → List Item → Type 0) (job : Job) (fault : ToolFault) (calls : List Call) : Type 0 where
-  why : FileStop
-  met : List Item
-  stops : stopped why calls met
-  is : fault ≡ stop_answer (file_of job) why
-
-end_fault : (came : List Call → List Item → Bool → Type 0) (stopped : FileStop → List Call → List Item → Type 0) (job : Job) (sink : ℕ) (d : Due) (fault : ToolFault) (end : RunEnd TextEnding FileStop) (met : Met) (calls : List Call) → Some fault ≡ end_answer job end
-    → Ran came stopped (TextWritten sink d) (TextEnded sink d) (ERRORS ∷ sink ∷ []) end met calls → SomeFailed calls ⊎ SourceStopped stopped job fault calls
-end_fault came stopped job sink d fault (ends.ByOutput ending) met calls e r = inl (output_failed sink d ending fault calls e ((r.ends.5).cause))
-end_fault came stopped job sink d fault (ends.BySource why) met calls e r = inr (record { why = why; met = r.done; stops = r.ends.1; is = cc })
-
--- a run with a fault has a call that failed, or its source stopped it
-ran_fault : (reads : List ℕ) (came : List Call → List Item → Bool → Type 0) (stopped : FileStop → List Call → List Item → Type 0) (job : Job) (sink : ℕ) (d : Due) (fault : ToolFault) (records : List Item → Type 0) (calls : List Call)
-    → RanFor reads came stopped records sink d (end_answer job) (Some fault) calls → SomeFailed calls ⊎ SourceStopped stopped job fault calls
-ran_fault reads came stopped job sink d fault records calls p = end_fault came stopped job sink d fault p.end p.met calls p.answers p.ran
 
 -- ---- a log
 
@@ -84,21 +67,19 @@ counters_fault sink text fault calls (inr p) = subst (λ (c : List Call). SomeFa
 
 -- ---- the run of a job
 
-groups_fault : (job : Job) (logs : List ℕ) (came : List Call → List Item → Bool → Type 0) (records : List Item → Type 0) (sink : ℕ) (d : Due) (fault : ToolFault) (calls : List Call) (now : Seen)
-    → RanFor logs came (StopsOf logs now) records sink d (end_answer job) (Some fault) calls → HasCause logs (file_of job) fault calls now
-groups_fault job [] came records sink d fault calls now p = elim (ran_fault [] came (StopsOf [] now) job sink d fault records calls p) [
-  | inl failed ↦ inl failed
-  | inr by ↦ absurd by.stops
-]
-groups_fault job (h ∷ others) came records sink d fault calls now p = elim (ran_fault (h ∷ others) came (StopsOf (h ∷ others) now) job sink d fault records calls p) [
-  | inl failed ↦ inl failed
-  | inr by ↦ elim (log_stopped h (file_of job) fault by.why by.met calls now by.is by.stops) [ inl failed ↦ inl failed | inr log ↦ inr (h, inl refl, log) ]
-]
+-- a run with a fault has a call that failed, or its log stopped it; feeds stop none
+groups_fault : (job : Job) (logs : List ℕ) (came : List Call → List Item → Bool → Type 0) (sink : ℕ) (d : Due) (fault : ToolFault) (end : RunEnd TextEnding FileStop) (met : Met) (calls : List Call) (now : Seen) → Some fault ≡ end_answer job end
+    → Ran came (StopsOf logs now) (TextWritten sink d) (TextEnded sink d) (ERRORS ∷ sink ∷ []) end met calls → HasCause logs (file_of job) fault calls now
+groups_fault job logs came sink d fault (ends.ByOutput ending) met calls now e r = inl (output_failed sink d ending fault calls e ((r.ends.5).cause))
+groups_fault job [] came sink d fault (ends.BySource why) met calls now e r = absurd r.ends.1
+groups_fault job (h ∷ others) came sink d fault (ends.BySource why) met calls now e r =
+    let same : fault ≡ stop_answer (file_of job) why = cc in
+    elim (log_stopped h (file_of job) fault why r.done calls now same r.ends.1) [ inl failed ↦ inl failed | inr log ↦ inr (h, inl refl, log) ]
 
 tool_fault : (b : Bool) (job : Job) (fault : ToolFault) (recorded : RunRecord) (found : List Found) (calls : List Call) (now : Seen)
     → MatchBool b (PrintsCounters job (Some fault) recorded found calls) (PrintsGroups job now (Some fault) recorded found calls) → HasCause (logs_of found) (file_of job) fault calls now
 tool_fault true job fault recorded found calls now p = inl (counters_fault p.0 _ fault calls p.3.writes)
-tool_fault false job fault recorded found calls now p = groups_fault job (logs_of found) _ _ p.1 (job_due job p.0 p.2) fault calls now p.4
+tool_fault false job fault recorded found calls now p = groups_fault job (logs_of found) _ p.1 (job_due job p.0 p.2) fault p.4.end p.4.met calls now p.4.answers p.4.ran
 
 pub job_fault : (job : Job) (fault : ToolFault) (recorded : RunRecord) (found : List Found) (calls : List Call) (now : Seen) → JobRan job now (Some fault) recorded found calls → HasCause (logs_of found) (file_of job) fault calls now
 job_fault job fault recorded found calls now p = tool_fault (is_counting job.tool) job fault recorded found calls now p

@@ -13,7 +13,7 @@ use Rattle.ring_layout.specs.Places.{AreFit, IsSegment, last_tail}
 use Rattle.ring_layout.specs.History.{IsReadHistory, ReachesTail}
 use Rattle.traffic_feed.specs.declared.listing.Listing.{Listing}
 use Rattle.traffic_feed.specs.Batches.{IsWithin}
-use Rattle.traffic_feed.specs.Listing.{record_count, word_count}
+use Rattle.traffic_feed.specs.Listing.{word_count}
 use Rattle.feed_schedule.specs.Schedule.{IsScheduled, events_of}
 use Rattle.feed_schedule.specs.Replaying.{ReplayState, Represents, count_feed_words}
 use Rattle.tool_words.specs.declared.job.Job.{Job}
