@@ -1,8 +1,8 @@
 -- Stages go on by events: what each turn adds to what the reader met.
-use Rattle.std.proofs.Common.{◌≡◌, ℕ, zero, suc, ◌-◌, ◌/◌, ◌%◌, Bool, cond, ltb, List, [], ◌∷◌, ◌++◌, map, reverse, slice_get, sym, refl, ap, ◌∙◌, Option, Some, None, append_assoc}
+use Rattle.std.proofs.Common.{◌≡◌, ℕ, zero, suc, ◌-◌, ◌/◌, ltb, List, [], ◌∷◌, ◌++◌, map, reverse, sym, refl, ap, ◌∙◌, append_assoc}
 use Rattle.std.proofs.lemmas.List.{append-nil, map-append, reverse-append}
 use Rattle.std.proofs.lemmas.Bool.{cond_both}
-use Rattle.std.specs.Option.{option_to_list}
+use Rattle.std.specs.Option.{option_map}
 use Rattle.log_model.specs.Prefix.{IsPrefix}
 use Rattle.log_model.proofs.PrefixLemmas.{prefix_same, prefix_then}
 use Rattle.vsl_record.specs.Unit.{LogUnit}
@@ -12,7 +12,8 @@ use Rattle.ring_layout.specs.declared.history.Run.{Run}
 use Rattle.ring_layout.specs.declared.history.HistoryItem.{HistoryItem}
 use Rattle.ring_layout.specs.declared.history.HistoryItem.TheVariants.{UnitRun, Overrun}
 use Rattle.traffic_feed.specs.Turns.{next_draw}
-use Rattle.feed_schedule.specs.Schedule.{TookUnit, WasOverrun, Stage, count_writers, after_writer, after_taking, last_segment, is_overrun, after_overrun, after_reader, has_ended, count_active, after_turn_of, after_turn, after_turns, events_of, met}
+use Rattle.feed_schedule.specs.Schedule.{Event, TookUnit, WasOverrun, Stage, count_writers, after_writer, last_segment, after_overrun, after_reader, has_ended, count_active, after_turn_of, chosen_by, after_turn, after_turns, events_of, met}
+use Rattle.feed_schedule.proofs.TurnLemmas.{reader_cases}
 
 -- the events of items behind others come last
 events_append : (xs ys : List (HistoryItem LogUnit)) → events_of (xs ++ ys) ≡ events_of xs ++ events_of ys
@@ -40,11 +41,6 @@ pub overrun_events : (seg : ℕ) (s : Stage) → met (after_overrun seg s) ≡ m
 overrun_events seg s = run_events (record { segment = last_segment seg s - 4; first = first_number unit_words seg s.log (last_segment seg s - 4); units = [] }) (Overrun (s.place / seg) (last_segment seg s) ∷ s.history)
     ∙ append-nil (events_of (reverse (Overrun (s.place / seg) (last_segment seg s) ∷ s.history))) ∙ events_newest (Overrun (s.place / seg) (last_segment seg s)) s.history
 
--- so is a unit that is taken; at the end of the log nothing is met
-pub taking_events : (seg : ℕ) (found : Option LogUnit) (s : Stage) → HasRun s.history → met (after_taking seg found s) ≡ met s ++ map TookUnit (option_to_list found)
-taking_events seg None s h = sym (append-nil (met s))
-taking_events seg (Some u) s h = unit_events u s.history h
-
 -- the newest item stays a run where a unit is taken
 pub unit_keeps_run : (u : LogUnit) (history : List (HistoryItem LogUnit)) → HasRun history → HasRun (with_unit u history)
 unit_keeps_run u [] h = h
@@ -52,28 +48,22 @@ unit_keeps_run u (UnitRun r ∷ items) h = h
 unit_keeps_run u (Overrun at seen ∷ items) h = h
 
 -- at a later stage what was met stays met, first, and the newest item is a run
-pub record IsLater (s t : Stage) : Type 0 where
-  pub met_more : IsPrefix (met s) (met t)
+pub record IsLater (before : List Event) (t : Stage) : Type 0 where
+  pub met_more : IsPrefix before (met t)
   pub run : HasRun t.history
 
--- where the reader takes or finds none
-taking_later : (seg : ℕ) (found : Option LogUnit) (s : Stage) → HasRun s.history → IsLater s (after_taking seg found s)
-taking_later seg None s h = record { met_more = prefix_same (met s); run = h }
-taking_later seg (Some u) s h = record { met_more = record { rest = TookUnit u ∷ []; is = unit_events u s.history h }; run = unit_keeps_run u s.history h }
-
--- after the turn of the k-th
-turn_of_later : (seg k : ℕ) (s : Stage) → HasRun s.history → IsLater s (after_turn_of seg k s)
-turn_of_later seg k s h = cond_both (ltb k (count_writers s.writers)) (after_writer k s) (after_reader seg s) (IsLater s) (λ writer. record { met_more = prefix_same (met s); run = h })
-    (λ reader. cond_both (is_overrun seg s) (after_overrun seg s) (after_taking seg (slice_get s.log s.number) s) (IsLater s)
-    (λ lost. record { met_more = record { rest = WasOverrun (s.place / seg) (last_segment seg s) ∷ []; is = overrun_events seg s }; run = tt }) (λ near. taking_later seg (slice_get s.log s.number) s h))
-
--- after any turn
-pub turn_later : (seg : ℕ) (in_turns : Bool) (s : Stage) → HasRun s.history → IsLater s (after_turn seg in_turns s)
-turn_later seg in_turns s h = let drawn : Stage = record s { drawn = next_draw s.drawn } in let x : Stage = after_turn_of seg (next_draw s.drawn % count_active s) drawn in let y : Stage = after_turn_of seg 0 s in
-    cond_both (has_ended s.reading) s (cond in_turns x y) (IsLater s) (λ ended. record { met_more = prefix_same (met s); run = h })
-    (λ before. cond_both in_turns x y (IsLater s) (λ draws. let l = turn_of_later seg (next_draw s.drawn % count_active s) drawn h in record { met_more = l.met_more; run = l.run }) (λ first. turn_of_later seg 0 s h))
+-- after a turn
+pub turn_later : (seg : ℕ) (s : Stage) → HasRun s.history → IsLater (met s) (after_turn seg s)
+turn_later seg s h =
+    let k : ℕ = chosen_by s.drawn (count_active s) in
+    let t : Stage = record s { drawn = option_map next_draw s.drawn } in
+    let Later : Stage → Type 0 = IsLater (met s) in
+    cond_both (has_ended s.reading) s (after_turn_of seg k t) Later (λ ended. record { met_more = prefix_same (met s); run = h })
+    (λ before. cond_both (ltb k (count_writers s.writers)) (after_writer k t) (after_reader seg t) Later (λ writer. record { met_more = prefix_same (met s); run = h })
+    (λ reader. reader_cases Later seg t (λ lost. record { met_more = record { rest = WasOverrun (s.place / seg) (last_segment seg s) ∷ []; is = overrun_events seg t }; run = tt })
+    (λ u near found. record { met_more = record { rest = TookUnit u ∷ []; is = unit_events u s.history h }; run = unit_keeps_run u s.history h }) (λ near none. record { met_more = prefix_same (met s); run = h })))
 
 -- and after turns
-pub events_go_on : (n seg : ℕ) (in_turns : Bool) (s : Stage) → HasRun s.history → IsPrefix (met s) (met (after_turns n seg in_turns s))
-events_go_on zero seg in_turns s h = prefix_same (met s)
-events_go_on (suc n) seg in_turns s h = let l = turn_later seg in_turns s h in prefix_then l.met_more (events_go_on n seg in_turns (after_turn seg in_turns s) l.run)
+pub events_go_on : (n seg : ℕ) (s : Stage) → HasRun s.history → IsPrefix (met s) (met (after_turns n seg s))
+events_go_on zero seg s h = prefix_same (met s)
+events_go_on (suc n) seg s h = let l = turn_later seg s h in prefix_then l.met_more (events_go_on n seg (after_turn seg s) l.run)

@@ -1,6 +1,6 @@
 -- Worked schedules, computed from the definitions.
-use Rattle.std.proofs.Common.{◌≡◌, ℕ, zero, suc, true, List, [], ◌∷◌, length, map, Some, None, refl}
-use Rattle.std.specs.Prelude.{codes}
+use Rattle.std.proofs.Common.{◌≡◌, ℕ, zero, suc, List, [], ◌∷◌, length, map, Some, None, refl}
+use Rattle.std.specs.Prelude.{codes, unwrap_or}
 use Rattle.vsl_record.specs.declared.mark.Mark.TheVariants.{Client}
 use Rattle.vsl_record.specs.Unit.{LogUnit, Log}
 use Rattle.vsl_record.specs.Words.{unit_words}
@@ -28,9 +28,9 @@ feeds = (a1 ∷ a2 ∷ []) ∷ (b1 ∷ []) ∷ []
 
 -- the stage after so many turns, which seed 7 draws
 abbrev drawn_stage : ℕ → Stage
-drawn_stage n = after_turns n 65536 true (first_stage 7 feeds)
+drawn_stage n = after_turns n 65536 (first_stage (Some 7) feeds)
 
-the_draws : map (λ (n : ℕ). (drawn_stage n).drawn) (1 ∷ 2 ∷ 3 ∷ 4 ∷ 5 ∷ 6 ∷ 7 ∷ 8 ∷ []) ≡ 599 ∷ 44999 ∷ 32612 ∷ 21105 ∷ 10061 ∷ 33742 ∷ 40318 ∷ 9222 ∷ []
+the_draws : map (λ (n : ℕ). unwrap_or (drawn_stage n).drawn 0) (1 ∷ 2 ∷ 3 ∷ 4 ∷ 5 ∷ 6 ∷ 7 ∷ 8 ∷ []) ≡ 599 ∷ 44999 ∷ 32612 ∷ 21105 ∷ 10061 ∷ 33742 ∷ 40318 ∷ 9222 ∷ []
 the_draws = refl
 
 -- the VXIDs of what was put, how many units the reader took, and how many writers have not left
@@ -104,11 +104,11 @@ overrun_twice = (20, refl, refl, refl)
 
 -- feed after feed the log is the feeds, one after the other
 put_feed_after_feed : IsUnread None feeds (a1 ∷ a2 ∷ b1 ∷ [])
-put_feed_after_feed = (5, refl, refl)
+put_feed_after_feed = refl
 
 -- in the turns of seed 7, of two feeds of two units, B puts twice
 b2 : LogUnit
 b2 = told 8 (codes "b2")
 
 put_in_turns : IsUnread (Some 7) ((a1 ∷ a2 ∷ []) ∷ (b1 ∷ b2 ∷ []) ∷ []) (b1 ∷ b2 ∷ a1 ∷ a2 ∷ [])
-put_in_turns = (6, refl, refl)
+put_in_turns = refl

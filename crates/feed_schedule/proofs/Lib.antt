@@ -6,7 +6,7 @@ pub mod StageLemmas
 pub mod ScheduleLemmas
 pub mod EventLemmas
 mod WaitingLemmas
-mod PuttingLemmas
+pub mod PuttingLemmas
 mod TakingLemmas
 mod TurningLemmas
 mod ReplayingLemmas

@@ -3,9 +3,7 @@ use Rattle.std.proofs.Common.{◌≡◌, ℕ, ◌+◌, ◌*◌, ◌/◌, ◌%◌
 use Rattle.std.proofs.lemmas.List.{append-nil, length-map}
 use Rattle.std.proofs.lemmas.List.Sums.{sum_by-cons}
 use Rattle.std.proofs.lemmas.Bool.{le-ltb}
-use Rattle.std.proofs.lemmas.Option.{same_Some}
 use Rattle.std.specs.List.{All}
-use Rattle.std.specs.Option.{option_map}
 use mathlib.Core.Logic.{dite}
 use native.Mathlib.Decide.{dec_lt}
 use Rattle.vsl_record.specs.Unit.{LogUnit, Log}
@@ -17,23 +15,23 @@ use Rattle.ring_plain.specs.Ring.{RingState, IsRingOf, put_fault}
 use Rattle.ring_plain.specs.Cursor.{Stands}
 use Rattle.ring_plain.proofs.CursorLemmas.{stands_longer}
 use Rattle.traffic_feed.specs.Listing.{word_count}
-use Rattle.traffic_feed.specs.Turns.{first_draw}
-use Rattle.feed_schedule.specs.Schedule.{Reads, Stage, count_writers, put_by, without_next, after_writer, seed_of, is_drawn}
-use Rattle.feed_schedule.specs.Replaying.{ReplayState, AreAt, written_at, IsAt, count_feed_words, waiting}
-use Rattle.feed_schedule.specs.Unread.{Written, nothing_written, written_by}
+use Rattle.feed_schedule.specs.Schedule.{Reads, Stage, count_writers, put_by, without_next, after_writer}
+use Rattle.feed_schedule.specs.Replaying.{ReplayState, AreAt, IsAt, count_feed_words, waiting}
+use Rattle.feed_schedule.specs.Unread.{count_turns}
 use Rattle.feed_schedule.specs.inside.Turning.{IsSteady, turns_to_come}
 use Rattle.feed_schedule.proofs.WriterLemmas.{leave_counts, count_falls, stays_longer}
-use Rattle.feed_schedule.proofs.WaitingLemmas.{put_length, put_words, put_is_fit, IsWriterAt, puts_at, leaves_at, first_is_fit, first_words, first_count}
+use Rattle.feed_schedule.proofs.WaitingLemmas.{put_words, put_is_fit, IsWriterAt, puts_at, leaves_at, first_is_fit, first_words, first_count}
+use Rattle.feed_schedule.proofs.UnreadLemmas.{turn_less}
 
 -- a unit moves the tail by at most twice its words
-end_twice : (seg t w : ℕ) → 0 < seg → end_at seg t w ≤ t + 2 * w
+pub end_twice : (seg t w : ℕ) → 0 < seg → end_at seg t w ≤ t + 2 * w
 end_twice seg t w pos = dite (dec_lt (t % (8 * seg) + w) (8 * seg))
     (λ l. subst (λ (z : ℕ). z + w ≤ t + 2 * w) (sym (at_stay seg t w l)) (omega arith))
     (λ n. subst (λ (z : ℕ). z + w ≤ t + 2 * w) (sym (at_wrap seg t w (omega arith)))
     (let p : t / (8 * seg) * (8 * seg) + t % (8 * seg) ≡ t = div-add-mod' t (8 * seg) in let m : t % (8 * seg) < 8 * seg = mod-lt t (omega arith) in omega arith))
 
 -- so do more units
-tail_twice : (seg : ℕ) (log more : Log) → 0 < seg → tail unit_words seg (log ++ more) ≤ tail unit_words seg log + 2 * word_count more
+pub tail_twice : (seg : ℕ) (log more : Log) → 0 < seg → tail unit_words seg (log ++ more) ≤ tail unit_words seg log + 2 * word_count more
 tail_twice seg log [] pos = subst (λ (l : Log). tail unit_words seg l ≤ tail unit_words seg log + 2 * word_count []) (sym (append-nil log)) (omega arith)
 tail_twice seg log (u ∷ more) pos =
     let r = tail_twice seg (log ++ u ∷ []) more pos in
@@ -47,21 +45,19 @@ tail_twice seg log (u ∷ more) pos =
 pub ring_pos : (ring : RingState) (log : Log) → IsRingOf ring log → 0 < ring.seg
 ring_pos ring log h = let s = h.segment in omega arith
 
--- a unit that a writer puts isn't refused, where what is still to be put is fit and has room
-put_has_room : (ring : RingState) (writers : List (Option Log)) (k : ℕ) (u : LogUnit) → 0 < ring.seg → AreFit unit_words ring.seg (waiting writers) → ring.tail + 2 * word_count (waiting writers) ≤ last_tail → put_by k writers ≡ u ∷ [] → put_fault ring u ≡ None
-put_has_room ring writers k u pos fit room e =
-    let w : ℕ = length (unit_words u) in
-    let f = subst (AreFit unit_words ring.seg) e (put_is_fit ring.seg k writers fit).0 in
-    let fits : w ≤ ring.seg = f.0.1 in
+-- a unit that the writer at a place puts isn't refused
+pub room_at : (ring : RingState) (writers : List (Option Log)) (log : Log) (k place : ℕ) (w : Option Log) (u : LogUnit) → AreAt ring writers log → IsWriterAt writers k place w → put_by 0 (w ∷ []) ≡ u ∷ [] → put_fault ring u ≡ None
+room_at ring writers log k place w u h at alone =
+    let e : put_by k writers ≡ u ∷ [] = puts_at writers k place w at ∙ alone in
+    let size : ℕ = length (unit_words u) in
+    let f = subst (AreFit unit_words ring.seg) e (put_is_fit ring.seg k writers h.fit).0 in
+    let fits : size ≤ ring.seg = f.0.1 in
+    let room = h.room in
     let words = put_words k writers in
     let same = ap word_count e in
-    let twice = end_twice ring.seg ring.tail w pos in
-    let low : end_at ring.seg ring.tail w ≤ last_tail = omega arith in
-    rw (le-ltb ring.seg w fits, le-ltb last_tail (end_at ring.seg ring.tail w) low) refl
-
--- nor is that of the writer at a place
-pub room_at : (ring : RingState) (writers : List (Option Log)) (drawn : Option ℕ) (s : Written) (k place : ℕ) (w : Option Log) (u : LogUnit) → AreAt ring writers drawn s → IsWriterAt writers k place w → put_by 0 (w ∷ []) ≡ u ∷ [] → put_fault ring u ≡ None
-room_at ring writers drawn s k place w u h at e = put_has_room ring s.writers k u (ring_pos ring s.log h.in_ring) h.fit h.room (ap (put_by k) (sym h.writers_are) ∙ (puts_at writers k place w at ∙ e))
+    let twice = end_twice ring.seg ring.tail size (ring_pos ring log h.in_ring) in
+    let low : end_at ring.seg ring.tail size ≤ last_tail = omega arith in
+    rw (le-ltb ring.seg size fits, le-ltb last_tail (end_at ring.seg ring.tail size) low) refl
 
 -- a writer had a turn: what it put is in the ring, which ends with the last writer; so many have not left then
 pub record Wrote (old : RingState) (waited : List (Option Log)) (k left : ℕ) (ring : RingState) (writers : List (Option Log)) : Type 0 where
@@ -70,7 +66,7 @@ pub record Wrote (old : RingState) (waited : List (Option Log)) (k left : ℕ) (
   pub rest : writers ≡ without_next k waited
   pub count : left ≡ count_writers writers
   pub ended : ring.ended ≡ eqb (count_writers writers) 0
-  pub fewer : length (waiting writers) + count_writers writers + 1 ≡ length (waiting waited) + count_writers waited
+  pub fewer : count_turns writers + 1 ≡ count_turns waited
 
 -- so had one that is found by its place
 pub wrote_at : (old : RingState) (waited : List (Option Log)) (k place active left : ℕ) (w after : Option Log) (ring : RingState) → IsWriterAt waited k place w → k < count_writers waited → active ≡ count_writers waited → ring.seg ≡ old.seg
@@ -80,10 +76,10 @@ wrote_at old waited k place active left w after ring at below counted seg put al
     let puts = puts_at waited k place w at in
     let rest = leaves_at waited k place w after at alone in
     let a = leave_counts k waited below in
-    let b = put_length k waited in
     let c = ap (λ (l : Log). length l) puts in
     let d = ap count_writers rest in
-    let e = ap (λ (l : List (Option Log)). length (waiting l)) rest in
+    let e = ap count_turns rest in
+    let less = turn_less k waited below in
     let count : left ≡ count_writers (set waited place after) = omega arith in
     record {
       seg = seg;
@@ -95,27 +91,21 @@ wrote_at old waited k place active left w after ring at below counted seg put al
     }
 
 -- where writers stand then
-pub at_written : (ring : RingState) (writers : List (Option Log)) (k left : ℕ) (drawn then_drawn : Option ℕ) (ring' : RingState) (writers' : List (Option Log)) (s t : Written) → AreAt ring writers drawn s → Wrote ring writers k left ring' writers'
-    → t.log ≡ s.log → t.writers ≡ s.writers → ((x : ℕ) → then_drawn ≡ Some x → x ≡ t.drawn) → AreAt ring' writers' then_drawn (written_by k t)
-at_written ring writers k left drawn then_drawn ring' writers' s t h wrote log_is ws_is drawn_is =
-    let same : writers ≡ t.writers = h.writers_are ∙ sym ws_is in
-    let is : IsRingOf ring' (t.log ++ put_by k t.writers) = subst (λ (l : List (Option Log)). IsRingOf ring' (t.log ++ put_by k l)) same (wrote.put t.log (subst (IsRingOf ring) (sym log_is) h.in_ring)) in
-    let rest : writers' ≡ without_next k t.writers = wrote.rest ∙ ap (without_next k) same in
-    let fit : AreFit unit_words ring.seg (waiting t.writers) = subst (λ (l : List (Option Log)). AreFit unit_words ring.seg (waiting l)) (sym ws_is) h.fit in
-    let words = put_words k t.writers in
-    let moved = tail_twice ring.seg t.log (put_by k t.writers) (ring_pos ring s.log h.in_ring) in
+pub at_written : (ring : RingState) (writers : List (Option Log)) (k left : ℕ) (ring' : RingState) (writers' : List (Option Log)) (log : Log) → AreAt ring writers log → Wrote ring writers k left ring' writers' → AreAt ring' writers' (log ++ put_by k writers)
+at_written ring writers k left ring' writers' log h wrote =
+    let is : IsRingOf ring' (log ++ put_by k writers) = wrote.put log h.in_ring in
+    let words = put_words k writers in
+    let moved = tail_twice ring.seg log (put_by k writers) (ring_pos ring log h.in_ring) in
     let was = h.in_ring.tail_is in
-    let log_tail = ap (tail unit_words ring.seg) log_is in
     let now = is.tail_is in
-    let segs = ap (λ (g : ℕ). tail unit_words g (t.log ++ put_by k t.writers)) wrote.seg in
+    let segs = ap (λ (g : ℕ). tail unit_words g (log ++ put_by k writers)) wrote.seg in
     let room = h.room in
-    let waits = ap (λ (l : List (Option Log)). word_count (waiting l)) ws_is in
+    let rest = ap (λ (l : List (Option Log)). word_count (waiting l)) wrote.rest in
+    let fit = subst (AreFit unit_words ring.seg) (ap waiting (sym wrote.rest)) (put_is_fit ring.seg k writers h.fit).1 in
     record {
       in_ring = is;
-      ended = wrote.ended ∙ ap (λ (l : List (Option Log)). eqb (count_writers l) 0) rest;
-      writers_are = rest;
-      drawn_is = drawn_is;
-      fit = subst (λ (g : ℕ). AreFit unit_words g (waiting (without_next k t.writers))) (sym wrote.seg) (put_is_fit ring.seg k t.writers fit).1;
+      ended = wrote.ended;
+      fit = subst (λ (g : ℕ). AreFit unit_words g (waiting writers')) (sym wrote.seg) fit;
       room = omega arith;
     }
 
@@ -124,7 +114,9 @@ pub at_writer : (r : ReplayState) (k left : ℕ) (ring : RingState) (writers : L
 at_writer r k left ring writers s wrote h =
     let pos : 0 < r.cursor.seg = (let p = ring_pos r.ring s.log h.wrote.in_ring in let e = h.same in omega arith) in
     record {
-      wrote = at_written r.ring r.writers k left r.drawn r.drawn ring writers (written_at s) (written_at s) h.wrote wrote refl refl h.wrote.drawn_is;
+      wrote = subst (λ (l : List (Option Log)). AreAt ring writers (s.log ++ put_by k l)) h.writers (at_written r.ring r.writers k left ring writers s.log h.wrote wrote);
+      writers = wrote.rest ∙ ap (without_next k) h.writers;
+      drawn = h.drawn;
       same = h.same ∙ sym wrote.seg;
       cursor = stays_longer (λ l. Stands r.cursor l s.number) (λ l u. stands_longer r.cursor l u s.number pos) s.log (put_by k s.writers) h.cursor;
       place = h.place;
@@ -145,8 +137,7 @@ steady_writer r k active left ring writers wrote h = record {
 -- fewer turns are to come
 pub fewer_writer : (r old : ReplayState) (k left : ℕ) (ring : RingState) (writers : List (Option Log)) → r ≡ old → Wrote r.ring r.writers k left ring writers → turns_to_come (record r { ring = ring; writers = writers; reading = Reads }) < turns_to_come old
 fewer_writer r old k left ring writers same wrote =
-    let less : turns_to_come (record r { ring = ring; writers = writers; reading = Reads }) < turns_to_come r = (let fewer = wrote.fewer in omega arith) in
-    subst (λ (o : ReplayState). turns_to_come (record r { ring = ring; writers = writers; reading = Reads }) < turns_to_come o) same less
+    subst (λ (o : ReplayState). turns_to_come (record r { ring = ring; writers = writers; reading = Reads }) < turns_to_come o) same (let fewer = wrote.fewer in omega arith)
 
 -- what a writer's turn leads to
 pub writer_inside : (k : ℕ) (r old new : ReplayState) → r ≡ old → ((s : Stage) → IsAt r s → IsAt new (after_writer k s)) → (s : Stage) → IsAt old s → IsAt new (after_writer k s)
@@ -154,31 +145,20 @@ writer_inside k r old new same at = subst (λ (o : ReplayState). (s : Stage) →
 
 -- ---- before the first turn
 
--- what was drawn is what a seed begins with
-first_drawn : (order : Option ℕ) (x : ℕ) → option_map first_draw order ≡ Some x → x ≡ first_draw (seed_of order)
-first_drawn None x e = cc e
-first_drawn (Some seed) x e = sym (same_Some (first_draw seed) x e)
-
--- turns are drawn where there is a seed, and where one was
-pub still_drawn : (f : ℕ → ℕ) (order : Option ℕ) → is_drawn (option_map f order) ≡ is_drawn order
-still_drawn f None = refl
-still_drawn f (Some seed) = refl
-
 -- no writer has left
 pub counts_first : (feeds : List Log) (writers : List (Option Log)) (active : ℕ) → writers ≡ map Some feeds → active ≡ length writers → active ≡ count_writers writers
 counts_first feeds writers active ws count = count ∙ (ap (λ (l : List (Option Log)). length l) ws ∙ (length-map feeds Some ∙ (sym (first_count feeds) ∙ ap count_writers (sym ws))))
 
 -- where writers stand
-pub at_first : (seg : ℕ) (order : Option ℕ) (feeds : List Log) (ring : RingState) (writers : List (Option Log)) (active : ℕ) (drawn : Option ℕ) → All (AreFit unit_words seg) feeds → 2 * count_feed_words feeds ≤ last_tail → ring.seg ≡ seg → IsRingOf ring []
-    → ring.ended ≡ eqb active 0 → writers ≡ map Some feeds → active ≡ length writers → drawn ≡ option_map first_draw order → AreAt ring writers drawn (nothing_written (seed_of order) feeds)
-at_first seg order feeds ring writers active drawn fit few seg_is empty ended ws count draws =
-    let words = first_words feeds in
+pub at_first : (seg : ℕ) (feeds : List Log) (ring : RingState) (writers : List (Option Log)) (active : ℕ) → All (AreFit unit_words seg) feeds → 2 * count_feed_words feeds ≤ last_tail → ring.seg ≡ seg → IsRingOf ring []
+    → ring.ended ≡ eqb active 0 → writers ≡ map Some feeds → active ≡ length writers → AreAt ring writers []
+at_first seg feeds ring writers active fit few seg_is empty ended ws count =
+    let words = ap (λ (l : List (Option Log)). word_count (waiting l)) ws ∙ first_words feeds in
     let at_zero : ring.tail ≡ 0 = empty.tail_is in
+    let all_fit = subst (AreFit unit_words seg) (ap waiting (sym ws)) (first_is_fit seg feeds fit) in
     record {
       in_ring = empty;
-      ended = ended ∙ ap (λ (n : ℕ). eqb n 0) (counts_first feeds writers active ws count ∙ ap count_writers ws);
-      writers_are = ws;
-      drawn_is = λ x e. first_drawn order x (sym draws ∙ e);
-      fit = subst (λ (g : ℕ). AreFit unit_words g (waiting (map Some feeds))) (sym seg_is) (first_is_fit seg feeds fit);
+      ended = ended ∙ ap (λ (n : ℕ). eqb n 0) (counts_first feeds writers active ws count);
+      fit = subst (λ (g : ℕ). AreFit unit_words g (waiting writers)) (sym seg_is) all_fit;
       room = omega arith;
     }

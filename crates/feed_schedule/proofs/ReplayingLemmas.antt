@@ -1,5 +1,5 @@
 -- What is still to come: at first, and after a turn.
-use Rattle.std.proofs.Common.{◌≡◌, ℕ, zero, suc, ◌*◌, ◌<◌, ◌≤◌, Bool, true, false, eqb, List, [], ◌∷◌, ◌++◌, length, map, sym, ap, ◌∙◌, subst, arith, Option, Some, None, append_assoc}
+use Rattle.std.proofs.Common.{◌≡◌, ℕ, zero, suc, ◌*◌, ◌<◌, ◌≤◌, true, false, eqb, List, [], ◌∷◌, ◌++◌, length, map, sym, ap, ◌∙◌, subst, arith, Option, Some, None, append_assoc}
 use Rattle.std.proofs.lemmas.List.{append-nil, append_cancel_left, length-map}
 use Rattle.std.specs.List.{All}
 use Rattle.std.specs.Option.{option_map}
@@ -13,12 +13,12 @@ use Rattle.traffic_feed.specs.Turns.{first_draw}
 use Rattle.ring_layout.specs.History.{HasRun}
 use Rattle.feed_schedule.specs.declared.replay.Advanced.{Advanced}
 use Rattle.feed_schedule.specs.declared.replay.Advanced.TheVariants.{Took, Overrun, Ended}
-use Rattle.feed_schedule.specs.Schedule.{Event, TookUnit, WasOverrun, Reads, Stage, first_stage, has_ended, after_turn, after_turns, seed_of, is_drawn, IsScheduled, events_of, met}
+use Rattle.feed_schedule.specs.Schedule.{Event, TookUnit, WasOverrun, Reads, Stage, first_stage, has_ended, after_turn, after_turns, IsScheduled, events_of, met}
 use Rattle.feed_schedule.specs.Replaying.{ReplayState, IsAt, IsToCome, Represents, Meets, count_feed_words}
-use Rattle.feed_schedule.specs.inside.Turning.{IsSteady, KeepsOrder, Adds}
+use Rattle.feed_schedule.specs.inside.Turning.{IsSteady, Leads}
 use Rattle.feed_schedule.proofs.TurnLemmas.{turns_after_end}
 use Rattle.feed_schedule.proofs.EventLemmas.{turn_later, events_go_on}
-use Rattle.feed_schedule.proofs.PuttingLemmas.{still_drawn, counts_first, at_first}
+use Rattle.feed_schedule.proofs.PuttingLemmas.{counts_first, at_first}
 
 -- ---- at first
 
@@ -38,9 +38,11 @@ pub record IsNew (r : ReplayState) (active seg : ℕ) (seed : Option ℕ) (feeds
   pub few : 2 * count_feed_words feeds ≤ last_tail
 
 -- it stands before the first turn
-pub at_new : (r : ReplayState) (active seg : ℕ) (seed : Option ℕ) (feeds : List Log) → IsNew r active seg seed feeds → IsAt r (first_stage (seed_of seed) feeds)
+pub at_new : (r : ReplayState) (active seg : ℕ) (seed : Option ℕ) (feeds : List Log) → IsNew r active seg seed feeds → IsAt r (first_stage seed feeds)
 at_new r active seg seed feeds h = record {
-  wrote = at_first seg seed feeds r.ring r.writers active r.drawn h.fit h.few h.seg_is h.empty h.ended h.writers h.counted h.drawn;
+  wrote = at_first seg feeds r.ring r.writers active h.fit h.few h.seg_is h.empty h.ended h.writers h.counted;
+  writers = h.writers;
+  drawn = h.drawn;
   same = h.same;
   cursor = h.stands;
   place = h.place;
@@ -54,70 +56,63 @@ pub steady_new : (r : ReplayState) (active seg : ℕ) (seed : Option ℕ) (feeds
 steady_new r active seg seed feeds h many = record {
   counted = counts_first feeds r.writers active h.writers h.counted;
   few = let a = h.counted in let b = ap (λ (l : List (Option Log)). length l) h.writers in let d = length-map feeds Some in omega arith;
-  stage = first_stage (seed_of seed) feeds;
+  stage = first_stage seed feeds;
   at = at_new r active seg seed feeds h;
 }
 
 -- what comes is what the schedule's history comes to
 pub new_to_come : (r : ReplayState) (active seg : ℕ) (seed : Option ℕ) (feeds : List Log) (log : Log) (history : List (HistoryItem LogUnit)) → IsNew r active seg seed feeds → IsScheduled seg seed feeds log history → Represents r (events_of history)
 new_to_come r active seg seed feeds log history h scheduled =
-    let s : Stage = first_stage (seed_of seed) feeds in
-    let drawing = ap is_drawn h.drawn ∙ still_drawn first_draw seed in
-    let to_come : IsToCome seg (is_drawn seed) s (events_of history) = (scheduled.0, scheduled.1, ap events_of (sym scheduled.3)) in
-    (s, at_new r active seg seed feeds h, subst (λ (b : Bool). IsToCome r.ring.seg b s (events_of history)) (sym drawing) (subst (λ (g : ℕ). IsToCome g (is_drawn seed) s (events_of history)) (sym h.seg_is) to_come))
+    let s : Stage = first_stage seed feeds in
+    (s, at_new r active seg seed feeds h, subst (λ (g : ℕ). IsToCome g s (events_of history)) (sym h.seg_is) (scheduled.0, scheduled.1, ap events_of (sym scheduled.3)))
 
 -- ---- after a turn
 
 -- what is to come of a stage are the events of its turn, and then what is to come after it
-come_after : (n seg : ℕ) (in_turns : Bool) (s : Stage) (events : List Event) → HasRun s.history → has_ended s.reading ≡ false → has_ended (after_turns n seg in_turns s).reading ≡ true → met (after_turns n seg in_turns s) ≡ met s ++ events
-    → (rest : List Event) × IsToCome seg in_turns (after_turn seg in_turns s) rest × (met s ++ events ≡ met (after_turn seg in_turns s) ++ rest)
-come_after zero seg in_turns s events run before e is = cc (e, before)
-come_after (suc n) seg in_turns s events run before e is =
-    let t : Stage = after_turn seg in_turns s in
-    let p = events_go_on n seg in_turns t (turn_later seg in_turns s run).run in
+come_after : (n seg : ℕ) (s : Stage) (events : List Event) → HasRun s.history → has_ended s.reading ≡ false → has_ended (after_turns n seg s).reading ≡ true → met (after_turns n seg s) ≡ met s ++ events
+    → (rest : List Event) × IsToCome seg (after_turn seg s) rest × (met s ++ events ≡ met (after_turn seg s) ++ rest)
+come_after zero seg s events run before e is = cc (e, before)
+come_after (suc n) seg s events run before e is =
+    let p = events_go_on n seg (after_turn seg s) (turn_later seg s run).run in
     (p.rest, (n, e, p.is), sym is ∙ p.is)
 
--- a replay whose stage is had its turn by these events represents the others
-turned : (seg : ℕ) (in_turns : Bool) (old new : ReplayState) (t : Stage) (rest : List Event) → IsAt new t → new.ring.seg ≡ seg → is_drawn new.drawn ≡ in_turns → IsToCome seg in_turns t rest → Represents new rest
-turned seg in_turns old new t rest h same drawing c = (t, h, subst (λ (b : Bool). IsToCome new.ring.seg b t rest) (sym drawing) (subst (λ (g : ℕ). IsToCome g in_turns t rest) (sym same) c))
-
 -- at the end nothing is to come
-pub none_to_come : (seg : ℕ) (in_turns : Bool) (s : Stage) (events : List Event) → has_ended s.reading ≡ true → IsToCome seg in_turns s events → events ≡ []
-none_to_come seg in_turns s events ended c = append_cancel_left (met s) events [] (sym c.2 ∙ ap met (turns_after_end c.0 seg in_turns s ended) ∙ sym (append-nil (met s)))
+pub none_to_come : (seg : ℕ) (s : Stage) (events : List Event) → has_ended s.reading ≡ true → IsToCome seg s events → events ≡ []
+none_to_come seg s events ended c = append_cancel_left (met s) events [] (sym c.2 ∙ ap met (turns_after_end c.0 seg s ended) ∙ sym (append-nil (met s)))
 
 -- where the turn met nothing all is still to come, and else the rest of what was
 abbrev pub Goes : Option Advanced → List Event → ReplayState → Type 0
 Goes None events now = Represents now events
 Goes (Some answer) events now = Meets answer events now
 
--- a turn goes on with what is to come
-goes_on : (answer : Option Advanced) (now : ReplayState) (seg : ℕ) (in_turns : Bool) (s : Stage) (events rest : List Event) → IsAt now (after_turn seg in_turns s) → now.ring.seg ≡ seg → is_drawn now.drawn ≡ in_turns
-    → Adds answer now s (after_turn seg in_turns s) → IsToCome seg in_turns (after_turn seg in_turns s) rest → met s ++ events ≡ met (after_turn seg in_turns s) ++ rest → Goes answer events now
-goes_on None now seg in_turns s events rest h same drawing adds c is =
-    let e : events ≡ rest = append_cancel_left (met s) events rest (is ∙ ap (λ (l : List Event). l ++ rest) adds) in
-    subst (Represents now) (sym e) (turned seg in_turns now now (after_turn seg in_turns s) rest h same drawing c)
-goes_on (Some Took) now seg in_turns s events rest h same drawing adds c is =
+-- a turn from a stage to another goes on with what is to come
+goes_on : (answer : Option Advanced) (now : ReplayState) (s t : Stage) (events rest : List Event) → Leads answer now s t → IsToCome now.ring.seg t rest → met s ++ events ≡ met t ++ rest → Goes answer events now
+goes_on None now s t events rest leads c is =
+    let e : events ≡ rest = append_cancel_left (met s) events rest (is ∙ ap (λ (l : List Event). l ++ rest) leads.1) in
+    subst (Represents now) (sym e) (t, leads.0, c)
+goes_on (Some Took) now s t events rest leads c is =
+    let adds = leads.1 in
     let e : events ≡ TookUnit adds.0 ∷ rest = append_cancel_left (met s) events (TookUnit adds.0 ∷ rest) (is ∙ ap (λ (l : List Event). l ++ rest) adds.1 ∙ append_assoc (met s) (TookUnit adds.0 ∷ []) rest) in
-    (adds.0, rest, e, turned seg in_turns now now (after_turn seg in_turns s) rest h same drawing c, adds.2)
-goes_on (Some (Overrun at seen)) now seg in_turns s events rest h same drawing adds c is =
-    let e : events ≡ WasOverrun at seen ∷ rest = append_cancel_left (met s) events (WasOverrun at seen ∷ rest) (is ∙ ap (λ (l : List Event). l ++ rest) adds ∙ append_assoc (met s) (WasOverrun at seen ∷ []) rest) in
-    (rest, e, turned seg in_turns now now (after_turn seg in_turns s) rest h same drawing c)
-goes_on (Some Ended) now seg in_turns s events rest h same drawing adds c is =
-    let e : events ≡ rest = append_cancel_left (met s) events rest (is ∙ ap (λ (l : List Event). l ++ rest) adds.0) in
-    let none : rest ≡ [] = none_to_come seg in_turns (after_turn seg in_turns s) rest (sym (ap has_ended h.reading) ∙ adds.1) c in
-    (e ∙ none, subst (Represents now) none (turned seg in_turns now now (after_turn seg in_turns s) rest h same drawing c))
+    (adds.0, rest, e, (t, leads.0, c), adds.2)
+goes_on (Some (Overrun at seen)) now s t events rest leads c is =
+    let e : events ≡ WasOverrun at seen ∷ rest = append_cancel_left (met s) events (WasOverrun at seen ∷ rest) (is ∙ ap (λ (l : List Event). l ++ rest) leads.1 ∙ append_assoc (met s) (WasOverrun at seen ∷ []) rest) in
+    (rest, e, (t, leads.0, c))
+goes_on (Some Ended) now s t events rest leads c is =
+    let e : events ≡ rest = append_cancel_left (met s) events rest (is ∙ ap (λ (l : List Event). l ++ rest) leads.1.0) in
+    let none : rest ≡ [] = none_to_come now.ring.seg t rest (sym (ap has_ended leads.0.reading) ∙ leads.1.1) c in
+    (e ∙ none, subst (Represents now) none (t, leads.0, c))
 
 -- a turn before the end goes on with what is to come
-pub turn_goes_on : (answer : Option Advanced) (old new : ReplayState) (events : List Event) → has_ended old.reading ≡ false → KeepsOrder old new → ((s : Stage) → IsAt old s → IsAt new (after_turn old.ring.seg (is_drawn old.drawn) s))
-    → ((s : Stage) → IsAt old s → Adds answer new s (after_turn old.ring.seg (is_drawn old.drawn) s)) → Represents old events → Goes answer events new
-turn_goes_on answer old new events before order at adds c =
+pub turn_goes_on : (answer : Option Advanced) (old new : ReplayState) (events : List Event) → has_ended old.reading ≡ false → new.ring.seg ≡ old.ring.seg → ((s : Stage) → IsAt old s → Leads answer new s (after_turn old.ring.seg s)) → Represents old events → Goes answer events new
+turn_goes_on answer old new events before same leads c =
     let s : Stage = c.0 in
     let h : IsAt old s = c.1 in
-    let a = come_after c.2.0 old.ring.seg (is_drawn old.drawn) s events h.newest (ap has_ended (sym h.reading) ∙ before) c.2.1 c.2.2 in
-    goes_on answer new old.ring.seg (is_drawn old.drawn) s events a.0 (at s h) order.seg order.drawing (adds s h) a.1 a.2
+    let t : Stage = after_turn old.ring.seg s in
+    let a = come_after c.2.0 old.ring.seg s events h.newest (ap has_ended (sym h.reading) ∙ before) c.2.1 c.2.2 in
+    goes_on answer new s t events a.0 (leads s h) (subst (λ (g : ℕ). IsToCome g t a.0) (sym same) a.1) a.2
 
 -- a replay that has ended represents nothing
 pub end_represents : (r : ReplayState) (events : List Event) → has_ended r.reading ≡ true → Represents r events → Meets Ended events r
 end_represents r events ended c =
-    let none : events ≡ [] = none_to_come r.ring.seg (is_drawn r.drawn) c.0 events (sym (ap has_ended c.1.reading) ∙ ended) c.2 in
+    let none : events ≡ [] = none_to_come r.ring.seg c.0 events (sym (ap has_ended c.1.reading) ∙ ended) c.2 in
     (none, subst (Represents r) none c)

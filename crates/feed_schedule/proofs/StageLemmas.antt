@@ -6,7 +6,7 @@
 -- The measure falls with each turn before the end. It counts, with weights, the units still to be put and the writers that have not left; the units that the reader has still to pass; and whether
 -- the reader may have a turn. A writer's turn lessens the first. The reader passes a unit or more, or stops having turns until a writer has one. An overrun passes a unit too: the one that is due
 -- starts at most one segment after the reader's place, and the reader goes on two segments after it or later.
-use Rattle.std.proofs.Common.{◌≡◌, ℕ, ◌+◌, ◌-◌, ◌*◌, ◌/◌, ◌<◌, Bool, true, false, cond, eqb, List, length, slice_get, refl, ap, ⊎_elim, inl, inr, arith, Some, None, length-append}
+use Rattle.std.proofs.Common.{◌≡◌, ℕ, ◌+◌, ◌-◌, ◌*◌, ◌/◌, ◌<◌, true, false, cond, eqb, List, length, slice_get, refl, ap, ⊎_elim, inl, inr, arith, Option, Some, None, length-append}
 use Rattle.std.proofs.lemmas.Bool.{cond_both, cases_Bool, leb-true}
 use Rattle.std.proofs.lemmas.Option.{slice_get_within}
 use Rattle.std.specs.List.{All}
@@ -35,8 +35,8 @@ turns_left s = 4 * (length (waiting s.writers) + count_writers s.writers) + 2 * 
 
 module _ (seg : ℕ) (pos : 0 < seg) where
   -- before the first turn
-  pub sound_first : (seed : ℕ) (feeds : List Log) → All (AreFit unit_words seg) feeds → IsSound seg (first_stage seed feeds)
-  sound_first seed feeds fit = record {
+  pub sound_first : (order : Option ℕ) (feeds : List Log) → All (AreFit unit_words seg) feeds → IsSound seg (first_stage order feeds)
+  sound_first order feeds fit = record {
     stands = stands_first seg pos;
     fit = tt;
     to_put = first_is_fit seg feeds fit;
@@ -85,11 +85,11 @@ module _ (seg : ℕ) (pos : 0 < seg) where
   }
 
   -- each turn keeps a stage sound
-  pub sound_turn : (in_turns : Bool) (s : Stage) → IsSound seg s → IsSound seg (after_turn seg in_turns s)
-  sound_turn in_turns s h = turn_cases (IsSound seg) seg in_turns s h.may (λ e. h) (λ k x l. sound_writer k (record s { drawn = x }) (sound_drawn s x h))
+  pub sound_turn : (s : Stage) → IsSound seg s → IsSound seg (after_turn seg s)
+  sound_turn s h = turn_cases (IsSound seg) seg s h.may (λ e. h) (λ k x l. sound_writer k (record s { drawn = x }) (sound_drawn s x h))
       (λ x reads. let t : Stage = record s { drawn = x } in let d = sound_drawn s x h in reader_cases (IsSound seg) seg t (λ e. sound_overrun t reads e d) (λ u e f. sound_taken t u reads f d) (λ e f. sound_met_end t f d))
     where
-      sound_drawn : (s : Stage) (x : ℕ) → IsSound seg s → IsSound seg (record s { drawn = x })
+      sound_drawn : (s : Stage) (x : Option ℕ) → IsSound seg s → IsSound seg (record s { drawn = x })
       sound_drawn s x h = record { stands = h.stands; fit = h.fit; to_put = h.to_put; may = h.may; all = h.all }
 
   -- each kind of turn lessens what is left: a writer's
@@ -115,11 +115,11 @@ module _ (seg : ℕ) (pos : 0 < seg) where
       (λ r. 4 * (length (waiting s.writers) + count_writers s.writers) + 2 * (length s.log + length (waiting s.writers) - s.number) + cond (is_reading r) 1 0 < turns_left s) (λ e. omega arith) (λ e. omega arith)
 
   -- each turn before the end lessens what is left
-  pub turn_falls : (in_turns : Bool) (s : Stage) → IsSound seg s → has_ended s.reading ≡ false → turns_left (after_turn seg in_turns s) < turns_left s
-  turn_falls in_turns s h before = turn_cases (λ t. turns_left t < turns_left s) seg in_turns s h.may (λ e. cc (e, before)) (λ k x l. falls_writer k s l h)
+  pub turn_falls : (s : Stage) → IsSound seg s → has_ended s.reading ≡ false → turns_left (after_turn seg s) < turns_left s
+  turn_falls s h before = turn_cases (λ t. turns_left t < turns_left s) seg s h.may (λ e. cc (e, before)) (λ k x l. falls_writer k s l h)
       (λ x reads. reader_cases (λ t. turns_left t < turns_left s) seg (record s { drawn = x }) (λ e. falls_overrun s e h) (λ u e f. falls_taken s u f h) (λ e f. falls_met_end s reads))
 
   -- turns come to an end
-  pub turns_end : (in_turns : Bool) (s : Stage) → IsSound seg s → (n : ℕ) × (has_ended (after_turns n seg in_turns s).reading ≡ true)
-  turns_end in_turns s h = come_to_end (turns_left s) (after_turn seg in_turns) s (IsSound seg) (λ t. has_ended t.reading ≡ true) turns_left
-      (λ t sound. ⊎_elim (λ e. inl e) (λ before. inr (sound_turn in_turns t sound, turn_falls in_turns t sound before)) (cases_Bool (has_ended t.reading))) h (omega arith)
+  pub turns_end : (s : Stage) → IsSound seg s → (n : ℕ) × (has_ended (after_turns n seg s).reading ≡ true)
+  turns_end s h = come_to_end (turns_left s) (after_turn seg) s (IsSound seg) (λ t. has_ended t.reading ≡ true) turns_left
+      (λ t sound. ⊎_elim (λ e. inl e) (λ before. inr (sound_turn t sound, turn_falls t sound before)) (cases_Bool (has_ended t.reading))) h (omega arith)

@@ -1,11 +1,12 @@
 -- The kinds of turns, and turns one after another.
-use Rattle.std.proofs.Common.{◌≡◌, ◌⊎◌, ℕ, zero, suc, ◌+◌, ◌%◌, ◌<◌, ◌≤◌, Bool, true, false, cond, eqb, ltb, slice_get, sym, refl, ap, ◌∙◌, ⊎_elim, arith, Option, Some, None}
+use Rattle.std.proofs.Common.{◌≡◌, ◌⊎◌, ℕ, zero, suc, ◌+◌, ◌<◌, ◌≤◌, Bool, true, false, cond, eqb, ltb, slice_get, sym, refl, ap, ◌∙◌, ⊎_elim, arith, Option, Some, None}
 use Rattle.std.proofs.lemmas.Bool.{cond_both, ltb-true, ltb-false, eqb-true, eqb-false}
 use Rattle.std.proofs.lemmas.Nat.{mod_below}
 use Rattle.std.specs.Fn.{iterate}
+use Rattle.std.specs.Option.{option_map}
 use Rattle.vsl_record.specs.Unit.{LogUnit}
 use Rattle.traffic_feed.specs.Turns.{next_draw}
-use Rattle.feed_schedule.specs.Schedule.{Stage, Reading, Reads, Waits, Ended, count_writers, after_writer, after_taking, is_overrun, after_overrun, after_reader, is_reading, has_ended, count_active, after_turn_of, after_turn, after_turns}
+use Rattle.feed_schedule.specs.Schedule.{Stage, Reading, Reads, Waits, Ended, count_writers, after_writer, after_taking, is_overrun, after_overrun, after_reader, is_reading, has_ended, count_active, after_turn_of, chosen_by, after_turn, after_turns}
 
 -- ---- turns, whatever a turn is
 
@@ -14,11 +15,6 @@ module _ {S : Type 0} where
   pub stays_after : (n : ℕ) (turn : S → S) (s : S) → turn s ≡ s → iterate turn n s ≡ s
   stays_after zero turn s e = refl
   stays_after (suc n) turn s e = ap (iterate turn n) e ∙ stays_after n turn s e
-
-  -- one turn more
-  pub turn_more : (n : ℕ) (turn : S → S) (s : S) → iterate turn (suc n) s ≡ turn (iterate turn n s)
-  turn_more zero turn s = refl
-  turn_more (suc n) turn s = turn_more n turn (turn s)
 
   -- what each turn keeps is so after any number of turns
   pub turns_keep : (P : S → Type 0) (turn : S → S) → ((s : S) → P s → P (turn s)) → (n : ℕ) (s : S) → P s → P (iterate turn n s)
@@ -56,20 +52,22 @@ reads_past Reads writers k l a = refl
 reads_past Waits writers k l a = absurd (omega arith)
 reads_past Ended writers k l a = absurd (omega arith)
 
--- what holds after each turn of a writer, and after each of the reader, holds after that of the k-th
-turn_of_cases : (P : Stage → Type 0) (seg k : ℕ) (s : Stage) → k < count_active s → ((j : ℕ) → j < count_writers s.writers → P (after_writer j s)) → (s.reading ≡ Reads → P (after_reader seg s)) → P (after_turn_of seg k s)
-turn_of_cases P seg k s l writer reader = cond_both (ltb k (count_writers s.writers)) (after_writer k s) (after_reader seg s) P (λ e. writer k (ltb-true k (count_writers s.writers) e))
-    (λ e. reader (reads_past s.reading (count_writers s.writers) k (ltb-false k (count_writers s.writers) e) l))
+-- the one that was chosen may have a turn
+pub chosen_below : (drawn : Option ℕ) (active : ℕ) → 0 < active → chosen_by drawn active < active
+chosen_below None active some = some
+chosen_below (Some x) active some = mod_below (next_draw x) active some
 
 -- what holds of a stage that has ended, after each turn of a writer, and after each of a reader that may have one, holds after a turn
-pub turn_cases : (P : Stage → Type 0) (seg : ℕ) (in_turns : Bool) (s : Stage) → MayStand s.reading (count_writers s.writers) → (has_ended s.reading ≡ true → P s)
-    → ((k x : ℕ) → k < count_writers s.writers → P (after_writer k (record s { drawn = x }))) → ((x : ℕ) → s.reading ≡ Reads → P (after_reader seg (record s { drawn = x }))) → P (after_turn seg in_turns s)
-turn_cases P seg in_turns s may ended writer reader = cond_both (has_ended s.reading) s
-    (cond in_turns (after_turn_of seg (next_draw s.drawn % count_active s) (record s { drawn = next_draw s.drawn })) (after_turn_of seg 0 s)) P ended
-    (λ e. let active : 0 < count_active s = active_or_ended s.reading (count_writers s.writers) may e in
-    cond_both in_turns (after_turn_of seg (next_draw s.drawn % count_active s) (record s { drawn = next_draw s.drawn })) (after_turn_of seg 0 s) P
-    (λ drawn. turn_of_cases P seg (next_draw s.drawn % count_active s) (record s { drawn = next_draw s.drawn }) (mod_below (next_draw s.drawn) (count_active s) active) (λ k. writer k (next_draw s.drawn)) (reader (next_draw s.drawn)))
-    (λ first. turn_of_cases P seg 0 s active (λ k. writer k s.drawn) (reader s.drawn)))
+pub turn_cases : (P : Stage → Type 0) (seg : ℕ) (s : Stage) → MayStand s.reading (count_writers s.writers) → (has_ended s.reading ≡ true → P s)
+    → ((k : ℕ) (x : Option ℕ) → k < count_writers s.writers → P (after_writer k (record s { drawn = x }))) → ((x : Option ℕ) → s.reading ≡ Reads → P (after_reader seg (record s { drawn = x }))) → P (after_turn seg s)
+turn_cases P seg s may ended writer reader =
+    let count : ℕ = count_writers s.writers in
+    let x : Option ℕ = option_map next_draw s.drawn in
+    let k : ℕ = chosen_by s.drawn (count_active s) in
+    let t : Stage = record s { drawn = x } in
+    cond_both (has_ended s.reading) s (after_turn_of seg k t) P ended
+    (λ e. cond_both (ltb k count) (after_writer k t) (after_reader seg t) P (λ l. writer k x (ltb-true k count l))
+    (λ l. reader x (reads_past s.reading count k (ltb-false k count l) (chosen_below s.drawn (count_active s) (active_or_ended s.reading count may e)))))
 
 -- what holds after an overrun, after a unit, and after a turn that meets the end of the log, holds after a turn of the reader
 pub reader_cases : (P : Stage → Type 0) (seg : ℕ) (s : Stage) → (is_overrun seg s ≡ true → P (after_overrun seg s)) → ((u : LogUnit) → is_overrun seg s ≡ false → slice_get s.log s.number ≡ Some u → P (after_taking seg (Some u) s))
@@ -85,14 +83,14 @@ pub end_or_wait : (writers : ℕ) → MayStand (cond (eqb writers 0) Ended Waits
 end_or_wait writers = cond_both (eqb writers 0) Ended Waits (λ r. MayStand r writers) (λ e. eqb-true writers 0 e) (λ e. let some = eqb-false writers 0 e in omega arith)
 
 -- what the reader is about after each kind of turn
-pub turn_may_stand : (seg : ℕ) (in_turns : Bool) (s : Stage) → MayStand s.reading (count_writers s.writers) → MayStand (after_turn seg in_turns s).reading (count_writers (after_turn seg in_turns s).writers)
-turn_may_stand seg in_turns s may = turn_cases (λ t. MayStand t.reading (count_writers t.writers)) seg in_turns s may (λ e. may) (λ k x l. tt)
+pub turn_may_stand : (seg : ℕ) (s : Stage) → MayStand s.reading (count_writers s.writers) → MayStand (after_turn seg s).reading (count_writers (after_turn seg s).writers)
+turn_may_stand seg s may = turn_cases (λ t. MayStand t.reading (count_writers t.writers)) seg s may (λ e. may) (λ k x l. tt)
     (λ x reads. reader_cases (λ t. MayStand t.reading (count_writers t.writers)) seg (record s { drawn = x }) (λ e. may) (λ u e f. may) (λ e f. end_or_wait (count_writers s.writers)))
 
 -- after the end a turn changes nothing
-pub turn_after_end : (seg : ℕ) (in_turns : Bool) (s : Stage) → has_ended s.reading ≡ true → after_turn seg in_turns s ≡ s
-turn_after_end seg in_turns s e = ap (λ (b : Bool). cond b s (cond in_turns (after_turn_of seg (next_draw s.drawn % count_active s) (record s { drawn = next_draw s.drawn })) (after_turn_of seg 0 s))) e
+pub turn_after_end : (seg : ℕ) (s : Stage) → has_ended s.reading ≡ true → after_turn seg s ≡ s
+turn_after_end seg s e = ap (λ (b : Bool). cond b s (after_turn_of seg (chosen_by s.drawn (count_active s)) (record s { drawn = option_map next_draw s.drawn }))) e
 
 -- nor do turns
-pub turns_after_end : (n seg : ℕ) (in_turns : Bool) (s : Stage) → has_ended s.reading ≡ true → after_turns n seg in_turns s ≡ s
-turns_after_end n seg in_turns s e = stays_after n (after_turn seg in_turns) s (turn_after_end seg in_turns s e)
+pub turns_after_end : (n seg : ℕ) (s : Stage) → has_ended s.reading ≡ true → after_turns n seg s ≡ s
+turns_after_end n seg s e = stays_after n (after_turn seg) s (turn_after_end seg s e)

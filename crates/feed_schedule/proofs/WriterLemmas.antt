@@ -101,13 +101,13 @@ unit_more u j log lists longer l h = record {
     within (suc i) inside = let a = l.as_many in let b = h.are_lists i (omega arith) in omega arith
 
 -- what is put in a turn, before an interleaving of what is left to put then, is an interleaving of what was left to put
-turn_interleaves : (k : ℕ) (writers : List (Option Log)) (log : Log) → IsInterleaving log (left_to_put (without_next k writers)) → IsInterleaving (put_by k writers ++ log) (left_to_put writers)
+pub turn_interleaves : (k : ℕ) (writers : List (Option Log)) (log : Log) → IsInterleaving log (left_to_put (without_next k writers)) → IsInterleaving (put_by k writers ++ log) (left_to_put writers)
 turn_interleaves k writers log h = let lists : List Log = left_to_put (without_next k writers) in let longer : List Log = left_to_put writers in
     ⊎_elim (λ (a : (put_by k writers ≡ []) × (lists ≡ longer)). subst (λ l. IsInterleaving (l ++ log) longer) (sym a.0) (subst (λ l. IsInterleaving log l) a.1 h))
     (λ (b : (u : LogUnit) × (j : ℕ) × (put_by k writers ≡ u ∷ []) × IsLonger u j lists longer). subst (λ l. IsInterleaving (l ++ log) longer) (sym b.2) (unit_more b.0 b.1 log lists longer b.3 h)) (puts_from k writers)
 
 -- nothing is an interleaving of lists of nothing
-nothing_interleaves : (writers : List (Option Log)) → count_writers writers ≡ 0 → IsInterleaving [] (left_to_put writers)
+pub nothing_interleaves : (writers : List (Option Log)) → count_writers writers ≡ 0 → IsInterleaving [] (left_to_put writers)
 nothing_interleaves writers e = record { owners = []; one_each = refl; are_lists = λ i inside. absurd (omega arith); whole = λ i inside. all_left writers i e inside }
 
 -- ---- from a turn to the end

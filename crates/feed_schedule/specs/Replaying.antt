@@ -1,5 +1,5 @@
 -- What feeds that are replayed over a ring come to (this project's choice).
-use Rattle.std.specs.Prelude.{◌≡◌, ℕ, ◌+◌, ◌*◌, ◌<◌, ◌≤◌, ◌==◌, Bool, true, List, [], ◌∷◌, ◌++◌, Option, Some, None}
+use Rattle.std.specs.Prelude.{◌≡◌, ℕ, ◌+◌, ◌*◌, ◌<◌, ◌≤◌, ◌==◌, true, List, [], ◌∷◌, ◌++◌, Option, Some, None}
 use Rattle.std.specs.List.{sum_by}
 use Rattle.vsl_record.specs.Unit.{LogUnit, Log}
 use Rattle.vsl_record.specs.Words.{unit_words}
@@ -11,8 +11,7 @@ use Rattle.traffic_feed.specs.Listing.{word_count}
 use Rattle.feed_schedule.specs.declared.replay.Advanced.{Advanced}
 use Rattle.feed_schedule.specs.declared.replay.Advanced.TheVariants.{Took, Overrun, Ended}
 use Rattle.ring_layout.specs.History.{HasRun}
-use Rattle.feed_schedule.specs.Schedule.{Event, TookUnit, WasOverrun, Reading, Waits, Stage, after_turns, count_writers, has_ended, is_drawn, met}
-use Rattle.feed_schedule.specs.Unread.{Written}
+use Rattle.feed_schedule.specs.Schedule.{Event, TookUnit, WasOverrun, Reading, Waits, Stage, after_turns, count_writers, has_ended, met}
 
 -- how many words the units of feeds have
 abbrev pub count_feed_words : List Log → ℕ
@@ -34,22 +33,18 @@ pub record ReplayState : Type 0 where
   pub drawn : Option ℕ
 
 -- writers stand between two turns: what was put is in the ring, and what is still to be put can be
-pub record AreAt (ring : RingState) (writers : List (Option Log)) (drawn : Option ℕ) (s : Written) : Type 0 where
-  pub in_ring : IsRingOf ring s.log
-  pub ended : ring.ended ≡ (count_writers s.writers == 0)
-  pub writers_are : writers ≡ s.writers
-  pub drawn_is : (x : ℕ) → drawn ≡ Some x → x ≡ s.drawn
+pub record AreAt (ring : RingState) (writers : List (Option Log)) (log : Log) : Type 0 where
+  pub in_ring : IsRingOf ring log
+  pub ended : ring.ended ≡ (count_writers writers == 0)
   -- no unit has more words than a segment, and a unit moves the tail by at most twice its words
-  pub fit : AreFit unit_words ring.seg (waiting s.writers)
-  pub room : ring.tail + 2 * word_count (waiting s.writers) ≤ last_tail
-
--- what writers did up to a stage
-abbrev pub written_at : Stage → Written
-written_at s = record { log = s.log; writers = s.writers; drawn = s.drawn }
+  pub fit : AreFit unit_words ring.seg (waiting writers)
+  pub room : ring.tail + 2 * word_count (waiting writers) ≤ last_tail
 
 -- a replay stands between two turns
 pub record IsAt (r : ReplayState) (s : Stage) : Type 0 where
-  pub wrote : AreAt r.ring r.writers r.drawn (written_at s)
+  pub wrote : AreAt r.ring r.writers s.log
+  pub writers : r.writers ≡ s.writers
+  pub drawn : r.drawn ≡ s.drawn
   pub same : r.cursor.seg ≡ r.ring.seg
   pub cursor : Stands r.cursor s.log s.number
   pub place : r.cursor.place ≡ s.place
@@ -59,12 +54,12 @@ pub record IsAt (r : ReplayState) (s : Stage) : Type 0 where
   pub newest : HasRun s.history
 
 -- what is still to come of a stage: the events of its turns, up to the reader's end
-abbrev pub IsToCome : ℕ → Bool → Stage → List Event → Type 0
-IsToCome seg in_turns s events = (n : ℕ) × (has_ended (after_turns n seg in_turns s).reading ≡ true) × (met (after_turns n seg in_turns s) ≡ met s ++ events)
+abbrev pub IsToCome : ℕ → Stage → List Event → Type 0
+IsToCome seg s events = (n : ℕ) × (has_ended (after_turns n seg s).reading ≡ true) × (met (after_turns n seg s) ≡ met s ++ events)
 
 -- these events are still to come
 abbrev pub Represents : ReplayState → List Event → Type 0
-Represents r events = (s : Stage) × IsAt r s × IsToCome r.ring.seg (is_drawn r.drawn) s events
+Represents r events = (s : Stage) × IsAt r s × IsToCome r.ring.seg s events
 
 -- what the reader met was the first of the events that were to come, and the others still are; at the end none was to come. What was taken stands in the cursor
 abbrev pub Meets : Advanced → List Event → ReplayState → Type 0

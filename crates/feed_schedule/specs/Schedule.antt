@@ -2,6 +2,7 @@
 -- over the line of places alone. `seg` is the number of words of a segment.
 use Rattle.std.specs.Prelude.{◌≡◌, ℕ, zero, suc, ◌+◌, ◌-◌, ◌/◌, ◌%◌, ◌==◌, nat_lt, nat_le, if◌then◌else◌, Bool, true, false, List, [], ◌∷◌, ◌++◌, map, take, reverse, slice_get, unwrap_or, Option, Some, None}
 use Rattle.std.specs.Fn.{iterate}
+use Rattle.std.specs.Option.{option_map}
 use Rattle.vsl_record.specs.Unit.{LogUnit, Log}
 use Rattle.vsl_record.specs.Words.{unit_words}
 use Rattle.ring_layout.specs.declared.history.HistoryItem.{HistoryItem}
@@ -36,19 +37,19 @@ pub record Stage : Type 0 where
   pub reading : Reading
   -- what the reader took, the newest first
   pub history : List (HistoryItem LogUnit)
-  -- the number that was drawn last
-  pub drawn : ℕ
+  -- the number that was drawn last, where turns are drawn
+  pub drawn : Option ℕ
 
 -- before the first turn
-abbrev pub first_stage : ℕ → List Log → Stage
-first_stage seed feeds = record {
+abbrev pub first_stage : Option ℕ → List Log → Stage
+first_stage order feeds = record {
   log = [];
   writers = map Some feeds;
   number = 0;
   place = 0;
   reading = Reads;
   history = UnitRun (record { segment = 0; first = 0; units = [] }) ∷ [];
-  drawn = first_draw seed;
+  drawn = option_map first_draw order;
 }
 
 -- ---- a writer's turn
@@ -131,34 +132,27 @@ count_active s = count_writers s.writers + (if is_reading s.reading then 1 else 
 abbrev pub after_turn_of : ℕ → ℕ → Stage → Stage
 after_turn_of seg k s = if nat_lt k (count_writers s.writers) then after_writer k s else after_reader seg s
 
--- one turn: feed after feed it is the first's that may have one; in turns it is drawn
-abbrev pub after_turn : ℕ → Bool → Stage → Stage
-after_turn seg in_turns s =
-    if has_ended s.reading then s else
-    (if in_turns then after_turn_of seg (next_draw s.drawn % count_active s) (record s { drawn = next_draw s.drawn }) else after_turn_of seg 0 s)
+-- which of so many that may have a turn has it: feed after feed, which draws nothing, it is the first; in turns it is drawn
+abbrev pub chosen_by : Option ℕ → ℕ → ℕ
+chosen_by None active = 0
+chosen_by (Some x) active = next_draw x % active
+
+-- one turn: its draw is made, and the one that was chosen has it
+abbrev pub after_turn : ℕ → Stage → Stage
+after_turn seg s = if has_ended s.reading then s else after_turn_of seg (chosen_by s.drawn (count_active s)) (record s { drawn = option_map next_draw s.drawn })
 
 -- so many turns
-abbrev pub after_turns : ℕ → ℕ → Bool → Stage → Stage
-after_turns n seg in_turns s = iterate (after_turn seg in_turns) n s
+abbrev pub after_turns : ℕ → ℕ → Stage → Stage
+after_turns n seg s = iterate (after_turn seg) n s
 
 -- ---- the whole
-
--- the seed of an order; feed after feed, which draws nothing, has 0
-abbrev pub seed_of : Option ℕ → ℕ
-seed_of None = 0
-seed_of (Some seed) = seed
-
--- whether an order is drawn
-abbrev pub is_drawn : Option ℕ → Bool
-is_drawn None = false
-is_drawn (Some seed) = true
 
 -- in this order of turns, drawn from a seed on, or none for feed after feed and then the reader, these feeds give this log and this history, the oldest item first
 abbrev pub IsScheduled : ℕ → Option ℕ → List Log → Log → List (HistoryItem LogUnit) → Type 0
 IsScheduled seg order feeds log history =
-    (n : ℕ) × (has_ended (after_turns n seg (is_drawn order) (first_stage (seed_of order) feeds)).reading ≡ true)
-    × (log ≡ (after_turns n seg (is_drawn order) (first_stage (seed_of order) feeds)).log)
-    × (history ≡ reverse (after_turns n seg (is_drawn order) (first_stage (seed_of order) feeds)).history)
+    (n : ℕ) × (has_ended (after_turns n seg (first_stage order feeds)).reading ≡ true)
+    × (log ≡ (after_turns n seg (first_stage order feeds)).log)
+    × (history ≡ reverse (after_turns n seg (first_stage order feeds)).history)
 
 -- what a history's items come to, one after the other
 abbrev pub events_of : List (HistoryItem LogUnit) → List Event

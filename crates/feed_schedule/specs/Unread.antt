@@ -1,36 +1,21 @@
 -- Stated schedules in which nobody reads: writers put the units of their feeds into a ring, one turn after another (this project's choice).
-use Rattle.std.specs.Prelude.{◌≡◌, ℕ, ◌%◌, ◌==◌, if◌then◌else◌, Bool, List, [], ◌++◌, map, Option, Some}
-use Rattle.std.specs.Fn.{iterate}
+use Rattle.std.specs.Prelude.{◌≡◌, ℕ, zero, suc, ◌+◌, List, [], ◌++◌, length, map, Option, Some}
+use Rattle.std.specs.Option.{option_map}
 use Rattle.vsl_record.specs.Unit.{Log}
 use Rattle.traffic_feed.specs.Turns.{first_draw, next_draw}
-use Rattle.feed_schedule.specs.Schedule.{count_writers, put_by, without_next, seed_of, is_drawn}
+use Rattle.feed_schedule.specs.Schedule.{count_writers, put_by, without_next, chosen_by}
+use Rattle.feed_schedule.specs.Replaying.{waiting}
 
--- what stands between two turns: what was put, what each writer has still to put, and the number that was drawn last
-pub record Written : Type 0 where
-  pub log : Log
-  pub writers : List (Option Log)
-  pub drawn : ℕ
+-- how many turns writers still have: each unit is put in one, and each writer leaves in one
+abbrev pub count_turns : List (Option Log) → ℕ
+count_turns writers = length (waiting writers) + count_writers writers
 
--- before the first turn
-abbrev pub nothing_written : ℕ → List Log → Written
-nothing_written seed feeds = record { log = []; writers = map Some feeds; drawn = first_draw seed }
-
--- the k-th of the writers that have not left has a turn
-abbrev pub written_by : ℕ → Written → Written
-written_by k s = record s { log = s.log ++ put_by k s.writers; writers = without_next k s.writers }
-
--- one turn: feed after feed it is the first's that has not left; in turns it is drawn; where all have left there is none
-abbrev pub after_write : Bool → Written → Written
-after_write in_turns s =
-    if count_writers s.writers == 0 then s else
-    (if in_turns then written_by (next_draw s.drawn % count_writers s.writers) (record s { drawn = next_draw s.drawn }) else written_by 0 s)
-
--- so many turns
-abbrev pub after_writes : ℕ → Bool → Written → Written
-after_writes n in_turns s = iterate (after_write in_turns) n s
+-- what writers put in so many turns; the first that has not left has each turn, or the one that is drawn, from the number that was drawn last on
+abbrev pub put_in : ℕ → Option ℕ → List (Option Log) → Log
+put_in zero drawn writers = []
+put_in (suc n) drawn writers =
+    put_by (chosen_by drawn (count_writers writers)) writers ++ put_in n (option_map next_draw drawn) (without_next (chosen_by drawn (count_writers writers)) writers)
 
 -- in this order of turns, drawn from a seed on, or none for feed after feed, these feeds give this log, which nobody reads, when all writers have left
 abbrev pub IsUnread : Option ℕ → List Log → Log → Type 0
-IsUnread order feeds log =
-    (n : ℕ) × (count_writers (after_writes n (is_drawn order) (nothing_written (seed_of order) feeds)).writers ≡ 0)
-    × (log ≡ (after_writes n (is_drawn order) (nothing_written (seed_of order) feeds)).log)
+IsUnread order feeds log = log ≡ put_in (count_turns (map Some feeds)) (option_map first_draw order) (map Some feeds)

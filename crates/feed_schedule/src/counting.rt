@@ -2,7 +2,6 @@
 
 ghost use Rattle.std.specs.Prelude.{◌≡◌, ◌*◌, ◌^◌, ◌<◌, ◌≤◌, ℕ, List, [], ◌∷◌, map, length, replicate, Option, IsSome, IfOk};
 ghost use Rattle.std.specs.List.{All};
-ghost use Rattle.std.specs.Option.{option_map};
 ghost use Rattle.vsl_record.specs.Unit.{Log};
 ghost use Rattle.vsl_record.specs.Words.{unit_words};
 ghost use Rattle.ring_layout.specs.Places.{AreFit, last_tail};
@@ -10,13 +9,12 @@ ghost use Rattle.ring_plain.specs.Ring.{count_wraps};
 ghost use Rattle.counter_segments.specs.Sums.{counter_count, most_passes};
 ghost use Rattle.traffic_feed.specs.Listing.{record_count};
 ghost use Rattle.traffic_feed.specs.Counted.{counter_values};
-ghost use Rattle.traffic_feed.specs.Turns.{next_draw};
 ghost use Rattle.feed_schedule.specs.Schedule.{count_writers, without_next};
 ghost use Rattle.feed_schedule.specs.Replaying.{count_feed_words};
-ghost use Rattle.feed_schedule.specs.Unread.{IsUnread};
-ghost use Rattle.feed_schedule.specs.inside.Counting.{tally, chosen_by, IsSound, IsCounted, HasWritten, HasTallied, turns_to_come};
+ghost use Rattle.feed_schedule.specs.Unread.{count_turns, IsUnread};
+ghost use Rattle.feed_schedule.specs.inside.Counting.{tally, IsSound, IsCounted, HasWritten, HasTallied};
 
-use crate::replay::{Writer, empty_ring, place_of, turns_of, writers_of};
+use crate::replay::{Writer, choose, empty_ring, place_of, turns_of, writers_of};
 use counter_segments::{CounterPass, Counters, Values, close};
 use log_model::NoMemory;
 use ring_layout::Shape;
@@ -51,19 +49,6 @@ fn count_turn(writer: &Writer, cuts: u64, counts: &mut CounterPass, counters: &C
             count_unit(counts, counters, unit);
         }
         None => count_cuts(counts, counters, cuts),
-    }
-}
-
-/// Whose turn it is, of so many writers that have not left, counted from the first of them.
-fn choose(turns: &mut Option<Turns>, active: u32) -> u32
-    requires { 0 < active }
-    ensures below { result < active }
-    ensures chosen { result ≡ chosen_by turns.old active }
-    ensures drawn { turns.new ≡ option_map next_draw turns.old }
-{
-    match turns {
-        Some(turns) => turns.pick(active),
-        None => 0,
     }
 }
 
@@ -114,17 +99,18 @@ impl Counting {
         requires tallied { (listings : List Listing) × HasTallied listings self.old }
         ensures written { (seg : ℕ) (order : Option ℕ) (feeds : List Log) → HasWritten seg order feeds self.old → HasWritten seg order feeds self.new }
         ensures tallied { (listings : List Listing) → HasTallied listings self.old → HasTallied listings self.new }
-        ensures fewer { turns_to_come self.new < turns_to_come self.old }
+        ensures fewer { count_turns self.new.writers.items < count_turns self.old.writers.items }
     {
         let chosen = choose(&mut self.turns, self.active);
         let place = place_of(&self.writers, chosen);
+        let writer = &mut self.writers[place];
         count_turn(
-            &self.writers[place],
+            writer,
             self.cuts[place],
             &mut self.passes[place],
             &self.counters,
         );
-        self.active = self.writers[place].write(&mut self.ring, self.active);
+        self.active = writer.write(&mut self.ring, self.active);
     }
 
     /// Adds the units that wrapped, when all writers have left; what the counters came to.

@@ -9,10 +9,10 @@ ghost use Rattle.vsl_record.specs.Views.{Spells};
 ghost use Rattle.ring_layout.specs.Places.{AreFit, last_tail};
 ghost use Rattle.ring_layout.specs.declared.history.HistoryItem.{HistoryItem};
 ghost use Rattle.ring_plain.specs.Ring.{IsRingOf, put_fault};
-ghost use Rattle.traffic_feed.specs.Turns.{first_draw};
-ghost use Rattle.feed_schedule.specs.Schedule.{Event, Stage, count_writers, put_by, without_next, is_reading, has_ended, after_writer, after_reader, after_turn, is_drawn, IsScheduled, events_of};
+ghost use Rattle.traffic_feed.specs.Turns.{first_draw, next_draw};
+ghost use Rattle.feed_schedule.specs.Schedule.{Event, Stage, count_writers, put_by, without_next, is_reading, has_ended, count_active, chosen_by, after_writer, after_reader, after_turn, IsScheduled, events_of};
 ghost use Rattle.feed_schedule.specs.Replaying.{IsAt, Meets, Represents, count_feed_words};
-ghost use Rattle.feed_schedule.specs.inside.Turning.{with_draw, choice, KeepsOrder, turns_to_come, Adds};
+ghost use Rattle.feed_schedule.specs.inside.Turning.{with_draw, turns_to_come, Leads};
 
 use log_model::NoMemory;
 use ring_layout::{Shape, Step};
@@ -177,6 +177,19 @@ pub(crate) fn turns_of(seed: Option<u32>) -> Option<Turns>
     seed.map(Turns::new)
 }
 
+/// Whose turn it is, of so many that may have one, counted from the first of them.
+pub(crate) fn choose(turns: &mut Option<Turns>, active: u32) -> u32
+    requires { 0 < active }
+    ensures below { result < active }
+    ensures chosen { result ≡ chosen_by turns.old active }
+    ensures drawn { turns.new ≡ option_map next_draw turns.old }
+{
+    match turns {
+        Some(turns) => turns.pick(active),
+        None => 0,
+    }
+}
+
 /// The place of the writer that has so many before it that have not left, and has not left itself.
 pub(crate) fn place_of(writers: &[Writer], mut behind: u32) -> usize
     requires { behind < count_writers writers.now }
@@ -224,10 +237,10 @@ impl Replay {
     /// Whose turn it is: a writer's, counted from the first that has not left, or behind them the reader's.
     fn choose(&mut self) -> u32
         requires { has_ended self.old.reading ≡ false }
-        ensures stage { (s : Stage) → IsAt self.old s → IsAt self.new (with_draw (is_drawn self.old.drawn) s) }
-        ensures choice { (s : Stage) → IsAt self.old s → result ≡ choice (is_drawn self.old.drawn) s }
+        ensures stage { (s : Stage) → IsAt self.old s → IsAt self.new (with_draw s) }
+        ensures choice { (s : Stage) → IsAt self.old s → result ≡ chosen_by s.drawn (count_active s) }
         ensures reader { count_writers self.old.writers ≤ result → is_reading self.old.reading ≡ true }
-        ensures order { KeepsOrder self.old self.new }
+        ensures seg { self.new.ring.seg ≡ self.old.ring.seg }
         ensures writers { self.new.writers ≡ self.old.writers }
         ensures reading { self.new.reading ≡ self.old.reading }
     {
@@ -235,17 +248,14 @@ impl Replay {
             Reading::Reads => 1,
             Reading::Waits | Reading::Ended => 0,
         };
-        match &mut self.turns {
-            Some(turns) => turns.pick(self.active + reader),
-            None => 0,
-        }
+        choose(&mut self.turns, self.active + reader)
     }
 
     /// A writer has a turn: it puts its next unit, or leaves where none is left.
     fn write(&mut self, chosen: u32)
         requires { chosen < count_writers self.old.writers }
         ensures stage { (s : Stage) → IsAt self.old s → IsAt self.new (after_writer chosen s) }
-        ensures order { KeepsOrder self.old self.new }
+        ensures seg { self.new.ring.seg ≡ self.old.ring.seg }
         ensures fewer { turns_to_come self.new < turns_to_come self.old }
         ensures reads { is_reading self.new.reading ≡ true }
     {
@@ -257,9 +267,8 @@ impl Replay {
     /// The reader has a turn; what it met, unless it waits.
     fn read(&mut self) -> Option<Advanced>
         requires { is_reading self.old.reading ≡ true }
-        ensures stage { (s : Stage) → IsAt self.old s → IsAt self.new (after_reader self.old.ring.seg s) }
-        ensures met { (s : Stage) → IsAt self.old s → Adds result self.new s (after_reader self.old.ring.seg s) }
-        ensures order { KeepsOrder self.old self.new }
+        ensures leads { (s : Stage) → IsAt self.old s → Leads result self.new s (after_reader self.old.ring.seg s) }
+        ensures seg { self.new.ring.seg ≡ self.old.ring.seg }
         ensures fewer { IsNone result → turns_to_come self.new < turns_to_come self.old }
         ensures waits { IsNone result → has_ended self.new.reading ≡ false }
     {
@@ -283,9 +292,8 @@ impl Replay {
     /// One turn; what the reader met, where it was its turn and it doesn't wait.
     fn turn(&mut self) -> Option<Advanced>
         requires { has_ended self.old.reading ≡ false }
-        ensures stage { (s : Stage) → IsAt self.old s → IsAt self.new (after_turn self.old.ring.seg (is_drawn self.old.drawn) s) }
-        ensures met { (s : Stage) → IsAt self.old s → Adds result self.new s (after_turn self.old.ring.seg (is_drawn self.old.drawn) s) }
-        ensures order { KeepsOrder self.old self.new }
+        ensures leads { (s : Stage) → IsAt self.old s → Leads result self.new s (after_turn self.old.ring.seg s) }
+        ensures seg { self.new.ring.seg ≡ self.old.ring.seg }
         ensures fewer { IsNone result → turns_to_come self.new < turns_to_come self.old }
         ensures waits { IsNone result → has_ended self.new.reading ≡ false }
     {

@@ -1,17 +1,16 @@
 -- What writers that count what they put have counted between two turns (this project's choice).
-use Rattle.std.specs.Prelude.{◌≡◌, ℕ, ◌+◌, ◌*◌, ◌%◌, ◌^◌, ◌<◌, List, [], ◌∷◌, map, length, slice_get, Option, Some, None}
+use Rattle.std.specs.Prelude.{◌≡◌, ℕ, ◌+◌, ◌*◌, ◌^◌, ◌<◌, List, [], ◌∷◌, ◌++◌, map, length, slice_get, Option, Some, None}
 use Rattle.std.specs.List.{AllByRecursion, sum_by}
 use Rattle.vsl_record.specs.Unit.{Log}
 use Rattle.ring_plain.specs.Ring.{RingState}
 use Rattle.counter_segments.specs.Sums.{CounterSet, PassSums, counter_count, own_sum}
 use Rattle.traffic_feed.specs.declared.listing.Listing.{Listing}
 use Rattle.traffic_feed.specs.Listing.{record_count}
-use Rattle.traffic_feed.specs.Turns.{next_draw}
 use Rattle.traffic_feed.specs.Counted.{causes, unit_share, cut_raise, listing_share}
 use Rattle.feed_schedule.specs.declared.counting.Counting.{Counting}
-use Rattle.feed_schedule.specs.Schedule.{count_writers, seed_of, is_drawn}
-use Rattle.feed_schedule.specs.Replaying.{AreAt, waiting}
-use Rattle.feed_schedule.specs.Unread.{nothing_written, after_writes}
+use Rattle.feed_schedule.specs.Schedule.{count_writers}
+use Rattle.feed_schedule.specs.Replaying.{AreAt}
+use Rattle.feed_schedule.specs.Unread.{count_turns, put_in, IsUnread}
 
 -- what a writer has still to put, the cuts of its listing, and its pass
 pub record Tally : Type 0 where
@@ -64,18 +63,13 @@ pub record AreTallied (counters : CounterSet) (listings : List Listing) (writers
   pub sound : AllByRecursion (IsSound counters) (tallies writers cuts passes)
   pub shares : (which : ℕ) → which < counter_count → map (whole_share which) (tallies writers cuts passes) ≡ map (listing_share which) listings
 
--- whose turn it is, of so many that have not left, counted from the first of them
-abbrev pub chosen_by : Option ℕ → ℕ → ℕ
-chosen_by None active = 0
-chosen_by (Some x) active = next_draw x % active
-
--- writers, so many of which have not left, stand where some turns of feeds lead, in an order
+-- writers, so many of which have not left, stand where some turns of feeds lead, in an order: what was put, and then what will be, is the log
 pub record HaveWritten (seg : ℕ) (order : Option ℕ) (feeds : List Log) (ring : RingState) (writers : List (Option Log)) (active : ℕ) (drawn : Option ℕ) : Type 0 where
   pub seg_is : ring.seg ≡ seg
-  pub drawing : is_drawn drawn ≡ is_drawn order
   pub counted : active ≡ count_writers writers
-  pub turns : ℕ
-  pub at : AreAt ring writers drawn (after_writes turns (is_drawn order) (nothing_written (seed_of order) feeds))
+  pub log : Log
+  pub at : AreAt ring writers log
+  pub whole : IsUnread order feeds (log ++ put_in (count_turns writers) drawn writers)
 
 -- so does what counts them
 abbrev pub HasWritten : ℕ → Option ℕ → List Log → Counting → Type 0
@@ -84,7 +78,3 @@ HasWritten seg order feeds c = HaveWritten seg order feeds c.ring c.writers.item
 -- what they put is counted by their passes
 abbrev pub HasTallied : List Listing → Counting → Type 0
 HasTallied listings c = AreTallied c.counters listings c.writers.items c.cuts.items c.passes.items
-
--- how many turns may come at most
-abbrev pub turns_to_come : Counting → ℕ
-turns_to_come c = length (waiting c.writers.items) + c.active

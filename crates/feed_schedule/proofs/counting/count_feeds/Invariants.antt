@@ -1,6 +1,7 @@
 use Rattle.std.proofs.Common.{map}
 use Rattle.traffic_feed.specs.declared.listing.Listing.{Listing}
-use Rattle.feed_schedule.specs.inside.Counting.{HasWritten, HasTallied, turns_to_come}
+use Rattle.feed_schedule.specs.Unread.{count_turns}
+use Rattle.feed_schedule.specs.inside.Counting.{HasWritten, HasTallied}
 use Rattle.feed_schedule.proofs.counting.count_feeds.Given as goal
 
 -- some turns were had, and were counted
@@ -11,4 +12,4 @@ invariant-loop-counting l = record {
 }
 
 abbrev pub decreases-loop-counting : goal.decreases-loop-counting
-decreases-loop-counting l = turns_to_come l.counting
+decreases-loop-counting l = count_turns l.counting.writers.items

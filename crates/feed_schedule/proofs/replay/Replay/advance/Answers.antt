@@ -15,10 +15,10 @@ returns-then-eq c = λ events h.
 pub returns-in-Some : goal.returns-in-Some
 returns-in-Some c = λ events h.
     let e = c.in-Some.ensures in
-    turn_goes_on (Some c.in-Some.met) c.loop-met.self c.turn.new.self events c.loop-met.invariant.goes_on e.order e.stage e.met (c.loop-met.invariant.to_come events h)
+    turn_goes_on (Some c.in-Some.met) c.loop-met.self c.turn.new.self events c.loop-met.invariant.goes_on e.seg e.leads (c.loop-met.invariant.to_come events h)
 
 pub loop-met-preserved : goal.loop-met-preserved
 loop-met-preserved c = record {
-  to_come = λ events h. let e = c.in_default.ensures in turn_goes_on None c.loop-met.self c.turn.new.self events c.loop-met.invariant.goes_on e.order e.stage e.met (c.loop-met.invariant.to_come events h);
+  to_come = λ events h. let e = c.in_default.ensures in turn_goes_on None c.loop-met.self c.turn.new.self events c.loop-met.invariant.goes_on e.seg e.leads (c.loop-met.invariant.to_come events h);
   goes_on = search rules;
 }

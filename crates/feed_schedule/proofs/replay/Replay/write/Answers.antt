@@ -8,7 +8,7 @@ use Rattle.feed_schedule.proofs.replay.Replay.write.Goals as goal
 pub write-self-inside-requires-clause-room : goal.write-self-inside-requires-clause-room
 write-self-inside-requires-clause-room c =
     let at = writer_at c.self.inside.writers.items _ _ _ _ c.deref.ensures.value c.place_of-place.ensures.behind c.place_of-place.ensures.writer c.index_mut.ensures.value in
-    λ u e. room_at _ _ _ _ _ _ _ u c.self.invariant.at.wrote at e
+    λ u e. room_at _ _ _ _ _ _ u c.self.invariant.at.wrote at e
 
 pub invariant_of-self : goal.invariant_of-self
 invariant_of-self c =
