@@ -95,31 +95,18 @@ module _ (ring : RingSet) (counters : CounterSet) where
 -- ---- the counters
 
 -- waits raise a counter each by itself, and so do wraps
-wait_more : (o : Option Cause) (a b : ℕ) → wait_raise o (a + b) ≡ wait_raise o a + wait_raise o b
-wait_more None a b = omega arith
-wait_more (Some (EachTag tag)) a b = omega arith
-wait_more (Some EachRequest) a b = omega arith
-wait_more (Some EachFetch) a b = omega arith
-wait_more (Some (EachCall name)) a b = omega arith
-wait_more (Some (EachField n)) a b = omega arith
-wait_more (Some EachRecord) a b = omega arith
-wait_more (Some EachUnit) a b = omega arith
-wait_more (Some EachCut) a b = omega arith
-wait_more (Some EachWait) a b = omega arith
-wait_more (Some EachWrap) a b = omega arith
-
-wrap_more : (o : Option Cause) (a b : ℕ) → wrap_raise o (a + b) ≡ wrap_raise o a + wrap_raise o b
-wrap_more None a b = omega arith
-wrap_more (Some (EachTag tag)) a b = omega arith
-wrap_more (Some EachRequest) a b = omega arith
-wrap_more (Some EachFetch) a b = omega arith
-wrap_more (Some (EachCall name)) a b = omega arith
-wrap_more (Some (EachField n)) a b = omega arith
-wrap_more (Some EachRecord) a b = omega arith
-wrap_more (Some EachUnit) a b = omega arith
-wrap_more (Some EachCut) a b = omega arith
-wrap_more (Some EachWait) a b = omega arith
-wrap_more (Some EachWrap) a b = omega arith
+raises_more : (o : Option Cause) (a b : ℕ) → (wait_raise o (a + b) ≡ wait_raise o a + wait_raise o b) × (wrap_raise o (a + b) ≡ wrap_raise o a + wrap_raise o b)
+raises_more None a b = (omega arith, omega arith)
+raises_more (Some (EachTag tag)) a b = (omega arith, omega arith)
+raises_more (Some EachRequest) a b = (omega arith, omega arith)
+raises_more (Some EachFetch) a b = (omega arith, omega arith)
+raises_more (Some (EachCall name)) a b = (omega arith, omega arith)
+raises_more (Some (EachField n)) a b = (omega arith, omega arith)
+raises_more (Some EachRecord) a b = (omega arith, omega arith)
+raises_more (Some EachUnit) a b = (omega arith, omega arith)
+raises_more (Some EachCut) a b = (omega arith, omega arith)
+raises_more (Some EachWait) a b = (omega arith, omega arith)
+raises_more (Some EachWrap) a b = (omega arith, omega arith)
 
 module _ (ring : RingSet) (counters : CounterSet) where
   -- how many units of a writer of the ring wrapped
@@ -129,7 +116,7 @@ module _ (ring : RingSet) (counters : CounterSet) where
   -- a counter comes to what the listings raise it by, the waits that are told, and the units that wrapped
   counter_is : (which : ℕ) → which < counter_count → (ls : List Listing) (fs : List Fed) → AllFed ring counters ls fs → AreWhole fs
       → total which (counts_of fs) ≡ sum_by (listing_share which) ls + (wait_raise (slice_get causes which) (sum_by (λ (f : Fed). f.busy) fs) + wrap_raise (slice_get causes which) (sum_by wrapped_of (lefts_of fs)))
-  counter_is which below [] [] h w = let a = wait_more (slice_get causes which) 0 0 in let b = wrap_more (slice_get causes which) 0 0 in omega arith
+  counter_is which below [] [] h w = let none = raises_more (slice_get causes which) 0 0 in omega (arith, none.0, none.1)
   counter_is which below [] (f ∷ fs) h w = absurd h
   counter_is which below (l ∷ ls) [] h w = absurd h
   counter_is which below (l ∷ ls) (f ∷ fs) h w =
@@ -137,8 +124,8 @@ module _ (ring : RingSet) (counters : CounterSet) where
       let one = h.0.counted which below in
       let units = ap (sum_by (unit_share which)) (h.0.all w.0) in
       let mine : wrap_raise cause (wraps_of f.left) ≡ wrap_raise cause (wrapped_of f.left) = ap (λ (r : RingSet). wrap_raise cause (count_wrapped r.seg f.left.entries)) h.0.in_ring in
-      let waits = ap (wait_raise cause) (sum_by-cons (λ (g : Fed). g.busy) f fs) ∙ wait_more cause f.busy (sum_by (λ (g : Fed). g.busy) fs) in
-      let wraps = ap (wrap_raise cause) (sum_by-cons wrapped_of f.left (lefts_of fs)) ∙ wrap_more cause (wrapped_of f.left) (sum_by wrapped_of (lefts_of fs)) in
+      let waits = ap (wait_raise cause) (sum_by-cons (λ (g : Fed). g.busy) f fs) ∙ (raises_more cause f.busy (sum_by (λ (g : Fed). g.busy) fs)).0 in
+      let wraps = ap (wrap_raise cause) (sum_by-cons wrapped_of f.left (lefts_of fs)) ∙ (raises_more cause (wrapped_of f.left) (sum_by wrapped_of (lefts_of fs))).1 in
       omega (arith, one, units, mine, waits, wraps, counter_is which below ls fs h.1 w.1, sum_by-cons (own_sum which) f.counts (counts_of fs), sum_by-cons (listing_share which) l ls)
 
   -- so all counters come to what is stated

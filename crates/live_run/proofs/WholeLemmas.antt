@@ -1,17 +1,13 @@
 -- What workers left of a ring that had room for all of their listings: they put them whole, for the tail is at most twice the words that were put.
-use Rattle.std.proofs.Common.{◌≡◌, ℕ, ◌+◌, ◌*◌, ◌/◌, ◌%◌, ◌<◌, ◌≤◌, List, [], ◌∷◌, ◌++◌, length, map, refl, sym, ap, ◌∙◌, subst, arith, Option, None, Some, append_assoc, div-add-mod', mod-lt}
+use Rattle.std.proofs.Common.{◌≡◌, ℕ, ◌+◌, ◌*◌, ◌<◌, ◌≤◌, List, [], ◌∷◌, ◌++◌, length, map, refl, ap, ◌∙◌, subst, arith, Option, None, Some}
 use Rattle.std.specs.List.{AllByRecursion, sum_by}
-use Rattle.std.proofs.lemmas.List.{append-nil}
 use Rattle.std.proofs.lemmas.List.Sums.{sum_by-cons, sum_by-append}
-use mathlib.Core.Logic.{dite}
-use native.Mathlib.Decide.{dec_lt}
 use Rattle.log_model.specs.Interleaving.{IsInterleaving}
 use Rattle.log_model.specs.Prefix.{IsPrefix}
 use Rattle.vsl_record.specs.Unit.{LogUnit, Log}
 use Rattle.vsl_record.specs.Words.{unit_words}
-use Rattle.ring_layout.specs.Places.{end_at, tail, last_tail}
-use Rattle.ring_layout.proofs.PushLemmas.{tail_push}
-use Rattle.ring_layout.proofs.EntriesLemmas.{at_stay, at_wrap}
+use Rattle.ring_layout.specs.Places.{tail, last_tail}
+use Rattle.feed_schedule.proofs.PuttingLemmas.{end_twice, tail_twice}
 use Rattle.log_ring.specs.Ring.{RingSet}
 use Rattle.log_ring.specs.Writers.{WriterState, AreWritersOf, busy_of, entries_of, units_put}
 use Rattle.log_ring.specs.Closed.{ClosedState, HasReached, entries_from}
@@ -28,24 +24,6 @@ use Rattle.live_run.proofs.ListLemmas.{interleaving_sum}
 use Rattle.live_run.proofs.SumLemmas.{told, alone, counted}
 
 -- ---- words
-
--- a unit moves the tail by at most twice its words
-end_twice : (seg t w : ℕ) → 0 < seg → end_at seg t w ≤ t + 2 * w
-end_twice seg t w pos = dite (dec_lt (t % (8 * seg) + w) (8 * seg))
-    (λ l. subst (λ (z : ℕ). z + w ≤ t + 2 * w) (sym (at_stay seg t w l)) (omega arith))
-    (λ n. subst (λ (z : ℕ). z + w ≤ t + 2 * w) (sym (at_wrap seg t w (omega arith)))
-    (let p : t / (8 * seg) * (8 * seg) + t % (8 * seg) ≡ t = div-add-mod' t (8 * seg) in let m : t % (8 * seg) < 8 * seg = mod-lt t (omega arith) in omega arith))
-
--- so do more units
-tail_twice : (seg : ℕ) (log more : Log) → 0 < seg → tail unit_words seg (log ++ more) ≤ tail unit_words seg log + 2 * word_count more
-tail_twice seg log [] pos = subst (λ (l : Log). tail unit_words seg l ≤ tail unit_words seg log + 2 * word_count []) (sym (append-nil log)) (omega arith)
-tail_twice seg log (u ∷ more) pos =
-    let r = tail_twice seg (log ++ u ∷ []) more pos in
-    let a = ap (tail unit_words seg) (append_assoc log (u ∷ []) more) in
-    let b = tail_push unit_words seg log u in
-    let c = end_twice seg (tail unit_words seg log) (length (unit_words u)) pos in
-    let d = sum_by-cons (λ (v : LogUnit). length (unit_words v)) u more in
-    omega arith
 
 -- the first units have no more words than all
 prefix_words : (xs ys : Log) → IsPrefix xs ys → word_count xs ≤ word_count ys
