@@ -4,10 +4,8 @@ mod CutLemmas
 mod FieldLemmas
 mod FormatLemmas
 mod FormatterLemmas
-mod GivenLemmas
 mod PartLemmas
 mod ReadLemmas
-mod TagNameLemmas
 mod TextLemmas
 mod TimeLemmas
 mod WrittenLemmas

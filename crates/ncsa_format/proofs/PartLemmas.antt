@@ -2,9 +2,10 @@
 use Rattle.std.proofs.Common.{◌≡◌, ◌==◌, ◌∙◌, ℕ, List, ◌++◌, length, take, drop, Option, refl, ap, append_assoc}
 use Rattle.std.specs.List.{position_or_len}
 use Rattle.std.proofs.lemmas.List.{take_at}
+use Rattle.vsl_tags.specs.Called.{tag_called}
 use Rattle.vsl_decimal.specs.Prefix.{colon}
 use Rattle.ncsa_format.specs.Formatter.{bracket}
-use Rattle.ncsa_format.specs.Reading.{field_asked, part_asked, prefix_asked, tag_called, tag_part}
+use Rattle.ncsa_format.specs.Reading.{field_asked, part_asked, prefix_asked, tag_part}
 use Rattle.ncsa_format.specs.declared.formatter.Formatter.{Formatter}
 use Rattle.ncsa_format.specs.inside.Cut.{IsCut}
 use Rattle.ncsa_format.proofs.CutLemmas.{behind_is, front_is, place_is}

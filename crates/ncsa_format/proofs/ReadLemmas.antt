@@ -9,6 +9,7 @@ use Rattle.std.proofs.lemmas.Bool.{eqb-true, eqb-false, le-leb, lt-ltb, or_from}
 use Rattle.std.proofs.lemmas.List.Folds.{list_any-append}
 use Rattle.std.proofs.lemmas.Slice.Eq.{bytes_eq-Decides}
 use Rattle.vsl_decimal.specs.Prefix.{colon}
+use Rattle.vsl_tags.proofs.CalledLemmas.{IsPlain-from, tag_found}
 use Rattle.ncsa_format.specs.declared.formatter.Formatter.{Formatter}
 use Rattle.ncsa_format.specs.declared.formatter.Formatter.TheVariants.{Host, LogName, User, Stamp, Time, RequestLine, Method, Path, Query, Protocol, Status, Bytes, Received, Sent, RequestHeader, ResponseHeader, Micros, Seconds, FirstByte, HitMiss, Handling, Mark, Vxid, LogKey, TagPart}
 use Rattle.ncsa_format.specs.declared.formatter.TimeForm.{TimeForm}
@@ -21,7 +22,6 @@ use Rattle.ncsa_format.specs.inside.Cut.{Begins, IsCut}
 use Rattle.ncsa_format.proofs.FieldLemmas.{before_last_push}
 use Rattle.ncsa_format.proofs.FormatterLemmas.{braced_is}
 use Rattle.ncsa_format.proofs.PartLemmas.{part_is}
-use Rattle.ncsa_format.proofs.TagNameLemmas.{IsPlain-from, tag_found}
 use Rattle.ncsa_format.proofs.TimeLemmas.{byte_first}
 
 -- ---- times

@@ -10,22 +10,27 @@ use Rattle.std.proofs.lemmas.List.{append-nil, take-append-drop}
 use Rattle.std.proofs.lemmas.List.Folds.{list_any-append}
 use Rattle.std.proofs.lemmas.Slice.Eq.{bytes_eq-Decides}
 use Rattle.vsl_decimal.specs.Prefix.{colon}
+use Rattle.vsl_tags.specs.Called.{IsTagName, tag_called}
+use Rattle.vsl_tags.proofs.CalledLemmas.{IsTagName-from}
 use Rattle.ncsa_format.specs.declared.formatter.Formatter.{Formatter}
 use Rattle.ncsa_format.specs.declared.formatter.Formatter.TheVariants.{Time, RequestHeader, ResponseHeader, FirstByte, HitMiss, Handling, Mark, Vxid, LogKey}
 use Rattle.ncsa_format.specs.declared.formatter.TimeForm.{TimeForm}
 use Rattle.ncsa_format.specs.declared.formatter.TimeForm.TheVariants as forms
 use Rattle.ncsa_format.specs.declared.formatter.TimePart.{TimePart}
 use Rattle.ncsa_format.specs.declared.formatter.TimePart.TheVariants as parts
-use Rattle.ncsa_format.specs.Formatter.{IsFieldPart, IsForm, IsName, IsPrefixPart, IsTagName, IsWritten, brace, braced, bracket, percent, written_part}
-use Rattle.ncsa_format.specs.Reading.{before_last, begins, behind_name, extra_named, field_asked, field_number, form_named, formatter_at, formatter_lettered, formatter_named, onto, part_asked, part_named, prefix_asked, record_named, tag_called, tag_part, time_parts, with_rest}
+use Rattle.ncsa_format.specs.Formatter.{IsFieldPart, IsForm, IsName, IsPrefixPart, IsWritten, brace, braced, bracket, percent, written_part}
+use Rattle.ncsa_format.specs.Reading.{before_last, begins, behind_name, extra_named, field_asked, field_number, form_named, formatter_at, formatter_lettered, formatter_named, onto, part_asked, part_named, prefix_asked, record_named, tag_part, time_parts, with_rest}
 use Rattle.ncsa_format.specs.inside.Cut.{Begins}
 use Rattle.ncsa_format.proofs.CutLemmas.{cut_of}
 use Rattle.ncsa_format.proofs.FormatterLemmas.{braced_is}
-use Rattle.ncsa_format.proofs.GivenLemmas.{chosen}
 use Rattle.ncsa_format.proofs.PartLemmas.{part_is}
-use Rattle.ncsa_format.proofs.TagNameLemmas.{IsTagName-from}
 
--- one choice, of which the rest is made where it isn't this
+-- one choice
+chosen : {A : Type 0} (P : A → Type 0) (t : Bool) (x : A) (o : Option A) → (t ≡ true → P x) → IfSome o P → IfSome (if t then Some x else o) P
+chosen P true x o here rest = here refl
+chosen P false x o here rest = rest
+
+-- the same, where the rest is made where it isn't this
 chosen_else : {A : Type 0} (P : A → Type 0) (t : Bool) (x : A) (o : Option A) → (t ≡ true → P x) → (t ≡ false → IfSome o P) → IfSome (if t then Some x else o) P
 chosen_else P true x o here rest = here refl
 chosen_else P false x o here rest = rest refl
@@ -148,12 +153,12 @@ prefix_written : (text : List ℕ) → Begins (λ b. b == colon) text → list_a
 prefix_written [] first plain = refl
 prefix_written (b ∷ text) first plain = (ap (λ x. x ∷ text) (eqb-true b colon first), (or_parts _ _ plain).1)
 
-part_made : (t : Option ℕ) (prefix : Option (List ℕ)) (field : Option (Option ℕ)) (text name prefix_text field_text : List ℕ) → text ≡ name ++ prefix_text ++ field_text → IfSome t (λ tag. IsTagName tag name) → IsPrefixPart prefix prefix_text
+part_made : (t : Option ℕ) (prefix : Option (List ℕ)) (field : Option (Option ℕ)) (text name prefix_text field_text : List ℕ) → text ≡ name ++ prefix_text ++ field_text → ((tag : ℕ) → t ≡ Some tag → IsTagName tag name) → IsPrefixPart prefix prefix_text
     → IfSome field (λ f. IsFieldPart f field_text) → IsName text → IfSome (tag_part t prefix field) (λ f. IsWritten f (braced (codes "VSL:" ++ text) (codes "x")))
 part_made None prefix field text name prefix_text field_text is tagged prefixed fielded named = tt
 part_made (Some tag) prefix None text name prefix_text field_text is tagged prefixed fielded named = tt
 part_made (Some tag) prefix (Some field) text name prefix_text field_text is tagged prefixed fielded named =
-    (text, refl, named, record { tag_text = name; prefix_text = prefix_text; field_text = field_text; is_tag = tagged; is_prefix = prefixed; is_field = fielded; parts = is })
+    (text, refl, named, record { tag_text = name; prefix_text = prefix_text; field_text = field_text; is_tag = tagged tag refl; is_prefix = prefixed; is_field = fielded; parts = is })
 
 -- a part of a record is written as it is read
 part_written : (text : List ℕ) → IsName text → IfSome (part_asked text) (λ f. IsWritten f (braced (codes "VSL:" ++ text) (codes "x")))
@@ -166,7 +171,7 @@ part_written text named =
     let prefix_text = drop place (take at text) in
     let plain = or_parts _ _ (sym (list_any-append (λ b. b == bracket) name prefix_text) ∙ ap (list_any (λ b. b == bracket)) (sym inner.parts) ∙ outer.none) in
     subst (λ o. IfSome o (λ f. IsWritten f (braced (codes "VSL:" ++ text) (codes "x")))) (part_is text (take at text) (drop at text) name prefix_text outer inner)
-    (part_made (tag_called name) (prefix_asked prefix_text) (field_asked (drop at text)) text name prefix_text (drop at text) (outer.parts ∙ ap (λ x. x ++ drop at text) inner.parts) (IsTagName-from name)
+    (part_made (tag_called name) (prefix_asked prefix_text) (field_asked (drop at text)) text name prefix_text (drop at text) (outer.parts ∙ ap (λ x. x ++ drop at text) inner.parts) (λ tag. IsTagName-from tag name)
     (prefix_written prefix_text inner.first plain.1) (field_written (drop at text) outer.first) named)
 
 -- ---- names before `x`

@@ -2,8 +2,7 @@
 use Rattle.std.specs.Prelude.{◌≡◌, ◌≢◌, ℕ, ◌==◌, ◌≤◌, if◌then◌else◌, false, List, [], ◌∷◌, ◌++◌, length, Option, Some, None, codes}
 use Rattle.std.specs.List.{flat_map, list_any}
 use Rattle.std.specs.Str.Parse.{AllDigits, digits_value}
-use Rattle.vsl_decimal.specs.Prefix.{IsSameCaseless}
-use Rattle.vsl_tags.specs.Tags.{IsTag, tag_name}
+use Rattle.vsl_tags.specs.Called.{IsTagName}
 use Rattle.ncsa_format.specs.declared.formatter.Formatter.{Formatter}
 use Rattle.ncsa_format.specs.declared.formatter.Formatter.TheVariants.{Host, LogName, User, Stamp, Time, RequestLine, Method, Path, Query, Protocol, Status, Bytes, Received, Sent, RequestHeader, ResponseHeader, Micros, Seconds, FirstByte, HitMiss, Handling, Mark, Vxid, LogKey, TagPart}
 use Rattle.ncsa_format.specs.declared.formatter.TimeForm.{TimeForm}
@@ -62,10 +61,6 @@ IsForm forms.Micros text = text ≡ codes "usec"
 IsForm forms.MillisPart text = text ≡ codes "msec_frac"
 IsForm forms.MicrosPart text = text ≡ codes "usec_frac"
 IsForm (forms.Text all) text = (text ≡ flat_map written_part all) × IsTimeText text
-
--- how a tag is written: its name, in any case
-abbrev pub IsTagName : ℕ → List ℕ → Type 0
-IsTagName tag name = IsTag tag × IsSameCaseless name (tag_name tag)
 
 -- how a prefix is written, where there is one: it has no `[`
 abbrev pub IsPrefixPart : Option (List ℕ) → List ℕ → Type 0

@@ -2,6 +2,7 @@
 use Rattle.std.specs.Prelude.{ℕ, ◌/◌, ◌%◌, ◌==◌, ◌&&◌, ◌||◌, not, nat_lt, if◌then◌else◌, Bool, true, false, List, [], ◌∷◌, ◌++◌, Option, Some, None, codes}
 use Rattle.std.specs.List.{flat_map, filter, list_any}
 use Rattle.std.specs.Str.{bytes_eq}
+use Rattle.vsl_tags.specs.declared.named.TheConstants.{VCL_RETURN}
 use Rattle.vsl_record.specs.declared.mark.Mark.TheVariants.{Plain}
 use Rattle.vsl_record.specs.declared.record_type.Record.{Record}
 use Rattle.txn_rows.specs.declared.group.Kind.{Kind}
@@ -13,7 +14,7 @@ use Rattle.vsl_select.specs.Shown.{has_sides, shows_kind}
 use Rattle.vsl_select.specs.declared.rule_text.Sides.{Sides}
 use Rattle.ncsa_format.specs.declared.formatter.Piece.{Piece}
 use Rattle.ncsa_format.specs.declared.formatter.Piece.TheVariants.{Byte, Value}
-use Rattle.ncsa_format.specs.Value.{value_of, vcl_return_tag}
+use Rattle.ncsa_format.specs.Value.{value_of}
 
 -- a byte of a value: a quote and a backslash after a backslash, a line feed, carriage return and tab as `\n`, `\r` and `\t`, other bytes below 32 and above 126 as
 -- `\x` and two digits, every other byte as it is
@@ -41,7 +42,7 @@ piece_text m (Value f) = printed (value_of f m)
 
 -- whether a record says that a request starts again
 abbrev pub is_restart : Record → Bool
-is_restart rec = (rec.tag == vcl_return_tag) && bytes_eq rec.payload (codes "restart")
+is_restart rec = (rec.tag == VCL_RETURN) && bytes_eq rec.payload (codes "restart")
 
 -- whether a kind is a request of a client or of a backend
 abbrev pub is_request : Kind → Bool

@@ -3,10 +3,10 @@ use Rattle.std.specs.Prelude.{ℕ, zero, suc, ◌+◌, ◌-◌, ◌==◌, ◌&&�
 use Rattle.std.specs.Char.{is_digit}
 use Rattle.std.specs.List.{list_all, position_or_len, starts_with}
 use Rattle.std.specs.Prelude.{nat_eq, option_and_then}
-use Rattle.std.specs.Str.{bytes_eq, str_to_ascii_lowercase}
+use Rattle.std.specs.Str.{bytes_eq}
 use Rattle.std.specs.Str.Parse.{digits_value}
 use Rattle.vsl_decimal.specs.Prefix.{colon}
-use Rattle.vsl_tags.specs.Tags.{number_of_lower, last_tag}
+use Rattle.vsl_tags.specs.Called.{tag_called}
 use Rattle.ncsa_format.specs.Formatter.{percent, brace, bracket}
 use Rattle.ncsa_format.specs.declared.formatter.Formatter.{Formatter}
 use Rattle.ncsa_format.specs.declared.formatter.Formatter.TheVariants.{Host, LogName, User, Stamp, Time, RequestLine, Method, Path, Query, Protocol, Status, Bytes, Received, Sent, RequestHeader, ResponseHeader, Micros, Seconds, FirstByte, HitMiss, Handling, Mark, Vxid, LogKey, TagPart}
@@ -54,10 +54,6 @@ form_named name =
     (if bytes_eq name (codes "msec_frac") then Some forms.MillisPart else
     (if bytes_eq name (codes "usec_frac") then Some forms.MicrosPart else
     option_map forms.Text (time_parts name)))))
-
--- the tag of a name, in any case
-abbrev pub tag_called : List ℕ → Option ℕ
-tag_called name = let n = number_of_lower (str_to_ascii_lowercase name) in if nat_le n last_tag then Some n else None
 
 -- the number that digits write, where it is from 1 to 9,999
 abbrev pub field_number : List ℕ → Option ℕ

@@ -8,7 +8,7 @@ use Rattle.std.specs.Option.{option_or}
 use Rattle.std.specs.Str.{bytes_eq, str_eq_ignore_ascii_case}
 use Rattle.base64.specs.Engines.{standard}
 use Rattle.base64.specs.GeneralPurpose.{decode_of}
-use Rattle.vsl_tags.specs.Tags.{timestamp_tag}
+use Rattle.vsl_tags.specs.declared.named.TheConstants.{BACKEND_OPEN, VCL_CALL, VCL_LOG, REQ_START, REQ_ACCT, BEREQ_ACCT, REQ_METHOD, REQ_URL, REQ_PROTOCOL, REQ_HEADER, RESP_STATUS, RESP_HEADER, BEREQ_METHOD, BEREQ_URL, BEREQ_PROTOCOL, BEREQ_HEADER, BERESP_STATUS, BERESP_HEADER, TIMESTAMP}
 use Rattle.vsl_decimal.specs.Decimal.{decimal_of, integral_part, scale}
 use Rattle.vsl_decimal.specs.Field.{field_of}
 use Rattle.vsl_decimal.specs.Prefix.{colon, value_after}
@@ -20,84 +20,6 @@ use Rattle.ncsa_format.specs.Civil.{time_text, stamp_parts}
 use Rattle.ncsa_format.specs.declared.formatter.Formatter.{Formatter}
 use Rattle.ncsa_format.specs.declared.formatter.Formatter.TheVariants.{Host, LogName, User, Stamp, Time, RequestLine, Method, Path, Query, Protocol, Status, Bytes, Received, Sent, RequestHeader, ResponseHeader, Micros, Seconds, FirstByte, HitMiss, Handling, Mark, Vxid, LogKey, TagPart}
 use Rattle.ncsa_format.specs.declared.formatter.TimeForm.TheVariants as forms
-
--- ---- tags that formatters name
-
--- the number of the tag `BackendOpen`
-abbrev pub backend_open_tag : ℕ
-backend_open_tag = 7
-
--- the number of the tag `VCL_call`
-abbrev pub vcl_call_tag : ℕ
-vcl_call_tag = 20
-
--- the number of the tag `VCL_return`
-abbrev pub vcl_return_tag : ℕ
-vcl_return_tag = 22
-
--- the number of the tag `VCL_Log`
-abbrev pub vcl_log_tag : ℕ
-vcl_log_tag = 24
-
--- the number of the tag `ReqStart`
-abbrev pub req_start_tag : ℕ
-req_start_tag = 26
-
--- the number of the tag `ReqAcct`
-abbrev pub req_acct_tag : ℕ
-req_acct_tag = 27
-
--- the number of the tag `BereqAcct`
-abbrev pub bereq_acct_tag : ℕ
-bereq_acct_tag = 28
-
--- the number of the tag `ReqMethod`
-abbrev pub req_method_tag : ℕ
-req_method_tag = 53
-
--- the number of the tag `ReqURL`
-abbrev pub req_url_tag : ℕ
-req_url_tag = 54
-
--- the number of the tag `ReqProtocol`
-abbrev pub req_protocol_tag : ℕ
-req_protocol_tag = 57
-
--- the number of the tag `ReqHeader`
-abbrev pub req_header_tag : ℕ
-req_header_tag = 58
-
--- the number of the tag `RespStatus`
-abbrev pub resp_status_tag : ℕ
-resp_status_tag = 63
-
--- the number of the tag `RespHeader`
-abbrev pub resp_header_tag : ℕ
-resp_header_tag = 66
-
--- the number of the tag `BereqMethod`
-abbrev pub bereq_method_tag : ℕ
-bereq_method_tag = 69
-
--- the number of the tag `BereqURL`
-abbrev pub bereq_url_tag : ℕ
-bereq_url_tag = 70
-
--- the number of the tag `BereqProtocol`
-abbrev pub bereq_protocol_tag : ℕ
-bereq_protocol_tag = 73
-
--- the number of the tag `BereqHeader`
-abbrev pub bereq_header_tag : ℕ
-bereq_header_tag = 74
-
--- the number of the tag `BerespStatus`
-abbrev pub beresp_status_tag : ℕ
-beresp_status_tag = 79
-
--- the number of the tag `BerespHeader`
-abbrev pub beresp_header_tag : ℕ
-beresp_header_tag = 82
 
 -- ---- which record counts
 
@@ -141,7 +63,7 @@ headed client backend part m = if is_backend m.kind then last_of (in_tag backend
 
 -- of a Timestamp: the last record with a label, which is another for a client than for a backend
 abbrev pub stamped : List ℕ → List ℕ → Member → Option (List ℕ)
-stamped client backend m = last_of (in_tag timestamp_tag (value_after (if is_backend m.kind then backend else client))) m.records
+stamped client backend m = last_of (in_tag TIMESTAMP (value_after (if is_backend m.kind then backend else client))) m.records
 
 -- ---- parts of values
 
@@ -212,7 +134,7 @@ handling_of call =
 
 -- how a request was handled: the last VCL_call that tells it; nothing of a backend's
 abbrev pub handling : Member → Option (List ℕ)
-handling m = if is_backend m.kind then None else last_of (in_tag vcl_call_tag handling_of) m.records
+handling m = if is_backend m.kind then None else last_of (in_tag VCL_CALL handling_of) m.records
 
 -- every handling but a hit is a miss
 abbrev pub hit_or_miss : List ℕ → List ℕ
@@ -236,15 +158,15 @@ part_with prefix field payload = option_and_then (field_or_all field) (behind pr
 
 -- the method of a request
 abbrev pub method_of : Member → Option (List ℕ)
-method_of m = requested req_method_tag bereq_method_tag whole m
+method_of m = requested REQ_METHOD BEREQ_METHOD whole m
 
 -- its URL
 abbrev pub url_of : Member → Option (List ℕ)
-url_of m = requested req_url_tag bereq_url_tag whole m
+url_of m = requested REQ_URL BEREQ_URL whole m
 
 -- the protocol, `HTTP/1.0` where it is missing
 abbrev pub protocol_of : Member → List ℕ
-protocol_of m = unwrap_or (requested req_protocol_tag bereq_protocol_tag whole m) (codes "HTTP/1.0")
+protocol_of m = unwrap_or (requested REQ_PROTOCOL BEREQ_PROTOCOL whole m) (codes "HTTP/1.0")
 
 -- the request line: the method or `-`, the host and the whole URL, and the protocol
 abbrev pub request_line : Option (List ℕ) → Option (List ℕ) → Option (List ℕ) → List ℕ → List ℕ
@@ -252,28 +174,28 @@ request_line method host url protocol = unwrap_or method (codes "-") ++ codes " 
 
 -- what a formatter gives for a transaction, where it isn't missing
 abbrev pub value_of : Formatter → Member → Option (List ℕ)
-value_of Host m = if is_backend m.kind then field_in 3 (first_of (in_tag backend_open_tag whole) m.records) else field_in 1 (first_of (in_tag req_start_tag whole) m.records)
+value_of Host m = if is_backend m.kind then field_in 3 (first_of (in_tag BACKEND_OPEN whole) m.records) else field_in 1 (first_of (in_tag REQ_START whole) m.records)
 value_of LogName m = None
-value_of User m = option_and_then user_of (requested req_header_tag bereq_header_tag (value_after (codes "Authorization")) m)
+value_of User m = option_and_then user_of (requested REQ_HEADER BEREQ_HEADER (value_after (codes "Authorization")) m)
 value_of Stamp m = option_map (time_text (forms.Text stamp_parts)) (start_time m)
 value_of (Time form) m = option_map (time_text form) (start_time m)
-value_of RequestLine m = Some (request_line (method_of m) (requested req_header_tag bereq_header_tag (value_after (codes "Host")) m) (url_of m) (protocol_of m))
+value_of RequestLine m = Some (request_line (method_of m) (requested REQ_HEADER BEREQ_HEADER (value_after (codes "Host")) m) (url_of m) (protocol_of m))
 value_of Method m = method_of m
 value_of Path m = option_map (λ url. take (query_place url) url) (url_of m)
 value_of Query m = Some (unwrap_or (option_map (λ url. drop (query_place url) url) (url_of m)) [])
 value_of Protocol m = Some (protocol_of m)
-value_of Status m = responded resp_status_tag beresp_status_tag whole m
-value_of Bytes m = option_and_then unless_zero (field_in 5 (requested req_acct_tag bereq_acct_tag whole m))
-value_of Received m = field_in 3 (requested req_acct_tag bereq_acct_tag whole m)
-value_of Sent m = field_in 6 (requested req_acct_tag bereq_acct_tag whole m)
-value_of (RequestHeader name) m = headed req_header_tag bereq_header_tag (value_after name) m
-value_of (ResponseHeader name) m = headed resp_header_tag beresp_header_tag (value_after name) m
-value_of Micros m = option_map (λ time. signed_decimal (micros_of time)) (time_taken m)
-value_of Seconds m = option_map (λ time. signed_decimal (integral_part time)) (time_taken m)
+value_of Status m = responded RESP_STATUS BERESP_STATUS whole m
+value_of Bytes m = option_and_then unless_zero (field_in 5 (requested REQ_ACCT BEREQ_ACCT whole m))
+value_of Received m = field_in 3 (requested REQ_ACCT BEREQ_ACCT whole m)
+value_of Sent m = field_in 6 (requested REQ_ACCT BEREQ_ACCT whole m)
+value_of (RequestHeader name) m = headed REQ_HEADER BEREQ_HEADER (value_after name) m
+value_of (ResponseHeader name) m = headed RESP_HEADER BERESP_HEADER (value_after name) m
+value_of Micros m = option_map signed_decimal (option_map micros_of (time_taken m))
+value_of Seconds m = option_map signed_decimal (option_map integral_part (time_taken m))
 value_of FirstByte m = field_in 2 (stamped (codes "Process") (codes "Beresp") m)
 value_of HitMiss m = option_map hit_or_miss (handling m)
 value_of Handling m = handling m
 value_of Mark m = Some (if is_backend m.kind then codes "b" else codes "c")
 value_of Vxid m = Some (decimal m.vxid)
-value_of (LogKey key) m = first_of (in_tag vcl_log_tag (value_after key)) m.records
+value_of (LogKey key) m = first_of (in_tag VCL_LOG (value_after key)) m.records
 value_of (TagPart tag prefix field) m = first_of (in_tag tag (part_with prefix field)) m.records

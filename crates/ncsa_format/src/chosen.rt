@@ -2,27 +2,21 @@
 
 ghost use Rattle.std.specs.Prelude.{◌≡◌, if◌then◌else◌};
 ghost use Rattle.std.specs.Option.{option_copied};
-ghost use Rattle.ncsa_format.specs.Value.{first_of, headed, in_tag, is_backend, last_of, requested, responded, stamped};
+ghost use Rattle.vsl_decimal.specs.Prefix.{value_after};
+ghost use Rattle.ncsa_format.specs.Value.{field_in, first_of, headed, in_tag, is_backend, last_of, requested, responded, stamped, whole};
 ghost use Rattle.ncsa_format.specs.inside.Wanted.{part_of};
 
+use crate::formatter::Label;
 use crate::wanted::Wanted;
 use txn_rows::{Kind, Member};
-use vsl_record::Record;
-
-/// The numbers of a tag of clients and of the one of backends that is like it.
-#[derive(Clone, Copy)]
-pub(crate) struct Tags {
-    pub client: u8,
-    pub backend: u8,
-}
-
-/// `Timestamp`.
-const TIMESTAMP: u8 = 41;
+use vsl_decimal::field;
+use vsl_tags::named::TIMESTAMP;
 
 /// What the first record of a tag that gives something gives.
-pub(crate) fn first_of<'a>(records: &'a [Record], tag: u8, wanted: Wanted) -> Option<&'a [u8]>
-    ensures { option_copied result ≡ first_of (in_tag tag (part_of wanted.entry)) records.now }
+pub(crate) fn first_of<'a>(member: &'a Member, tag: u8, wanted: Wanted) -> Option<&'a [u8]>
+    ensures { option_copied result ≡ first_of (in_tag tag (part_of wanted.entry)) member.now.records }
 {
+    let records = member.records.as_slice();
     for rec in records {
         if rec.tag.number() == tag {
             let part = wanted.of(rec.payload.as_slice());
@@ -35,9 +29,10 @@ pub(crate) fn first_of<'a>(records: &'a [Record], tag: u8, wanted: Wanted) -> Op
 }
 
 /// What the last record of a tag that gives something gives.
-pub(crate) fn last_of<'a>(records: &'a [Record], tag: u8, wanted: Wanted) -> Option<&'a [u8]>
-    ensures { option_copied result ≡ last_of (in_tag tag (part_of wanted.entry)) records.now }
+pub(crate) fn last_of<'a>(member: &'a Member, tag: u8, wanted: Wanted) -> Option<&'a [u8]>
+    ensures { option_copied result ≡ last_of (in_tag tag (part_of wanted.entry)) member.now.records }
 {
+    let records = member.records.as_slice();
     for i in (0..records.len()).rev() {
         let rec = &records[i];
         if rec.tag.number() == tag {
@@ -61,52 +56,72 @@ pub(crate) fn is_backend(kind: Kind) -> bool
 }
 
 /// Of a request: the first record of a client's, the last of a backend's.
-pub(crate) fn requested<'a>(member: &'a Member, tags: Tags, wanted: Wanted) -> Option<&'a [u8]>
-    ensures { option_copied result ≡ requested tags.client tags.backend (part_of wanted.entry) member.now }
+pub(crate) fn requested<'a>(
+    member: &'a Member,
+    client: u8,
+    backend: u8,
+    wanted: Wanted,
+) -> Option<&'a [u8]>
+    ensures { option_copied result ≡ requested client backend (part_of wanted.entry) member.now }
 {
-    let records = member.records.as_slice();
     if is_backend(member.kind) {
-        last_of(records, tags.backend, wanted)
+        last_of(member, backend, wanted)
     } else {
-        first_of(records, tags.client, wanted)
+        first_of(member, client, wanted)
     }
 }
 
 /// Of a response: the last record of a client's, the first of a backend's.
-pub(crate) fn responded<'a>(member: &'a Member, tags: Tags, wanted: Wanted) -> Option<&'a [u8]>
-    ensures { option_copied result ≡ responded tags.client tags.backend (part_of wanted.entry) member.now }
+pub(crate) fn responded(member: &Member, client: u8, backend: u8) -> Option<&[u8]>
+    ensures { option_copied result ≡ responded client backend whole member.now }
 {
-    let records = member.records.as_slice();
     if is_backend(member.kind) {
-        first_of(records, tags.backend, wanted)
+        first_of(member, backend, Wanted::Whole)
     } else {
-        last_of(records, tags.client, wanted)
+        last_of(member, client, Wanted::Whole)
     }
 }
 
 /// Of a header that is named: the last record, of a client's and of a backend's.
-pub(crate) fn headed<'a>(member: &'a Member, tags: Tags, wanted: Wanted) -> Option<&'a [u8]>
-    ensures { option_copied result ≡ headed tags.client tags.backend (part_of wanted.entry) member.now }
+pub(crate) fn headed<'a>(
+    member: &'a Member,
+    client: u8,
+    backend: u8,
+    name: &Label,
+) -> Option<&'a [u8]>
+    ensures { option_copied result ≡ headed client backend (value_after name.now) member.now }
 {
-    let records = member.records.as_slice();
+    let wanted = Wanted::After(name.as_slice());
     if is_backend(member.kind) {
-        last_of(records, tags.backend, wanted)
+        last_of(member, backend, wanted)
     } else {
-        last_of(records, tags.client, wanted)
+        last_of(member, client, wanted)
     }
 }
 
-/// The label of a client's Timestamp, or of a backend's.
-fn label_for<'a>(kind: Kind, client: &'a [u8], backend: &'a [u8]) -> &'a [u8]
+/// A field of a text.
+pub(crate) fn field_in(text: Option<&[u8]>, n: u32) -> Option<&[u8]>
+    ensures { option_copied result ≡ field_in n (option_copied text.entry) }
+{
+    field(text?, n)
+}
+
+/// A text for clients, or one for backends.
+pub(crate) fn text_for<'a>(kind: Kind, client: &'a [u8], backend: &'a [u8]) -> &'a [u8]
     ensures { result.now ≡ (if is_backend kind then backend.now else client.now) }
 {
     if is_backend(kind) { backend } else { client }
 }
 
-/// Of a Timestamp: the last record with a label, which is another for a client than for a backend.
-pub(crate) fn stamped<'a>(member: &'a Member, client: &[u8], backend: &[u8]) -> Option<&'a [u8]>
-    ensures { option_copied result ≡ stamped client.now backend.now member.now }
+/// A field of a Timestamp: of the last record with a label, which is another for a client than for a backend.
+pub(crate) fn stamped<'a>(
+    member: &'a Member,
+    client: &[u8],
+    backend: &[u8],
+    n: u32,
+) -> Option<&'a [u8]>
+    ensures { option_copied result ≡ field_in n (stamped client.now backend.now member.now) }
 {
-    let label = label_for(member.kind, client, backend);
-    last_of(member.records.as_slice(), TIMESTAMP, Wanted::After(label))
+    let label = text_for(member.kind, client, backend);
+    field_in(last_of(member, TIMESTAMP, Wanted::After(label)), n)
 }

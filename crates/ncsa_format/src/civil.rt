@@ -1,10 +1,10 @@
 //! Days and clocks, in UTC.
+#![tactic(auto, using(log_model::proofs::PrefixLemmas::adding, crate::proofs::TextLemmas::puts_quoted))]
 
-ghost use Rattle.std.specs.Prelude.{◌≡◌, [], ◌∷◌, ◌++◌, ◌<◌, ◌≤◌, ◌/◌, ◌*◌, ◌-◌, replicate, decimal, codes, OnOk};
+ghost use Rattle.std.specs.Prelude.{◌≡◌, [], ◌∷◌, ◌++◌, ◌≤◌, ◌*◌, ◌-◌, length, replicate, decimal};
 ghost use Rattle.std.specs.List.{flat_map, slice_index_or};
-ghost use Rattle.log_model.specs.Prefix.{IsPrefix};
+ghost use Rattle.log_model.specs.Adding.{Puts};
 ghost use Rattle.vsl_decimal.specs.Decimal.{scale};
-ghost use Rattle.vsl_select.specs.RawLine.{at_right};
 ghost use Rattle.ncsa_format.specs.Civil.{month_names, padded, part_text, time_text};
 ghost use Rattle.ncsa_format.specs.Value.{last_second};
 ghost use Rattle.ncsa_format.specs.Line.{quoted};
@@ -28,12 +28,6 @@ const MILLI: u128 = 1_000_000_000_000_000;
 
 /// Units in a microsecond.
 const MICRO: u128 = 1_000_000_000_000;
-
-/// As many zeros as are put before a number at most.
-const ZEROS: &[u8] = b"000000";
-
-/// As many spaces at most.
-const SPACES: &[u8] = b"  ";
 
 /// The names of the months, in order.
 static MONTHS: [&[u8]; 12] = [
@@ -69,31 +63,20 @@ fn moment_of(second: u64) -> Moment
 
 /// Adds a number.
 pub(crate) fn put_number(out: &mut Vec<u8>, n: u64) -> Result<(), NoMemory>
-    ensures ok { OnOk result (out.new.items ≡ out.old.items ++ quoted (decimal n)) }
-    ensures keeps { IsPrefix out.old.items out.new.items }
+    ensures { Puts result out.old.items out.new.items (quoted (decimal n)) }
 {
     let mut buffer = Buffer::new();
     put_quoted(out, buffer.format(n).as_bytes())
 }
 
-/// This many zeros.
-fn zeros(count: usize) -> &'static [u8]
-    requires { count ≤ 6 }
-    ensures { result.now ≡ replicate count 48 }
-{
-    &ZEROS[..count]
-}
-
-/// Adds a number with zeros before it, as many as fill its columns.
-#[tactic(auto, using(crate::proofs::TextLemmas::putting))]
-fn put_padded(out: &mut Vec<u8>, columns: usize, n: u64) -> Result<(), NoMemory>
+/// Adds a number with a byte before it, as many times as fill its columns.
+fn put_padded(out: &mut Vec<u8>, fill: u8, columns: usize, n: u64) -> Result<(), NoMemory>
     requires { columns ≤ 6 }
-    ensures ok { OnOk result (out.new.items ≡ out.old.items ++ quoted (padded columns n)) }
-    ensures keeps { IsPrefix out.old.items out.new.items }
+    ensures { Puts result out.old.items out.new.items (quoted (replicate (columns - length (decimal n)) fill ++ decimal n)) }
 {
     let mut buffer = Buffer::new();
     let digits = buffer.format(n).as_bytes();
-    put_quoted(out, zeros(columns.saturating_sub(digits.len())))?;
+    put_quoted(out, &[fill; 6][..columns.saturating_sub(digits.len())])?;
     put_quoted(out, digits)
 }
 
@@ -107,34 +90,13 @@ fn put_three(
     third: u64,
 ) -> Result<(), NoMemory>
     requires { columns ≤ 6 }
-    ensures ok { OnOk result (out.new.items ≡ out.old.items ++ quoted (padded columns first ++ (between ∷ []) ++ padded 2 second ++ (between ∷ []) ++ padded 2 third)) }
-    ensures keeps { IsPrefix out.old.items out.new.items }
+    ensures { Puts result out.old.items out.new.items (quoted (padded columns first ++ (between ∷ []) ++ padded 2 second ++ (between ∷ []) ++ padded 2 third)) }
 {
-    put_padded(out, columns, first)?;
+    put_padded(out, b'0', columns, first)?;
     put_quoted(out, &[between])?;
-    put_padded(out, 2, second)?;
+    put_padded(out, b'0', 2, second)?;
     put_quoted(out, &[between])?;
-    put_padded(out, 2, third)
-}
-
-/// This many spaces.
-fn spaces(count: usize) -> &'static [u8]
-    requires { count ≤ 2 }
-    ensures { result.now ≡ replicate count 32 }
-{
-    &SPACES[..count]
-}
-
-/// Adds a number at the right of two columns.
-#[tactic(auto, using(crate::proofs::TextLemmas::putting))]
-fn put_spaced(out: &mut Vec<u8>, n: u64) -> Result<(), NoMemory>
-    ensures ok { OnOk result (out.new.items ≡ out.old.items ++ quoted (at_right 2 (decimal n))) }
-    ensures keeps { IsPrefix out.old.items out.new.items }
-{
-    let mut buffer = Buffer::new();
-    let digits = buffer.format(n).as_bytes();
-    put_quoted(out, spaces(2usize.saturating_sub(digits.len())))?;
-    put_quoted(out, digits)
+    put_padded(out, b'0', 2, third)
 }
 
 /// The name of a month, as `Jan`.
@@ -148,18 +110,17 @@ fn month_name(month: u64) -> &'static [u8]
 /// Adds a part of a time.
 fn put_part(out: &mut Vec<u8>, moment: &Moment, part: TimePart) -> Result<(), NoMemory>
     requires { IsMoment moment.now }
-    ensures ok { OnOk result (out.new.items ≡ out.old.items ++ quoted (part_text moment.now.second part)) }
-    ensures keeps { IsPrefix out.old.items out.new.items }
+    ensures { Puts result out.old.items out.new.items (quoted (part_text moment.now.second part)) }
 {
     match part {
         TimePart::Byte(b) => put_quoted(out, &[b]),
-        TimePart::Year => put_padded(out, 4, moment.year),
-        TimePart::Month => put_padded(out, 2, moment.month),
-        TimePart::Day => put_padded(out, 2, moment.day),
-        TimePart::SpacedDay => put_spaced(out, moment.day),
-        TimePart::Hour => put_padded(out, 2, moment.second / 3600 % 24),
-        TimePart::Minute => put_padded(out, 2, moment.second / 60 % 60),
-        TimePart::Second => put_padded(out, 2, moment.second % 60),
+        TimePart::Year => put_padded(out, b'0', 4, moment.year),
+        TimePart::Month => put_padded(out, b'0', 2, moment.month),
+        TimePart::Day => put_padded(out, b'0', 2, moment.day),
+        TimePart::SpacedDay => put_padded(out, b' ', 2, moment.day),
+        TimePart::Hour => put_padded(out, b'0', 2, moment.second / 3600 % 24),
+        TimePart::Minute => put_padded(out, b'0', 2, moment.second / 60 % 60),
+        TimePart::Second => put_padded(out, b'0', 2, moment.second % 60),
         TimePart::MonthName => put_quoted(out, month_name(moment.month)),
         TimePart::Date => put_three(out, 4, moment.year, b'-', moment.month, moment.day),
         TimePart::Clock => put_three(
@@ -177,8 +138,7 @@ fn put_part(out: &mut Vec<u8>, moment: &Moment, part: TimePart) -> Result<(), No
 /// Adds the parts of a time at a second.
 pub(crate) fn put_parts(out: &mut Vec<u8>, second: u64, parts: &[TimePart]) -> Result<(), NoMemory>
     requires { second ≤ last_second }
-    ensures ok { OnOk result (out.new.items ≡ out.old.items ++ quoted (flat_map (part_text second) parts.now)) }
-    ensures keeps { IsPrefix out.old.items out.new.items }
+    ensures { Puts result out.old.items out.new.items (quoted (flat_map (part_text second) parts.now)) }
 {
     let moment = moment_of(second);
     for part in parts {
@@ -190,15 +150,14 @@ pub(crate) fn put_parts(out: &mut Vec<u8>, second: u64, parts: &[TimePart]) -> R
 /// Adds a time in a form. Times are counted in units of 10^-18 seconds.
 pub(crate) fn put_time(out: &mut Vec<u8>, time: u128, form: &TimeForm) -> Result<(), NoMemory>
     requires { time ≤ last_second * scale }
-    ensures ok { OnOk result (out.new.items ≡ out.old.items ++ quoted (time_text form.now time)) }
-    ensures keeps { IsPrefix out.old.items out.new.items }
+    ensures { Puts result out.old.items out.new.items (quoted (time_text form.now time)) }
 {
     match form {
         TimeForm::Seconds => put_number(out, (time / SECOND) as u64),
         TimeForm::Millis => put_number(out, (time / MILLI) as u64),
         TimeForm::Micros => put_number(out, (time / MICRO) as u64),
-        TimeForm::MillisPart => put_padded(out, 3, (time / MILLI % 1_000) as u64),
-        TimeForm::MicrosPart => put_padded(out, 6, (time / MICRO % 1_000_000) as u64),
+        TimeForm::MillisPart => put_padded(out, b'0', 3, (time / MILLI % 1_000) as u64),
+        TimeForm::MicrosPart => put_padded(out, b'0', 6, (time / MICRO % 1_000_000) as u64),
         TimeForm::Text(parts) => put_parts(out, (time / SECOND) as u64, parts.as_slice()),
     }
 }

@@ -7,7 +7,7 @@ ghost use Rattle.ncsa_format.specs.Line.{access_text, group_lines, is_logged, li
 
 use crate::format::Format;
 use crate::lines::line;
-use log_model::NoMemory;
+use log_model::{NoMemory, make_room};
 use std::alloc::Global;
 use std::mem::replace;
 use txn_rows::{Group, Kind, Member, Reason};
@@ -33,16 +33,6 @@ pub struct NcsaConsumer {
     text: Vec<u8>,
     /// The most bytes that were taken at once, or fewer: for as many there is room with the first group after that.
     usual: usize,
-}
-
-/// Makes room for a text of this length where there is none yet.
-fn make_room(text: &mut Vec<u8>, usual: usize) -> Result<(), NoMemory>
-    ensures { text.new.items ≡ text.old.items }
-{
-    if text.is_empty() {
-        text.reserve(usual)?;
-    }
-    Ok(())
 }
 
 /// Whose transactions are logged: without -b, -c and -E those of clients.

@@ -40,7 +40,7 @@ impl Label {
 /// A part of a time that is printed.
 ///
 /// Source: varnishncsa(1), `%{X}t`; strftime(3).
-#[derive(Clone, Copy, Debug, PartialEq, Eq)]
+#[derive(Clone, Copy, Debug)]
 pub enum TimePart {
     /// A byte of text.
     Byte(u8),

@@ -1,21 +1,20 @@
 //! The line of a transaction.
+#![tactic(auto, using(log_model::proofs::PrefixLemmas::adding))]
 
-ghost use Rattle.std.specs.Prelude.{◌≡◌, ◌++◌, OnOk, OnErr};
+ghost use Rattle.std.specs.Prelude.{◌≡◌};
 ghost use Rattle.std.specs.List.{flat_map, list_any};
-ghost use Rattle.log_model.specs.Prefix.{IsPrefix};
+ghost use Rattle.log_model.specs.Adding.{Adds, Puts};
 ghost use Rattle.ncsa_format.specs.Line.{has_line, is_restart, line_of, piece_text};
 ghost use Rattle.ncsa_format.specs.inside.Runs.{pieces_in, run_pieces};
 
 use crate::format::Format;
 use crate::run::Run;
 use crate::value::put_value;
-use log_model::NoMemory;
+use log_model::{NoMemory, or_cut_back};
 use std::alloc::Global;
 use txn_rows::{Kind, Member};
 use vsl_record::Record;
-
-/// `VCL_return`.
-const VCL_RETURN: u8 = 22;
+use vsl_tags::named::VCL_RETURN;
 
 /// Whether a record says that a request starts again.
 fn is_restart(rec: &Record) -> bool
@@ -47,10 +46,8 @@ fn has_line(member: &Member) -> bool
 }
 
 /// Adds a run of a format for a transaction, or a part of it.
-#[tactic(auto, using(log_model::proofs::PrefixLemmas::adding))]
 fn put_run(alloc: Global, out: &mut Vec<u8>, run: &Run, member: &Member) -> Result<(), NoMemory>
-    ensures ok { OnOk result (out.new.items ≡ out.old.items ++ flat_map (piece_text member.now) (run_pieces run.now)) }
-    ensures keeps { IsPrefix out.old.items out.new.items }
+    ensures { Puts result out.old.items out.new.items (flat_map (piece_text member.now) (run_pieces run.now)) }
 {
     match run {
         Run::Text(text) => {
@@ -62,10 +59,8 @@ fn put_run(alloc: Global, out: &mut Vec<u8>, run: &Run, member: &Member) -> Resu
 }
 
 /// Adds runs of a format for a transaction, or a part of them.
-#[tactic(auto, using(log_model::proofs::PrefixLemmas::adding))]
 fn put_runs(alloc: Global, out: &mut Vec<u8>, runs: &[Run], member: &Member) -> Result<(), NoMemory>
-    ensures ok { OnOk result (out.new.items ≡ out.old.items ++ flat_map (piece_text member.now) (pieces_in runs.now)) }
-    ensures keeps { IsPrefix out.old.items out.new.items }
+    ensures { Puts result out.old.items out.new.items (flat_map (piece_text member.now) (pieces_in runs.now)) }
 {
     for run in runs {
         put_run(alloc, out, run, member)?;
@@ -74,10 +69,8 @@ fn put_runs(alloc: Global, out: &mut Vec<u8>, runs: &[Run], member: &Member) -> 
 }
 
 /// Adds the line of a transaction, or a part of it.
-#[tactic(auto, using(log_model::proofs::PrefixLemmas::adding))]
 fn put_line(out: &mut Vec<u8>, format: &Format, member: &Member) -> Result<(), NoMemory>
-    ensures ok { OnOk result (out.new.items ≡ out.old.items ++ line_of format.now member.now) }
-    ensures keeps { IsPrefix out.old.items out.new.items }
+    ensures { Puts result out.old.items out.new.items (line_of format.now member.now) }
 {
     if !has_line(member) {
         return Ok(());
@@ -91,15 +84,10 @@ fn put_line(out: &mut Vec<u8>, format: &Format, member: &Member) -> Result<(), N
 /// transaction, has none. After want of memory the list is as it was.
 ///
 /// Source: varnishncsa(1), "FORMAT".
-#[tactic(auto, using(log_model::proofs::PrefixLemmas::cut_back))]
 pub fn line(format: &Format, member: &Member, out: &mut Vec<u8>) -> Result<(), NoMemory>
-    ensures ok { OnOk result (out.new.items ≡ out.old.items ++ line_of format.now member.now) }
-    ensures err { OnErr result (out.new.items ≡ out.old.items) }
+    ensures { Adds result out.old.items out.new.items (line_of format.now member.now) }
 {
-    let length = out.len();
-    let added = put_line(out, format, member);
-    if added.is_err() {
-        out.truncate(length);
-    }
-    added
+    let before = out.len();
+    let put = put_line(out, format, member);
+    or_cut_back(put, before, out)
 }

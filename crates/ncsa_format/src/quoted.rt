@@ -1,8 +1,9 @@
 //! Values with their escapes.
+#![tactic(auto, using(log_model::proofs::PrefixLemmas::adding))]
 
-ghost use Rattle.std.specs.Prelude.{◌≡◌, ◌++◌, ◌∷◌, [], ◌≤◌, ◌<◌, length, take, true, OnOk};
+ghost use Rattle.std.specs.Prelude.{◌≡◌, ◌∷◌, [], ◌≤◌, ◌<◌, length, take, true};
 ghost use Rattle.std.specs.Option.{option_copied};
-ghost use Rattle.log_model.specs.Prefix.{IsPrefix};
+ghost use Rattle.log_model.specs.Adding.{Puts};
 ghost use Rattle.vsl_select.specs.RawLine.{hex_digit};
 ghost use Rattle.ncsa_format.specs.Line.{printed, quoted, quoted_byte};
 
@@ -24,10 +25,8 @@ fn is_plain(byte: u8) -> bool
 }
 
 /// Adds a byte of a value.
-#[tactic(auto, using(log_model::proofs::PrefixLemmas::adding))]
 fn put_byte(out: &mut Vec<u8>, byte: u8) -> Result<(), NoMemory>
-    ensures ok { OnOk result (out.new.items ≡ out.old.items ++ quoted_byte byte) }
-    ensures keeps { IsPrefix out.old.items out.new.items }
+    ensures { Puts result out.old.items out.new.items (quoted_byte byte) }
 {
     match byte {
         b'"' | b'\\' => out.extend_from_slice(&[b'\\', byte])?,
@@ -56,10 +55,8 @@ fn plain_length(bytes: &[u8]) -> usize
 /// Adds a value, or a part of it, run by run. It is kept out of line, since few values have an escape.
 #[cold]
 #[inline(never)]
-#[tactic(auto, using(log_model::proofs::PrefixLemmas::adding))]
 fn put_with_escapes(out: &mut Vec<u8>, value: &[u8]) -> Result<(), NoMemory>
-    ensures ok { OnOk result (out.new.items ≡ out.old.items ++ quoted value.now) }
-    ensures keeps { IsPrefix out.old.items out.new.items }
+    ensures { Puts result out.old.items out.new.items (quoted value.now) }
 {
     let mut rest = value;
     while !rest.is_empty() {
@@ -87,10 +84,8 @@ fn are_plain(bytes: &[u8]) -> bool
 }
 
 /// Adds a value, or a part of it; at once where no byte of it needs an escape, as in most.
-#[tactic(auto, using(log_model::proofs::PrefixLemmas::adding))]
 pub(crate) fn put_quoted(out: &mut Vec<u8>, value: &[u8]) -> Result<(), NoMemory>
-    ensures ok { OnOk result (out.new.items ≡ out.old.items ++ quoted value.now) }
-    ensures keeps { IsPrefix out.old.items out.new.items }
+    ensures { Puts result out.old.items out.new.items (quoted value.now) }
 {
     if !are_plain(value) {
         return put_with_escapes(out, value);
@@ -100,16 +95,11 @@ pub(crate) fn put_quoted(out: &mut Vec<u8>, value: &[u8]) -> Result<(), NoMemory
 }
 
 /// Adds a value where there is one, and else `-`.
-#[tactic(auto, using(log_model::proofs::PrefixLemmas::adding))]
 pub(crate) fn put_printed(out: &mut Vec<u8>, value: Option<&[u8]>) -> Result<(), NoMemory>
-    ensures ok { OnOk result (out.new.items ≡ out.old.items ++ printed (option_copied value.entry)) }
-    ensures keeps { IsPrefix out.old.items out.new.items }
+    ensures { Puts result out.old.items out.new.items (printed (option_copied value.entry)) }
 {
     match value {
         Some(value) => put_quoted(out, value),
-        None => {
-            out.push(b'-')?;
-            Ok(())
-        }
+        None => put_quoted(out, b"-"),
     }
 }

@@ -1,27 +1,17 @@
 //! Reading which part of a record is asked for.
 
 ghost use Rattle.std.specs.Prelude.{◌≡◌, option_map, IfOk};
-ghost use Rattle.ncsa_format.specs.Reading.{before_last, field_asked, field_number, part_asked, prefix_asked, tag_called, tag_part};
+ghost use Rattle.ncsa_format.specs.Reading.{before_last, field_asked, field_number, part_asked, prefix_asked, tag_part};
+ghost use Rattle.vsl_tags.specs.Called.{tag_called};
 
 use crate::cut::cut;
 use crate::formatter::{Formatter, Label};
 use log_model::NoMemory;
 use std::alloc::Global;
-use std::str;
-use vsl_tags::{Tag, tag_of};
+use vsl_tags::tag_called;
 
 /// The greatest field.
 const MOST_FIELD: u32 = 9_999;
-
-/// The tag of a name, in any case.
-fn tag_called(name: &[u8]) -> Option<Tag>
-    ensures { result ≡ tag_called name.now }
-{
-    match str::from_utf8(name) {
-        Ok(name) => tag_of(name),
-        Err(_) => None,
-    }
-}
 
 /// The number that decimal digits write, where it is from 1 to 9,999.
 fn field_number(digits: &[u8]) -> Option<u32>

@@ -1,10 +1,10 @@
 //! The values of formatters.
+#![tactic(auto, using(log_model::proofs::PrefixLemmas::adding, crate::proofs::TextLemmas::puts_quoted))]
 
-ghost use Rattle.std.specs.Prelude.{◌≡◌, ◌++◌, [], ◌≤◌, ◌*◌, length, take, drop, option_map, option_and_then, unwrap_or, codes, ◌==◌, IfOk, IfSome, OnOk};
+ghost use Rattle.std.specs.Prelude.{◌≡◌, [], ◌≤◌, ◌*◌, take, drop, option_map, option_and_then, unwrap_or, codes, IfOk, IfSome};
 ghost use Rattle.std.specs.Fmt.{signed_decimal};
-ghost use Rattle.std.specs.List.{position_or_len};
 ghost use Rattle.std.specs.Option.{option_copied};
-ghost use Rattle.log_model.specs.Prefix.{IsPrefix};
+ghost use Rattle.log_model.specs.Adding.{Puts};
 ghost use Rattle.vsl_decimal.specs.Decimal.{decimal_of, integral_part, scale};
 ghost use Rattle.vsl_decimal.specs.Field.{field_of};
 ghost use Rattle.ncsa_format.specs.Civil.{stamp_parts, time_text};
@@ -13,13 +13,13 @@ ghost use Rattle.ncsa_format.specs.Line.{printed, quoted};
 ghost use Rattle.ncsa_format.specs.declared.formatter.Formatter.TheVariants as formatters;
 ghost use Rattle.ncsa_format.specs.declared.formatter.TimeForm.TheVariants as forms;
 
+use crate::chosen::{headed, responded, stamped, text_for};
 use crate::civil::{LAST_SECOND, put_number, put_parts, put_time};
 use crate::cut::{cut, place_of};
 use crate::formatter::{Formatter, TimeForm, TimePart};
 use crate::member::{
-    acct_field, address_of, first_byte_of, handling_of, header_of, logged, mark_of, method_of,
-    protocol_of, record_part, request_header, response_header, start_of, status_of, time_taken,
-    url_of,
+    acct_field, address_of, handling_of, header_of, logged, method_of, protocol_of, record_part,
+    start_of, time_taken, url_of,
 };
 use crate::quoted::{put_printed, put_quoted};
 use base64::DecodeAllocError;
@@ -28,7 +28,10 @@ use itoa::Buffer;
 use log_model::NoMemory;
 use std::alloc::Global;
 use txn_rows::Member;
-use vsl_decimal::{Decimal, field, integral, read_decimal};
+use vsl_decimal::{field, integral, read_decimal};
+use vsl_tags::named::{
+    BEREQ_HEADER, BERESP_HEADER, BERESP_STATUS, REQ_HEADER, RESP_HEADER, RESP_STATUS,
+};
 
 /// The form of `%t`, as `[02/Jan/2023:03:04:05 +0000]`.
 static STAMP: [TimePart; 11] = [
@@ -92,10 +95,8 @@ fn user_of(alloc: Global, header: &[u8]) -> Result<Option<Vec<u8>>, NoMemory>
 }
 
 /// Adds the user of an Authorization header.
-#[tactic(auto, using(log_model::proofs::PrefixLemmas::adding))]
 fn put_user(alloc: Global, out: &mut Vec<u8>, header: Option<&[u8]>) -> Result<(), NoMemory>
-    ensures ok { OnOk result (out.new.items ≡ out.old.items ++ printed (option_and_then user_of (option_copied header.entry))) }
-    ensures keeps { IsPrefix out.old.items out.new.items }
+    ensures { Puts result out.old.items out.new.items (printed (option_and_then user_of (option_copied header.entry))) }
 {
     let Some(header) = header else {
         return put_printed(out, None);
@@ -123,10 +124,8 @@ fn printed_time(text: Option<&[u8]>) -> Option<u128>
 }
 
 /// Adds the time that a text tells, as `%t` prints it.
-#[tactic(auto, using(log_model::proofs::PrefixLemmas::adding))]
 fn put_stamp(out: &mut Vec<u8>, text: Option<&[u8]>) -> Result<(), NoMemory>
-    ensures ok { OnOk result (out.new.items ≡ out.old.items ++ printed (option_map (time_text (forms.Text stamp_parts)) (option_and_then printed_time (option_and_then decimal_of (option_copied text.entry))))) }
-    ensures keeps { IsPrefix out.old.items out.new.items }
+    ensures { Puts result out.old.items out.new.items (printed (option_map (time_text (forms.Text stamp_parts)) (option_and_then printed_time (option_and_then decimal_of (option_copied text.entry))))) }
 {
     match printed_time(text) {
         Some(time) => put_parts(out, (time / 1_000_000_000_000_000_000) as u64, &STAMP),
@@ -135,10 +134,8 @@ fn put_stamp(out: &mut Vec<u8>, text: Option<&[u8]>) -> Result<(), NoMemory>
 }
 
 /// Adds the time that a text tells, in a form.
-#[tactic(auto, using(log_model::proofs::PrefixLemmas::adding))]
 fn put_time_in(out: &mut Vec<u8>, text: Option<&[u8]>, form: &TimeForm) -> Result<(), NoMemory>
-    ensures ok { OnOk result (out.new.items ≡ out.old.items ++ printed (option_map (time_text form.now) (option_and_then printed_time (option_and_then decimal_of (option_copied text.entry))))) }
-    ensures keeps { IsPrefix out.old.items out.new.items }
+    ensures { Puts result out.old.items out.new.items (printed (option_map (time_text form.now) (option_and_then printed_time (option_and_then decimal_of (option_copied text.entry))))) }
 {
     match printed_time(text) {
         Some(time) => put_time(out, time, form),
@@ -146,52 +143,31 @@ fn put_time_in(out: &mut Vec<u8>, text: Option<&[u8]>, form: &TimeForm) -> Resul
     }
 }
 
-/// Adds a number that may be below zero.
-#[tactic(auto, using(log_model::proofs::PrefixLemmas::adding))]
-fn put_signed(out: &mut Vec<u8>, n: i128) -> Result<(), NoMemory>
-    ensures ok { OnOk result (out.new.items ≡ out.old.items ++ quoted (signed_decimal n)) }
-    ensures keeps { IsPrefix out.old.items out.new.items }
+/// Adds a number that may be below zero, where there is one.
+fn put_signed(out: &mut Vec<u8>, n: Option<i128>) -> Result<(), NoMemory>
+    ensures { Puts result out.old.items out.new.items (printed (option_map signed_decimal n)) }
 {
+    let Some(n) = n else {
+        return put_printed(out, None);
+    };
     let mut buffer = Buffer::new();
     put_quoted(out, buffer.format(n).as_bytes())
 }
 
-/// The whole microseconds of a time, cut toward zero.
-fn micros(time: Decimal) -> i128
-    ensures { result ≡ micros_of time.scaled }
+/// The whole microseconds of a time that a text tells, cut toward zero.
+fn micros_in(text: Option<&[u8]>) -> Option<i128>
+    ensures { result ≡ option_map micros_of (option_and_then decimal_of (option_copied text.entry)) }
 {
-    time.scaled / 1_000_000_000_000
+    let time = read_decimal(text?)?;
+    Some(time.scaled / 1_000_000_000_000)
 }
 
-/// The decimal of a text.
-fn decimal_in(text: Option<&[u8]>) -> Option<Decimal>
-    ensures { option_map (λ d. d.scaled) result ≡ option_and_then decimal_of (option_copied text.entry) }
+/// The whole seconds of a time that a text tells.
+fn seconds_in(text: Option<&[u8]>) -> Option<i128>
+    ensures { result ≡ option_map integral_part (option_and_then decimal_of (option_copied text.entry)) }
 {
-    read_decimal(text?)
-}
-
-/// Adds the whole microseconds of a time.
-#[tactic(auto, using(log_model::proofs::PrefixLemmas::adding))]
-fn put_micros(out: &mut Vec<u8>, text: Option<&[u8]>) -> Result<(), NoMemory>
-    ensures ok { OnOk result (out.new.items ≡ out.old.items ++ printed (option_map (λ time. signed_decimal (micros_of time)) (option_and_then decimal_of (option_copied text.entry)))) }
-    ensures keeps { IsPrefix out.old.items out.new.items }
-{
-    match decimal_in(text) {
-        Some(time) => put_signed(out, micros(time)),
-        None => put_printed(out, None),
-    }
-}
-
-/// Adds the whole seconds of a time.
-#[tactic(auto, using(log_model::proofs::PrefixLemmas::adding))]
-fn put_seconds(out: &mut Vec<u8>, text: Option<&[u8]>) -> Result<(), NoMemory>
-    ensures ok { OnOk result (out.new.items ≡ out.old.items ++ printed (option_map (λ time. signed_decimal (integral_part time)) (option_and_then decimal_of (option_copied text.entry)))) }
-    ensures keeps { IsPrefix out.old.items out.new.items }
-{
-    match decimal_in(text) {
-        Some(time) => put_signed(out, integral(time)),
-        None => put_printed(out, None),
-    }
+    let time = read_decimal(text?)?;
+    Some(integral(time))
 }
 
 /// A URL up to its query.
@@ -225,10 +201,8 @@ fn text_or<'a>(text: Option<&'a [u8]>, other: &'a [u8]) -> &'a [u8]
 }
 
 /// Adds the host of a request line.
-#[tactic(auto, using(log_model::proofs::PrefixLemmas::adding))]
 fn put_host(out: &mut Vec<u8>, host: Option<&[u8]>) -> Result<(), NoMemory>
-    ensures ok { OnOk result (out.new.items ≡ out.old.items ++ quoted (host_of (option_copied host.entry))) }
-    ensures keeps { IsPrefix out.old.items out.new.items }
+    ensures { Puts result out.old.items out.new.items (quoted (host_of (option_copied host.entry))) }
 {
     let Some(host) = host else {
         return put_quoted(out, b"http://localhost");
@@ -241,10 +215,8 @@ fn put_host(out: &mut Vec<u8>, host: Option<&[u8]>) -> Result<(), NoMemory>
 }
 
 /// Adds a request line: the method, the host, the URL and the protocol.
-#[tactic(auto, using(log_model::proofs::PrefixLemmas::adding))]
 fn put_request_line(out: &mut Vec<u8>, member: &Member) -> Result<(), NoMemory>
-    ensures ok { OnOk result (out.new.items ≡ out.old.items ++ printed (value_of formatters.RequestLine member.now)) }
-    ensures keeps { IsPrefix out.old.items out.new.items }
+    ensures { Puts result out.old.items out.new.items (printed (value_of formatters.RequestLine member.now)) }
 {
     put_quoted(out, text_or(method_of(member), b"-"))?;
     put_quoted(out, b" ")?;
@@ -279,15 +251,13 @@ fn hit_or_miss(word: Option<&[u8]>) -> Option<&[u8]>
 }
 
 /// Adds the value of a formatter for a transaction, or a part of it.
-#[tactic(auto, using(log_model::proofs::PrefixLemmas::adding))]
 pub(crate) fn put_value(
     alloc: Global,
     out: &mut Vec<u8>,
     formatter: &Formatter,
     member: &Member,
 ) -> Result<(), NoMemory>
-    ensures ok { OnOk result (out.new.items ≡ out.old.items ++ printed (value_of formatter.now member.now)) }
-    ensures keeps { IsPrefix out.old.items out.new.items }
+    ensures { Puts result out.old.items out.new.items (printed (value_of formatter.now member.now)) }
 {
     match formatter {
         Formatter::Host => put_printed(out, address_of(member)),
@@ -300,18 +270,24 @@ pub(crate) fn put_value(
         Formatter::Path => put_printed(out, path_of(url_of(member))),
         Formatter::Query => put_quoted(out, query_of(url_of(member))),
         Formatter::Protocol => put_quoted(out, protocol_of(member)),
-        Formatter::Status => put_printed(out, status_of(member)),
+        Formatter::Status => put_printed(out, responded(member, RESP_STATUS, BERESP_STATUS)),
         Formatter::Bytes => put_printed(out, unless_zero(acct_field(member, 5))),
         Formatter::Received => put_printed(out, acct_field(member, 3)),
         Formatter::Sent => put_printed(out, acct_field(member, 6)),
-        Formatter::RequestHeader(name) => put_printed(out, request_header(member, name)),
-        Formatter::ResponseHeader(name) => put_printed(out, response_header(member, name)),
-        Formatter::Micros => put_micros(out, time_taken(member)),
-        Formatter::Seconds => put_seconds(out, time_taken(member)),
-        Formatter::FirstByte => put_printed(out, first_byte_of(member)),
+        Formatter::RequestHeader(name) => put_printed(
+            out,
+            headed(member, REQ_HEADER, BEREQ_HEADER, name),
+        ),
+        Formatter::ResponseHeader(name) => put_printed(
+            out,
+            headed(member, RESP_HEADER, BERESP_HEADER, name),
+        ),
+        Formatter::Micros => put_signed(out, micros_in(time_taken(member))),
+        Formatter::Seconds => put_signed(out, seconds_in(time_taken(member))),
+        Formatter::FirstByte => put_printed(out, stamped(member, b"Process", b"Beresp", 2)),
         Formatter::HitMiss => put_printed(out, hit_or_miss(handling_of(member))),
         Formatter::Handling => put_printed(out, handling_of(member)),
-        Formatter::Mark => put_quoted(out, mark_of(member)),
+        Formatter::Mark => put_quoted(out, text_for(member.kind, b"c", b"b")),
         Formatter::Vxid => put_number(out, u64::from(member.vxid)),
         Formatter::LogKey(key) => put_printed(out, logged(member, key)),
         Formatter::TagPart { tag, prefix, field } => {
