@@ -1,14 +1,13 @@
 -- A text that is written as a formatter is read as it.
-use Rattle.std.proofs.Common.{◌≡◌, ◌≢◌, ℕ, ◌≤◌, Bool, true, false, eqb, List, [], ◌∷◌, ◌++◌, length, Option, Some, None, refl, sym, ap, subst, ◌∙◌, append_assoc, arith}
+use Rattle.std.proofs.Common.{◌≡◌, ◌≢◌, ℕ, Bool, true, false, eqb, List, [], ◌∷◌, ◌++◌, Option, Some, None, refl, sym, ap, subst, ◌∙◌, append_assoc}
 use Rattle.std.specs.Prelude.{◌==◌, codes, if◌then◌else◌, option_map, option_and_then}
-use Rattle.std.specs.List.{flat_map, list_all, list_any}
-use Rattle.std.specs.Char.{is_digit}
+use Rattle.std.specs.List.{flat_map, list_any}
 use Rattle.std.specs.Str.{bytes_eq}
-use Rattle.std.specs.Str.Parse.{AllDigits, digits_value}
-use Rattle.std.proofs.lemmas.Bool.{eqb-true, eqb-false, le-leb, lt-ltb, or_from}
+use Rattle.std.proofs.lemmas.Bool.{eqb-true, eqb-false, or_from}
 use Rattle.std.proofs.lemmas.List.Folds.{list_any-append}
 use Rattle.std.proofs.lemmas.Slice.Eq.{bytes_eq-Decides}
 use Rattle.vsl_decimal.specs.Prefix.{colon}
+use Rattle.vsl_decimal.proofs.WholeLemmas.{whole_number-reads}
 use Rattle.vsl_tags.proofs.CalledLemmas.{IsPlain-from, tag_found}
 use Rattle.ncsa_format.specs.declared.formatter.Formatter.{Formatter}
 use Rattle.ncsa_format.specs.declared.formatter.Formatter.TheVariants.{Host, LogName, User, Stamp, Time, RequestLine, Method, Path, Query, Protocol, Status, Bytes, Received, Sent, RequestHeader, ResponseHeader, Micros, Seconds, FirstByte, HitMiss, Handling, Mark, Vxid, LogKey, TagPart}
@@ -81,18 +80,10 @@ named_reads name letter rest f is named =
 
 -- ---- parts of records
 
-digits_pass : (digits : List ℕ) → AllDigits 10 digits → list_all (λ b. is_digit b 10) digits ≡ true
-digits_pass [] all = refl
-digits_pass (b ∷ digits) all = rw (lt-ltb _ _ all.0, digits_pass digits all.1) refl
-
--- digits in brackets are read as their number
-number_reads : (digits : List ℕ) → AllDigits 10 digits → 1 ≤ length digits → 1 ≤ digits_value 10 digits → digits_value 10 digits ≤ 9999 → field_number digits ≡ Some (digits_value 10 digits)
-number_reads digits all some least most = rw (le-leb _ _ some, digits_pass digits all, le-leb _ _ least, le-leb _ _ most) refl
-
 field_reads : (field : Option ℕ) (text : List ℕ) → IsFieldPart field text → field_asked text ≡ Some field
 field_reads None text is = subst (λ t. field_asked t ≡ Some None) (sym is) refl
 field_reads (Some n) text (digits, is, all, some, value, least, most) =
-    let number : field_number digits ≡ Some n = number_reads digits all some (omega (arith, value, least)) (omega (arith, value, most)) ∙ ap Some value in
+    let number : field_number digits ≡ Some n = whole_number-reads 1 9999 digits n (all, some, value, least, most) in
     ap field_asked is ∙ ap (λ o. option_map Some (option_and_then field_number o)) (before_last_push 93 digits 93) ∙ ap (option_map Some) number
 
 prefix_reads : (prefix : Option (List ℕ)) (text : List ℕ) → IsPrefixPart prefix text → prefix_asked text ≡ prefix

@@ -1,15 +1,14 @@
 -- What is read as a formatter is written as it.
-use Rattle.std.proofs.Common.{◌≡◌, ◌≢◌, ℕ, ◌+◌, ◌≤◌, Bool, true, false, eqb, ◌&&◌, List, [], ◌∷◌, ◌++◌, length, take, drop, Option, Some, None, refl, sym, ap, subst, ◌∙◌, append_assoc}
+use Rattle.std.proofs.Common.{◌≡◌, ◌≢◌, ℕ, ◌+◌, Bool, true, false, eqb, List, [], ◌∷◌, ◌++◌, length, take, drop, Option, Some, None, refl, sym, ap, subst, ◌∙◌, append_assoc}
 use Rattle.std.specs.Prelude.{◌==◌, codes, if◌then◌else◌, option_map, option_and_then, IfSome}
-use Rattle.std.specs.List.{flat_map, list_all, list_any, position_or_len}
-use Rattle.std.specs.Char.{is_digit}
+use Rattle.std.specs.List.{flat_map, list_any, position_or_len}
 use Rattle.std.specs.Str.{bytes_eq}
-use Rattle.std.specs.Str.Parse.{AllDigits, digits_value}
-use Rattle.std.proofs.lemmas.Bool.{and_parts, eqb-true, leb-true, ltb-true, or_parts}
+use Rattle.std.proofs.lemmas.Bool.{eqb-true, or_parts}
 use Rattle.std.proofs.lemmas.List.{append-nil, take-append-drop}
 use Rattle.std.proofs.lemmas.List.Folds.{list_any-append}
 use Rattle.std.proofs.lemmas.Slice.Eq.{bytes_eq-Decides}
 use Rattle.vsl_decimal.specs.Prefix.{colon}
+use Rattle.vsl_decimal.proofs.WholeLemmas.{Writes, whole_number-writes}
 use Rattle.vsl_tags.specs.Called.{IsTagName, tag_called}
 use Rattle.vsl_tags.proofs.CalledLemmas.{IsTagName-from}
 use Rattle.ncsa_format.specs.declared.formatter.Formatter.{Formatter}
@@ -122,26 +121,11 @@ last_written b [] = tt
 last_written b (c ∷ []) = chosen (λ front. c ∷ [] ≡ front ++ b ∷ []) (b == c) [] None (λ e. ap (λ x. x ∷ []) (sym (eqb-true b c e))) tt
 last_written b (c ∷ d ∷ text) = push_front c b d text (last_written b (d ∷ text))
 
-digits_all : (digits : List ℕ) → list_all (λ b. is_digit b 10) digits ≡ true → AllDigits 10 digits
-digits_all [] e = tt
-digits_all (b ∷ digits) e = let both = and_parts _ _ e in (ltb-true _ _ both.0, digits_all digits both.1)
-
--- what digits write as a field
-abbrev IsNumber : List ℕ → ℕ → Type 0
-IsNumber digits n = AllDigits 10 digits × (1 ≤ length digits) × (digits_value 10 digits ≡ n) × (1 ≤ n) × (n ≤ 9999)
-
-number_by : (digits : List ℕ) (a b c d : Bool) → a && b && c && d ≡ true → (a ≡ true) × (b ≡ true) × (c ≡ true) × (d ≡ true)
-number_by digits a b c d e = let most = and_parts _ _ e in let least = and_parts _ _ most.0 in let all = and_parts _ _ least.0 in (all.0, all.1, least.1, most.1)
-
-number_written : (digits : List ℕ) → IfSome (field_number digits) (IsNumber digits)
-number_written digits = chosen (IsNumber digits) _ (digits_value 10 digits) None (λ e.
-    let tests = number_by digits _ _ _ _ e in (digits_all digits tests.1, leb-true _ _ tests.0, refl, leb-true _ _ tests.2, leb-true _ _ tests.3)) tt
-
 field_behind : (text : List ℕ) → IfSome (option_map Some (option_and_then field_number (before_last 93 text))) (λ field. IsFieldPart field (bracket ∷ text))
 field_behind text =
     mapped (λ n. IsFieldPart (Some n) (bracket ∷ text)) (λ field. IsFieldPart field (bracket ∷ text)) Some (option_and_then field_number (before_last 93 text))
     (then_mapped (λ digits. text ≡ digits ++ 93 ∷ []) (λ n. IsFieldPart (Some n) (bracket ∷ text)) field_number (before_last 93 text) (last_written 93 text)
-    (λ digits is. given_so (IsNumber digits) (λ n. IsFieldPart (Some n) (bracket ∷ text)) (field_number digits) (number_written digits)
+    (λ digits is. given_so (Writes 1 9999 digits) (λ n. IsFieldPart (Some n) (bracket ∷ text)) (field_number digits) (whole_number-writes 1 9999 digits)
     (λ n number. (digits, ap (λ x. bracket ∷ x) is, number.0, number.1, number.2, number.3, number.4))))
     (λ n is. is)
 

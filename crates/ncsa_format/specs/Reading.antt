@@ -1,11 +1,10 @@
 -- What the text of a format is read as: pieces, or the place of its first fault (varnishncsa(1), "FORMAT"). `Format` says what texts are; the laws join the two.
-use Rattle.std.specs.Prelude.{ℕ, zero, suc, ◌+◌, ◌-◌, ◌==◌, ◌&&◌, nat_le, if◌then◌else◌, Bool, List, [], ◌∷◌, length, take, drop, Option, Some, None, option_map, Result, Ok, Err, codes}
-use Rattle.std.specs.Char.{is_digit}
-use Rattle.std.specs.List.{list_all, position_or_len, starts_with}
+use Rattle.std.specs.Prelude.{ℕ, zero, suc, ◌+◌, ◌-◌, ◌==◌, if◌then◌else◌, Bool, List, [], ◌∷◌, length, take, drop, Option, Some, None, option_map, Result, Ok, Err, codes}
+use Rattle.std.specs.List.{position_or_len, starts_with}
 use Rattle.std.specs.Prelude.{nat_eq, option_and_then}
 use Rattle.std.specs.Str.{bytes_eq}
-use Rattle.std.specs.Str.Parse.{digits_value}
 use Rattle.vsl_decimal.specs.Prefix.{colon}
+use Rattle.vsl_decimal.specs.Whole.{whole_number}
 use Rattle.vsl_tags.specs.Called.{tag_called}
 use Rattle.ncsa_format.specs.Formatter.{percent, brace, bracket}
 use Rattle.ncsa_format.specs.declared.formatter.Formatter.{Formatter}
@@ -57,9 +56,7 @@ form_named name =
 
 -- the number that digits write, where it is from 1 to 9,999
 abbrev pub field_number : List ℕ → Option ℕ
-field_number digits =
-    if nat_le 1 (length digits) && list_all (λ b. is_digit b 10) digits && nat_le 1 (digits_value 10 digits) && nat_le (digits_value 10 digits) 9999
-    then Some (digits_value 10 digits) else None
+field_number = whole_number 1 9999
 
 -- a text without its last byte, where that is this one
 abbrev pub before_last : ℕ → List ℕ → Option (List ℕ)

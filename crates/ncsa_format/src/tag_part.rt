@@ -1,37 +1,18 @@
 //! Reading which part of a record is asked for.
 
 ghost use Rattle.std.specs.Prelude.{◌≡◌, option_map, IfOk};
-ghost use Rattle.ncsa_format.specs.Reading.{before_last, field_asked, field_number, part_asked, prefix_asked, tag_part};
+ghost use Rattle.ncsa_format.specs.Reading.{before_last, field_asked, part_asked, prefix_asked, tag_part};
 ghost use Rattle.vsl_tags.specs.Called.{tag_called};
 
 use crate::cut::cut;
 use crate::formatter::{Formatter, Label};
 use log_model::NoMemory;
 use std::alloc::Global;
+use vsl_decimal::whole_number;
 use vsl_tags::tag_called;
 
 /// The greatest field.
 const MOST_FIELD: u32 = 9_999;
-
-/// The number that decimal digits write, where it is from 1 to 9,999.
-fn field_number(digits: &[u8]) -> Option<u32>
-    ensures { result ≡ field_number digits.now }
-{
-    if digits.is_empty() {
-        return None;
-    }
-    let mut value: u32 = 0;
-    for digit in digits {
-        if !digit.is_ascii_digit() {
-            return None;
-        }
-        value = (10 * value + u32::from(*digit - b'0')).min(MOST_FIELD + 1);
-    }
-    if value == 0 || value > MOST_FIELD {
-        return None;
-    }
-    Some(value)
-}
 
 /// A text without its last byte, where that is this one.
 #[tactic(auto, using(crate::proofs::FieldLemmas::before_last_push))]
@@ -47,7 +28,7 @@ fn field_asked(text: &[u8]) -> Option<Option<u32>>
     ensures { result ≡ field_asked text.now }
 {
     match text.split_first() {
-        Some((_, behind)) => Some(Some(field_number(before_last(behind, b']')?)?)),
+        Some((_, behind)) => Some(Some(whole_number(before_last(behind, b']')?, 1, MOST_FIELD)?)),
         None => Some(None),
     }
 }
