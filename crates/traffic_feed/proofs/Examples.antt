@@ -9,7 +9,7 @@ use Rattle.vsl_record.specs.Unit.{LogUnit, Log}
 use Rattle.vsl_record.specs.declared.record_type.Record.{Record}
 use Rattle.traffic_feed.specs.Lines.{Line, BlankLine, CommentLine, RecordLine, IsLine, IsFirstBad}
 use Rattle.traffic_feed.specs.Listing.{IsListing}
-use Rattle.traffic_feed.specs.inside.Reading.{without_spaces, behind_spaces, digits_of, behind_digits, word_of, behind_word, vxid_of, tag_called, mark_of, payload_behind, marked, record_of, unindented, meaning}
+use Rattle.traffic_feed.specs.inside.Reading.{without_spaces, behind_spaces, digits_of, behind_digits, word_of, behind_word, tag_called, mark_of, payload_behind, marked, record_of, unindented, meaning}
 use Rattle.traffic_feed.proofs.ReadingLemmas.{IsLine-from, meaning_found}
 use Rattle.traffic_feed.specs.Batches.{listing_units, listing_cuts}
 use Rattle.traffic_feed.specs.Turns.{first_draw, next_draw}
@@ -61,12 +61,12 @@ odd_record = (
 
 -- what reading finds in these lines
 no_records : map meaning (codes "7" ∷ codes "7 CLI" ∷ codes "7CLI c" ∷ codes "7 CLIc" ∷ codes "7 CLI cx" ∷ codes "7 CLI d" ∷ codes "7 Nope c" ∷ codes "x CLI c" ∷ codes " # no comment" ∷ []) ≡ replicate 9 None
-unfolding meaning unindented without_spaces behind_spaces digits_of behind_digits word_of behind_word vxid_of tag_called mark_of payload_behind marked record_of
+unfolding meaning unindented without_spaces behind_spaces digits_of behind_digits word_of behind_word tag_called mark_of payload_behind marked record_of
 no_records = refl
 
 -- 11 digits, a VXID past the last, and tabs in place of spaces
 no_vxids : map meaning (codes "00000000007 CLI c" ∷ codes "1073741824 CLI c" ∷ codes "\t7 CLI c" ∷ codes "7\tCLI c" ∷ codes "7 CLI c\tx" ∷ []) ≡ replicate 5 None
-unfolding meaning unindented without_spaces behind_spaces digits_of behind_digits word_of behind_word vxid_of tag_called mark_of payload_behind marked record_of
+unfolding meaning unindented without_spaces behind_spaces digits_of behind_digits word_of behind_word tag_called mark_of payload_behind marked record_of
 no_vxids = refl
 
 -- lines mean what reading finds in each
@@ -84,7 +84,7 @@ no_line : (bytes : List ℕ) → meaning bytes ≡ None → (l : Line) → ¬ (I
 no_line bytes none l is = none_some (sym none ∙ meaning_found bytes l is)
 
 third_is_bad : IsFirstBad (codes "1 CLI - a\n\nx\ny\n") 3
-unfolding meaning unindented without_spaces behind_spaces digits_of behind_digits word_of behind_word vxid_of tag_called mark_of payload_behind marked record_of
+unfolding meaning unindented without_spaces behind_spaces digits_of behind_digits word_of behind_word tag_called mark_of payload_behind marked record_of
 third_is_bad = record {
   before = codes "1 CLI - a" ∷ [] ∷ [];
   bad = codes "x";
@@ -176,7 +176,7 @@ meant =
 listing : IsListing text 255 64
     (unit 7 Client (record_of_tag 42 Client (codes "req 6 rxreq") ∷ record_of_tag 53 Client (codes "GET") ∷ last ∷ []) ∷ unit 7 Client (a ∷ []) ∷ unit 0 Plain (record_of_tag 3 Plain (codes "a") ∷ []) ∷ unit 0 Plain (record_of_tag 3 Plain (codes "b") ∷ []) ∷ [])
     0
-unfolding meaning unindented without_spaces behind_spaces digits_of behind_digits word_of behind_word vxid_of tag_called mark_of payload_behind marked record_of
+unfolding meaning unindented without_spaces behind_spaces digits_of behind_digits word_of behind_word tag_called mark_of payload_behind marked record_of
 listing = record { meant = meant; has_lines = all_meant (lines text) meant refl; units_are = refl; cuts_are = refl }
 
 -- ---- draws
