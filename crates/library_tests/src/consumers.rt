@@ -3,7 +3,7 @@
 ghost use Rattle.std.specs.Prelude.{◌≡◌, ◌<◌, length};
 ghost use Rattle.vsl_dispatch.specs.Entries.{entries_of};
 
-use crate::support::{all_shown, record_of};
+use crate::support::{all_shown, record_of, same};
 use query_eval::Chosen;
 use std::alloc::Global;
 use std::process::Abort;
@@ -62,7 +62,7 @@ fn expect_text(
     ensures two { length (entries_of dispatch.new) ≡ 2 }
 {
     let text = dispatch.text(place);
-    assert_eq!(rt; text.as_slice(), want);
+    same(rt, text.as_slice(), want);
     Ok(())
 }
 
@@ -72,11 +72,11 @@ fn one_that_is_done_leaves_the_other_going(rt: HostRuntime) -> Result<(), Fail> 
     let one: Box<dyn Consumer> = Box::new(alloc, top(alloc, Some(1))?)?;
     let all: Box<dyn Consumer> = Box::new(alloc, top(alloc, None)?)?;
     let mut dispatch = Dispatch::new(alloc, Vec::from_array(alloc, [one, all])?)?;
-    assert_eq!(&rt; dispatch.live(), 2);
+    same(&rt, dispatch.live(), 2);
     give(alloc, &mut dispatch, b"req 1 rxreq", [true, true])?;
-    assert_eq!(&rt; dispatch.live(), 1);
+    same(&rt, dispatch.live(), 1);
     give(alloc, &mut dispatch, b"req 3 rxreq", [true, true])?;
-    assert_eq!(&rt; dispatch.live(), 1);
+    same(&rt, dispatch.live(), 1);
     expect_text(
         &rt,
         &mut dispatch,
@@ -86,7 +86,7 @@ fn one_that_is_done_leaves_the_other_going(rt: HostRuntime) -> Result<(), Fail> 
     expect_text(&rt, &mut dispatch, 0, b"")?;
     expect_text(&rt, &mut dispatch, 1, b"")?;
     dispatch.finish()?;
-    assert_eq!(&rt; dispatch.live(), 0);
+    same(&rt, dispatch.live(), 0);
     expect_text(
         &rt,
         &mut dispatch,
@@ -105,7 +105,7 @@ fn each_receives_what_its_query_holds_for(rt: HostRuntime) -> Result<(), Fail> {
     give(alloc, &mut dispatch, b"a", [true, false])?;
     give(alloc, &mut dispatch, b"b", [false, true])?;
     give(alloc, &mut dispatch, b"b", [true, true])?;
-    assert_eq!(&rt; dispatch.live(), 1);
+    same(&rt, dispatch.live(), 1);
     expect_text(&rt, &mut dispatch, 1, b"         2 Begin          b\n")?;
     dispatch.finish()?;
     expect_text(
@@ -122,16 +122,17 @@ fn records_of_a_unit_are_taken_at_once_by_one_that_keeps_all(rt: HostRuntime) ->
     let records = Vec::from_array(alloc, [record_of(alloc, Tag::END, b"")?])?;
     let unit = Unit::new(0, Mark::Client, records)?;
     let mut all = top(alloc, None)?;
-    assert_eq!(&rt; all.records(&unit)?, true);
-    assert_eq!(&rt; all.group(&group_of(alloc, b"a")?)?, Go::More);
+    same(&rt, all.records(&unit)?, true);
+    same(&rt, all.group(&group_of(alloc, b"a")?)?, Go::More);
     let mut report = Vec::new(alloc);
     all.report(&mut report)?;
-    assert_eq!(&rt;
+    same(
+        &rt,
         report.as_slice(),
-        b"         1 Begin          a\n         1 End            \n".as_slice()
+        b"         1 Begin          a\n         1 End            \n".as_slice(),
     );
     let mut one = top(alloc, Some(1))?;
-    assert_eq!(&rt; one.records(&unit)?, false);
-    assert_eq!(&rt; one.group(&group_of(alloc, b"a")?)?, Go::Done);
+    same(&rt, one.records(&unit)?, false);
+    same(&rt, one.group(&group_of(alloc, b"a")?)?, Go::Done);
     Ok(())
 }

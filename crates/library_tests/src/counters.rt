@@ -2,6 +2,7 @@
 
 ghost use Rattle.std.specs.Prelude.{◌<◌};
 
+use crate::support::same;
 use counter_segments::{AddFault, Counters, Values, close, load};
 use ring_layout::Shape;
 use std::alloc::Global;
@@ -39,25 +40,27 @@ fn glob(alloc: Global, text: &str) -> Result<Globs, Fail> {
 fn expect_size(rt: &impl Abort, unit: Option<&Unit>, vxid: u32, words: usize) {
     assert!(rt; unit.is_some());
     if let Some(unit) = unit {
-        assert_eq!(rt; unit.vxid(), vxid);
-        assert_eq!(rt; unit.words(), words);
+        same(rt, unit.vxid(), vxid);
+        same(rt, unit.words(), words);
     }
 }
 
 #[test]
 fn a_pass_adds_2_to_the_56_and_no_more(rt: HostRuntime) -> Result<(), Fail> {
-    let mut open = Counters::new(rt.alloc(), 1)?;
+    let alloc = rt.alloc();
+    let mut open = Counters::new(alloc, 1)?;
     let mut pass = open.passes.pop().ok_or("there is one pass")?;
-    assert_eq!(rt; pass.add(&open.counters, CACHE_HIT, CEILING), Ok(()));
-    assert_eq!(rt;
+    same(&rt, pass.add(&open.counters, CACHE_HIT, CEILING), Ok(()));
+    same(
+        &rt,
         pass.add(&open.counters, CACHE_HIT, 1),
-        Err(AddFault::Ceiling)
+        Err(AddFault::Ceiling),
     );
-    assert_eq!(rt; load(&open.counters, &mut pass, CACHE_HIT), CEILING);
-    let passes = Vec::from_array(rt.alloc(), [pass])?;
-    let values = close(rt.alloc(), open.counters, passes)?;
-    assert_eq!(rt; values.get(CACHE_HIT), CEILING);
-    assert_eq!(rt; values.get(CACHE_MISS), 0);
+    same(&rt, load(&open.counters, &mut pass, CACHE_HIT), CEILING);
+    let passes = Vec::from_array(alloc, [pass])?;
+    let values = close(alloc, open.counters, passes)?;
+    same(&rt, values.get(CACHE_HIT), CEILING);
+    same(&rt, values.get(CACHE_MISS), 0);
     Ok(())
 }
 
@@ -65,9 +68,9 @@ fn a_pass_adds_2_to_the_56_and_no_more(rt: HostRuntime) -> Result<(), Fail> {
 fn a_request_is_made_of_two_units(rt: HostRuntime) -> Result<(), Fail> {
     let shape = Shape::new(65536).ok_or("65,536 words are a segment")?;
     let listing = generate(rt.alloc(), 1, 7, 255, shape)?;
-    assert_eq!(rt; listing.cuts, 0);
+    same(&rt, listing.cuts, 0);
     let units = listing.units.as_slice();
-    assert_eq!(rt; units.len(), 2);
+    same(&rt, units.len(), 2);
     expect_size(&rt, units.get(0), 2, 75);
     expect_size(&rt, units.get(1), 1, 30);
     Ok(())
@@ -77,9 +80,9 @@ fn a_request_is_made_of_two_units(rt: HostRuntime) -> Result<(), Fail> {
 fn a_request_is_cut_before_its_second_timestamp(rt: HostRuntime) -> Result<(), Fail> {
     let shape = Shape::new(64).ok_or("64 words are a segment")?;
     let listing = generate(rt.alloc(), 1, 7, 255, shape)?;
-    assert_eq!(rt; listing.cuts, 1);
+    same(&rt, listing.cuts, 1);
     let units = listing.units.as_slice();
-    assert_eq!(rt; units.len(), 3);
+    same(&rt, units.len(), 3);
     expect_size(&rt, units.get(0), 2, 53);
     expect_size(&rt, units.get(1), 2, 23);
     expect_size(&rt, units.get(2), 1, 30);
@@ -88,37 +91,37 @@ fn a_request_is_cut_before_its_second_timestamp(rt: HostRuntime) -> Result<(), F
 
 #[test]
 fn a_glob_lists_the_misses(rt: HostRuntime) -> Result<(), Fail> {
-    let mut out = Vec::new(rt.alloc());
-    stat_list(&glob(rt.alloc(), "MAIN.cache_m*")?, &mut out)?;
-    assert_eq!(rt; out.as_slice(), b"MAIN.cache_miss\n".as_slice());
+    let alloc = rt.alloc();
+    let mut out = Vec::new(alloc);
+    stat_list(&glob(alloc, "MAIN.cache_m*")?, &mut out)?;
+    same(&rt, out.as_slice(), b"MAIN.cache_miss\n".as_slice());
     Ok(())
 }
 
 #[test]
 fn a_counter_is_printed_as_a_line(rt: HostRuntime) -> Result<(), Fail> {
-    let mut out = Vec::new(rt.alloc());
-    let values = values_of(rt.alloc(), 3, 1)?;
-    stat_text(&values, &glob(rt.alloc(), "MAIN.cache_miss")?, &mut out)?;
-    assert_eq!(rt;
+    let alloc = rt.alloc();
+    let mut out = Vec::new(alloc);
+    let values = values_of(alloc, 3, 1)?;
+    stat_text(&values, &glob(alloc, "MAIN.cache_miss")?, &mut out)?;
+    same(
+        &rt,
         out.as_slice(),
-        b"MAIN.cache_miss                           1 Cache misses\n".as_slice()
+        b"MAIN.cache_miss                           1 Cache misses\n".as_slice(),
     );
     Ok(())
 }
 
 #[test]
 fn a_counter_is_printed_as_json(rt: HostRuntime) -> Result<(), Fail> {
-    let mut out = Vec::new(rt.alloc());
-    let values = values_of(rt.alloc(), 3, 1)?;
-    stat_json(
-        rt.alloc(),
-        &values,
-        &glob(rt.alloc(), "MAIN.cache_hit")?,
-        &mut out,
-    )?;
-    assert_eq!(rt;
+    let alloc = rt.alloc();
+    let mut out = Vec::new(alloc);
+    let values = values_of(alloc, 3, 1)?;
+    stat_json(alloc, &values, &glob(alloc, "MAIN.cache_hit")?, &mut out)?;
+    same(
+        &rt,
         out.as_slice(),
-        b"{\"counters\":{\"MAIN.cache_hit\":{\"description\":\"Cache hits\",\"flag\":\"c\",\"format\":\"i\",\"value\":3}},\"version\":1}\n".as_slice()
+        b"{\"counters\":{\"MAIN.cache_hit\":{\"description\":\"Cache hits\",\"flag\":\"c\",\"format\":\"i\",\"value\":3}},\"version\":1}\n".as_slice(),
     );
     Ok(())
 }

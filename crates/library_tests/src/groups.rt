@@ -1,6 +1,6 @@
 //! Claims, tables and texts: what no command line reaches.
 
-use crate::support::{all_shown, record_of};
+use crate::support::{all_shown, record_of, same};
 use std::alloc::Global;
 use std::process::Abort;
 use std::test::Fail;
@@ -20,9 +20,9 @@ fn expect_claim(
     reason: Reason,
 ) -> Result<(), Fail> {
     let claim = read_claim(payload).ok_or("a claim")?;
-    assert_eq!(rt; claim.kind, kind);
-    assert_eq!(rt; claim.vxid, vxid);
-    assert_eq!(rt; claim.reason, reason);
+    same(rt, claim.kind, kind);
+    same(rt, claim.vxid, vxid);
+    same(rt, claim.reason, reason);
     Ok(())
 }
 
@@ -58,7 +58,7 @@ fn expect_text(
     }
     let mut wanted = Vec::from_slice(alloc, b"before\n")?;
     wanted.extend_from_slice(want)?;
-    assert_eq!(rt; text.as_slice(), wanted.as_slice());
+    same(rt, text.as_slice(), wanted.as_slice());
     Ok(())
 }
 
@@ -76,16 +76,17 @@ fn expect_table(
     let records = Vec::from_array(alloc, [begin])?;
     table.step(Unit::new(9, Mark::Client, records)?, &mut groups)?;
     expect_text(rt, alloc, &groups, false, stepped)?;
-    assert_eq!(rt; table.rows(), pending);
-    assert_eq!(rt; table.unfinished(), pending);
+    same(rt, table.rows(), pending);
+    same(rt, table.unfinished(), pending);
     table.flush(&mut groups)?;
     expect_text(rt, alloc, &groups, false, want)?;
-    assert_eq!(rt; table.rows(), 0);
+    same(rt, table.rows(), 0);
     Ok(())
 }
 
 #[test]
 fn a_table_keeps_what_is_pending(rt: HostRuntime) -> Result<(), Fail> {
+    let alloc = rt.alloc();
     let options = GroupOptions {
         grouping: Grouping::Vxid,
         limit: 1000,
@@ -93,20 +94,21 @@ fn a_table_keeps_what_is_pending(rt: HostRuntime) -> Result<(), Fail> {
     };
     let flushed =
         b"*   << Request  >> 9         \n-   Begin          req 1 rxreq\n-   VSL            flush\n-   End            synth\n\n";
-    let table = Table::new(rt.alloc(), options)?;
-    expect_table(&rt, rt.alloc(), table, 1, b"", flushed)
+    let table = Table::new(alloc, options)?;
+    expect_table(&rt, alloc, table, 1, b"", flushed)
 }
 
 #[test]
 fn a_table_keeps_no_raw_record(rt: HostRuntime) -> Result<(), Fail> {
+    let alloc = rt.alloc();
     let options = GroupOptions {
         grouping: Grouping::Raw,
         limit: 1000,
         timeout: 120,
     };
     let line = b"         9 Begin          c req 1 rxreq\n";
-    let table = Table::new(rt.alloc(), options)?;
-    expect_table(&rt, rt.alloc(), table, 0, line, line)
+    let table = Table::new(alloc, options)?;
+    expect_table(&rt, alloc, table, 0, line, line)
 }
 
 fn member_of(
@@ -136,6 +138,7 @@ type Shape<'a> = (Vxid, Kind, u32, &'a [Rec<'a>]);
 
 #[test]
 fn a_group_has_its_text(rt: HostRuntime) -> Result<(), Fail> {
+    let alloc = rt.alloc();
     let begin_number = Tag::BEGIN.number();
     let end_number = Tag::END.number();
     let begin: &[Rec<'_>] = &[(begin_number, b"bereq 2 fetch")];
@@ -164,27 +167,29 @@ fn a_group_has_its_text(rt: HostRuntime) -> Result<(), Fail> {
         (false, &[(5, Kind::Session, 1, &[])], b""),
     ];
     for (verbose, shapes, want) in cases {
-        let mut members = Members::new(rt.alloc());
+        let mut members = Members::new(alloc);
         for (vxid, kind, level, given) in shapes {
-            members.push(member_of(rt.alloc(), *vxid, *kind, *level, *given)?)?;
+            members.push(member_of(alloc, *vxid, *kind, *level, *given)?)?;
         }
-        let groups = Vec::from_array(rt.alloc(), [Group { members }])?;
-        expect_text(&rt, rt.alloc(), &groups, verbose, want)?;
+        let groups = Vec::from_array(alloc, [Group { members }])?;
+        expect_text(&rt, alloc, &groups, verbose, want)?;
     }
     Ok(())
 }
 
 #[test]
 fn a_raw_line_is_added_and_all_is_shown(rt: HostRuntime) -> Result<(), Fail> {
-    let begin = record_of(rt.alloc(), Tag::BEGIN, b"req 1 rxreq")?;
-    let mut out = Vec::from_slice(rt.alloc(), b"before\n")?;
+    let alloc = rt.alloc();
+    let begin = record_of(alloc, Tag::BEGIN, b"req 1 rxreq")?;
+    let mut out = Vec::from_slice(alloc, b"before\n")?;
     raw_line(2, &begin, &mut out)?;
-    assert_eq!(rt;
+    same(
+        &rt,
         out.as_slice(),
-        b"before\n         2 Begin          c req 1 rxreq\n".as_slice()
+        b"before\n         2 Begin          c req 1 rxreq\n".as_slice(),
     );
-    let selection = all_shown(rt.alloc())?;
+    let selection = all_shown(alloc)?;
     assert!(rt; selection.shows(&begin)?);
-    assert!(rt; selection.shows_member(&member_of(rt.alloc(), 5, Kind::Session, 1, &[])?));
+    assert!(rt; selection.shows_member(&member_of(alloc, 5, Kind::Session, 1, &[])?));
     Ok(())
 }

@@ -2,6 +2,7 @@
 
 ghost use Rattle.std.specs.Prelude.{◌≡◌, IfOk};
 
+use crate::support::same;
 use ring_layout::{Placed, Shape, place_after, segment_of};
 use std::process::Abort;
 use std::test::Fail;
@@ -26,10 +27,10 @@ fn least_shape() -> Result<Shape, Fail>
 
 /// The unit has this VXID, and is of one record with this payload.
 fn expect_unit(rt: &impl Abort, unit: &Unit, vxid: u32, payload: &[u8]) {
-    assert_eq!(rt; unit.vxid(), vxid);
-    assert_eq!(rt; unit.records().len(), 1);
+    same(rt, unit.vxid(), vxid);
+    same(rt, unit.records().len(), 1);
     for one in unit.records() {
-        assert_eq!(rt; one.payload.as_slice(), payload);
+        same(rt, one.payload.as_slice(), payload);
     }
 }
 
@@ -41,15 +42,15 @@ fn a_unit_lies_in_one_lap(rt: HostRuntime) -> Result<(), Fail> {
         tail: 511,
         wraps: false,
     };
-    assert_eq!(rt; place_after(shape, 447, 64), Some(stays));
-    assert_eq!(rt; segment_of(shape, 511), 7);
+    same(&rt, place_after(shape, 447, 64), Some(stays));
+    same(&rt, segment_of(shape, 511), 7);
     let wraps = Placed {
         start: 512,
         tail: 576,
         wraps: true,
     };
-    assert_eq!(rt; place_after(shape, 448, 64), Some(wraps));
-    assert_eq!(rt; segment_of(shape, 576), 9);
+    same(&rt, place_after(shape, 448, 64), Some(wraps));
+    same(&rt, segment_of(shape, 576), 9);
     Ok(())
 }
 
@@ -61,17 +62,17 @@ fn no_unit_lies_behind_the_last_tail(rt: HostRuntime) -> Result<(), Fail> {
         tail: 4_611_686_018_427_387_897,
         wraps: false,
     };
-    assert_eq!(rt; place_after(shape, LATE_TAIL, 64), None);
-    assert_eq!(rt; place_after(shape, LATE_TAIL, 3), Some(last));
+    same(&rt, place_after(shape, LATE_TAIL, 64), None);
+    same(&rt, place_after(shape, LATE_TAIL, 3), Some(last));
     Ok(())
 }
 
 #[test]
 fn two_lines_are_two_units(rt: HostRuntime) -> Result<(), Fail> {
     let listing = read_listing(rt.alloc(), TWO_LINES, 255, least_shape()?)?;
-    assert_eq!(rt; listing.cuts, 0);
+    same(&rt, listing.cuts, 0);
     let units = listing.units.as_slice();
-    assert_eq!(rt; units.len(), 2);
+    same(&rt, units.len(), 2);
     for (unit, (vxid, payload)) in units.iter().zip([(1, b"a"), (2, b"b")]) {
         expect_unit(&rt, unit, vxid, payload);
     }
@@ -81,6 +82,6 @@ fn two_lines_are_two_units(rt: HostRuntime) -> Result<(), Fail> {
 #[test]
 fn a_bad_line_is_told(rt: HostRuntime) -> Result<(), Fail> {
     let refused = read_listing(rt.alloc(), BAD_THIRD, 255, least_shape()?).err();
-    assert_eq!(rt; refused, Some(ListFault::BadLine { line: 3 }));
+    same(&rt, refused, Some(ListFault::BadLine { line: 3 }));
     Ok(())
 }

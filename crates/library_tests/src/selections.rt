@@ -1,6 +1,6 @@
 //! Selections: rules that are refused, and what a good one shows.
 
-use crate::support::{no_sides, record_of};
+use crate::support::{no_sides, record_of, same};
 use std::alloc::Global;
 use std::test::Fail;
 use vsl_select::{RuleText, SelectFault, Selection, Text};
@@ -28,21 +28,27 @@ fn selection(
 
 #[test]
 fn a_rule_that_is_refused_tells_its_word(rt: HostRuntime) -> Result<(), Fail> {
-    let tags = selection(rt.alloc(), false, "Nope")?;
-    assert_eq!(&rt; tags.err(), Some(SelectFault::BadTags { word: 2 }));
-    let pattern = selection(rt.alloc(), true, "(")?;
-    assert_eq!(&rt; pattern.err(), Some(SelectFault::BadPattern { word: 2 }));
+    let alloc = rt.alloc();
+    let tags = selection(alloc, false, "Nope")?;
+    same(&rt, tags.err(), Some(SelectFault::BadTags { word: 2 }));
+    let pattern = selection(alloc, true, "(")?;
+    same(
+        &rt,
+        pattern.err(),
+        Some(SelectFault::BadPattern { word: 2 }),
+    );
     Ok(())
 }
 
 #[test]
 fn a_rule_with_a_pattern_shows_what_matches(rt: HostRuntime) -> Result<(), Fail> {
-    let shown = selection(rt.alloc(), true, "Begin:^req")??;
-    let first = record_of(rt.alloc(), Tag::BEGIN, b"req 1 rxreq")?;
-    let second = record_of(rt.alloc(), Tag::BEGIN, b"bereq 2 fetch")?;
-    let third = record_of(rt.alloc(), Tag::END, b"req 1 rxreq")?;
-    assert_eq!(&rt; shown.shows(&first)?, true);
-    assert_eq!(&rt; shown.shows(&second)?, false);
-    assert_eq!(&rt; shown.shows(&third)?, false);
+    let alloc = rt.alloc();
+    let shown = selection(alloc, true, "Begin:^req")??;
+    let first = record_of(alloc, Tag::BEGIN, b"req 1 rxreq")?;
+    let second = record_of(alloc, Tag::BEGIN, b"bereq 2 fetch")?;
+    let third = record_of(alloc, Tag::END, b"req 1 rxreq")?;
+    same(&rt, shown.shows(&first)?, true);
+    same(&rt, shown.shows(&second)?, false);
+    same(&rt, shown.shows(&third)?, false);
     Ok(())
 }

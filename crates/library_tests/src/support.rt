@@ -3,10 +3,17 @@
 ghost use Rattle.std.specs.Prelude.{◌≡◌, IfOk};
 
 use std::alloc::Global;
+use std::fmt::Debug;
+use std::process::Abort;
 use std::test::Fail;
 use vsl_record::{Mark, Record};
 use vsl_select::{Selection, Sides};
 use vsl_tags::Tag;
+
+/// The two are the same. Each comparison of a test is this call, because each `assert_eq!` is a proof of its own.
+pub fn same<T: PartialEq + Debug + Drop>(rt: &impl Abort, left: T, right: T) {
+    assert_eq!(rt; left, right);
+}
 
 /// A client's record.
 pub fn record_of(alloc: Global, tag: Tag, payload: &[u8]) -> Result<Record, Fail>

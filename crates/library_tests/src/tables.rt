@@ -1,6 +1,6 @@
 //! Tables: what is force-completed, by the limit and on demand.
 
-use crate::support::record_of;
+use crate::support::{record_of, same};
 use std::alloc::Global;
 use std::test::Fail;
 use txn_rows::{Cause, Group, GroupOptions, Grouping, Table};
@@ -35,38 +35,38 @@ fn small_table(alloc: Global) -> Result<Table, Fail> {
 
 #[test]
 fn a_table_over_its_limit_ends_the_oldest(rt: HostRuntime) -> Result<(), Fail> {
-    let mut table = small_table(rt.alloc())?;
-    let mut groups = Vec::new(rt.alloc());
-    let open = begun(rt.alloc())?;
+    let alloc = rt.alloc();
+    let mut table = small_table(alloc)?;
+    let mut groups = Vec::new(alloc);
+    let open = begun(alloc)?;
     table.step(open, &mut groups)?;
-    assert_eq!(&rt; groups.len(), 0);
-    let begin = record_of(rt.alloc(), Tag::BEGIN, b"req 1 rxreq")?;
-    let end = record_of(rt.alloc(), Tag::END, b"")?;
-    let records = Vec::from_array(rt.alloc(), [begin, end])?;
+    same(&rt, groups.len(), 0);
+    let begin = record_of(alloc, Tag::BEGIN, b"req 1 rxreq")?;
+    let end = record_of(alloc, Tag::END, b"")?;
+    let records = Vec::from_array(alloc, [begin, end])?;
     let unit = Unit::new(4, Mark::Client, records)?;
     table.step(unit, &mut groups)?;
-    assert_eq!(&rt;
-        firsts(rt.alloc(), &groups)?.as_slice(),
-        [(2, 3), (4, 2)].as_slice()
+    same(
+        &rt,
+        firsts(alloc, &groups)?.as_slice(),
+        [(2, 3), (4, 2)].as_slice(),
     );
     Ok(())
 }
 
 #[test]
 fn a_table_ends_what_is_open_on_demand(rt: HostRuntime) -> Result<(), Fail> {
-    let mut table = small_table(rt.alloc())?;
-    let mut groups = Vec::new(rt.alloc());
+    let alloc = rt.alloc();
+    let mut table = small_table(alloc)?;
+    let mut groups = Vec::new(alloc);
     table.flush(&mut groups)?;
     table.force(Cause::Timeout, &mut groups)?;
-    assert_eq!(&rt; groups.len(), 0);
-    let open = begun(rt.alloc())?;
+    same(&rt, groups.len(), 0);
+    let open = begun(alloc)?;
     table.step(open, &mut groups)?;
-    assert_eq!(&rt; table.unfinished(), 1);
+    same(&rt, table.unfinished(), 1);
     table.force(Cause::Timeout, &mut groups)?;
-    assert_eq!(&rt;
-        firsts(rt.alloc(), &groups)?.as_slice(),
-        [(2, 3)].as_slice()
-    );
-    assert_eq!(&rt; table.rows(), 0);
+    same(&rt, firsts(alloc, &groups)?.as_slice(), [(2, 3)].as_slice());
+    same(&rt, table.rows(), 0);
     Ok(())
 }

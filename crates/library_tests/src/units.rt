@@ -3,7 +3,7 @@
 ghost use Rattle.std.specs.Prelude.{◌≡◌, IfOk};
 ghost use Rattle.std.specs.List.{All};
 
-use crate::support::record_of;
+use crate::support::{record_of, same};
 use std::alloc::Global;
 use std::process::Abort;
 use std::test::Fail;
@@ -73,98 +73,104 @@ fn words(alloc: Global, count: u32, head: u32, after: &[u32]) -> Result<Vec<u32>
 }
 
 fn expect_same(rt: &impl Abort, read: &Unit, made: &Unit) {
-    assert_eq!(rt; read.vxid(), made.vxid());
-    assert_eq!(rt; read.mark(), made.mark());
-    assert_eq!(rt; read.records().len(), LONG_RECORDS + 1);
-    assert_eq!(rt; made.records().len(), LONG_RECORDS + 1);
+    same(rt, read.vxid(), made.vxid());
+    same(rt, read.mark(), made.mark());
+    same(rt, read.records().len(), LONG_RECORDS + 1);
+    same(rt, made.records().len(), LONG_RECORDS + 1);
     for (a, b) in read.records().iter().zip(made.records()) {
-        assert_eq!(rt; a.tag.number(), b.tag.number());
-        assert_eq!(rt; a.mark, b.mark);
-        assert_eq!(rt; a.payload.as_slice(), b.payload.as_slice());
+        same(rt, a.tag.number(), b.tag.number());
+        same(rt, a.mark, b.mark);
+        same(rt, a.payload.as_slice(), b.payload.as_slice());
     }
 }
 
 #[test]
 fn the_longest_unit_is_read(rt: HostRuntime) -> Result<(), Fail> {
+    let alloc = rt.alloc();
     let (last, _) = LAST.split_at(1924);
-    let made = Unit::new(VXID, Mark::Client, records(rt.alloc(), last)?)?;
-    let spelled = words(rt.alloc(), 1_048_576, 0x2d00_0784, &[])?;
-    assert_eq!(rt; spelled.len(), 1_048_576);
-    let (read, taken) = read_unit(rt.alloc(), &spelled)?;
-    assert_eq!(rt; taken, 1_048_576);
+    let made = Unit::new(VXID, Mark::Client, records(alloc, last)?)?;
+    let spelled = words(alloc, 1_048_576, 0x2d00_0784, &[])?;
+    same(&rt, spelled.len(), 1_048_576);
+    let (read, taken) = read_unit(alloc, &spelled)?;
+    same(&rt, taken, 1_048_576);
     expect_same(&rt, &read, &made);
     Ok(())
 }
 
 #[test]
 fn a_unit_of_one_word_more_is_refused(rt: HostRuntime) -> Result<(), Fail> {
-    let refused = Unit::new(VXID, Mark::Client, records(rt.alloc(), &LAST)?).err();
-    assert_eq!(rt; refused, Some(UnitFault::TooLong { words: 1_048_577 }));
-    let spelled = words(rt.alloc(), 1_048_577, 0x2d00_0785, &[0x0000_0062])?;
-    assert_eq!(rt; spelled.len(), 1_048_577);
-    assert_eq!(rt;
-        read_unit(rt.alloc(), &spelled).err(),
-        Some(WordFault::BadLength { at: 0 })
+    let alloc = rt.alloc();
+    let refused = Unit::new(VXID, Mark::Client, records(alloc, &LAST)?).err();
+    same(&rt, refused, Some(UnitFault::TooLong { words: 1_048_577 }));
+    let spelled = words(alloc, 1_048_577, 0x2d00_0785, &[0x0000_0062])?;
+    same(&rt, spelled.len(), 1_048_577);
+    same(
+        &rt,
+        read_unit(alloc, &spelled).err(),
+        Some(WordFault::BadLength { at: 0 }),
     );
     Ok(())
 }
 
 #[test]
 fn a_payload_has_at_most_4000_bytes(rt: HostRuntime) -> Result<(), Fail> {
+    let alloc = rt.alloc();
     let bytes = [0xa5; 4001];
     let tag = Tag::from_number(92).ok_or("92 is a tag")?;
-    let refused = Record::new(rt.alloc(), tag, Mark::Backend, &bytes).err();
-    assert_eq!(rt; refused, Some(RecordFault::TooLong { bytes: 4001 }));
-    let made = Record::new(rt.alloc(), tag, Mark::Backend, &bytes[..4000])?;
-    assert_eq!(rt; made.tag.number(), 92);
-    assert_eq!(rt; made.mark, Mark::Backend);
-    assert_eq!(rt; made.payload.as_slice(), &bytes[..4000]);
-    assert_eq!(rt; made.words(), 1002);
+    let refused = Record::new(alloc, tag, Mark::Backend, &bytes).err();
+    same(&rt, refused, Some(RecordFault::TooLong { bytes: 4001 }));
+    let made = Record::new(alloc, tag, Mark::Backend, &bytes[..4000])?;
+    same(&rt, made.tag.number(), 92);
+    same(&rt, made.mark, Mark::Backend);
+    same(&rt, made.payload.as_slice(), &bytes[..4000]);
+    same(&rt, made.words(), 1002);
     Ok(())
 }
 
 #[test]
 fn a_unit_has_a_record(rt: HostRuntime) -> Result<(), Fail> {
-    let refused = Unit::new(7, Mark::Client, Vec::new(rt.alloc())).err();
-    assert_eq!(rt; refused, Some(UnitFault::Empty));
-    let end = record_of(rt.alloc(), Tag::END, b"")?;
-    let made = Unit::new(7, Mark::Client, Vec::from_array(rt.alloc(), [end])?)?;
-    assert_eq!(rt; made.vxid(), 7);
-    assert_eq!(rt; made.mark(), Mark::Client);
-    assert_eq!(rt; made.records().len(), 1);
+    let alloc = rt.alloc();
+    let refused = Unit::new(7, Mark::Client, Vec::new(alloc)).err();
+    same(&rt, refused, Some(UnitFault::Empty));
+    let end = record_of(alloc, Tag::END, b"")?;
+    let made = Unit::new(7, Mark::Client, Vec::from_array(alloc, [end])?)?;
+    same(&rt, made.vxid(), 7);
+    same(&rt, made.mark(), Mark::Client);
+    same(&rt, made.records().len(), 1);
     Ok(())
 }
 
 #[test]
 fn one_ping_is_read(rt: HostRuntime) -> Result<(), Fail> {
     let (unit, taken) = read_unit(rt.alloc(), &ONE_PING)?;
-    assert_eq!(rt; taken, 5);
-    assert_eq!(rt; unit.vxid(), 0);
-    assert_eq!(rt; unit.mark(), Mark::Plain);
-    assert_eq!(rt; unit.records().len(), 1);
+    same(&rt, taken, 5);
+    same(&rt, unit.vxid(), 0);
+    same(&rt, unit.mark(), Mark::Plain);
+    same(&rt, unit.records().len(), 1);
     for one in unit.records() {
-        assert_eq!(rt; one.tag.number(), 3);
-        assert_eq!(rt; one.mark, Mark::Plain);
-        assert_eq!(rt; one.payload.as_slice(), b"Rd ping".as_slice());
+        same(&rt, one.tag.number(), 3);
+        same(&rt, one.mark, Mark::Plain);
+        same(&rt, one.payload.as_slice(), b"Rd ping".as_slice());
     }
     Ok(())
 }
 
 #[test]
 fn a_unit_tells_its_words(rt: HostRuntime) -> Result<(), Fail> {
-    let (unit, taken) = read_unit(rt.alloc(), &ONE_PING)?;
-    assert_eq!(rt; unit.words(), taken);
-    let all = unit_words(rt.alloc(), &unit)?;
-    assert_eq!(rt; all.as_slice(), ONE_PING.as_slice());
+    let alloc = rt.alloc();
+    let (unit, taken) = read_unit(alloc, &ONE_PING)?;
+    same(&rt, unit.words(), taken);
+    let all = unit_words(alloc, &unit)?;
+    same(&rt, all.as_slice(), ONE_PING.as_slice());
     for place in 0..unit.words() {
-        assert_eq!(rt; Some(unit.word_at(place)), all.get(place).copied());
+        same(&rt, Some(unit.word_at(place)), all.get(place).copied());
     }
     Ok(())
 }
 
 /// The words begin with no unit, and this is their first fault.
 fn expect_fault(rt: &impl Abort, alloc: Global, words: &[u32], fault: WordFault) {
-    assert_eq!(rt; read_unit(alloc, words).err(), Some(fault));
+    same(rt, read_unit(alloc, words).err(), Some(fault));
 }
 
 #[test]

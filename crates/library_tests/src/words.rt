@@ -1,5 +1,6 @@
 //! That words are read at all, with characters of more than a byte; what they say is proved.
 
+use crate::support::same;
 use std::alloc::Global;
 use std::test::Fail;
 use tool_words::{Job, Order, Tool, UsageFault, WordsFault, read_words};
@@ -84,17 +85,17 @@ fn a_command_line_has_its_job(rt: HostRuntime) -> Result<(), Fail> {
         "-Iä:ö",
     ];
     let job = read(rt.alloc(), texts.as_slice())??;
-    assert_eq!(rt; job.tool, Tool::Log);
-    assert_eq!(rt; job.order, Order::Turns(7));
-    assert_eq!(rt; job.grouping, Grouping::Raw);
+    same(&rt, job.tool, Tool::Log);
+    same(&rt, job.order, Order::Turns(7));
+    same(&rt, job.grouping, Grouping::Raw);
     let feeds = job.feeds.as_slice();
     assert_eq!(rt; feeds.len(), 1);
-    assert_eq!(rt; feeds[0].as_str(), "é");
-    assert_eq!(rt; job.queries.as_slice().len(), 1);
+    same(&rt, feeds[0].as_str(), "é");
+    same(&rt, job.queries.as_slice().len(), 1);
     let rules = job.rules.as_slice();
     assert_eq!(rt; rules.len(), 1);
-    assert_eq!(rt; rules[0].text.as_str(), "ä:ö");
-    assert_eq!(rt; rules[0].word, 8);
+    same(&rt, rules[0].text.as_str(), "ä:ö");
+    same(&rt, rules[0].word, 8);
     Ok(())
 }
 
@@ -102,7 +103,7 @@ fn a_command_line_has_its_job(rt: HostRuntime) -> Result<(), Fail> {
 fn a_refused_command_line_has_its_fault(rt: HostRuntime) -> Result<(), Fail> {
     for case in &REFUSED {
         let answer = read(rt.alloc(), case.words)?;
-        assert_eq!(rt; answer.err(), Some(WordsFault::Usage(case.fault)));
+        same(&rt, answer.err(), Some(WordsFault::Usage(case.fault)));
     }
     Ok(())
 }

@@ -2,6 +2,7 @@
 //! they should is said by clauses; only that the answer is not `NoMemory` is not. Files are created and written as a
 //! tool would do it.
 
+use crate::support::same;
 use std::test::Fail;
 use vio::{
     Created, ERRORS, Failed, INPUT, MemWorld, OUTPUT, WholeFault, World, WorldFault, read_whole,
@@ -16,6 +17,7 @@ const OTHER: &[u8] = b"xyz";
 
 #[test]
 fn a_text_over_the_limit_is_too_large(rt: HostRuntime) -> Result<(), Fail> {
+    let alloc = rt.alloc();
     for (limit, fits) in [
         (0, false),
         (4, false),
@@ -23,9 +25,9 @@ fn a_text_over_the_limit_is_too_large(rt: HostRuntime) -> Result<(), Fail> {
         (6, true),
         (u64::MAX, true),
     ] {
-        let mut world = MemWorld::new(rt.alloc())?;
+        let mut world = MemWorld::new(alloc)?;
         world.file("-", TEXT)?;
-        match read_whole(rt.alloc(), &mut world, INPUT, limit) {
+        match read_whole(alloc, &mut world, INPUT, limit) {
             Ok(bytes) => {
                 assert!(rt; fits, "with limit {limit}");
                 assert_eq!(rt; bytes.as_slice(), TEXT, "with limit {limit}");
@@ -43,8 +45,8 @@ fn a_text_over_the_limit_is_too_large(rt: HostRuntime) -> Result<(), Fail> {
 fn other_names_and_handles_are_refused(rt: HostRuntime) -> Result<(), Fail> {
     let mut world = MemWorld::new(rt.alloc())?;
     world.file("f", TEXT)?;
-    assert_eq!(rt; world.open("f"), Ok(3));
-    assert_eq!(rt; world.open("g"), Err(WorldFault::Failed));
+    same(&rt, world.open("f"), Ok(3));
+    same(&rt, world.open("g"), Err(WorldFault::Failed));
     let mut buf = [0; 8];
     for h in [OUTPUT, ERRORS, 5] {
         assert_eq!(rt; world.read(h, &mut buf), Err(Failed), "a read of {h}");
@@ -116,11 +118,11 @@ fn a_created_file_is_not_read_and_an_opened_one_not_written(rt: HostRuntime) -> 
     let mut world = MemWorld::new(rt.alloc())?;
     world.file("f", TEXT)?;
     let created = world.create("g", false);
-    assert_eq!(rt; created.map(|c| c.handle), Ok(3));
-    assert_eq!(rt; world.open("f"), Ok(4));
+    same(&rt, created.map(|c| c.handle), Ok(3));
+    same(&rt, world.open("f"), Ok(4));
     let mut buf = [0; 8];
-    assert_eq!(rt; world.read(3, &mut buf), Err(Failed));
-    assert_eq!(rt; world.write(4, TEXT), Err(WorldFault::Failed));
+    same(&rt, world.read(3, &mut buf), Err(Failed));
+    same(&rt, world.write(4, TEXT), Err(WorldFault::Failed));
     Ok(())
 }
 
@@ -129,27 +131,29 @@ fn a_creation_that_fails_changes_no_file(rt: HostRuntime) -> Result<(), Fail> {
     let mut world = MemWorld::new(rt.alloc())?;
     world.file("f", TEXT)?;
     world.fail(1)?;
-    assert_eq!(rt; world.create("f", false), Err(WorldFault::Failed));
-    assert_eq!(rt; world.open("f"), Ok(3));
-    assert_eq!(rt; world.content(3), TEXT);
+    same(&rt, world.create("f", false), Err(WorldFault::Failed));
+    same(&rt, world.open("f"), Ok(3));
+    same(&rt, world.content(3), TEXT);
     Ok(())
 }
 
 #[test]
 fn an_opened_file_keeps_its_bytes_while_its_name_is_emptied(rt: HostRuntime) -> Result<(), Fail> {
-    let mut world = MemWorld::new(rt.alloc())?;
+    let alloc = rt.alloc();
+    let mut world = MemWorld::new(alloc)?;
     world.file("f", TEXT)?;
-    assert_eq!(rt; world.open("f"), Ok(3));
-    assert_eq!(rt;
+    same(&rt, world.open("f"), Ok(3));
+    same(
+        &rt,
         world.create("f", false),
         Ok(Created {
             handle: 4,
-            empty: true
-        })
+            empty: true,
+        }),
     );
     assert!(rt; world.content(3).is_empty());
-    let bytes = read_whole(rt.alloc(), &mut world, 3, 8);
-    let bytes = bytes.unwrap_or(Vec::new(rt.alloc()));
-    assert_eq!(rt; bytes.as_slice(), TEXT);
+    let bytes = read_whole(alloc, &mut world, 3, 8);
+    let bytes = bytes.unwrap_or(Vec::new(alloc));
+    same(&rt, bytes.as_slice(), TEXT);
     Ok(())
 }
