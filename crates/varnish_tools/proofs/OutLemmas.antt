@@ -31,7 +31,7 @@ fresh_before true c stays none = let given = stays refl in cc
 fresh_before false c stays none = refl
 
 -- what was made behind calls that keep the files, and what was written to it behind that
-module _ (append : Bool) (name : List ℕ) (h : ℕ) (empty : Bool) (reads : List ℕ) (text : List ℕ) (calls : List Call) (r s t now : Seen) (opened : List (List ℕ)) (touches : Touches [] [] opened [] r s) (errors : t.names Writing ERRORS name ≡ r.names Writing ERRORS name)
+module _ (append : Bool) (name : List ℕ) (h : ℕ) (empty : Bool) (reads : List ℕ) (text : List ℕ) (calls : List Call) (r s t now : Seen) (touches : Touches [] [] [] r s) (errors : t.names Writing ERRORS name ≡ r.names Writing ERRORS name)
     (on : AreOn reads (ERRORS ∷ h ∷ []) calls) (did : Did calls t now) (are : written_by h calls ≡ text) where
   file_sink : FileCreated append name h empty s t → IsFileSink append name h empty text r now
   file_sink made =

@@ -123,7 +123,7 @@ pub record GroupParts (job : Job) (found : List Found) (s t : Seen) : Type 0 whe
   pub at : Seen
   pub passed_own : Passed Passes Stops (input_steps job) inputs own
   pub did_own : Did own mid at
-  pub touches : Touches [] [] (opens_of (early job ++ input_steps job)) [] s at
+  pub touches : Touches [] [] [] s at
   pub made : List Call
   pub is_made : IsMadeBy job.append (write_of job) sink empty made
   pub did_made : Did made at t

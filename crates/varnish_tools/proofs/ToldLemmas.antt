@@ -127,7 +127,7 @@ module _ (writes_told : TellsWrites) (job : Job) (units : Log) (ending : FileEnd
           are_texts = out.are_texts;
           asked = subst (λ (texts : List (List ℕ)). AreAsked job.caseless None texts g.0) of.so.texts_are (g.3).asked;
           text = written_by sink ran.last;
-          is_out = out_by job.append (write_of job) sink out.empty (h ∷ []) (written_by sink ran.last) (ran.last ++ q.said) s out.at parts.0 t (opens_of (early job ++ input_steps job)) out.touches (touches.names Writing ERRORS (write_of job) streams.error_given)
+          is_out = out_by job.append (write_of job) sink out.empty (h ∷ []) (written_by sink ran.last) (ran.last ++ q.said) s out.at parts.0 t out.touches (touches.names Writing ERRORS (write_of job) streams.error_given)
               (on_append (h ∷ []) (ERRORS ∷ sink ∷ []) ran.last q.said over.on (says_on (h ∷ []) (sink ∷ []) message q.said q.says)) (did_then ran.last q.said parts.0 q.at t parts.2 q.told) silent (bytes_eq (write_of job) (codes "-")) out.made out.is_made out.did_made;
           part = so.part;
           done = so.done;
