@@ -2,7 +2,7 @@
 
 ghost use Rattle.std.specs.Prelude.{◌≡◌};
 
-use crate::support::{one_reader, one_writer, open, open_pair, unit_of};
+use crate::support::{open_pair, open_trio, same, unit_of};
 use log_ring::{Pause, ReaderPass, Ring, WriterPass};
 use ring_layout::{PutFault, Sought, Step};
 use std::alloc::Global;
@@ -38,7 +38,7 @@ impl Pause for PutsAt<'_> {
 fn stopped_at(rt: &impl Abort, alloc: Global, when: u64, times: u64) -> Result<Step, Fail> {
     let unit = unit_of(alloc, 1, 64)?;
     let (ring, mut writer, mut reader) = open_pair(alloc)?;
-    assert_eq!(rt; writer.try_put(&ring, &unit), Ok(()));
+    same(rt, writer.try_put(&ring, &unit), Ok(()));
     let mut pause = PutsAt {
         ring: &ring,
         writer,
@@ -48,7 +48,7 @@ fn stopped_at(rt: &impl Abort, alloc: Global, when: u64, times: u64) -> Result<S
         puts: 0,
     };
     let answer = reader.next_with(&ring, &mut pause);
-    assert_eq!(rt; pause.puts, times);
+    same(rt, pause.puts, times);
     Ok(answer)
 }
 
@@ -99,43 +99,46 @@ impl Pause for TriesAt<'_> {
     }
 }
 
+/// A unit of so many words is put, and seen at its last one.
+fn expect_seen(rt: &impl Abort, alloc: Global, words: u8) -> Result<(), Fail> {
+    let unit = unit_of(alloc, 1, words)?;
+    let (ring, mut first, second, reader) = open_trio(alloc)?;
+    let mut pause = TriesAt {
+        ring: &ring,
+        writer: second,
+        reader,
+        unit: &unit,
+        calls: 0,
+        busy: 0,
+        waits: 0,
+        took_at: 0,
+    };
+    same(rt, first.try_put_with(&ring, &unit, &mut pause), Ok(()));
+    let size = u64::from(words);
+    same(rt, pause.calls, size + 2);
+    same(rt, pause.busy, size + 2);
+    same(rt, pause.waits, size + 1);
+    same(rt, pause.took_at, size + 1);
+    Ok(())
+}
+
 #[test]
 fn a_unit_is_seen_once_its_last_word_is_stored(rt: HostRuntime) -> Result<(), Fail> {
     for words in 3u8..64 {
-        let unit = unit_of(rt.alloc(), 1, words)?;
-        let mut opened = open(rt.alloc(), 2, 1)?;
-        let second = one_writer(&mut opened)?;
-        let mut first = one_writer(&mut opened)?;
-        let reader = one_reader(&mut opened)?;
-        let ring = opened.ring;
-        let mut pause = TriesAt {
-            ring: &ring,
-            writer: second,
-            reader,
-            unit: &unit,
-            calls: 0,
-            busy: 0,
-            waits: 0,
-            took_at: 0,
-        };
-        assert_eq!(&rt; first.try_put_with(&ring, &unit, &mut pause), Ok(()));
-        let size = u64::from(words);
-        assert_eq!(&rt; pause.calls, size + 2);
-        assert_eq!(&rt; pause.busy, size + 2);
-        assert_eq!(&rt; pause.waits, size + 1);
-        assert_eq!(&rt; pause.took_at, size + 1);
+        expect_seen(&rt, rt.alloc(), words)?;
     }
     Ok(())
 }
 
 #[test]
 fn a_cursor_that_seeks_is_overrun_again(rt: HostRuntime) -> Result<(), Fail> {
-    let unit = unit_of(rt.alloc(), 1, 64)?;
-    let (ring, mut writer, mut reader) = open_pair(rt.alloc())?;
+    let alloc = rt.alloc();
+    let unit = unit_of(alloc, 1, 64)?;
+    let (ring, mut writer, mut reader) = open_pair(alloc)?;
     for _ in 0..9 {
-        assert_eq!(&rt; writer.try_put(&ring, &unit), Ok(()));
+        same(&rt, writer.try_put(&ring, &unit), Ok(()));
     }
-    assert_eq!(&rt; reader.next(&ring), Step::Lost { at: 0, seen: 10 });
+    same(&rt, reader.next(&ring), Step::Lost { at: 0, seen: 10 });
     assert_eq!(&rt; reader.is_lost(), true);
     let mut pause = PutsAt {
         ring: &ring,
@@ -145,10 +148,11 @@ fn a_cursor_that_seeks_is_overrun_again(rt: HostRuntime) -> Result<(), Fail> {
         times: 7,
         puts: 0,
     };
-    assert_eq!(&rt;
+    same(
+        &rt,
         reader.seek_with(&ring, &mut pause),
-        Sought::Lost { at: 6, seen: 18 }
+        Sought::Lost { at: 6, seen: 18 },
     );
-    assert_eq!(&rt; pause.puts, 7);
+    same(&rt, pause.puts, 7);
     Ok(())
 }

@@ -1,7 +1,7 @@
 //! Rows of calls, each with its answer, which both rings give.
 
 use crate::both::{AnyRing, Plain, Shared};
-use crate::support::unit_of;
+use crate::support::{same, unit_of};
 use ring_layout::{PutFault, Sought, Step};
 use std::alloc::Global;
 use std::process::Abort;
@@ -51,14 +51,14 @@ fn put<T: AnyRing>(
 
 /// The cursor takes the unit of this number.
 fn take<T: AnyRing>(rt: &impl Abort, ring: &mut T, number: u8) {
-    assert_eq!(rt; ring.next(), (Step::Took, u32::from(number)));
-    assert_eq!(rt; ring.is_lost(), false);
+    same(rt, ring.next(), (Step::Took, u32::from(number)));
+    same(rt, ring.is_lost(), false);
 }
 
 /// The cursor meets something else.
 fn meet<T: AnyRing>(rt: &impl Abort, ring: &mut T, step: Step, is_lost: bool) {
-    assert_eq!(rt; ring.next(), (step, 0));
-    assert_eq!(rt; ring.is_lost(), is_lost);
+    same(rt, ring.next(), (step, 0));
+    same(rt, ring.is_lost(), is_lost);
 }
 
 /// One row.
@@ -85,7 +85,7 @@ fn run_row<T: AnyRing>(rt: &impl Abort, alloc: Global, ring: &mut T, row: Row) -
             let fault = PutFault::TooLong {
                 words: u64::from(words),
             };
-            assert_eq!(rt; ring.put(&unit), Err(fault));
+            same(rt, ring.put(&unit), Err(fault));
         }
         Leaves => ring.leave(),
         Takes(first, last) => {
@@ -97,8 +97,8 @@ fn run_row<T: AnyRing>(rt: &impl Abort, alloc: Global, ring: &mut T, row: Row) -
         Ended => meet(rt, ring, Step::Ended, false),
         Overrun(at, seen) => meet(rt, ring, Step::Lost { at, seen }, true),
         Seeks(segment, place) => {
-            assert_eq!(rt; ring.seek(), Some(Sought::At { segment, place }));
-            assert_eq!(rt; ring.is_lost(), false);
+            same(rt, ring.seek(), Some(Sought::At { segment, place }));
+            same(rt, ring.is_lost(), false);
         }
     }
     Ok(())
@@ -154,16 +154,18 @@ fn a_cursor_six_segments_behind_is_overrun(rt: HostRuntime) -> Result<(), Fail> 
 
 #[test]
 fn a_unit_stays_where_its_lap_has_a_word_more(rt: HostRuntime) -> Result<(), Fail> {
+    let alloc = rt.alloc();
     let before = [Follows(1, 6), Passes(7, 63), Passes(8, 63), Waits(510)];
     let at = [Follows(1, 6), Passes(7, 63), Passes(8, 64), Waits(511)];
     let past = [Follows(1, 7), Passes(8, 64), Waits(576)];
-    run_both(&rt, rt.alloc(), &before)?;
-    run_both(&rt, rt.alloc(), &at)?;
-    run_both(&rt, rt.alloc(), &past)
+    run_both(&rt, alloc, &before)?;
+    run_both(&rt, alloc, &at)?;
+    run_both(&rt, alloc, &past)
 }
 
 #[test]
 fn a_seek_finds_each_segment_that_a_unit_entered(rt: HostRuntime) -> Result<(), Fail> {
+    let alloc = rt.alloc();
     let by_its_tail = [
         Puts(1, 60),
         Fills(2, 7),
@@ -182,14 +184,15 @@ fn a_seek_finds_each_segment_that_a_unit_entered(rt: HostRuntime) -> Result<(), 
     ];
     let first_of_two = [Fills(1, 11), Overrun(0, 12), Seeks(8, 512), Takes(8, 11)];
     let last_of_two = [Fills(1, 12), Overrun(0, 13), Seeks(9, 576), Takes(9, 12)];
-    run_both(&rt, rt.alloc(), &by_its_tail)?;
-    run_both(&rt, rt.alloc(), &by_a_wrap)?;
-    run_both(&rt, rt.alloc(), &first_of_two)?;
-    run_both(&rt, rt.alloc(), &last_of_two)
+    run_both(&rt, alloc, &by_its_tail)?;
+    run_both(&rt, alloc, &by_a_wrap)?;
+    run_both(&rt, alloc, &first_of_two)?;
+    run_both(&rt, alloc, &last_of_two)
 }
 
 #[test]
 fn a_cursor_ends_behind_the_last_unit(rt: HostRuntime) -> Result<(), Fail> {
+    let alloc = rt.alloc();
     let rows = [
         Fills(1, 6),
         Leaves,
@@ -198,6 +201,6 @@ fn a_cursor_ends_behind_the_last_unit(rt: HostRuntime) -> Result<(), Fail> {
         Takes(3, 6),
         Ended,
     ];
-    run_both(&rt, rt.alloc(), &[Leaves, Ended, Ended])?;
-    run_both(&rt, rt.alloc(), &rows)
+    run_both(&rt, alloc, &[Leaves, Ended, Ended])?;
+    run_both(&rt, alloc, &rows)
 }

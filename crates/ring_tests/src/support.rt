@@ -8,12 +8,19 @@ ghost use Rattle.log_ring.specs.Readers.{AreReadersOf};
 use log_ring::{Opened, ReaderPass, Ring, WriterPass};
 use ring_layout::Shape;
 use std::alloc::Global;
+use std::fmt::Debug;
+use std::process::Abort;
 use std::test::Fail;
 use vsl_record::{Mark, Record, Unit};
 use vsl_tags::Tag;
 
 /// The number of the tag VCL_Log.
 const VCL_LOG: u8 = 24;
+
+/// The two are the same. Each comparison of a test is this call, because each `assert_eq!` is a proof of its own.
+pub fn same<T: PartialEq + Debug + Drop>(rt: &impl Abort, left: T, right: T) {
+    assert_eq!(rt; left, right);
+}
 
 /// A writer of a ring, from the end.
 #[tactic(auto, using(log_ring::proofs::PassLemmas::last_writer))]
@@ -68,6 +75,20 @@ pub fn open_pair(alloc: Global) -> Result<(Ring, WriterPass, ReaderPass), Fail>
     let writer = one_writer(&mut opened)?;
     let reader = one_reader(&mut opened)?;
     Ok((opened.ring, writer, reader))
+}
+
+/// A ring with two writers and a reader.
+pub fn open_trio(alloc: Global) -> Result<(Ring, WriterPass, WriterPass, ReaderPass), Fail>
+    ensures first { IfOk result (λ made. made.1.ring ≡ made.0) }
+    ensures second { IfOk result (λ made. made.2.ring ≡ made.0) }
+    ensures reader { IfOk result (λ made. made.3.ring ≡ made.0) }
+    ensures all { IfOk result (λ made. made.0.writers ≡ 2) }
+{
+    let mut opened = open(alloc, 2, 1)?;
+    let second = one_writer(&mut opened)?;
+    let first = one_writer(&mut opened)?;
+    let reader = one_reader(&mut opened)?;
+    Ok((opened.ring, first, second, reader))
 }
 
 /// What the payload of a unit with this VXID is filled with.

@@ -4,7 +4,7 @@ ghost use Rattle.std.specs.Prelude.{◌≡◌, ◌<◌};
 ghost use Rattle.vsl_record.specs.Unit.{LogUnit};
 ghost use Rattle.vsl_record.specs.Views.{Spells};
 
-use crate::support::{filling, one_reader, one_writer, open, unit_of};
+use crate::support::{filling, open_trio, same, unit_of};
 use log_ring::{LeftWriter, ReaderPass, Ring, WriterPass, close};
 use ring_layout::Step;
 use std::alloc::Global;
@@ -134,11 +134,7 @@ fn read_all<R: Wait>(rt: &R, ring: &Ring, mut reader: ReaderPass) -> (Seen, Read
 #[test]
 fn a_reader_takes_units_of_two_writers_in_their_orders(rt: HostRuntime) -> Result<(), Fail> {
     let alloc = rt.alloc();
-    let mut opened = open(alloc, 2, 1)?;
-    let one = one_writer(&mut opened)?;
-    let two = one_writer(&mut opened)?;
-    let reader = one_reader(&mut opened)?;
-    let ring = opened.ring;
+    let (ring, one, two, reader) = open_trio(alloc)?;
     let (even, odd) = (units_from(alloc, 0)?, units_from(alloc, 1)?);
     let (lefts, (seen, reader)) = join(
         &rt,
@@ -148,12 +144,12 @@ fn a_reader_takes_units_of_two_writers_in_their_orders(rt: HostRuntime) -> Resul
         { put_both(&rt, &ring, one, two, even.as_slice(), odd.as_slice()) },
         || read_all(&rt, &ring, reader),
     );
-    assert_eq!(&rt; seen.as_put, true);
+    same(&rt, seen.as_put, true);
     // The last unit of the log is one writer's last, and no cursor ends before it.
-    assert_eq!(&rt; seen.next[0].max(seen.next[1]), UNITS);
-    assert_eq!(&rt; seen.overruns > 0 || seen.taken == 2 * UNITS, true);
+    same(&rt, seen.next[0].max(seen.next[1]), UNITS);
+    same(&rt, seen.overruns > 0 || seen.taken == 2 * UNITS, true);
     let wraps = lefts.0.wraps().saturating_add(lefts.1.wraps());
-    assert_eq!(&rt; WRAPS.0 <= wraps && wraps <= WRAPS.1, true);
+    same(&rt, WRAPS.0 <= wraps && wraps <= WRAPS.1, true);
     let _closed = close(
         ring,
         Vec::from_array(alloc, [lefts.0, lefts.1])?,
