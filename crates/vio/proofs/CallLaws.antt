@@ -1,15 +1,15 @@
 -- What calls come to in the world: what was told of handles and files before them tells it of after them.
 use Rattle.std.proofs.Common.{◌≡◌, ℕ, ◌<◌, Bool, true, false, List, [], ◌∷◌, ◌++◌, Some, refl, sym, ap, subst, ◌∙◌, inl, inr, eqb, arith, ◌&&◌, ◌||◌}
-use Rattle.std.proofs.lemmas.Bool.{cases_Bool, eqb-true, eqb-false}
+use Rattle.std.proofs.lemmas.Bool.{cases_Bool, cases_eq, eqb-true, eqb-false}
 use Rattle.std.proofs.lemmas.List.{append-nil}
 use Rattle.log_model.specs.Faults.{HasNewFault}
 use Rattle.vio.specs.World.{Seen, CallKind, Reading, Writing, Gains, Loses, Wrote, Read, NoCountFalls, IsAtEnd}
 use Rattle.vio.specs.declared.world.TheConstants.{ERRORS}
-use Rattle.vio.specs.Touches.{IsOneOf}
+use Rattle.vio.specs.Touches.{IsOneOf, IsNewHandle}
 use Rattle.vio.proofs.WholeLemmas.{Gains-then, Loses-then}
-use Rattle.vio.proofs.TouchLemmas.{did_touch, touch_own}
+use Rattle.vio.proofs.TouchLemmas.{did_touch, one_of_left, one_of_right, touch_own}
 use Rattle.vio.proofs.CallLemmas.{did_counts}
-use Rattle.vio.specs.Calls.{Mark, Call, Take, Write, Open, Create, Refuse, Lack, Marks, Does, Did, AreOn, OnlyOpen, opened_in, created_in, written_by, taken_by, of_handle, has_read, is_end, IsFailed}
+use Rattle.vio.specs.Calls.{Mark, Call, Take, Write, Open, Create, Refuse, Lack, Marks, Does, Did, AreOn, AreWithin, IsWithin, OnlyOpen, opened_in, created_in, handles_given, written_by, taken_by, of_handle, has_read, is_end, IsFailed}
 
 -- ---- what is written
 
@@ -36,6 +36,11 @@ pub did_given : (h : ℕ) (calls : List Call) (s t : Seen) → Did calls s t →
 did_given h [] s t did given = ap (λ (x : Seen). x.given h) did ∙ given
 did_given h (call ∷ calls) s t did given = did_given h calls did.0 t did.2 ((touch_own call s did.0 did.1).given h given)
 
+-- and keeps its names
+did_name : (calls : List Call) (s t : Seen) (kind : CallKind) (h : ℕ) (name : List ℕ) → s.given h ≡ true → Did calls s t → t.names kind h name ≡ s.names kind h name
+did_name [] s t kind h name given did = ap (λ (x : Seen). x.names kind h name) did
+did_name (call ∷ calls) s t kind h name given did = let q = touch_own call s did.0 did.1 in did_name calls did.0 t kind h name (q.given h given) did.2 ∙ q.names kind h name given
+
 -- ---- what is taken
 
 loses_none : (s t : Seen) (h : ℕ) → t.left h ≡ s.left h → Loses (s.left h) (t.left h) []
@@ -58,6 +63,49 @@ did_lose h (call ∷ calls) s t given did =
 pub did_keep : (names : List (List ℕ)) (calls : List Call) (s t : Seen) (name bytes : List ℕ) → OnlyOpen names calls → Did calls s t → s.held name ≡ Some bytes → t.held name ≡ Some bytes
 did_keep names calls s t name bytes only did told = (did_touch [] [] names [] calls s t only.0 did).held name bytes told (λ one. one) (λ h one. absurd one)
 
+-- ---- what is given
+
+-- a handle that is now given, but wasn't before, is the new one
+new_handle : (s t : Seen) (h i : ℕ) → ((j : ℕ) → ¬ (j ≡ h) → t.given j ≡ s.given j) → s.given i ≡ false → t.given i ≡ true → i ≡ h
+new_handle s t h i others none given = elim (cases_eq i h) [
+  | inl e ↦ e
+  | inr other ↦ let same = others i other in absurd cc
+]
+
+new_by_call : (call : Call) (s t : Seen) (h : ℕ) → Does call s t → s.given h ≡ false → t.given h ≡ true → IsOneOf h (opened_in call ++ created_in call)
+new_by_call (Open name k) s t h p none new = inl (new_handle s t k h p.other_given none new)
+new_by_call (Create append name k empty) s t h p none new = inl (new_handle s t k h p.other_given none new)
+new_by_call (Take k bytes mark) s t h p none new = let same = (p.0).given h in absurd cc
+new_by_call (Write k bytes mark) s t h p none new = let same = (p.0).given h in absurd cc
+new_by_call (Refuse kind name) s t h p none new = let same = (p.0).given h in absurd cc
+new_by_call Lack s t h p none new = let same = p.given h in absurd cc
+
+-- a handle that calls made new is one that they opened or created
+pub did_give : (calls : List Call) (s t : Seen) (h : ℕ) → Did calls s t → s.given h ≡ false → t.given h ≡ true → IsOneOf h (handles_given calls)
+did_give [] s t h did none new = let same = ap (λ (x : Seen). x.given h) did in absurd cc
+did_give (call ∷ calls) s t h did none new = elim (cases_Bool (did.0.given h)) [
+  | inl e ↦ one_of_left h (opened_in call ++ created_in call) (handles_given calls) (new_by_call call s did.0 h did.1 none e)
+  | inr e ↦ one_of_right h (opened_in call ++ created_in call) (handles_given calls) (did_give calls did.0 t h did.2 e new)
+]
+
+module _ (reads writes : List ℕ) (opened created : List (List ℕ)) where
+  named_by_call : (call : Call) (s t : Seen) (h : ℕ) → IsWithin reads writes opened created call → Does call s t → s.given h ≡ false → t.given h ≡ true → IsNewHandle opened created h t
+  named_by_call (Open name k) s t h is p none new = inl (name, is, rw (new_handle s t k h p.other_given none new) p.is_named)
+  named_by_call (Create append name k empty) s t h is p none new = inr (name, is, rw (new_handle s t k h p.other_given none new) p.is_named)
+  named_by_call call s t h is p none new = absurd (new_by_call call s t h p none new)
+
+named_still : (opened created : List (List ℕ)) (h : ℕ) (calls : List Call) (s t : Seen) → s.given h ≡ true → Did calls s t → IsNewHandle opened created h s → IsNewHandle opened created h t
+named_still opened created h calls s t given did (inl new) = inl (new.0, new.1, did_name calls s t Reading h new.0 given did ∙ new.2)
+named_still opened created h calls s t given did (inr new) = inr (new.0, new.1, did_name calls s t Writing h new.0 given did ∙ new.2)
+
+-- and it has the name under which they opened or created it
+pub did_give_named : (reads writes : List ℕ) (opened created : List (List ℕ)) (calls : List Call) (s t : Seen) (h : ℕ) → AreWithin reads writes opened created calls → Did calls s t → s.given h ≡ false → t.given h ≡ true → IsNewHandle opened created h t
+did_give_named r w o c [] s t h are did none new = let same = ap (λ (x : Seen). x.given h) did in absurd cc
+did_give_named r w o c (call ∷ calls) s t h are did none new = elim (cases_Bool (did.0.given h)) [
+  | inl e ↦ named_still o c h calls did.0 t e did.2 (named_by_call r w o c call s did.0 h are.0 did.1 none e)
+  | inr e ↦ did_give_named (opened_in call ++ r) (created_in call ++ w) o c calls did.0 t h are.1 did.2 e new
+]
+
 -- ---- what failed
 
 fault_first : (kind : CallKind) (name : List ℕ) (s t u : Seen) → HasNewFault (s.faults kind name) (t.faults kind name) → NoCountFalls t u → HasNewFault (s.faults kind name) (u.faults kind name)
@@ -79,6 +127,18 @@ did_fail kind name call (c ∷ calls) s t (inl e) failed did =
     fault_first kind name s did.0 t (one_failed kind name c s did.0 (subst (λ (x : Call). IsFailed kind name x) e failed) did.1) (did_counts calls did.0 t did.2)
 did_fail kind name call (c ∷ calls) s t (inr is) failed did =
     fault_later kind name s did.0 t (touch_own c s did.0 did.1).counts (did_fail kind name call calls did.0 t is failed did.2)
+
+each_failed : (h : ℕ) (part name : List ℕ) (s t : Seen) → s.names Reading h name ≡ true → Does (Take h part Mark.FailedEach) s t → HasNewFault (s.faults Reading name) (t.faults Reading name)
+each_failed h part name s t named does = (does.1).each name named
+
+-- where a read of a handle failed that was given before, the count of failed reads rose for each name that it had
+pub did_fail_each : (h : ℕ) (part name : List ℕ) (calls : List Call) (s t : Seen) → s.given h ≡ true → s.names Reading h name ≡ true → IsOneOf (Take h part Mark.FailedEach) calls → Did calls s t → HasNewFault (s.faults Reading name) (t.faults Reading name)
+did_fail_each h part name [] s t given named is did = absurd is
+did_fail_each h part name (c ∷ calls) s t given named (inl e) did =
+    fault_first Reading name s did.0 t (each_failed h part name s did.0 named (subst (λ (x : Call). Does x s did.0) (sym e) did.1)) (did_counts calls did.0 t did.2)
+did_fail_each h part name (c ∷ calls) s t given named (inr is) did =
+    let q = touch_own c s did.0 did.1 in
+    fault_later Reading name s did.0 t q.counts (did_fail_each h part name calls did.0 t (q.given h given) (q.names Reading h name given ∙ named) is did.2)
 
 -- ---- what a file holds
 

@@ -1,7 +1,6 @@
 -- What several calls touch.
 use Rattle.std.proofs.Common.{◌≡◌, ◌⊎◌, ℕ, true, false, List, [], ◌∷◌, ◌++◌, Some, refl, sym, ap, subst, ◌∙◌, inl, inr, ⊎_elim}
-use Rattle.std.proofs.lemmas.Bool.{cases_Bool, cases_eq}
-use Rattle.vio.specs.World.{Seen, CallKind, Reading, Writing, OnlyCounts, NoCountFalls}
+use Rattle.vio.specs.World.{Seen, CallKind, Writing, OnlyCounts, NoCountFalls}
 use Rattle.vio.proofs.WholeLemmas.{NoCountFalls-then, OnlyCounts-none}
 use Rattle.vio.specs.Touches.{IsOneOf, IsOtherSink, Touches}
 use Rattle.vio.specs.Calls.{Call, Take, Write, Open, Create, Refuse, Lack, Does, Did, IsWithin, AreWithin, opened_in, created_in}

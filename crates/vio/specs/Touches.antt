@@ -1,11 +1,16 @@
 -- What several calls touch: which handles were read and written, and which files were created (this project's choice).
 use Rattle.std.specs.Prelude.{◌≡◌, ◌⊎◌, ℕ, true, false, List, [], ◌∷◌, Some}
-use Rattle.vio.specs.World.{Seen, CallKind, Writing, NoCountFalls}
+use Rattle.vio.specs.World.{Seen, CallKind, Reading, Writing, NoCountFalls}
 
 -- the first is one of the list
 abbrev pub IsOneOf : {A : Type 0} → A → List A → Type 0
 IsOneOf x [] = ⊥
 IsOneOf x (y ∷ ys) = (x ≡ y) ⊎ IsOneOf x ys
+
+-- a handle reads one of the first names, or writes one of the second
+abbrev pub IsNewHandle : List (List ℕ) → List (List ℕ) → ℕ → Seen → Type 0
+IsNewHandle opened created h now =
+    ((name : List ℕ) × IsOneOf name opened × (now.names Reading h name ≡ true)) ⊎ ((name : List ℕ) × IsOneOf name created × (now.names Writing h name ≡ true))
 
 -- a handle that was given, and doesn't write this name
 abbrev pub IsOtherSink : ℕ → List ℕ → Seen → Type 0

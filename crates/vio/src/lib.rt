@@ -11,12 +11,16 @@
 
 mod fault;
 mod file;
+mod laws;
 mod memory;
 mod named;
 mod whole;
 mod world;
 
 pub use fault::{Failed, NamedFault, WholeFault, WorldFault};
+pub use laws::{
+    calls_give, calls_take, calls_touch_no_more, calls_write, failed_calls_are_counted,
+};
 pub use log_model::{Halt, NoMemory};
 pub use memory::MemWorld;
 pub use named::read_named;
