@@ -12,7 +12,7 @@ use Rattle.vio.proofs.CallLaws.{did_keep}
 use Rattle.vio.proofs.ReadLemmas.{read_opens, told_large, told_read, unopened_counts, unread_counts}
 use Rattle.vsl_record.specs.Unit.{Log}
 use Rattle.traffic_feed.specs.declared.listing.Listing.{Listing}
-use Rattle.traffic_feed.specs.Lines.{IsFirstBad}
+use Rattle.raw_records.specs.Lines.{IsFirstBad}
 use Rattle.traffic_feed.specs.Listing.{IsListing}
 use Rattle.feed_files.specs.declared.fault.FeedFault.{FeedFault}
 use Rattle.feed_files.specs.declared.fault.FeedFault.TheVariants.{NoOpen, ReadFault, TooLarge, BadListing}

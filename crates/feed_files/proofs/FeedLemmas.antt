@@ -14,7 +14,7 @@ use Rattle.vio.proofs.ReadLemmas.{read_opens, refused_opens, read_none_failed, r
 use Rattle.vio.proofs.StepLemmas as steps
 use Rattle.vio.proofs.StepLemmas.{PassedUntil, stopped_one, passed_opens, stopped_opens}
 use Rattle.traffic_feed.specs.declared.listing.Listing.{Listing}
-use Rattle.traffic_feed.specs.Lines.{IsFirstBad}
+use Rattle.raw_records.specs.Lines.{IsFirstBad}
 use Rattle.feed_files.specs.declared.fault.FeedFault.{FeedFault}
 use Rattle.feed_files.specs.declared.fault.FeedFault.TheVariants.{NoOpen, ReadFault, TooLarge, BadListing}
 use Rattle.feed_files.specs.Feeds.{Feed, FeedPasses, FeedStops, feeds_from, most_feed_bytes}

@@ -10,7 +10,7 @@ use Rattle.vio.specs.Calls.{Call}
 use Rattle.vio.specs.Steps.{Passed, Stopped}
 use Rattle.vio.specs.Named.{IsReadBy, IsRefusedBy}
 use Rattle.traffic_feed.specs.declared.listing.Listing.{Listing}
-use Rattle.traffic_feed.specs.Lines.{IsFirstBad}
+use Rattle.raw_records.specs.Lines.{IsFirstBad}
 use Rattle.traffic_feed.specs.Batches.{IsWithin}
 use Rattle.traffic_feed.specs.Listing.{IsListing, record_count, word_count}
 use Rattle.feed_files.specs.declared.fault.FeedFault.{FeedFault}

@@ -11,7 +11,7 @@ use Rattle.vio.specs.Steps.{Stopped}
 use Rattle.vio.proofs.CallLemmas.{did_apart, some_behind}
 use Rattle.vio.proofs.CallLaws.{did_keep}
 use Rattle.vio.proofs.ReadLemmas.{told_large, told_read}
-use Rattle.traffic_feed.specs.Lines.{IsFirstBad}
+use Rattle.raw_records.specs.Lines.{IsFirstBad}
 use Rattle.traffic_feed.specs.declared.listing.Listing.{Listing}
 use Rattle.query_parser.specs.Parsed.{first_fault}
 use Rattle.feed_files.specs.declared.fault.FeedFault.{FeedFault}

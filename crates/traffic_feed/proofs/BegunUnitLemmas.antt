@@ -12,8 +12,9 @@ use Rattle.vsl_record.specs.Payload.{IsPayload}
 use Rattle.vsl_record.specs.Unit.{LogUnit, IsRecordOf, vxid_end}
 use Rattle.vsl_record.specs.Words.{packed, record_words, unit_words, most_words}
 use Rattle.vsl_record.proofs.Steps.{all_append}
-use Rattle.traffic_feed.specs.Lines.{LoggedRecord}
-use Rattle.traffic_feed.specs.Batches.{unit_of, with_record, has_room}
+use Rattle.raw_records.specs.Lines.{LoggedRecord}
+use Rattle.raw_records.specs.Gathered.{unit_of, with_record}
+use Rattle.traffic_feed.specs.Batches.{has_room}
 use Rattle.traffic_feed.specs.inside.Gathering.{IsBegunUnit}
 
 -- a payload has a word for each four bytes or less

@@ -7,12 +7,13 @@ use Rattle.std.proofs.lemmas.List.{append-nil, length-append, length-replicate, 
 use Rattle.std.proofs.lemmas.List.Sums.{sum_by_push}
 use Rattle.vsl_record.specs.Unit.{LogUnit, Log}
 use Rattle.vsl_record.specs.Words.{record_words, unit_words}
-use Rattle.traffic_feed.specs.Lines.{LoggedRecord, Line, BlankLine, CommentLine, RecordLine, IsLine, HasLines, payload_of, print_payload, print_record}
-use Rattle.traffic_feed.specs.Batches.{shortened, unit_of, with_record, goes_on, has_room}
+use Rattle.raw_records.specs.Lines.{LoggedRecord, Line, BlankLine, CommentLine, RecordLine, IsLine, HasLines, payload_of, print_payload, print_record}
+use Rattle.raw_records.specs.Gathered.{unit_of, with_record, goes_on}
+use Rattle.traffic_feed.specs.Batches.{shortened, has_room}
 use Rattle.traffic_feed.specs.Listing.{record_count, word_count}
 use Rattle.traffic_feed.specs.inside.Gathering.{Gathered, begins, ended, taken_by, stepped, nothing, gathered_lines}
 use Rattle.traffic_feed.proofs.BegunUnitLemmas.{record_size, size_more, unit_size}
-use Rattle.traffic_feed.proofs.LineLemmas.{is_feed, split_some}
+use Rattle.raw_records.proofs.LineLemmas.{is_feed, split_some}
 use Rattle.vsl_tags.proofs.CalledLemmas.{IsPlain-from}
 
 -- ---- bytes

@@ -1,16 +1,15 @@
 -- Worked examples of listings, computed from the definitions.
-use Rattle.std.proofs.Common.{◌≡◌, ℕ, zero, suc, ◌∷◌, [], List, None, Some, replicate, map, refl, sym, ◌∙◌, arith}
+use Rattle.std.proofs.Common.{◌≡◌, ℕ, zero, suc, ◌∷◌, [], List, replicate, refl}
 use Rattle.std.specs.Prelude.{codes}
-use Rattle.std.specs.List.{AllZip}
 use Rattle.std.specs.Str.Lines.{lines}
 use Rattle.vsl_record.specs.declared.mark.Mark.{Mark}
 use Rattle.vsl_record.specs.declared.mark.Mark.TheVariants.{Client, Backend, Plain}
 use Rattle.vsl_record.specs.Unit.{LogUnit, Log}
 use Rattle.vsl_record.specs.declared.record_type.Record.{Record}
-use Rattle.traffic_feed.specs.Lines.{Line, BlankLine, CommentLine, RecordLine, IsLine, IsFirstBad}
+use Rattle.raw_records.specs.Lines.{Line, BlankLine, CommentLine, RecordLine}
 use Rattle.traffic_feed.specs.Listing.{IsListing}
-use Rattle.traffic_feed.specs.inside.Reading.{without_spaces, behind_spaces, digits_of, behind_digits, word_of, behind_word, tag_called, mark_of, payload_behind, marked, record_of, unindented, meaning}
-use Rattle.traffic_feed.proofs.ReadingLemmas.{IsLine-from, meaning_found}
+use Rattle.raw_records.specs.inside.Reading.{without_spaces, behind_spaces, digits_of, behind_digits, word_of, behind_word, tag_called, mark_of, payload_behind, marked, record_of, unindented, meaning}
+use Rattle.raw_records.proofs.Examples.{all_meant}
 use Rattle.traffic_feed.specs.Batches.{listing_units, listing_cuts}
 use Rattle.traffic_feed.specs.Turns.{first_draw, next_draw}
 
@@ -19,82 +18,6 @@ record_of_tag tag mark payload = record { tag = tag; mark = mark; payload = payl
 
 abbrev line_of : ℕ → Record → Line
 line_of vxid rec = RecordLine (record { vxid = vxid; rec = rec })
-
--- ---- lines
-
--- a carriage return before a line feed is dropped, and only there; the last line may lack its line feed
-parts : lines (codes "1 CLI -\r\n\r\n#\n2 CLI - a\rb\r\r\n3 CLI - \r") ≡ codes "1 CLI -" ∷ [] ∷ codes "#" ∷ codes "2 CLI - a\rb\r" ∷ codes "3 CLI - \r" ∷ []
-parts = refl
-
--- a line feed at the end begins no line
-no_last_line : lines (codes "#\n") ≡ codes "#" ∷ []
-no_last_line = refl
-
-blank : IsLine (codes "   ") BlankLine
-blank = (3, refl)
-
-comment : IsLine (codes "# 1 CLI - x") CommentLine
-comment = (codes " 1 CLI - x", refl)
-
--- leading zeros and small letters are read; of spaces behind the mark the first alone is passed over
-odd_record : IsLine (codes "  0000000007  reqMETHOD   c  GET ") (RecordLine (record { vxid = 7; rec = record { tag = 53; mark = Client; payload = codes " GET " } }))
-odd_record = (
-  record {
-    before_vxid = 2;
-    vxid = codes "0000000007";
-    before_name = 2;
-    name = codes "reqMETHOD";
-    before_mark = 3;
-    mark = Client;
-    payload = Some (codes " GET ");
-  },
-  record {
-    vxid = search arith;
-    before_name = omega arith;
-    name = search arith;
-    before_mark = omega arith;
-    mark = refl;
-    payload = refl;
-  },
-  refl,
-)
-
--- what reading finds in these lines
-no_records : map meaning (codes "7" ∷ codes "7 CLI" ∷ codes "7CLI c" ∷ codes "7 CLIc" ∷ codes "7 CLI cx" ∷ codes "7 CLI d" ∷ codes "7 Nope c" ∷ codes "x CLI c" ∷ codes " # no comment" ∷ []) ≡ replicate 9 None
-unfolding meaning unindented without_spaces behind_spaces digits_of behind_digits word_of behind_word tag_called mark_of payload_behind marked record_of
-no_records = refl
-
--- 11 digits, a VXID past the last, and tabs in place of spaces
-no_vxids : map meaning (codes "00000000007 CLI c" ∷ codes "1073741824 CLI c" ∷ codes "\t7 CLI c" ∷ codes "7\tCLI c" ∷ codes "7 CLI c\tx" ∷ []) ≡ replicate 5 None
-unfolding meaning unindented without_spaces behind_spaces digits_of behind_digits word_of behind_word tag_called mark_of payload_behind marked record_of
-no_vxids = refl
-
--- lines mean what reading finds in each
-all_meant : (texts : List (List ℕ)) (ls : List Line) → map meaning texts ≡ map Some ls → AllZip IsLine texts ls
-all_meant [] [] e = tt
-all_meant [] (l ∷ ls) e = absurd cc
-all_meant (text ∷ texts) [] e = absurd cc
-all_meant (text ∷ texts) (l ∷ ls) e = (IsLine-from text l cc, all_meant texts ls cc)
-
-none_some : {l : Line} → None ≡ Some l → ⊥
-none_some e = cc
-
--- where reading finds nothing there is no line
-no_line : (bytes : List ℕ) → meaning bytes ≡ None → (l : Line) → ¬ (IsLine bytes l)
-no_line bytes none l is = none_some (sym none ∙ meaning_found bytes l is)
-
-third_is_bad : IsFirstBad (codes "1 CLI - a\n\nx\ny\n") 3
-unfolding meaning unindented without_spaces behind_spaces digits_of behind_digits word_of behind_word tag_called mark_of payload_behind marked record_of
-third_is_bad = record {
-  before = codes "1 CLI - a" ∷ [] ∷ [];
-  bad = codes "x";
-  behind = codes "y" ∷ [];
-  meant = line_of 1 (record_of_tag 3 Plain (codes "a")) ∷ BlankLine ∷ [];
-  parts = refl;
-  place = refl;
-  are_lines = all_meant (codes "1 CLI - a" ∷ [] ∷ []) (line_of 1 (record_of_tag 3 Plain (codes "a")) ∷ BlankLine ∷ []) refl;
-  is_bad = no_line (codes "x") refl;
-}
 
 -- ---- batches
 

@@ -8,8 +8,9 @@ use Rattle.vsl_record.specs.declared.record_type.Record.{Record}
 use Rattle.vsl_record.specs.Unit.{LogUnit}
 use Rattle.vsl_record.specs.Words.{IsUnit, unit_words}
 use Rattle.vsl_select.specs.FileUnits.{is_same_mark}
-use Rattle.traffic_feed.specs.Lines.{LoggedRecord}
-use Rattle.traffic_feed.specs.Batches.{IsWithin, has_room, with_record}
+use Rattle.raw_records.specs.Lines.{LoggedRecord}
+use Rattle.raw_records.specs.Gathered.{with_record}
+use Rattle.traffic_feed.specs.Batches.{IsWithin, has_room}
 use Rattle.traffic_feed.specs.inside.Gathering.{Gathered, begins, begun_goes_on, begun_has_room, taken_by}
 
 -- a record with which the batch doesn't go on

@@ -12,7 +12,7 @@ use Rattle.vsl_record.specs.Unit.{Log}
 use Rattle.ring_layout.proofs.AgreedLemmas.{both_true}
 use Rattle.traffic_feed.specs.declared.requests.Number.{Number}
 use Rattle.traffic_feed.specs.declared.requests.Whose.{Whose}
-use Rattle.traffic_feed.specs.Lines.{Line}
+use Rattle.raw_records.specs.Lines.{Line}
 use Rattle.traffic_feed.specs.Made.{request_lines, draw_of, made_lines}
 use Rattle.traffic_feed.specs.Batches.{IsWithin}
 use Rattle.traffic_feed.specs.Turns.{first_draw, next_draw}

@@ -8,8 +8,9 @@ use Rattle.std.proofs.lemmas.List.Concat.{flat_map-append}
 use Rattle.vsl_record.specs.declared.mark.Mark.{Mark}
 use Rattle.vsl_record.specs.declared.record_type.Record.{Record}
 use Rattle.vsl_record.specs.Unit.{LogUnit, Log}
-use Rattle.traffic_feed.specs.Lines.{LoggedRecord, Line}
-use Rattle.traffic_feed.specs.Batches.{most_kept, sections, unit_of, with_record, logged, gathered_from, gathered, goes_on, batches, has_room, units_of_batch, listing_units}
+use Rattle.raw_records.specs.Lines.{LoggedRecord, Line}
+use Rattle.raw_records.specs.Gathered.{unit_of, with_record, logged, gathered_from, gathered, goes_on}
+use Rattle.traffic_feed.specs.Batches.{most_kept, sections, batches, has_room, units_of_batch, listing_units}
 use Rattle.traffic_feed.proofs.BatchLemmas.{GoesOn-from, logged_more}
 
 -- ---- in order

@@ -7,14 +7,15 @@ use Rattle.std.proofs.lemmas.List.{append-nil, append_assoc, length_push, nil_fr
 use Rattle.std.proofs.lemmas.List.Elements.{All-from_recursion}
 use Rattle.std.proofs.lemmas.List.Sums.{fold_push}
 use Rattle.vsl_record.specs.Unit.{LogUnit, Log}
-use Rattle.traffic_feed.specs.Lines.{LoggedRecord, Line, BlankLine, CommentLine, RecordLine, IsLine, HasLines, IsFirstBad}
-use Rattle.traffic_feed.specs.Batches.{IsWithin, goes_on, has_room, listing_units, listing_cuts, shortened}
+use Rattle.raw_records.specs.Lines.{LoggedRecord, Line, BlankLine, CommentLine, RecordLine, IsLine, HasLines, IsFirstBad}
+use Rattle.raw_records.specs.Gathered.{goes_on}
+use Rattle.traffic_feed.specs.Batches.{IsWithin, has_room, listing_units, listing_cuts, shortened}
 use Rattle.traffic_feed.specs.Listing.{IsListing}
 use Rattle.traffic_feed.specs.inside.Gathering.{Gathered, ended, nothing, taken_by, stepped, gathered_lines}
 use Rattle.traffic_feed.specs.inside.Partly.{IsPartlyRead}
 use Rattle.traffic_feed.proofs.BatchLemmas.{gathered_units, gathered_cuts}
 use Rattle.traffic_feed.proofs.BoundLemmas.{IsBounded, IsBounded-listing}
-use Rattle.traffic_feed.proofs.LineLemmas.{all_or_bad, one_list, no_bad}
+use Rattle.raw_records.proofs.LineLemmas.{all_or_bad, one_list, no_bad}
 
 -- ---- a step
 

@@ -1,5 +1,5 @@
 -- What raises the counters of varnish-counters(7) under `MAIN.` (what raises each is this project's choice).
-use Rattle.std.specs.Prelude.{ℕ, ◌+◌, ◌-◌, ◌^◌, ◌==◌, ◌&&◌, nat_le, nat_lt, unwrap_or, if◌then◌else◌, Bool, true, false, List, [], ◌∷◌, map, length, slice_get, codes, Option, Some, None}
+use Rattle.std.specs.Prelude.{ℕ, ◌+◌, ◌-◌, ◌^◌, ◌==◌, ◌&&◌, nat_le, unwrap_or, if◌then◌else◌, Bool, true, false, List, [], ◌∷◌, map, length, slice_get, codes, Option, Some, None}
 use Rattle.std.specs.List.{range_with_len, sum_by}
 use Rattle.std.specs.Str.{bytes_eq, str_to_ascii_lowercase}
 use Rattle.vsl_tags.specs.Tags.{begin_tag}

@@ -1,6 +1,5 @@
 pub mod Batches
 pub mod Counted
-pub mod Lines
 pub mod Listing
 pub mod Made
 pub mod RawLog

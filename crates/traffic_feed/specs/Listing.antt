@@ -3,7 +3,7 @@ use Rattle.std.specs.Prelude.{◌≡◌, ℕ, List, length}
 use Rattle.std.specs.List.{sum_by}
 use Rattle.vsl_record.specs.Unit.{Log}
 use Rattle.vsl_record.specs.Words.{unit_words}
-use Rattle.traffic_feed.specs.Lines.{Line, HasLines}
+use Rattle.raw_records.specs.Lines.{Line, HasLines}
 use Rattle.traffic_feed.specs.Batches.{listing_units, listing_cuts}
 
 -- the bytes are a listing of these units, with so many cuts: its lines have meanings, and these are the units and the cuts of their batches

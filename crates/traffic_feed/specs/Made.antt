@@ -11,7 +11,7 @@ use Rattle.traffic_feed.specs.declared.requests.TheConstants.{ROWS}
 use Rattle.traffic_feed.specs.declared.requests.Whose.{Whose}
 use Rattle.traffic_feed.specs.declared.requests.Whose.TheVariants.{Fetch, Request, Miss, Hit, Session}
 use Rattle.traffic_feed.specs.Turns.{first_draw, next_draw}
-use Rattle.traffic_feed.specs.Lines.{Line, RecordLine}
+use Rattle.raw_records.specs.Lines.{Line, RecordLine}
 use Rattle.traffic_feed.specs.Batches.{listing_units, listing_cuts}
 
 -- the number that is drawn from a seed for the k-th request, from 0

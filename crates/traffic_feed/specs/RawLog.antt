@@ -4,7 +4,8 @@ use Rattle.std.specs.List.{AllByRecursion}
 use Rattle.vsl_tags.specs.Tags.{end_tag}
 use Rattle.vsl_record.specs.declared.record_type.Record.{Record}
 use Rattle.vsl_record.specs.Unit.{LogUnit, Log}
-use Rattle.traffic_feed.specs.Batches.{IsWithin, has_end, most_kept}
+use Rattle.raw_records.specs.Gathered.{has_end}
+use Rattle.traffic_feed.specs.Batches.{IsWithin, most_kept}
 
 -- a payload that is printed as it is, without a byte below 32 or the byte 127, and that is kept whole
 pub record IsPlainPayload (most : ℕ) (payload : List ℕ) : Type 0 where

@@ -1,8 +1,6 @@
 -- What only the private steps of this crate say.
 pub mod Gathering
-pub mod LineRead
 pub mod Making
 pub mod Partly
 pub mod Raises
-pub mod Reading
 pub mod Putting

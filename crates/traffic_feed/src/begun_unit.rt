@@ -3,8 +3,9 @@
 ghost use Rattle.std.specs.Prelude.{◌≡◌, ◌<◌, ◌≤◌, length, IfOk, OnOk, OnErr};
 ghost use Rattle.vsl_record.specs.Unit.{vxid_end};
 ghost use Rattle.vsl_record.specs.Words.{IsUnit, most_words, unit_words};
-ghost use Rattle.traffic_feed.specs.Lines.{LoggedRecord};
-ghost use Rattle.traffic_feed.specs.Batches.{goes_on, has_room, unit_of, with_record};
+ghost use Rattle.raw_records.specs.Lines.{LoggedRecord};
+ghost use Rattle.raw_records.specs.Gathered.{goes_on, unit_of, with_record};
+ghost use Rattle.traffic_feed.specs.Batches.{has_room};
 
 use log_model::NoMemory;
 use std::alloc::Global;

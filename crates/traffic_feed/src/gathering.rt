@@ -4,15 +4,16 @@ ghost use Rattle.std.specs.Prelude.{◌≡◌, ◌+◌, ◌^◌, ◌<◌, ◌≤
 ghost use Rattle.std.specs.List.{AllByRecursion};
 ghost use Rattle.vsl_record.specs.Payload.{most_payload};
 ghost use Rattle.vsl_record.specs.Unit.{vxid_end};
-ghost use Rattle.traffic_feed.specs.Lines.{LoggedRecord};
-ghost use Rattle.traffic_feed.specs.Batches.{IsWithin, with_record};
-ghost use Rattle.traffic_feed.specs.inside.Gathering.{IsInRange, begins, begun_goes_on, begun_has_room, ended, nothing, stepped, taken_by};
-ghost use Rattle.traffic_feed.specs.inside.LineRead.{line_of};
+ghost use Rattle.raw_records.specs.Lines.{LoggedRecord};
+ghost use Rattle.raw_records.specs.Gathered.{with_record};
+ghost use Rattle.traffic_feed.specs.Batches.{IsWithin};
+ghost use Rattle.traffic_feed.specs.inside.Gathering.{begins, begun_goes_on, begun_has_room, ended, nothing, stepped, taken_by};
+ghost use Rattle.raw_records.specs.LineRead.{IsInRange, line_of};
 
 use crate::begun_unit::BegunUnit;
-use crate::line::LineRead;
 use crate::listing::Listing;
 use log_model::NoMemory;
+use raw_records::LineRead;
 use ring_layout::Shape;
 use std::alloc::Global;
 use std::marker::Model;

@@ -3,16 +3,12 @@
 ghost use Rattle.std.specs.Prelude.{◌≡◌, ◌⊎◌, ℕ, Bool, false, List, ◌∷◌, ◌++◌, IfSome, slice_get};
 ghost use Rattle.std.specs.List.{AllByRecursion, flat_map};
 ghost use Rattle.vsl_record.specs.Unit.{Log, LogUnit};
-ghost use Rattle.traffic_feed.specs.Batches.{gathered, listing_units, logged, most_kept, sections};
-ghost use Rattle.traffic_feed.specs.Lines.{IsFirstBad, IsLine, Line, LoggedRecord};
+ghost use Rattle.raw_records.specs.Gathered.{gathered, logged};
+ghost use Rattle.traffic_feed.specs.Batches.{listing_units, most_kept, sections};
+ghost use Rattle.raw_records.specs.Lines.{IsFirstBad, Line, LoggedRecord};
 ghost use Rattle.vsl_select.specs.RawLine.{raw_lines};
 ghost use Rattle.traffic_feed.specs.Listing.{IsListing};
 ghost use Rattle.traffic_feed.specs.RawLog.{AreBatches, IsReadBack};
-
-/// A line has one meaning at most.
-pub fn one_meaning()
-    ensures { (bytes : List ℕ) (l m : Line) → IsLine bytes l → IsLine bytes m → l ≡ m }
-{}
 
 /// Bytes are a listing of some units with so many cuts, or have a first bad line.
 pub fn every_listing()

@@ -5,7 +5,7 @@
 //! turn it is. A listing is never read in part, and no line takes memory but for its payload. `count_unit` adds to the counters what
 //! a unit raises them by, and takes no memory.
 //!
-//! Start with `specs/Lines.antt`, then `specs/Batches.antt` and `specs/Listing.antt`; for traffic that is made with `specs/Made.antt`,
+//! Lines are read by `raw_records`. Start with `specs/Batches.antt` and `specs/Listing.antt`; for traffic that is made with `specs/Made.antt`,
 //! for the counters with `specs/Counted.antt`, for workers with `specs/Feeding.antt` and `specs/Workers.antt`.
 //! Source: varnishlog(1), `-g raw`, and varnish-counters(7), `MAIN.`; where a unit ends, the draws, the traffic that is made,
 //! and what raises which counter are this project's choice.
@@ -18,13 +18,11 @@ mod feeding;
 mod gate;
 mod gathering;
 mod laws;
-mod line;
 mod listing;
 mod maker;
 mod raises;
 mod requests;
 mod shares;
-mod tag_cache;
 mod traffic;
 mod turns;
 mod waiting;
@@ -35,8 +33,7 @@ pub use fault::ListFault;
 pub use feeding::{Fed, feed};
 pub use gate::{Gate, OpenGate};
 pub use laws::{
-    each_record_once, every_listing, one_listing, one_meaning, raw_lines_read_back,
-    units_are_longest,
+    each_record_once, every_listing, one_listing, raw_lines_read_back, units_are_longest,
 };
 pub use listing::{Listing, read_listing};
 pub use traffic::generate;

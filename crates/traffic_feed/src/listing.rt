@@ -2,18 +2,15 @@
 
 ghost use Rattle.std.specs.Prelude.{◌≡◌, ◌⊎◌, ◌+◌, ◌/◌, ◌<◌, ◌≤◌, ◌∷◌, ℕ, length, IfOk};
 ghost use Rattle.std.specs.List.{All};
-ghost use Rattle.std.specs.Str.Lines.{lines, strip_carriage_return};
 ghost use Rattle.vsl_record.specs.Payload.{most_payload};
 ghost use Rattle.vsl_record.specs.Unit.{Log};
 ghost use Rattle.traffic_feed.specs.Batches.{IsWithin};
-ghost use Rattle.traffic_feed.specs.Lines.{IsFirstBad};
+ghost use Rattle.raw_records.specs.Lines.{IsFirstBad};
 ghost use Rattle.traffic_feed.specs.Listing.{IsListing, record_count, word_count};
 
 use crate::fault::ListFault;
 use crate::gathering::Gathering;
-use crate::line::read_line;
-use crate::tag_cache::TagCache;
-use memchr::memchr;
+use raw_records::{TagCache, first_line, read_line};
 use ring_layout::Shape;
 use std::alloc::Global;
 use vsl_record::Units;
@@ -25,34 +22,6 @@ pub struct Listing {
     pub units: Units,
     /// How often a batch was cut.
     pub cuts: u64,
-}
-
-/// A line without the carriage return at its end.
-fn without_return(line: &[u8]) -> &[u8]
-    ensures { result.now ≡ strip_carriage_return line.now }
-{
-    if let Some((last, before)) = line.split_last() {
-        if *last == b'\r' {
-            return before;
-        }
-    }
-    line
-}
-
-/// The first line of some bytes, and what follows it.
-fn first_line(bytes: &[u8]) -> (&[u8], &[u8])
-    requires { 0 < length bytes.now }
-    ensures first { lines bytes.now ≡ result.0.now ∷ lines result.1.now }
-    ensures shorter { length result.1.now < length bytes.now }
-{
-    match memchr(b'\n', bytes) {
-        Some(at) => {
-            let (line, behind) = bytes.split_at(at);
-            let (_, rest) = behind.split_at(1);
-            (without_return(line), rest)
-        }
-        None => bytes.split_at(bytes.len()),
-    }
 }
 
 /// Reads a listing: lines as `varnishlog -g raw` prints them, as `32770 ReqURL c /shop`, blank lines between batches, and

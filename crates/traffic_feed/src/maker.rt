@@ -10,10 +10,10 @@ ghost use Rattle.traffic_feed.specs.inside.Gathering.{nothing, stepped};
 ghost use Rattle.traffic_feed.specs.inside.Making.{request_end, row_count};
 
 use crate::gathering::Gathering;
-use crate::line::LineRead;
 use crate::requests::{Number, ROWS, Row, Whose};
 use itoa::Buffer;
 use log_model::NoMemory;
+use raw_records::LineRead;
 use ring_layout::Shape;
 use std::alloc::Global;
 use vsl_record::{Mark, Vxid};

@@ -1,13 +1,14 @@
 -- How the records of a listing are gathered.
-use Rattle.std.specs.Prelude.{◌≡◌, ℕ, ◌+◌, ◌-◌, ◌*◌, ◌<◌, ◌≤◌, if◌then◌else◌, Bool, false, List, [], ◌++◌, length, Option, None, Some}
+use Rattle.std.specs.Prelude.{◌≡◌, ℕ, ◌+◌, ◌-◌, ◌*◌, ◌≤◌, if◌then◌else◌, Bool, false, List, [], ◌++◌, length, Option, None, Some}
 use Rattle.std.specs.List.{fold, AllByRecursion}
 use Rattle.std.specs.Option.{ForSome, option_to_list}
 use Rattle.ring_layout.specs.Places.{IsSegment}
-use Rattle.vsl_record.specs.Unit.{LogUnit, Log, vxid_end}
+use Rattle.vsl_record.specs.Unit.{LogUnit, Log}
 use Rattle.vsl_record.specs.Payload.{most_payload}
 use Rattle.vsl_record.specs.Words.{IsUnit, unit_words}
-use Rattle.traffic_feed.specs.Lines.{LoggedRecord, Line, BlankLine, CommentLine, RecordLine}
-use Rattle.traffic_feed.specs.Batches.{most_kept, shortened, unit_of, with_record, goes_on, has_end, has_room, IsWithin}
+use Rattle.raw_records.specs.Lines.{LoggedRecord, Line, BlankLine, CommentLine, RecordLine}
+use Rattle.raw_records.specs.Gathered.{unit_of, with_record, goes_on, has_end}
+use Rattle.traffic_feed.specs.Batches.{most_kept, shortened, has_room, IsWithin}
 
 -- a unit that was begun has so many words, and an End or none
 pub record IsBegunUnit (u : LogUnit) (words : ℕ) (ends : Bool) : Type 0 where
@@ -58,12 +59,6 @@ begun_goes_on (Some u) l = goes_on u l
 abbrev pub begun_has_room : ℕ → Option LogUnit → LoggedRecord → Bool
 begun_has_room seg None l = false
 begun_has_room seg (Some u) l = has_room seg u l
-
--- a record's line has a VXID in range
-abbrev pub IsInRange : Line → Type 0
-IsInRange BlankLine = Unit {0}
-IsInRange CommentLine = Unit {0}
-IsInRange (RecordLine l) = l.vxid < vxid_end
 
 -- a line behind those that were gathered
 abbrev pub stepped : Gathered → Line → Gathered

@@ -2,7 +2,7 @@
 use Rattle.std.specs.Prelude.{◌≡◌, ℕ, ◌+◌, ◌≤◌, List, ◌++◌, length}
 use Rattle.std.specs.List.{AllZip}
 use Rattle.std.specs.Str.Lines.{lines}
-use Rattle.traffic_feed.specs.Lines.{Line, IsLine}
+use Rattle.raw_records.specs.Lines.{Line, IsLine}
 use Rattle.traffic_feed.specs.inside.Gathering.{Gathered, gathered_lines}
 
 -- the lines before the rest were read and gathered, and there are so many

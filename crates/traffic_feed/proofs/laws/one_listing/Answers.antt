@@ -1,4 +1,4 @@
-use Rattle.traffic_feed.proofs.LineLemmas.{one_bad}
+use Rattle.raw_records.proofs.LineLemmas.{one_bad}
 use Rattle.traffic_feed.proofs.PartlyLemmas.{one_listing, no_bad_line}
 use Rattle.traffic_feed.proofs.laws.one_listing.Goals as goal
 

@@ -1,9 +1,9 @@
 use Rattle.std.proofs.Common.{◌≡◌, ◌+◌, ap, sym, ◌∙◌, inl, Ok, Err, refl}
 use Rattle.std.proofs.lemmas.Bool.{eqb-true}
 use Rattle.traffic_feed.specs.declared.fault.ListFault.TheVariants.{BadLine}
-use Rattle.traffic_feed.specs.Lines.{IsFirstBad}
-use Rattle.traffic_feed.specs.inside.LineRead.{line_of}
-use Rattle.traffic_feed.proofs.LineLemmas.{one_bad}
+use Rattle.raw_records.specs.Lines.{IsFirstBad}
+use Rattle.raw_records.specs.LineRead.{line_of}
+use Rattle.raw_records.proofs.LineLemmas.{one_bad}
 use Rattle.traffic_feed.proofs.PartlyLemmas.{IsFirstBad-next, IsPartlyRead-none, IsPartlyRead-more, IsRead, IsRead-from, within_segment, one_listing, no_bad_line}
 use Rattle.traffic_feed.proofs.listing.read_listing.Goals as goal
 use Rattle.traffic_feed.proofs.listing.read_listing.Goals.{In_default, In_ok-finish}

@@ -1,7 +1,7 @@
 use Rattle.std.proofs.Common.{arith, ◌∙◌, sym, subst, ap, ◌≤◌, length}
 use Rattle.vsl_record.specs.Unit.{LogUnit}
 use Rattle.vsl_record.specs.Words.{unit_words, most_words}
-use Rattle.traffic_feed.specs.Batches.{with_record}
+use Rattle.raw_records.specs.Gathered.{with_record}
 use Rattle.traffic_feed.proofs.BegunUnitLemmas.{IsBegunUnit-more, record_size}
 use Rattle.traffic_feed.proofs.begun_unit.BegunUnit.push.Goals as goal
 

@@ -1,6 +1,6 @@
 use Rattle.std.proofs.Common.{refl, sym, ◌∙◌}
 use Rattle.std.proofs.lemmas.Result.{on_ok_weaker}
-use Rattle.traffic_feed.specs.Lines.{LoggedRecord}
+use Rattle.raw_records.specs.Lines.{LoggedRecord}
 use Rattle.traffic_feed.specs.inside.Gathering.{Gathered}
 use Rattle.traffic_feed.proofs.GatheringLemmas.{taken_apart, taken_cut, taken_on, marks_on}
 use Rattle.traffic_feed.proofs.gathering.Gathering.add.Goals as goal

@@ -1,0 +1,4 @@
+pub mod Examples
+pub mod LineLemmas
+mod NameLemmas
+pub mod ReadingLemmas

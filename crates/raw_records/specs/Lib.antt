@@ -1,0 +1,4 @@
+pub mod Lines
+pub mod LineRead
+pub mod Gathered
+pub mod inside
