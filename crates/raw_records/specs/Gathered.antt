@@ -1,11 +1,15 @@
 -- The units of records that come one by one (this project's choice): a unit has records of one VXID and mark.
-use Rattle.std.specs.Prelude.{◌==◌, ◌&&◌, not, if◌then◌else◌, Bool, List, [], ◌∷◌, ◌++◌, map}
+use Rattle.std.specs.Prelude.{ℕ, ◌==◌, ◌&&◌, not, if◌then◌else◌, Bool, List, [], ◌∷◌, ◌++◌, map, take}
 use Rattle.std.specs.List.{list_any}
 use Rattle.vsl_tags.specs.Tags.{end_tag}
 use Rattle.vsl_record.specs.declared.record_type.Record.{Record}
 use Rattle.vsl_record.specs.Unit.{LogUnit, Log}
 use Rattle.vsl_select.specs.FileUnits.{is_same_mark}
 use Rattle.raw_records.specs.Lines.{LoggedRecord}
+
+-- a record with its payload cut to so many bytes
+abbrev pub shortened : ℕ → LoggedRecord → LoggedRecord
+shortened most l = record { vxid = l.vxid; rec = record (l.rec) { payload = take most l.rec.payload } }
 
 -- a record as a unit
 abbrev pub unit_of : LoggedRecord → LogUnit

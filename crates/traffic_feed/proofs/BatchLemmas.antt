@@ -11,8 +11,8 @@ use Rattle.vsl_tags.specs.Tags.{end_tag}
 use Rattle.vsl_record.specs.declared.record_type.Record.{Record}
 use Rattle.vsl_record.specs.Unit.{LogUnit, Log}
 use Rattle.raw_records.specs.Lines.{LoggedRecord, Line, BlankLine, CommentLine, RecordLine}
-use Rattle.raw_records.specs.Gathered.{unit_of, with_record, gathered_from, gathered, goes_on, logged}
-use Rattle.traffic_feed.specs.Batches.{most_kept, shortened, sections, has_room, units_of_batch, listing_units, listing_cuts}
+use Rattle.raw_records.specs.Gathered.{unit_of, with_record, gathered_from, gathered, goes_on, logged, shortened}
+use Rattle.traffic_feed.specs.Batches.{most_kept, sections, has_room, units_of_batch, listing_units, listing_cuts}
 use Rattle.traffic_feed.specs.inside.Gathering.{Gathered, ended, taken_by, stepped, gathered_lines}
 use Rattle.traffic_feed.proofs.GatheringLemmas.{same_mark_is}
 

@@ -8,8 +8,8 @@ use Rattle.std.proofs.lemmas.List.Sums.{sum_by_push}
 use Rattle.vsl_record.specs.Unit.{LogUnit, Log}
 use Rattle.vsl_record.specs.Words.{record_words, unit_words}
 use Rattle.raw_records.specs.Lines.{LoggedRecord, Line, BlankLine, CommentLine, RecordLine, IsLine, HasLines, payload_of, print_payload, print_record}
-use Rattle.raw_records.specs.Gathered.{unit_of, with_record, goes_on}
-use Rattle.traffic_feed.specs.Batches.{shortened, has_room}
+use Rattle.raw_records.specs.Gathered.{unit_of, with_record, goes_on, shortened}
+use Rattle.traffic_feed.specs.Batches.{has_room}
 use Rattle.traffic_feed.specs.Listing.{record_count, word_count}
 use Rattle.traffic_feed.specs.inside.Gathering.{Gathered, begins, ended, taken_by, stepped, nothing, gathered_lines}
 use Rattle.traffic_feed.proofs.BegunUnitLemmas.{record_size, size_more, unit_size}

@@ -8,8 +8,8 @@ use Rattle.std.proofs.lemmas.List.{append-nil, length-append, length-take}
 use Rattle.vsl_record.specs.Unit.{LogUnit, Log}
 use Rattle.vsl_record.specs.Words.{record_words, unit_words}
 use Rattle.raw_records.specs.Lines.{LoggedRecord, Line, BlankLine, CommentLine, RecordLine}
-use Rattle.raw_records.specs.Gathered.{unit_of, with_record, goes_on}
-use Rattle.traffic_feed.specs.Batches.{shortened, has_room}
+use Rattle.raw_records.specs.Gathered.{unit_of, with_record, goes_on, shortened}
+use Rattle.traffic_feed.specs.Batches.{has_room}
 use Rattle.traffic_feed.specs.Listing.{record_count, word_count}
 use Rattle.traffic_feed.specs.declared.requests.Number.{Number}
 use Rattle.traffic_feed.specs.declared.requests.Number.TheVariants.{Nothing, VxidOf, Seconds, Item, SizesFetched, SizesSent}

@@ -8,8 +8,8 @@ use Rattle.std.proofs.lemmas.List.Elements.{All-from_recursion}
 use Rattle.std.proofs.lemmas.List.Sums.{fold_push}
 use Rattle.vsl_record.specs.Unit.{LogUnit, Log}
 use Rattle.raw_records.specs.Lines.{LoggedRecord, Line, BlankLine, CommentLine, RecordLine, IsLine, HasLines, IsFirstBad}
-use Rattle.raw_records.specs.Gathered.{goes_on}
-use Rattle.traffic_feed.specs.Batches.{IsWithin, has_room, listing_units, listing_cuts, shortened}
+use Rattle.raw_records.specs.Gathered.{goes_on, shortened}
+use Rattle.traffic_feed.specs.Batches.{IsWithin, has_room, listing_units, listing_cuts}
 use Rattle.traffic_feed.specs.Listing.{IsListing}
 use Rattle.traffic_feed.specs.inside.Gathering.{Gathered, ended, nothing, taken_by, stepped, gathered_lines}
 use Rattle.traffic_feed.specs.inside.Partly.{IsPartlyRead}

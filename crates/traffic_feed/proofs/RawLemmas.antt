@@ -24,8 +24,8 @@ use Rattle.vsl_record.proofs.Steps.{all_append}
 use Rattle.vsl_select.specs.FileUnits.{is_same_mark}
 use Rattle.vsl_select.specs.RawLine.{at_left, at_right, escaped, escaped_byte, mark_letter, raw_line, raw_lines}
 use Rattle.raw_records.specs.Lines.{space, LoggedRecord, RecordLine, WrittenRecord, IsLine, IsWritten, HasLines, print_record}
-use Rattle.raw_records.specs.Gathered.{unit_of, with_record, gathered_from, gathered, goes_on, logged}
-use Rattle.traffic_feed.specs.Batches.{most_kept, shortened, sections, batches, has_room, units_of_batch, listing_units}
+use Rattle.raw_records.specs.Gathered.{unit_of, with_record, gathered_from, gathered, goes_on, logged, shortened}
+use Rattle.traffic_feed.specs.Batches.{most_kept, sections, batches, has_room, units_of_batch, listing_units}
 use Rattle.traffic_feed.specs.Listing.{IsListing}
 use Rattle.traffic_feed.specs.RawLog.{AreBatches, ArePartedBy, IsPlainPayload, IsReadBack, OnlyLastEnds}
 use Rattle.traffic_feed.proofs.BatchLemmas.{GoesOn-from, is_end}

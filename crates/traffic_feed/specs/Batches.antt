@@ -1,19 +1,15 @@
 -- The units of a listing: its records in batches, and each batch cut where it outgrows a segment (this project's choice). `seg` is the
 -- number of words of a segment.
-use Rattle.std.specs.Prelude.{ℕ, ◌-◌, ◌*◌, ◌≤◌, min, nat_le, Bool, List, [], ◌∷◌, take, length}
+use Rattle.std.specs.Prelude.{ℕ, ◌-◌, ◌*◌, ◌≤◌, min, nat_le, Bool, List, [], ◌∷◌, length}
 use Rattle.std.specs.List.{flat_map, onto_first}
 use Rattle.vsl_record.specs.Unit.{LogUnit, Log}
 use Rattle.vsl_record.specs.Words.{IsUnit, unit_words}
-use Rattle.raw_records.specs.Gathered.{gathered, goes_on, logged, with_record}
+use Rattle.raw_records.specs.Gathered.{gathered, goes_on, logged, shortened, with_record}
 use Rattle.raw_records.specs.Lines.{LoggedRecord, Line, BlankLine, CommentLine, RecordLine}
 
 -- the most bytes that are kept of a payload: as many as are asked for, and no more than a unit of one record has room for in a segment
 abbrev pub most_kept : ℕ → ℕ → ℕ
 most_kept reclen seg = min reclen (4 * (seg - 3))
-
--- a record with the bytes of its payload that are kept
-abbrev pub shortened : ℕ → LoggedRecord → LoggedRecord
-shortened most l = record { vxid = l.vxid; rec = record (l.rec) { payload = take most l.rec.payload } }
 
 -- the records between blank lines, shortened; comments don't count
 abbrev pub sections : ℕ → List Line → List (List LoggedRecord)

@@ -7,8 +7,8 @@ use Rattle.vsl_record.specs.Unit.{LogUnit, Log}
 use Rattle.vsl_record.specs.Payload.{most_payload}
 use Rattle.vsl_record.specs.Words.{IsUnit, unit_words}
 use Rattle.raw_records.specs.Lines.{LoggedRecord, Line, BlankLine, CommentLine, RecordLine}
-use Rattle.raw_records.specs.Gathered.{unit_of, with_record, goes_on, has_end}
-use Rattle.traffic_feed.specs.Batches.{most_kept, shortened, has_room, IsWithin}
+use Rattle.raw_records.specs.Gathered.{unit_of, with_record, goes_on, has_end, shortened}
+use Rattle.traffic_feed.specs.Batches.{most_kept, has_room, IsWithin}
 
 -- a unit that was begun has so many words, and an End or none
 pub record IsBegunUnit (u : LogUnit) (words : ℕ) (ends : Bool) : Type 0 where
