@@ -1,45 +1,23 @@
 -- The words of a unit that was begun, and whether it has an End.
-use Rattle.std.proofs.Common.{◌≡◌, ℕ, ◌+◌, ◌-◌, ◌*◌, ◌/◌, ◌<◌, ◌≤◌, Bool, ◌==◌, ◌||◌, leb, List, [], ◌∷◌, ◌++◌, length, refl, sym, ap, ◌∙◌, arith}
-use Rattle.std.specs.List.{flat_map}
+use Rattle.std.proofs.Common.{◌≡◌, ℕ, ◌+◌, ◌-◌, ◌*◌, ◌<◌, ◌≤◌, Bool, ◌==◌, ◌||◌, leb, List, [], ◌∷◌, ◌++◌, length, refl, sym, ap, ◌∙◌, arith}
 use Rattle.std.proofs.Math.Bool.{or-false}
 use Rattle.std.proofs.lemmas.List.{append-nil, length-append}
-use Rattle.std.proofs.lemmas.List.Concat.{flat_map-append}
 use Rattle.std.proofs.lemmas.List.Folds.{list_any-append}
 use Rattle.ring_layout.specs.Places.{IsSegment}
 use Rattle.vsl_tags.specs.Tags.{IsTag, end_tag}
 use Rattle.vsl_record.specs.declared.record_type.Record.{Record}
 use Rattle.vsl_record.specs.Payload.{IsPayload}
 use Rattle.vsl_record.specs.Unit.{LogUnit, IsRecordOf, vxid_end}
-use Rattle.vsl_record.specs.Words.{packed, record_words, unit_words, most_words}
+use Rattle.vsl_record.specs.Words.{record_words, unit_words, most_words}
 use Rattle.vsl_record.proofs.Steps.{all_append}
 use Rattle.raw_records.specs.Lines.{LoggedRecord}
 use Rattle.raw_records.specs.Gathered.{unit_of, with_record}
+use Rattle.raw_records.proofs.GatheredLemmas.{record_size, size_more}
 use Rattle.traffic_feed.specs.Batches.{has_room}
 use Rattle.traffic_feed.specs.inside.Gathering.{IsBegunUnit}
 
--- a payload has a word for each four bytes or less
-length-packed : (p : List ℕ) → length (packed p) ≡ (length p + 3) / 4
-length-packed [] = refl
-length-packed (a ∷ []) = refl
-length-packed (a ∷ b ∷ []) = refl
-length-packed (a ∷ b ∷ c ∷ []) = refl
-length-packed (a ∷ b ∷ c ∷ d ∷ p) = omega (arith, length-packed p)
-
--- how many words a record has
-pub record_size : (vxid : ℕ) (rec : Record) → length (record_words vxid rec) ≡ 2 + (length rec.payload + 3) / 4
-record_size vxid rec = omega (arith, length-packed rec.payload)
-
 pub unit_size : (vxid : ℕ) (rec : Record) → length (unit_words (unit_of (record { vxid = vxid; rec = rec }))) ≡ 1 + length (record_words vxid rec)
 unit_size vxid rec = omega (arith, ap length (append-nil (record_words vxid rec)))
-
--- the words of a unit with a record more
-pub size_more : (u : LogUnit) (rec : Record) → length (unit_words (with_record u rec)) ≡ length (unit_words u) + length (record_words u.vxid rec)
-size_more u rec = omega (
-  arith,
-  ap length (flat_map-append (record_words u.vxid) u.records (rec ∷ [])),
-  length-append (flat_map (record_words u.vxid) u.records) (record_words u.vxid rec ++ []),
-  ap length (append-nil (record_words u.vxid rec)),
-)
 
 -- room for a record, by the numbers of words
 pub has_room_is : (u : LogUnit) (l : LoggedRecord) (words more seg : ℕ) → words ≡ length (unit_words u) → more ≡ length (record_words u.vxid l.rec) → leb (words + more) seg ≡ has_room seg u l

@@ -12,7 +12,8 @@ use Rattle.raw_records.specs.Gathered.{unit_of, with_record, goes_on, shortened}
 use Rattle.traffic_feed.specs.Batches.{has_room}
 use Rattle.traffic_feed.specs.Listing.{record_count, word_count}
 use Rattle.traffic_feed.specs.inside.Gathering.{Gathered, begins, ended, taken_by, stepped, nothing, gathered_lines}
-use Rattle.traffic_feed.proofs.BegunUnitLemmas.{record_size, size_more, unit_size}
+use Rattle.raw_records.proofs.GatheredLemmas.{record_size, size_more}
+use Rattle.traffic_feed.proofs.BegunUnitLemmas.{unit_size}
 use Rattle.raw_records.proofs.LineLemmas.{is_feed, split_some}
 use Rattle.vsl_tags.proofs.CalledLemmas.{IsPlain-from}
 

@@ -20,7 +20,8 @@ use Rattle.traffic_feed.specs.Made.{is_miss, is_said, vxid_of, sizes_of, number_
 use Rattle.traffic_feed.specs.inside.Gathering.{Gathered, begins, ended, taken_by, stepped, nothing, gathered_lines}
 use Rattle.traffic_feed.specs.inside.Making.{IsPartlyMade, request_end}
 use Rattle.traffic_feed.proofs.BatchLemmas.{gathered_units, gathered_cuts}
-use Rattle.traffic_feed.proofs.BegunUnitLemmas.{record_size, size_more, unit_size}
+use Rattle.raw_records.proofs.GatheredLemmas.{record_size, size_more}
+use Rattle.traffic_feed.proofs.BegunUnitLemmas.{unit_size}
 use Rattle.traffic_feed.proofs.BoundLemmas.{closed, records_pushed, words_pushed}
 use Rattle.traffic_feed.proofs.MakingLemmas.{made_more}
 

@@ -1,17 +1,16 @@
 -- Writing a unit: the bytes of a record and of its words.
-use Rattle.std.proofs.Common.{◌≡◌, ℕ, suc, ◌+◌, ◌-◌, ◌*◌, ◌/◌, ◌%◌, ◌^◌, ◌<◌, List, [], ◌∷◌, ◌++◌, length, length-append, take, get_or, refl, sym, ap, ◌∙◌, append_assoc, arith}
+use Rattle.std.proofs.Common.{◌≡◌, ℕ, suc, ◌+◌, ◌-◌, ◌*◌, ◌/◌, ◌%◌, ◌^◌, ◌<◌, List, [], ◌∷◌, ◌++◌, length, refl, sym, ap, ◌∙◌, arith}
+use Rattle.std.specs.Prelude.{Result, Ok, Err, OnOk}
 use Rattle.std.specs.Int.{w32, w64, to_le_bytes}
 use Rattle.std.specs.List.{flat_map}
-use Rattle.std.proofs.lemmas.List.{take_more}
 use Rattle.std.proofs.lemmas.List.Concat.{flat_map-append, flat_map-cons}
 use Rattle.std.proofs.lemmas.Nat.{le_bytes_4}
-use Rattle.vsl_record.specs.declared.mark.Mark.{Mark}
 use Rattle.vsl_record.specs.declared.record_type.Record.{Record}
 use Rattle.vsl_record.specs.Unit.{LogUnit}
-use Rattle.vsl_record.specs.Words.{packed, header_mark, mark_bits, word_of, word_bytes, record_words}
+use Rattle.vsl_record.specs.Words.{packed, header_mark, mark_bits, word_of, word_bytes, record_words, body_words}
 use Rattle.vsl_record.proofs.Steps.{IsBytes, below_cons}
-use Rattle.vsl_file.specs.File.{unit_bytes}
-use Rattle.vsl_file.specs.inside.Writing.{record_bytes, filled}
+use Rattle.vsl_file.specs.File.{record_bytes, unit_bytes}
+use Rattle.vsl_file.specs.inside.Writing.{filled}
 
 -- the bytes of a word are those of the number modulo 2^32
 pub wrapped_bytes : (n : ℕ) → to_le_bytes w32 (n % 2 ^ 32) ≡ to_le_bytes w32 n
@@ -52,13 +51,11 @@ packed_bytes (a ∷ b ∷ c ∷ d ∷ p) all =
     rw same (ap (λ (x : List ℕ). x ++ word_bytes (packed p)) (word_again a b c d (all 0) (all 1) (all 2) (all 3)) ∙ ap (λ (x : List ℕ). a ∷ b ∷ c ∷ d ∷ x) (packed_bytes p (λ i. all (suc (suc (suc (suc i)))))))
 
 -- a record's bytes are those of its two words and of its payload
-pub record_added : (vxid head id : ℕ) (rec : Record) (old a new : List ℕ) → IsBytes rec.payload → head < 2 ^ 32 → head ≡ 16777216 * rec.tag + length rec.payload → id ≡ (vxid + mark_bits rec.mark) % 2 ^ 32
-    → a ≡ old ++ to_le_bytes w64 (head + 4294967296 * id) → new ≡ a ++ filled rec.payload → new ≡ old ++ record_bytes vxid rec
-record_added vxid head id rec old a new all fits head_is id_is first second =
+pub record_whole : (vxid head id : ℕ) (rec : Record) → IsBytes rec.payload → head < 2 ^ 32 → head ≡ 16777216 * rec.tag + length rec.payload → id ≡ (vxid + mark_bits rec.mark) % 2 ^ 32 → record_bytes vxid rec ≡ to_le_bytes w64 (head + 4294967296 * id) ++ filled rec.payload
+record_whole vxid head id rec all fits head_is id_is =
     let words : to_le_bytes w64 (head + 4294967296 * id) ≡ to_le_bytes w32 (16777216 * rec.tag + length rec.payload) ++ to_le_bytes w32 (vxid + mark_bits rec.mark) =
     two_words head id fits ∙ ap (λ (n : ℕ). to_le_bytes w32 n ++ to_le_bytes w32 id) head_is ∙ ap (λ (x : List ℕ). to_le_bytes w32 (16777216 * rec.tag + length rec.payload) ++ x) (ap (to_le_bytes w32) id_is ∙ wrapped_bytes (vxid + mark_bits rec.mark)) in
-    second ∙ ap (λ (x : List ℕ). x ++ filled rec.payload) first ∙ append_assoc old (to_le_bytes w64 (head + 4294967296 * id)) (filled rec.payload)
-    ∙ ap (λ (x : List ℕ). old ++ (x ++ filled rec.payload)) words ∙ ap (λ (x : List ℕ). old ++ (to_le_bytes w32 (16777216 * rec.tag + length rec.payload) ++ to_le_bytes w32 (vxid + mark_bits rec.mark) ++ x)) (sym (packed_bytes rec.payload all))
+    ap (λ (x : List ℕ). to_le_bytes w32 (16777216 * rec.tag + length rec.payload) ++ to_le_bytes w32 (vxid + mark_bits rec.mark) ++ x) (packed_bytes rec.payload all) ∙ ap (λ (x : List ℕ). x ++ filled rec.payload) (sym words)
 
 -- the bytes of records' words are the records' bytes
 pub body_bytes : (vxid : ℕ) (records : List Record) → word_bytes (flat_map (record_words vxid) records) ≡ flat_map (record_bytes vxid) records
@@ -67,12 +64,15 @@ body_bytes vxid (rec ∷ records) =
     ap word_bytes (flat_map-cons (record_words vxid) rec records) ∙ flat_map-append (to_le_bytes w32) (record_words vxid rec) (flat_map (record_words vxid) records) ∙ ap (λ (x : List ℕ). record_bytes vxid rec ++ x) (body_bytes vxid records) ∙ sym (flat_map-cons (record_bytes vxid) rec records)
 
 -- a unit's bytes are those of its header and of its records
-pub unit_added : (vxid count : ℕ) (records : List Record) (mark : Mark) (old a new : List ℕ) → count ≡ 1 + length (flat_map (record_words vxid) records)
-    → a ≡ old ++ to_le_bytes w32 (header_mark + count) → new ≡ a ++ flat_map (record_bytes vxid) records → new ≡ old ++ unit_bytes (record { vxid = vxid; mark = mark; records = records })
-unit_added vxid count records mark old a new count_is first second =
-    second ∙ ap (λ (x : List ℕ). x ++ flat_map (record_bytes vxid) records) first ∙ append_assoc old (to_le_bytes w32 (header_mark + count)) (flat_map (record_bytes vxid) records)
-    ∙ ap (λ (n : ℕ). old ++ (to_le_bytes w32 (header_mark + n) ++ flat_map (record_bytes vxid) records)) count_is
-    ∙ ap (λ (x : List ℕ). old ++ (to_le_bytes w32 (header_mark + (1 + length (flat_map (record_words vxid) records))) ++ x)) (sym (body_bytes vxid records))
+pub unit_whole : (count : ℕ) (u : LogUnit) → count ≡ 1 + length (body_words u) → unit_bytes u ≡ to_le_bytes w32 (header_mark + count) ++ flat_map (record_bytes u.vxid) u.records
+unit_whole count u count_is =
+    ap (λ (x : List ℕ). to_le_bytes w32 (header_mark + (1 + length (body_words u))) ++ x) (body_bytes u.vxid u.records)
+    ∙ ap (λ (n : ℕ). to_le_bytes w32 (header_mark + n) ++ flat_map (record_bytes u.vxid) u.records) (sym count_is)
+
+-- what is so of each, where a call did not fail
+pub on_ok_each : {A E X : Type 0} (P : X → Type 0) (r : Result A E) → ((x : X) → OnOk r (P x)) → OnOk r ((x : X) → P x)
+on_ok_each P (Ok v) each = each
+on_ok_each P (Err e) each = tt
 
 -- a unit's bytes are those of its VXID and its records
 pub unit_of_parts : (u : LogUnit) (vxid : ℕ) (records : List Record) → vxid ≡ u.vxid → records ≡ u.records → unit_bytes (record { vxid = vxid; mark = u.mark; records = records }) ≡ unit_bytes u

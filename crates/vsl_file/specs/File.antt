@@ -2,8 +2,9 @@
 use Rattle.std.specs.Prelude.{◌≡◌, ◌≢◌, ℕ, ◌+◌, ◌*◌, ◌/◌, ◌%◌, ◌^◌, ◌<◌, ◌≤◌, ◌==◌, ◌&&◌, ◌||◌, ◌⊎◌, nat_lt, nat_le, Bool, true, false, List, [], ◌++◌, length, take, slice_get, codes}
 use Rattle.std.specs.Int.{w32, from_le_bytes}
 use Rattle.std.specs.List.{flat_map, AllByRecursion}
+use Rattle.vsl_record.specs.declared.record_type.Record.{Record}
 use Rattle.vsl_record.specs.Unit.{LogUnit, Log}
-use Rattle.vsl_record.specs.Words.{unit_words, word_bytes, IsUnit, most_words}
+use Rattle.vsl_record.specs.Words.{record_words, unit_words, word_bytes, IsUnit, most_words}
 
 -- the eight bytes with which a log file begins
 abbrev pub file_header : List ℕ
@@ -16,6 +17,10 @@ most_bytes = 2 ^ 40
 -- the bytes of a file that count: all of them, or its first 2^40
 abbrev pub bytes_read : List ℕ → List ℕ
 bytes_read bytes = take most_bytes bytes
+
+-- the bytes of a record of a unit of this VXID
+abbrev pub record_bytes : ℕ → Record → List ℕ
+record_bytes vxid rec = word_bytes (record_words vxid rec)
 
 -- the bytes of a unit
 abbrev pub unit_bytes : LogUnit → List ℕ

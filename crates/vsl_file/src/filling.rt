@@ -11,8 +11,8 @@ use vio::{Failed, World};
 /// How many bytes are asked for at once.
 pub(crate) const PIECE: usize = 65536;
 
-/// Reads bytes into the part of a list behind a place.
-fn read_behind<W: World>(
+/// Reads bytes into the part of a list behind a place: none only at the end, or where nothing is behind it.
+pub fn read_behind<W: World>(
     bytes: &mut [u8],
     place: usize,
     handle: u32,

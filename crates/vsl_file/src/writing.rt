@@ -1,18 +1,22 @@
 //! Writing a log file: its header and its units.
 
-ghost use Rattle.std.specs.Prelude.{◌≡◌, ◌≤◌, ◌++◌, length, OnOk, OnErr};
+ghost use Rattle.std.specs.Prelude.{◌≡◌, ◌+◌, ◌<◌, ◌≤◌, ◌++◌, ℕ, length, slice_index, OnOk, OnErr};
 ghost use Rattle.std.specs.Int.{w32, to_le_bytes};
 ghost use Rattle.std.specs.List.{flat_map};
-ghost use Rattle.log_model.specs.Prefix.{IsPrefix};
+ghost use Rattle.log_model.specs.Adding.{Puts};
 ghost use Rattle.vsl_record.specs.declared.mark.Mark.{Mark as LogMark};
-ghost use Rattle.vsl_record.specs.Words.{most_words, unit_words};
-ghost use Rattle.vsl_file.specs.File.{file_header, unit_bytes};
-ghost use Rattle.vsl_file.specs.inside.Writing.{record_bytes, filled};
+ghost use Rattle.vsl_record.specs.Payload.{most_payload};
+ghost use Rattle.vsl_record.specs.Unit.{IsRecordOf, LogUnit};
+ghost use Rattle.vsl_record.specs.Words.{header_mark, most_words, unit_words};
+ghost use Rattle.vsl_file.specs.File.{file_header, record_bytes, unit_bytes};
+ghost use Rattle.vsl_file.specs.inside.Writing.{filled};
 
 use crate::header::HEADER;
 use crate::steps::WORD;
+use log_model::or_cut_back;
 use vio::NoMemory;
-use vsl_record::{HEADER_MARK, Payload, Record, TOP_BYTE, Unit, Vxid, count_words};
+use vsl_record::{HEADER_MARK, Mark, Record, TOP_BYTE, Unit, Vxid, count_words};
+use vsl_tags::Tag;
 
 /// One more than the highest word.
 const WORD_END: u64 = 0x1_0000_0000;
@@ -29,41 +33,72 @@ pub fn put_header(out: &mut Vec<u8>) -> Result<(), NoMemory>
     Ok(())
 }
 
+/// Bytes are below 256.
+fn are_bytes(bytes: &[u8])
+    ensures { (i : ℕ) → slice_index bytes.now i < 256 }
+{}
+
 /// Adds a payload, and zero bytes up to a whole word.
 #[tactic(auto, using(log_model::proofs::PrefixLemmas::adding))]
-fn put_payload(payload: &Payload, out: &mut Vec<u8>) -> Result<(), NoMemory>
-    ensures ok { OnOk result (out.new.items ≡ out.old.items ++ filled payload.now) }
-    ensures keeps { IsPrefix out.old.items out.new.items }
+fn put_payload(payload: &[u8], out: &mut Vec<u8>) -> Result<(), NoMemory>
+    ensures { Puts result out.old.items out.new.items (filled payload.now) }
 {
-    let bytes = payload.as_slice();
-    let (filling, _) = FILLING.split_at((WORD - bytes.len() % WORD) % WORD);
-    out.extend_from_slice(bytes)?;
+    let (filling, _) = FILLING.split_at((WORD - payload.len() % WORD) % WORD);
+    out.extend_from_slice(payload)?;
     out.extend_from_slice(filling)?;
     Ok(())
 }
 
-/// Adds the bytes of a record.
+/// Adds the bytes of a record of a unit of this VXID, or a part of them.
 #[tactic(auto, using(log_model::proofs::PrefixLemmas::adding))]
-fn put_record(vxid: Vxid, rec: &Record, out: &mut Vec<u8>) -> Result<(), NoMemory>
-    ensures ok { OnOk result (out.new.items ≡ out.old.items ++ record_bytes vxid rec.now) }
-    ensures keeps { IsPrefix out.old.items out.new.items }
+pub fn put_record(
+    vxid: Vxid,
+    mark: Mark,
+    tag: Tag,
+    payload: &[u8],
+    out: &mut Vec<u8>,
+) -> Result<(), NoMemory>
+    requires { length payload.now ≤ most_payload }
+    ensures written { Puts result out.old.items out.new.items (record_bytes vxid (record { tag = tag; mark = mark; payload = payload.now })) }
+    ensures rec { IsRecordOf mark (record { tag = tag; mark = mark; payload = payload.now }) }
 {
-    let head = TOP_BYTE * u32::from(rec.tag.number()) + rec.payload.as_slice().len() as u32;
-    let id = vxid.wrapping_add(rec.mark.bits());
+    are_bytes(payload);
+    let head = TOP_BYTE * u32::from(tag.number()) + payload.len() as u32;
+    let id = vxid.wrapping_add(mark.bits());
     let both = u64::from(head) + WORD_END * u64::from(id);
     out.extend_from_slice(&both.to_le_bytes())?;
-    put_payload(&rec.payload, out)
+    put_payload(payload, out)
 }
 
 /// Adds the bytes of records.
 #[tactic(auto, using(log_model::proofs::PrefixLemmas::adding))]
 fn put_body(vxid: Vxid, records: &[Record], out: &mut Vec<u8>) -> Result<(), NoMemory>
-    ensures ok { OnOk result (out.new.items ≡ out.old.items ++ flat_map (record_bytes vxid) records.now) }
-    ensures keeps { IsPrefix out.old.items out.new.items }
+    ensures { Puts result out.old.items out.new.items (flat_map (record_bytes vxid) records.now) }
 {
     for rec in records {
-        put_record(vxid, rec, out)?;
+        put_record(vxid, rec.mark, rec.tag, rec.payload.as_slice(), out)?;
     }
+    Ok(())
+}
+
+/// Adds the header word of a unit of so many words.
+fn put_head(words: usize, out: &mut Vec<u8>) -> Result<(), NoMemory>
+    requires { words ≤ most_words }
+    ensures { Puts result out.old.items out.new.items (to_le_bytes w32 (header_mark + words)) }
+{
+    let head = HEADER_MARK + words as u32;
+    out.extend_from_slice(&head.to_le_bytes())?;
+    Ok(())
+}
+
+/// Adds the unit of so many words that has these bytes behind its header, or a part of it.
+#[tactic(auto, using(log_model::proofs::PrefixLemmas::adding))]
+pub fn put_unit_of(words: usize, body: &[u8], out: &mut Vec<u8>) -> Result<(), NoMemory>
+    requires { words ≤ most_words }
+    ensures { (u : LogUnit) → words ≡ length (unit_words u) → body.now ≡ flat_map (record_bytes u.vxid) u.records → Puts result out.old.items out.new.items (unit_bytes u) }
+{
+    put_head(words, out)?;
+    out.extend_from_slice(body)?;
     Ok(())
 }
 
@@ -71,30 +106,24 @@ fn put_body(vxid: Vxid, records: &[Record], out: &mut Vec<u8>) -> Result<(), NoM
 #[tactic(auto, using(log_model::proofs::PrefixLemmas::adding))]
 fn put_words(vxid: Vxid, records: &[Record], out: &mut Vec<u8>) -> Result<(), NoMemory>
     requires { (mark : LogMark) → length (unit_words (record { vxid = vxid; mark = mark; records = records.now })) ≤ most_words }
-    ensures ok { OnOk result ((mark : LogMark) → out.new.items ≡ out.old.items ++ unit_bytes (record { vxid = vxid; mark = mark; records = records.now })) }
-    ensures keeps { IsPrefix out.old.items out.new.items }
+    ensures { (mark : LogMark) → Puts result out.old.items out.new.items (unit_bytes (record { vxid = vxid; mark = mark; records = records.now })) }
 {
-    let words = count_words(records);
-    out.reserve(WORD * words as usize)?;
-    let head = HEADER_MARK + words as u32;
-    out.extend_from_slice(&head.to_le_bytes())?;
+    let words = count_words(records) as usize;
+    out.reserve(WORD * words)?;
+    put_head(words, out)?;
     put_body(vxid, records, out)
 }
 
 /// Adds the bytes of the unit of these records, whose marks they tell. After want of memory the list is as
 /// it was.
-#[tactic(auto, using(log_model::proofs::PrefixLemmas::cut_back))]
 pub fn put_records(vxid: Vxid, records: &[Record], out: &mut Vec<u8>) -> Result<(), NoMemory>
     requires { (mark : LogMark) → length (unit_words (record { vxid = vxid; mark = mark; records = records.now })) ≤ most_words }
     ensures ok { OnOk result ((mark : LogMark) → out.new.items ≡ out.old.items ++ unit_bytes (record { vxid = vxid; mark = mark; records = records.now })) }
     ensures err { OnErr result (out.new.items ≡ out.old.items) }
 {
-    let length = out.len();
-    let added = put_words(vxid, records, out);
-    if added.is_err() {
-        out.truncate(length);
-    }
-    added
+    let before = out.len();
+    let put = put_words(vxid, records, out);
+    or_cut_back(put, before, out)
 }
 
 /// Adds the bytes of a unit. After want of memory the list is as it was.

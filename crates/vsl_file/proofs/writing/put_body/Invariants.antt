@@ -1,7 +1,7 @@
 -- the bytes of the records so far were added
 use Rattle.std.proofs.Common.{◌≡◌, ◌++◌, take}
 use Rattle.std.specs.List.{flat_map}
-use Rattle.vsl_file.specs.inside.Writing.{record_bytes}
+use Rattle.vsl_file.specs.File.{record_bytes}
 use Rattle.vsl_file.proofs.writing.put_body.Given as goal
 
 abbrev pub invariant-loop-rec : goal.invariant-loop-rec

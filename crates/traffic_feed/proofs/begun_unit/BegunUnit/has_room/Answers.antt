@@ -1,6 +1,7 @@
 use Rattle.std.proofs.Common.{arith, ap, ◌∙◌, length}
 use Rattle.vsl_record.specs.Words.{unit_words}
-use Rattle.traffic_feed.proofs.BegunUnitLemmas.{has_room_is, record_size}
+use Rattle.raw_records.proofs.GatheredLemmas.{record_size}
+use Rattle.traffic_feed.proofs.BegunUnitLemmas.{has_room_is}
 use Rattle.traffic_feed.proofs.begun_unit.BegunUnit.has_room.Goals as goal
 
 pub overflow_add-result : goal.overflow_add-result

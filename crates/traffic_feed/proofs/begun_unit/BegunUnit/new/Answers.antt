@@ -1,5 +1,6 @@
 use Rattle.std.proofs.Common.{arith, ◌∙◌, ap, [], ◌∷◌, ◌++◌}
-use Rattle.traffic_feed.proofs.BegunUnitLemmas.{IsBegunUnit-one, record_size}
+use Rattle.raw_records.proofs.GatheredLemmas.{record_size}
+use Rattle.traffic_feed.proofs.BegunUnitLemmas.{IsBegunUnit-one}
 use Rattle.traffic_feed.proofs.begun_unit.BegunUnit.new.Goals as goal
 use Rattle.traffic_feed.proofs.begun_unit.BegunUnit.new.Goals.{In_ok-push}
 

@@ -2,7 +2,8 @@ use Rattle.std.proofs.Common.{arith, ◌∙◌, sym, subst, ap, ◌≤◌, lengt
 use Rattle.vsl_record.specs.Unit.{LogUnit}
 use Rattle.vsl_record.specs.Words.{unit_words, most_words}
 use Rattle.raw_records.specs.Gathered.{with_record}
-use Rattle.traffic_feed.proofs.BegunUnitLemmas.{IsBegunUnit-more, record_size}
+use Rattle.raw_records.proofs.GatheredLemmas.{record_size}
+use Rattle.traffic_feed.proofs.BegunUnitLemmas.{IsBegunUnit-more}
 use Rattle.traffic_feed.proofs.begun_unit.BegunUnit.push.Goals as goal
 
 pub overflow_add-self : goal.overflow_add-self
