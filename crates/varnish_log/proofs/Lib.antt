@@ -1,0 +1,6 @@
+mod Examples
+mod TagLemmas
+mod EntryLemmas
+mod WrittenLemmas
+mod TakingLemmas
+mod CopyingLemmas

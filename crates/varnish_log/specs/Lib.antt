@@ -1,0 +1,6 @@
+pub mod Tags
+pub mod Entries
+pub mod Counting
+pub mod Taken
+pub mod Copied
+pub mod inside

@@ -1,0 +1,6 @@
+-- What only the private steps of this crate say.
+pub mod Views
+pub mod Written
+pub mod Writers
+pub mod Taking
+pub mod Copying
