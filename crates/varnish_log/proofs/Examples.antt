@@ -4,6 +4,8 @@ use Rattle.std.specs.Prelude.{codes}
 use Rattle.vsl_record.specs.declared.mark.Mark.TheVariants.{Client}
 use Rattle.varnish_log.specs.Counting.{none_counted}
 use Rattle.varnish_log.specs.Entries.{Entry, entry_bytes, stops_early}
+use Rattle.varnish_log.specs.First.{looks_of}
+use Rattle.varnish_log.specs.declared.first.Looks.TheVariants.{Empty, LogFile, OtherVersion, Gzip, Text, Unknown}
 use Rattle.varnish_log.specs.Tags.{tag_at}
 use Rattle.varnish_log.specs.Taken.{counted, taken}
 
@@ -40,3 +42,7 @@ three_counted = refl
 -- a record that is cut stops early, and one with bit 16 of its first word or with two marks doesn't
 cut : map stops_early ((14 ∷ 0 ∷ 0 ∷ 76 ∷ 1 ∷ 0 ∷ 0 ∷ 64 ∷ codes "sess") ∷ (14 ∷ 0 ∷ 1 ∷ 76 ∷ 1 ∷ 0 ∷ 0 ∷ 64 ∷ []) ∷ (14 ∷ 0 ∷ 0 ∷ 76 ∷ 1 ∷ 0 ∷ 0 ∷ 192 ∷ []) ∷ []) ≡ true ∷ false ∷ false ∷ []
 cut = refl
+
+-- the first bytes of no file, of a log file, of another version's log, of a packed file, of a text, and of others
+looks : map looks_of ([] ∷ codes "VSLO" ∷ codes "VSL3" ∷ (31 ∷ 139 ∷ 8 ∷ 0 ∷ []) ∷ codes "    " ∷ (0 ∷ 0 ∷ 0 ∷ 0 ∷ []) ∷ []) ≡ Empty ∷ LogFile ∷ OtherVersion ∷ Gzip ∷ Text ∷ Unknown ∷ []
+looks = refl

@@ -4,3 +4,4 @@ mod EntryLemmas
 mod WrittenLemmas
 mod TakingLemmas
 mod CopyingLemmas
+mod FirstLemmas

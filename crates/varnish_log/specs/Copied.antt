@@ -8,6 +8,10 @@ use Rattle.varnish_log.specs.declared.counts.Counts.{Counts}
 use Rattle.varnish_log.specs.declared.copying.Copied.{Copied}
 use Rattle.varnish_log.specs.declared.copying.CopyFault.{CopyFault}
 use Rattle.varnish_log.specs.declared.copying.CopyFault.TheVariants.{Damaged, ReadFault, WriteFault}
+use Rattle.varnish_log.specs.declared.copying.LogFault.{LogFault}
+use Rattle.varnish_log.specs.declared.copying.LogFault.TheVariants.{NotALog, Unread, Stopped}
+use Rattle.varnish_log.specs.Counting.{none_counted}
+use Rattle.varnish_log.specs.First.{IsOther, IsUnread, file_mark}
 use Rattle.varnish_log.specs.Entries.{stops_early}
 use Rattle.varnish_log.specs.Taken.{AreTaken}
 
@@ -73,3 +77,13 @@ IsStopped input output (Damaged at) came held before calls = (p : Piece) × Ends
 abbrev pub IsStarved : ℕ → ℕ → ℕ → List ℕ → Counts → List Call → Type 0
 IsStarved input output came held before calls =
     (calls ≡ []) ⊎ (((bytes : List ℕ) × (calls ≡ Take input bytes Went ∷ [])) ⊎ ((p : Piece) × (part : List ℕ) × IsPart held before p part × (calls ≡ Take input p.came Went ∷ Write output part Went ∷ [])))
+
+-- the first four bytes of a log came, and then these calls were made
+abbrev pub IsLog : ℕ → (List Call → Type 0) → List Call → Type 0
+IsLog input IsRest calls = (rest : List Call) × (calls ≡ Take input file_mark Went ∷ rest) × IsRest rest
+
+-- it is none, or its first four bytes couldn't be read, or copying stopped behind them
+abbrev pub IsNoLog : ℕ → ℕ → LogFault → List Call → Type 0
+IsNoLog input output (NotALog looks) calls = IsOther input looks calls
+IsNoLog input output Unread calls = IsUnread input calls
+IsNoLog input output (Stopped fault) calls = IsLog input (CopiedThen input output none_counted (IsStopped input output fault)) calls

@@ -1,4 +1,5 @@
 pub mod Tags
+pub mod First
 pub mod Entries
 pub mod Counting
 pub mod Taken

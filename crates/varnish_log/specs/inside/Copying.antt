@@ -1,6 +1,6 @@
 -- What came of asking for a piece.
 use Rattle.std.specs.Prelude.{◌≡◌, ℕ, ◌<◌, ◌≤◌, true, List, [], length, take}
-use Rattle.vio.specs.World.{Seen}
+use Rattle.vio.specs.World.{Seen, Read}
 use Rattle.vio.specs.Calls.{Call, Called}
 use Rattle.varnish_log.specs.declared.counts.Counts.{Counts}
 use Rattle.varnish_log.specs.Entries.{stops_early}
@@ -29,3 +29,9 @@ pub record AreCopied (input output : ℕ) (buffer : List ℕ) (held came : ℕ) 
   pub size : length buffer ≡ capacity
   pub room : held < capacity
   pub few : held ≤ came
+
+-- so many bytes of four were read, by calls that are one
+pub record HasRead (input size : ℕ) (first : List ℕ) (before now : Seen) : Type 0 where
+  pub read : Read input (take size first) before now
+  pub within : size ≤ 4
+  pub four : length first ≡ 4

@@ -4,21 +4,21 @@ use Rattle.varnish_log.proofs.CopyingLemmas.{all_written, damaged_behind, failed
 use Rattle.varnish_log.proofs.copying.copy_piece.Goals as goal
 
 pub returns-in_err-left-clause-short : goal.returns-in_err-left-clause-short
-returns-in_err-left-clause-short g c = short_of _ c.from_residual.result (only_came c.args.input c.args.output c.args.came _ c.args.counts.now _ _ _ c.in-Ok.ensures.read)
+returns-in_err-left-clause-short g c = short_of _ c.from_residual.result (only_came c.args.ends.input c.args.ends.output c.args.came _ c.args.counts.now _ _ _ c.in-Ok.ensures.read)
 
 pub returns-in-Err-Failed-clause-fault : goal.returns-in-Err-Failed-clause-fault
 returns-in-Err-Failed-clause-fault g c =
-    failed_write c.args.input c.args.output c.args.came _ c.args.counts.now _ _ _ c.in-Ok.ensures.read _ _ _ _ _ _ _ (piece_bytes c.args.buffer.now c.read_behind.new.bytes c.args.held c.in-Ok.n c.read_behind.ensures.kept) c.new-text.ensures.items c.as_slice.ensures.value c.in_ok-left.ensures.taken
+    failed_write c.args.ends.input c.args.ends.output c.args.came _ c.args.counts.now _ _ _ c.in-Ok.ensures.read _ _ _ _ _ _ _ (piece_bytes c.args.buffer.now c.read_behind.new.bytes c.args.held c.in-Ok.n c.read_behind.ensures.kept) c.new-text.ensures.items c.as_slice.ensures.value c.in_ok-left.ensures.taken
     c.in-Err-Failed.ensures.err (c.in-Err-Failed.ensures.failed (ap Err c.in-Err-Failed.field-0-is))
 
 pub returns-in-Err-NoMemory-clause-short : goal.returns-in-Err-NoMemory-clause-short
 returns-in-Err-NoMemory-clause-short g c =
-    starved_write c.args.input c.args.output c.args.came _ c.args.counts.now _ _ _ c.in-Ok.ensures.read _ _ _ _ _ _ _ (piece_bytes c.args.buffer.now c.read_behind.new.bytes c.args.held c.in-Ok.n c.read_behind.ensures.kept) c.new-text.ensures.items c.as_slice.ensures.value c.in_ok-left.ensures.taken
+    starved_write c.args.ends.input c.args.ends.output c.args.came _ c.args.counts.now _ _ _ c.in-Ok.ensures.read _ _ _ _ _ _ _ (piece_bytes c.args.buffer.now c.read_behind.new.bytes c.args.held c.in-Ok.n c.read_behind.ensures.kept) c.new-text.ensures.items c.as_slice.ensures.value c.in_ok-left.ensures.taken
     c.in-Err-NoMemory.ensures.err
 
 pub returns-then-damaged-clause-fault : goal.returns-then-damaged-clause-fault
 returns-then-damaged-clause-fault g c =
-    damaged_behind c.args.input c.args.output c.args.came _ c.args.counts.now _ _ _ c.in-Ok.ensures.read _ _ _ _ _ _ _ (piece_bytes c.args.buffer.now c.read_behind.new.bytes c.args.held c.in-Ok.n c.read_behind.ensures.kept) c.new-text.ensures.items c.as_slice.ensures.value c.in_ok-left.ensures.taken
+    damaged_behind c.args.ends.input c.args.ends.output c.args.came _ c.args.counts.now _ _ _ c.in-Ok.ensures.read _ _ _ _ _ _ _ (piece_bytes c.args.buffer.now c.read_behind.new.bytes c.args.held c.in-Ok.n c.read_behind.ensures.kept) c.new-text.ensures.items c.as_slice.ensures.value c.in_ok-left.ensures.taken
     _ c.in-Ok-write_all.ensures.ok (c.in_ok-left.ensures.stops ∙ ap not c.if-damaged.true)
     (omega (
       arith,
@@ -30,6 +30,6 @@ returns-then-damaged-clause-fault g c =
 
 pub returns-clause-piece : goal.returns-clause-piece
 returns-clause-piece g c =
-    all_written c.args.input c.args.output c.args.came _ c.args.counts.now _ _ _ c.in-Ok.ensures.read _ _ _ _ _ _ _ (piece_bytes c.args.buffer.now c.read_behind.new.bytes c.args.held c.in-Ok.n c.read_behind.ensures.kept) c.new-text.ensures.items c.as_slice.ensures.value c.in_ok-left.ensures.taken
+    all_written c.args.ends.input c.args.ends.output c.args.came _ c.args.counts.now _ _ _ c.in-Ok.ensures.read _ _ _ _ _ _ _ (piece_bytes c.args.buffer.now c.read_behind.new.bytes c.args.held c.in-Ok.n c.read_behind.ensures.kept) c.new-text.ensures.items c.as_slice.ensures.value c.in_ok-left.ensures.taken
     c.in-Ok.n (sym (length-take-le c.in-Ok.n (drop c.args.held c.read_behind.new.bytes) (omega (arith, length-drop c.args.held c.read_behind.new.bytes, c.in-Ok.ensures.fits, c.read_behind.auto.bytes))))
     c.in-Ok-write_all.ensures.ok (c.in_ok-left.ensures.stops ∙ ap not c.if-damaged.false)
