@@ -108,7 +108,7 @@ IsPartlyWritten-then n rest p q = record {
 -- reads
 
 -- a call that changes counts alone reads no bytes
-Read-counts : (h : ℕ) (s t : Seen) → OnlyCounts s t → Read h [] s t
+pub Read-counts : (h : ℕ) (s t : Seen) → OnlyCounts s t → Read h [] s t
 Read-counts h s t p = record {
   counts = p.counts;
   loses = λ a told. (a, refl, p.left h ∙ told);

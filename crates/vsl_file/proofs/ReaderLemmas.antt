@@ -5,7 +5,7 @@ use Rattle.std.proofs.lemmas.List.{append-nil, length-append, length-drop, nil_f
 use Rattle.std.proofs.Math.Seq.{take-add}
 use Rattle.bytes.proofs.Ranges.{take-append_past}
 use Rattle.vio.specs.World.{Seen, Reading, Read, ReadSome, OnlyCounts, FaultsRose}
-use Rattle.vio.proofs.WholeLemmas.{NoCountFalls-then, Read-none, Read-then, Read-nothing, FaultsRose-later}
+use Rattle.vio.proofs.WholeLemmas.{Read-counts, Read-none, Read-then, Read-nothing, FaultsRose-later}
 use Rattle.vsl_record.specs.Unit.{LogUnit}
 use Rattle.vsl_file.specs.File.{unit_bytes, stops_early}
 use Rattle.vsl_file.specs.inside.FileReading.{IsHeadSize, IsBroken, BeginsWithUnit}
@@ -16,16 +16,7 @@ use Rattle.vsl_file.proofs.UnitLemmas.{short_stops, stopped_begins_none}
 
 -- a refused call after a read adds nothing
 pub Read-kept : {h : ℕ} {bytes : List ℕ} {s t u : Seen} → Read h bytes s t → OnlyCounts t u → Read h bytes s u
-Read-kept {h = h} p q = record {
-  counts = NoCountFalls-then p.counts q.counts;
-  loses = λ a told. let first = p.loses a told in (first.0, first.1, q.left h ∙ first.2);
-  held = λ n. q.held n ∙ p.held n;
-  lacks = λ n. q.lacks n ∙ p.lacks n;
-  written = λ i. q.written i ∙ p.written i;
-  other_left = λ i other. q.left i ∙ p.other_left i other;
-  names = λ k i n. q.names k i n ∙ p.names k i n;
-  given = λ i. q.given i ∙ p.given i;
-}
+Read-kept {h = h} {bytes = bytes} {t = t} {u = u} p q = Read-nothing bytes p (Read-counts h t u q)
 
 pub Filled-none : (h : ℕ) (a b : List ℕ) (s : Seen) → b ≡ a → Filled h a b s s
 Filled-none h a b s same = record { added = []; is = same ∙ sym (append-nil a); read = Read-none h s }

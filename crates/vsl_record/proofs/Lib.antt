@@ -1,7 +1,7 @@
 pub mod Examples
 pub mod Steps
 pub mod WordLemmas
-mod PayloadLemmas
+pub mod PayloadLemmas
 mod MarkLemmas
 mod RecordLemmas
 pub mod UnitReadingLemmas
