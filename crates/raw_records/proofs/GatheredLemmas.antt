@@ -1,20 +1,13 @@
 -- How many words records and their units have.
-use Rattle.std.proofs.Common.{◌≡◌, ℕ, ◌+◌, ◌/◌, List, [], ◌∷◌, ◌++◌, length, refl, ap, arith}
+use Rattle.std.proofs.Common.{◌≡◌, ℕ, ◌+◌, ◌/◌, [], ◌∷◌, ◌++◌, length, ap, arith}
 use Rattle.std.specs.List.{flat_map}
 use Rattle.std.proofs.lemmas.List.{append-nil, length-append}
 use Rattle.std.proofs.lemmas.List.Concat.{flat_map-append}
 use Rattle.vsl_record.specs.declared.record_type.Record.{Record}
 use Rattle.vsl_record.specs.Unit.{LogUnit}
-use Rattle.vsl_record.specs.Words.{packed, record_words, unit_words}
+use Rattle.vsl_record.specs.Words.{record_words, unit_words}
+use Rattle.vsl_record.proofs.PayloadLemmas.{length-packed}
 use Rattle.raw_records.specs.Gathered.{with_record}
-
--- a payload has a word for each four bytes or less
-length-packed : (p : List ℕ) → length (packed p) ≡ (length p + 3) / 4
-length-packed [] = refl
-length-packed (a ∷ []) = refl
-length-packed (a ∷ b ∷ []) = refl
-length-packed (a ∷ b ∷ c ∷ []) = refl
-length-packed (a ∷ b ∷ c ∷ d ∷ p) = omega (arith, length-packed p)
 
 -- how many words a record has
 pub record_size : (vxid : ℕ) (rec : Record) → length (record_words vxid rec) ≡ 2 + (length rec.payload + 3) / 4

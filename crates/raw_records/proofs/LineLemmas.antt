@@ -1,40 +1,45 @@
 -- The lines of bytes, one after another, and what they mean.
-use Rattle.std.proofs.Common.{◌≡◌, ℕ, suc, ◌+◌, ◌<◌, Bool, true, false, ◌==◌, cond, List, [], ◌∷◌, ◌++◌, length, get_or, take, drop, ◌⊎◌, inl, inr, Option, None, Some, refl, sym, ap, subst, ◌∙◌, arith}
-use Rattle.std.specs.Prelude.{option_map, IfNone, IfSome}
-use Rattle.std.specs.List.{All, AllZip, onto_first, slice_split}
+use Rattle.std.proofs.Common.{◌≡◌, ℕ, suc, ◌+◌, ◌<◌, ◌≤◌, Bool, true, false, ◌==◌, cond, List, [], ◌∷◌, ◌++◌, length, get_or, take, drop, ◌⊎◌, inl, inr, Option, None, Some, Result, Ok, Err, refl, sym, ap, subst, ◌∙◌, arith}
+use Rattle.std.specs.Prelude.{IfErr, IfOk, OnErr}
+use Rattle.std.specs.List.{AllZip, onto_first, slice_split}
 use Rattle.std.specs.Str.Lines.{lines, lines_of_parts, strip_carriage_return}
 use Rattle.memchr.specs.Find.{IsFirstByte, is_byte}
 use Rattle.std.proofs.lemmas.Bool.{eqb-true, false_from_ne_true, ne_eqb}
-use Rattle.std.proofs.lemmas.List.{drop-drop, drop_more, get_or-take, get_or_default, length-take, take-append-drop}
-use Rattle.std.proofs.lemmas.Option.{same_Some}
+use Rattle.std.proofs.lemmas.List.{drop-drop, drop_more, get_or-take, get_or_default, length-append, length-replicate, length-take, take-append-drop}
 use Rattle.std.proofs.lemmas.List.Splits.{slice_split_at, slice_split_none}
+use Rattle.vsl_tags.proofs.CalledLemmas.{IsPlain-from}
+use Rattle.raw_records.specs.declared.line.LineFault.{LineFault}
 use Rattle.raw_records.specs.declared.line.LineRead.{LineRead}
-use Rattle.raw_records.specs.Lines.{Line, BlankLine, CommentLine, RecordLine, IsLine, HasLines, IsFirstBad}
+use Rattle.raw_records.specs.Lines.{Line, BlankLine, CommentLine, RecordLine, IsLine, IsRefused, HasLines, HasNoFeed, IsEndedLine, IsFirstBad, LoggedRecord, payload_of, print_payload, print_record}
 use Rattle.raw_records.specs.LineRead.{IsInRange, line_of}
-use Rattle.raw_records.specs.inside.Reading.{meaning}
-use Rattle.raw_records.proofs.ReadingLemmas.{IsLine-from, meaning_found}
+use Rattle.raw_records.specs.inside.Reading.{meaning, read_as}
+use Rattle.raw_records.proofs.ReadingLemmas.{IsLine-from, IsRefused-from, meaning_found, same_Ok}
 
 -- ---- what was read of a line
+
+err_ok : {A B : Type 0} {x : A} {y : B} → Err x ≡ Ok y → ⊥
+err_ok e = cc
 
 in_range : (text : List ℕ) (l : Line) → IsLine text l → IsInRange l
 in_range text BlankLine is = tt
 in_range text CommentLine is = tt
 in_range text (RecordLine l) is = is.1.vxid.4
 
-pub line_read : (text : List ℕ) (o : Option LineRead) → option_map line_of o ≡ meaning text → IfSome o (λ l. IsLine text (line_of l))
-line_read text None is = tt
-line_read text (Some l) is = IsLine-from text (line_of l) (sym is)
+pub line_read : (text : List ℕ) (r : Result LineRead LineFault) → read_as r ≡ meaning text → IfOk r (λ l. IsLine text (line_of l))
+line_read text (Err fault) is = tt
+line_read text (Ok l) is = IsLine-from text (line_of l) (sym is)
 
-pub line_in_range : (text : List ℕ) (o : Option LineRead) → option_map line_of o ≡ meaning text → IfSome o (λ l. IsInRange (line_of l))
-line_in_range text None is = tt
-line_in_range text (Some l) is = in_range text (line_of l) (IsLine-from text (line_of l) (sym is))
+pub line_in_range : (text : List ℕ) (r : Result LineRead LineFault) → read_as r ≡ meaning text → IfOk r (λ l. IsInRange (line_of l))
+line_in_range text (Err fault) is = tt
+line_in_range text (Ok l) is = in_range text (line_of l) (IsLine-from text (line_of l) (sym is))
 
-none_some : {l : Line} → None ≡ Some l → ⊥
-none_some e = cc
+pub line_why : (text : List ℕ) (r : Result LineRead LineFault) → read_as r ≡ meaning text → IfErr r (λ fault. IsRefused text fault)
+line_why text (Err fault) is = IsRefused-from text fault (sym is)
+line_why text (Ok l) is = tt
 
-pub line_refused : (text : List ℕ) (o : Option LineRead) → option_map line_of o ≡ meaning text → IfNone o ((l : Line) → ¬ (IsLine text l))
-line_refused text None is = λ l line. none_some (is ∙ meaning_found text l line)
-line_refused text (Some r) is = tt
+pub line_refused : (text : List ℕ) (r : Result LineRead LineFault) → read_as r ≡ meaning text → OnErr r ((l : Line) → ¬ (IsLine text l))
+line_refused text (Err fault) is = λ l line. err_ok (is ∙ meaning_found text l line)
+line_refused text (Ok l) is = tt
 
 -- ---- the first line
 
@@ -59,28 +64,56 @@ parts_lines part bytes =
     ap (λ ps. lines_of_parts (part ∷ ps)) some.2 ∙ ap (λ ps. strip_carriage_return part ∷ lines_of_parts ps) (sym some.2)
 
 -- a line that ends with a line feed
-pub line_first : (bytes : List ℕ) (at : ℕ) → IsFirstByte (is_byte 10) bytes (Some at) → lines bytes ≡ strip_carriage_return (take at bytes) ∷ lines (drop 1 (drop at bytes))
-line_first bytes at found =
+pub ended : (bytes : List ℕ) (at : ℕ) → IsFirstByte (is_byte 10) bytes (Some at) → IsEndedLine bytes (strip_carriage_return (take at bytes)) (drop 1 (drop at bytes))
+ended bytes at found =
     let high : at < length bytes = found.0.high in
-    let none : All (λ b. is_feed b ≡ false) (take at bytes) = λ k d within.
+    let none : HasNoFeed (take at bytes) = λ k d within.
     let before : k < at = omega (arith, length-take at bytes) in
     let same : get_or (take at bytes) k d ≡ get_or bytes k 0 = get_or-take at bytes k d before ∙ get_or_default bytes k d 0 (omega arith) in
     rw same (false_from_ne_true _ (found.0.before k (omega arith) before)) in
     let whole : bytes ≡ take at bytes ++ 10 ∷ drop (at + 1) bytes = sym (take-append-drop at bytes) ∙ ap (λ xs. take at bytes ++ xs) (drop_more bytes at 0 high ∙ ap (λ b. b ∷ drop (at + 1) bytes) (eqb-true _ 10 found.1)) in
-    ap lines_of_parts (ap (slice_split is_feed) whole ∙ slice_split_at is_feed (take at bytes) 10 (drop (at + 1) bytes) none refl) ∙ parts_lines (take at bytes) (drop (at + 1) bytes) ∙ ap (λ rest. strip_carriage_return (take at bytes) ∷ lines rest) (sym (drop-drop 1 at bytes))
+    (take at bytes, none, whole ∙ ap (λ rest. take at bytes ++ 10 ∷ rest) (sym (drop-drop 1 at bytes)), refl)
+
+-- bytes without a line feed
+pub none_ended : (bytes : List ℕ) → IsFirstByte (is_byte 10) bytes None → HasNoFeed bytes
+none_ended bytes found = λ k d within. rw (get_or_default bytes k d 0 within) (false_from_ne_true _ (found k (omega arith) within))
+
+-- the lines of bytes whose first ends so
+pub line_first : (bytes line rest : List ℕ) → IsEndedLine bytes line rest → lines bytes ≡ line ∷ lines rest
+line_first bytes line rest (text, none, whole, is) = ap lines_of_parts (ap (slice_split is_feed) whole ∙ slice_split_at is_feed text 10 rest none refl) ∙ parts_lines text rest ∙ ap (λ l. l ∷ lines rest) (sym is)
+
+-- what follows it is shorter
+pub line_shorter : (bytes line rest : List ℕ) → IsEndedLine bytes line rest → length rest < length bytes
+line_shorter bytes line rest (text, none, whole, is) = omega (arith, ap length whole, length-append text (10 ∷ rest))
 
 -- a line that is the last, without a line feed
-pub line_last : (bytes : List ℕ) → IsFirstByte (is_byte 10) bytes None → 0 < length bytes → lines bytes ≡ bytes ∷ []
-line_last bytes found some =
-    let none : All (λ b. is_feed b ≡ false) bytes = λ k d within. rw (get_or_default bytes k d 0 within) (false_from_ne_true _ (found k (omega arith) within)) in
+pub line_last : (bytes : List ℕ) → HasNoFeed bytes → 0 < length bytes → lines bytes ≡ bytes ∷ []
+line_last bytes none some =
     let nonempty : (length bytes == 0) ≡ false = ne_eqb _ _ (λ e. omega arith) in
     ap lines_of_parts (slice_split_none is_feed bytes none) ∙ rw nonempty refl
+
+-- ---- how many bytes a line has
+
+-- a line without its carriage return is no longer
+pub stripped_short : (line : List ℕ) → length (strip_carriage_return line) ≤ length line
+stripped_short line = grind (arith, length-take)
+
+written_payload : (p : Option (List ℕ)) → length (payload_of p) ≤ length (print_payload p)
+written_payload None = omega arith
+written_payload (Some p) = omega arith
+
+-- a record's line has 7 bytes or more beside its payload
+pub record_bytes : (text : List ℕ) (l : LoggedRecord) → IsLine text (RecordLine l) → 7 + length l.rec.payload ≤ length text
+record_bytes text l (w, is, text_is) =
+    let plain = IsPlain-from l.rec.tag w.name is.name in
+    let size : length (print_record w) ≡ w.before_vxid + length w.vxid + w.before_name + length w.name + w.before_mark + (1 + length (print_payload w.payload)) = simp (length-append, length-replicate) (omega arith) in
+    omega (arith, size, ap length text_is, plain.some, is.vxid.1, written_payload w.payload, ap length is.payload)
 
 -- ---- the lines of some bytes
 
 -- a line has one meaning
 pub one_meaning : (text : List ℕ) (l m : Line) → IsLine text l → IsLine text m → l ≡ m
-one_meaning text l m is also = same_Some l m (sym (meaning_found text l is) ∙ meaning_found text m also)
+one_meaning text l m is also = same_Ok (meaning text) (meaning_found text l is) (meaning_found text m also)
 
 -- lines have one list of meanings
 pub one_list : (texts : List (List ℕ)) (ls ms : List Line) → AllZip IsLine texts ls → AllZip IsLine texts ms → ls ≡ ms
@@ -134,9 +167,9 @@ pub record HasBad (texts : List (List ℕ)) : Type 0 where
 pub all_or_bad : (texts : List (List ℕ)) → AreMeant texts ⊎ HasBad texts
 all_or_bad [] = inl (record { meant = []; are = tt })
 all_or_bad (text ∷ texts) =
-    elim (meaning text) as (λ o. meaning text ≡ o → AreMeant (text ∷ texts) ⊎ HasBad (text ∷ texts)) [
-      | None ↦ λ none. inr (record { before = []; bad = text; behind = texts; meant = []; parts = refl; are_lines = tt; is_bad = λ l is. none_some (sym none ∙ meaning_found text l is) })
-      | Some l ↦ λ is. elim (all_or_bad texts) [
+    elim (meaning text) as (λ r. meaning text ≡ r → AreMeant (text ∷ texts) ⊎ HasBad (text ∷ texts)) [
+      | Err fault ↦ λ none. inr (record { before = []; bad = text; behind = texts; meant = []; parts = refl; are_lines = tt; is_bad = λ l is. err_ok (sym none ∙ meaning_found text l is) })
+      | Ok l ↦ λ is. elim (all_or_bad texts) [
         | inl all ↦ inl (record { meant = l ∷ all.meant; are = (IsLine-from text l is, all.are) })
         | inr one ↦ inr (record { before = text ∷ one.before; bad = one.bad; behind = one.behind; meant = l ∷ one.meant; parts = ap (λ ts. text ∷ ts) one.parts; are_lines = (IsLine-from text l is, one.are_lines); is_bad = one.is_bad })
       ]

@@ -1,19 +1,25 @@
 -- The lines of a listing (the raw lines of varnishlog(1), "-g raw"; blank lines, comments and the bounds are this project's choice). A
 -- line is what stands before a line feed, without a carriage return at its end; the last may lack the line feed, and then keeps the
 -- carriage return.
-use Rattle.std.specs.Prelude.{◌≡◌, ℕ, ◌+◌, ◌<◌, ◌≤◌, List, [], ◌∷◌, ◌++◌, length, replicate, Option, None, Some}
-use Rattle.std.specs.List.{AllZip}
-use Rattle.std.specs.Str.Lines.{lines}
+use Rattle.std.specs.Prelude.{◌≡◌, ◌≢◌, ℕ, ◌+◌, ◌<◌, ◌≤◌, ◌==◌, Bool, false, List, [], ◌∷◌, ◌++◌, length, replicate, Option, None, Some}
+use Rattle.std.specs.List.{All, AllByRecursion, AllZip}
+use Rattle.std.specs.Str.Lines.{lines, strip_carriage_return}
 use Rattle.std.specs.Str.Parse.{AllDigits, digits_value}
 use Rattle.vsl_tags.specs.Called.{IsTagName}
 use Rattle.vsl_record.specs.declared.mark.Mark.{Mark}
 use Rattle.vsl_record.specs.declared.record_type.Record.{Record}
 use Rattle.vsl_record.specs.Unit.{vxid_end}
 use Rattle.vsl_select.specs.RawLine.{mark_letter}
+use Rattle.raw_records.specs.declared.line.LineFault.{LineFault}
+use Rattle.raw_records.specs.declared.line.LineFault.TheVariants.{OtherForm, OtherVxid, UnknownTag}
 
 -- the byte between the parts of a line
 abbrev pub space : ℕ
 space = 32
+
+-- whether a byte is a space
+abbrev pub is_space : ℕ → Bool
+is_space b = b == space
 
 -- the byte with which a comment begins
 abbrev pub comment_mark : ℕ
@@ -51,6 +57,15 @@ print_record w =
     replicate w.before_vxid space ++ w.vxid ++ replicate w.before_name space ++ w.name ++ replicate w.before_mark space
     ++ mark_letter w.mark ∷ print_payload w.payload
 
+-- what is written has the form of a record: spaces or none, one digit or more, one space or more, a word, one space or more, a mark, and a payload
+pub record HasForm (w : WrittenRecord) : Type 0 where
+  pub digits : AllDigits 10 w.vxid
+  pub some_digits : 0 < length w.vxid
+  pub before_name : 0 < w.before_name
+  pub word : AllByRecursion (λ b. is_space b ≡ false) w.name
+  pub some_word : 0 < length w.name
+  pub before_mark : 0 < w.before_mark
+
 -- the most digits of a VXID
 abbrev pub most_digits : ℕ
 most_digits = 10
@@ -78,6 +93,25 @@ abbrev pub IsLine : List ℕ → Line → Type 0
 IsLine bytes BlankLine = (n : ℕ) × (bytes ≡ replicate n space)
 IsLine bytes CommentLine = (text : List ℕ) × (bytes ≡ comment_mark ∷ text)
 IsLine bytes (RecordLine l) = (w : WrittenRecord) × IsWritten w l × (bytes ≡ print_record w)
+
+-- why a line's bytes have no meaning: they are no blank line, no comment, and nothing of a record's form; or something of that form with another VXID,
+-- or with a VXID and a word that is no tag's name
+abbrev pub IsRefused : List ℕ → LineFault → Type 0
+IsRefused bytes OtherForm = ¬ (IsLine bytes BlankLine) × ¬ (IsLine bytes CommentLine) × ((w : WrittenRecord) → HasForm w → bytes ≢ print_record w)
+IsRefused bytes OtherVxid = (w : WrittenRecord) × HasForm w × (bytes ≡ print_record w) × ((vxid : ℕ) → ¬ (IsVxid w.vxid vxid))
+IsRefused bytes UnknownTag = (w : WrittenRecord) × HasForm w × (bytes ≡ print_record w) × ((vxid : ℕ) × IsVxid w.vxid vxid) × ((tag : ℕ) → ¬ (IsTagName tag w.name))
+
+-- the byte that ends a line
+abbrev pub line_feed : ℕ
+line_feed = 10
+
+-- no byte is a line feed
+abbrev pub HasNoFeed : List ℕ → Type 0
+HasNoFeed bytes = All (λ b. (b == line_feed) ≡ false) bytes
+
+-- the first line that ends with a line feed, without it and a carriage return before it, and what follows
+abbrev pub IsEndedLine : List ℕ → List ℕ → List ℕ → Type 0
+IsEndedLine bytes line rest = (text : List ℕ) × HasNoFeed text × (bytes ≡ text ++ line_feed ∷ rest) × (line ≡ strip_carriage_return text)
 
 -- the lines of a listing mean these, each the one at its place
 abbrev pub HasLines : List ℕ → List Line → Type 0

@@ -1,10 +1,10 @@
 //! Reading a line of a listing.
 
-ghost use Rattle.std.specs.Prelude.{◌≡◌, ◌≤◌, length, option_map, IfSome, IfNone};
+ghost use Rattle.std.specs.Prelude.{◌≡◌, ◌≤◌, length, option_map, IfOk, IfErr, OnErr};
 ghost use Rattle.std.specs.Char.{is_ascii_digit};
 ghost use Rattle.std.specs.List.{prefix_len, position_or_len};
-ghost use Rattle.raw_records.specs.Lines.{IsLine, Line, RecordLine};
-ghost use Rattle.raw_records.specs.inside.Reading.{is_space, without_spaces, behind_spaces, digits_of, behind_digits, word_of, behind_word, mark_of, payload_behind, marked, record_of, unindented, meaning};
+ghost use Rattle.raw_records.specs.Lines.{IsLine, IsRefused, Line, is_space};
+ghost use Rattle.raw_records.specs.inside.Reading.{without_spaces, behind_spaces, digits_of, behind_digits, word_of, behind_word, mark_of, payload_behind, marked, parts_of, record_of, record_line, unindented, meaning, read_as, written_as};
 ghost use Rattle.raw_records.specs.LineRead.{IsInRange, line_of};
 
 use crate::tag_cache::TagCache;
@@ -30,6 +30,28 @@ pub enum LineRead<'a> {
         /// The whole payload.
         payload: &'a [u8],
     },
+}
+
+/// Why a line has no meaning.
+#[derive(Clone, Copy, Debug, PartialEq, Eq)]
+pub enum LineFault {
+    /// It is no blank line, no comment, and isn't written as a record.
+    OtherForm,
+    /// It is written as a record, and what stands for the VXID has more than 10 digits, or is 2^30 or more.
+    OtherVxid,
+    /// It is written as a record with a VXID, and no tag has this name.
+    UnknownTag,
+}
+
+/// The parts of a record's line.
+#[derive(Clone, Copy)]
+struct Parts<'a> {
+    /// The digits of the VXID.
+    vxid: &'a [u8],
+    /// The word that stands for the tag.
+    name: &'a [u8],
+    mark: Mark,
+    payload: &'a [u8],
 }
 
 /// A text without the spaces at its beginning.
@@ -128,64 +150,92 @@ fn payload_behind(text: &[u8]) -> Option<&[u8]>
     }
 }
 
-/// The record with its mark and payload written so.
+/// A mark and a payload that are written so.
 #[tactic(auto, unfolding(crate::specs::inside::Reading::marked))]
-fn marked(vxid: Vxid, tag: Tag, text: &[u8]) -> Option<LineRead<'_>>
-    ensures { option_map line_of result ≡ option_map RecordLine (marked vxid tag text.now) }
+fn marked(text: &[u8]) -> Option<(Mark, &[u8])>
+    ensures { option_map (λ is. (is.0, is.1.now)) result ≡ marked text.now }
 {
     let (letter, behind) = text.split_first()?;
     let mark = mark_of(*letter)?;
     let payload = payload_behind(behind)?;
-    Some(LineRead::Record {
+    Some((mark, payload))
+}
+
+/// The parts of the record's line that a text without spaces at its beginning is.
+#[tactic(auto, unfolding(crate::specs::inside::Reading::parts_of, crate::specs::inside::Reading::some_parts))]
+fn parts_of(text: &[u8]) -> Option<Parts<'_>>
+    ensures { option_map written_as result ≡ parts_of text.now }
+{
+    let (vxid, behind) = split_digits(text);
+    let (name, behind) = split_word(behind_spaces(behind)?);
+    let (mark, payload) = marked(behind_spaces(behind)?)?;
+    if vxid.is_empty() {
+        return None;
+    }
+    if name.is_empty() {
+        return None;
+    }
+    Some(Parts {
         vxid,
-        tag,
+        name,
         mark,
         payload,
     })
 }
 
 /// The record that a text without spaces at its beginning is.
-#[tactic(auto, unfolding(crate::specs::inside::Reading::record_of))]
-fn record_of<'a>(text: &'a [u8], tags: &mut TagCache) -> Option<LineRead<'a>>
-    ensures { option_map line_of result ≡ option_map RecordLine (record_of text.now) }
+#[tactic(auto, unfolding(crate::specs::inside::Reading::record_of, crate::specs::inside::Reading::record_from, crate::specs::inside::Reading::record_line))]
+fn record_of<'a>(text: &'a [u8], tags: &mut TagCache) -> Result<LineRead<'a>, LineFault>
+    ensures { read_as result ≡ record_line (record_of (parts_of text.now)) }
 {
-    let (digits, behind) = split_digits(text);
-    let vxid = read_vxid(digits)?;
-    let (name, behind) = split_word(behind_spaces(behind)?);
-    let tag = tags.tag_called(name)?;
-    marked(vxid, tag, behind_spaces(behind)?)
+    let Some(parts) = parts_of(text) else {
+        return Err(LineFault::OtherForm);
+    };
+    let Some(vxid) = read_vxid(parts.vxid) else {
+        return Err(LineFault::OtherVxid);
+    };
+    let Some(tag) = tags.tag_called(parts.name) else {
+        return Err(LineFault::UnknownTag);
+    };
+    Ok(LineRead::Record {
+        vxid,
+        tag,
+        mark: parts.mark,
+        payload: parts.payload,
+    })
 }
 
 /// What a text without spaces at its beginning means.
 #[tactic(auto, unfolding(crate::specs::inside::Reading::unindented))]
-fn unindented<'a>(text: &'a [u8], tags: &mut TagCache) -> Option<LineRead<'a>>
-    ensures { option_map line_of result ≡ unindented text.now }
+fn unindented<'a>(text: &'a [u8], tags: &mut TagCache) -> Result<LineRead<'a>, LineFault>
+    ensures { read_as result ≡ unindented text.now }
 {
     if text.is_empty() {
-        return Some(LineRead::Blank);
+        return Ok(LineRead::Blank);
     }
     record_of(text, tags)
 }
 
 /// What the bytes of a line are found to mean.
 #[tactic(auto, unfolding(crate::specs::inside::Reading::meaning))]
-fn meaning<'a>(text: &'a [u8], tags: &mut TagCache) -> Option<LineRead<'a>>
-    ensures { option_map line_of result ≡ meaning text.now }
+fn meaning<'a>(text: &'a [u8], tags: &mut TagCache) -> Result<LineRead<'a>, LineFault>
+    ensures { read_as result ≡ meaning text.now }
 {
     let Some(first) = text.first() else {
-        return Some(LineRead::Blank);
+        return Ok(LineRead::Blank);
     };
     if *first == b'#' {
-        return Some(LineRead::Comment);
+        return Ok(LineRead::Comment);
     }
     unindented(without_spaces(text), tags)
 }
 
-/// What the bytes of a line mean, or nothing where the line is bad.
-pub fn read_line<'a>(text: &'a [u8], tags: &mut TagCache) -> Option<LineRead<'a>>
-    ensures read { IfSome result (λ l. IsLine text.now (line_of l)) }
-    ensures range { IfSome result (λ l. IsInRange (line_of l)) }
-    ensures refused { IfNone result ((l : Line) → ¬ (IsLine text.now l)) }
+/// What the bytes of a line mean, or why they mean nothing.
+pub fn read_line<'a>(text: &'a [u8], tags: &mut TagCache) -> Result<LineRead<'a>, LineFault>
+    ensures read { IfOk result (λ l. IsLine text.now (line_of l)) }
+    ensures range { IfOk result (λ l. IsInRange (line_of l)) }
+    ensures why { IfErr result (λ fault. IsRefused text.now fault) }
+    ensures refused { OnErr result ((l : Line) → ¬ (IsLine text.now l)) }
 {
     meaning(text, tags)
 }

@@ -1,7 +1,8 @@
 //! The lines of some bytes.
 
-ghost use Rattle.std.specs.Prelude.{◌≡◌, ◌<◌, ◌∷◌, length};
+ghost use Rattle.std.specs.Prelude.{◌≡◌, ◌<◌, ◌∷◌, length, IfSome, IfNone};
 ghost use Rattle.std.specs.Str.Lines.{lines, strip_carriage_return};
+ghost use Rattle.raw_records.specs.Lines.{HasNoFeed, IsEndedLine};
 
 use memchr::memchr;
 
@@ -17,18 +18,25 @@ fn without_return(line: &[u8]) -> &[u8]
     line
 }
 
+/// The first line of some bytes that ends with a line feed, without it and a carriage return before it, and what follows.
+pub fn ended_line(bytes: &[u8]) -> Option<(&[u8], &[u8])>
+    ensures some { IfSome result (λ r. IsEndedLine bytes.now r.0.now r.1.now) }
+    ensures none { IfNone result (HasNoFeed bytes.now) }
+{
+    let at = memchr(b'\n', bytes)?;
+    let (line, behind) = bytes.split_at(at);
+    let (_, rest) = behind.split_at(1);
+    Some((without_return(line), rest))
+}
+
 /// The first line of some bytes, without a carriage return before its line feed, and what follows it.
 pub fn first_line(bytes: &[u8]) -> (&[u8], &[u8])
     requires { 0 < length bytes.now }
     ensures first { lines bytes.now ≡ result.0.now ∷ lines result.1.now }
     ensures shorter { length result.1.now < length bytes.now }
 {
-    match memchr(b'\n', bytes) {
-        Some(at) => {
-            let (line, behind) = bytes.split_at(at);
-            let (_, rest) = behind.split_at(1);
-            (without_return(line), rest)
-        }
+    match ended_line(bytes) {
+        Some(found) => found,
         None => bytes.split_at(bytes.len()),
     }
 }

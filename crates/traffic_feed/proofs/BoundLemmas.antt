@@ -7,14 +7,14 @@ use Rattle.std.proofs.lemmas.List.{append-nil, length-append, length-replicate, 
 use Rattle.std.proofs.lemmas.List.Sums.{sum_by_push}
 use Rattle.vsl_record.specs.Unit.{LogUnit, Log}
 use Rattle.vsl_record.specs.Words.{record_words, unit_words}
-use Rattle.raw_records.specs.Lines.{LoggedRecord, Line, BlankLine, CommentLine, RecordLine, IsLine, HasLines, payload_of, print_payload, print_record}
+use Rattle.raw_records.specs.Lines.{LoggedRecord, Line, BlankLine, CommentLine, RecordLine, IsLine, HasLines}
 use Rattle.raw_records.specs.Gathered.{unit_of, with_record, goes_on, shortened}
 use Rattle.traffic_feed.specs.Batches.{has_room}
 use Rattle.traffic_feed.specs.Listing.{record_count, word_count}
 use Rattle.traffic_feed.specs.inside.Gathering.{Gathered, begins, ended, taken_by, stepped, nothing, gathered_lines}
 use Rattle.raw_records.proofs.GatheredLemmas.{record_size, size_more}
 use Rattle.traffic_feed.proofs.BegunUnitLemmas.{unit_size}
-use Rattle.raw_records.proofs.LineLemmas.{is_feed, split_some}
+use Rattle.raw_records.proofs.LineLemmas.{is_feed, record_bytes, split_some, stripped_short}
 use Rattle.vsl_tags.proofs.CalledLemmas.{IsPlain-from}
 
 -- ---- bytes
@@ -36,9 +36,6 @@ split_bytes (b ∷ bytes) =
       | false ↦ omega (arith, split_bytes bytes, onto_bytes b (slice_split is_feed bytes) some.0 some.1 some.2)
     ]
 
-stripped_short : (line : List ℕ) → length (strip_carriage_return line) ≤ length line
-stripped_short line = grind (arith, length-take)
-
 parts_bytes : (parts : List (List ℕ)) → line_bytes (lines_of_parts parts) ≤ line_bytes parts
 parts_bytes [] = omega arith
 parts_bytes (part ∷ []) = grind arith
@@ -47,17 +44,6 @@ parts_bytes (part ∷ next ∷ parts) = omega (arith, stripped_short part, parts
 -- the lines of bytes have no more bytes
 pub lines_bytes : (bytes : List ℕ) → line_bytes (lines bytes) ≤ length bytes + 1
 lines_bytes bytes = omega (arith, parts_bytes (slice_split is_feed bytes), split_bytes bytes)
-
-written_payload : (p : Option (List ℕ)) → length (payload_of p) ≤ length (print_payload p)
-written_payload None = omega arith
-written_payload (Some p) = omega arith
-
--- a record's line has 7 bytes or more beside its payload
-record_bytes : (text : List ℕ) (l : LoggedRecord) → IsLine text (RecordLine l) → 7 + length l.rec.payload ≤ length text
-record_bytes text l (w, is, text_is) =
-    let plain = IsPlain-from l.rec.tag w.name is.name in
-    let size : length (print_record w) ≡ w.before_vxid + length w.vxid + w.before_name + length w.name + w.before_mark + (1 + length (print_payload w.payload)) = simp (length-append, length-replicate) (omega arith) in
-    omega (arith, size, ap length text_is, plain.some, is.vxid.1, written_payload w.payload, ap length is.payload)
 
 -- ---- steps
 

@@ -8,7 +8,7 @@ use Rattle.vsl_record.specs.Unit.{LogUnit, Log}
 use Rattle.vsl_record.specs.declared.record_type.Record.{Record}
 use Rattle.raw_records.specs.Lines.{Line, BlankLine, CommentLine, RecordLine}
 use Rattle.traffic_feed.specs.Listing.{IsListing}
-use Rattle.raw_records.specs.inside.Reading.{without_spaces, behind_spaces, digits_of, behind_digits, word_of, behind_word, tag_called, mark_of, payload_behind, marked, record_of, unindented, meaning}
+use Rattle.raw_records.specs.inside.Reading.{without_spaces, behind_spaces, digits_of, behind_digits, word_of, behind_word, tag_called, mark_of, payload_behind, marked, some_parts, parts_of, record_from, record_of, record_line, unindented, meaning}
 use Rattle.raw_records.proofs.Examples.{all_meant}
 use Rattle.traffic_feed.specs.Batches.{listing_units, listing_cuts}
 use Rattle.traffic_feed.specs.Turns.{first_draw, next_draw}
@@ -99,7 +99,7 @@ meant =
 listing : IsListing text 255 64
     (unit 7 Client (record_of_tag 42 Client (codes "req 6 rxreq") ∷ record_of_tag 53 Client (codes "GET") ∷ last ∷ []) ∷ unit 7 Client (a ∷ []) ∷ unit 0 Plain (record_of_tag 3 Plain (codes "a") ∷ []) ∷ unit 0 Plain (record_of_tag 3 Plain (codes "b") ∷ []) ∷ [])
     0
-unfolding meaning unindented without_spaces behind_spaces digits_of behind_digits word_of behind_word tag_called mark_of payload_behind marked record_of
+unfolding meaning unindented record_line record_of record_from parts_of some_parts without_spaces behind_spaces digits_of behind_digits word_of behind_word tag_called mark_of payload_behind marked
 listing = record { meant = meant; has_lines = all_meant (lines text) meant refl; units_are = refl; cuts_are = refl }
 
 -- ---- draws

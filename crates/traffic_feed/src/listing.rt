@@ -54,7 +54,7 @@ pub fn read_listing(
     while !rest.is_empty() {
         let (text, behind) = first_line(rest);
         line += 1;
-        let Some(read) = read_line(text, &mut tags) else {
+        let Ok(read) = read_line(text, &mut tags) else {
             return Err(ListFault::BadLine { line });
         };
         gathering.step(read)?;

@@ -1,6 +1,6 @@
 use Rattle.std.proofs.Common.{arith, sym, eq-eqb}
 use Rattle.std.proofs.lemmas.List.Sums.{position_or_len_is}
-use Rattle.raw_records.specs.inside.Reading.{is_space}
+use Rattle.raw_records.specs.Lines.{is_space}
 use Rattle.raw_records.proofs.line.word_length.Goals as goal
 
 pub returns-then-text-at-eq32-clause-length : goal.returns-then-text-at-eq32-clause-length

@@ -1,5 +1,5 @@
 use Rattle.std.proofs.Common.{◌≡◌, ◌<◌, ℕ, false, get_or}
-use Rattle.raw_records.specs.inside.Reading.{is_space}
+use Rattle.raw_records.specs.Lines.{is_space}
 use Rattle.raw_records.proofs.line.word_length.Given as goal
 
 -- the bytes before the place are no spaces

@@ -13,7 +13,7 @@ loop-rest-init c = IsPartlyRead-none c.args.bytes.now c.args.reclen c.args.shape
 
 pub loop-rest-preserved : goal.loop-rest-preserved
 loop-rest-preserved c =
-    IsPartlyRead-more _ c.loop-rest.rest.now c.first_line.result.0.now _ _ _ c.loop-rest.line _ _ (line_of c.in-Some.read) c.loop-rest.invariant c.first_line.ensures.first c.first_line.ensures.shorter c.in-Some.ensures.read c.in_ok-step.ensures
+    IsPartlyRead-more _ c.loop-rest.rest.now c.first_line.result.0.now _ _ _ c.loop-rest.line _ _ (line_of c.in-Ok.read) c.loop-rest.invariant c.first_line.ensures.first c.first_line.ensures.shorter c.in-Ok.ensures.read c.in_ok-step.ensures
 
 -- the next line is bad
 next_bad : (c : In_default) → IsFirstBad c.args.bytes.now (c.loop-rest.line + 1)
