@@ -1,3 +1,4 @@
 pub mod Counts
 pub mod Run
+pub mod Messages
 pub mod Promise

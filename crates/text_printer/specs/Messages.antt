@@ -1,16 +1,13 @@
 -- Lines for standard error (this project's choice).
-use Rattle.std.specs.Prelude.{ℕ, List, [], ◌++◌, codes, decimal}
+use Rattle.std.specs.Prelude.{ℕ, List, [], ◌++◌, codes}
 use Rattle.std.specs.List.{flat_map}
 use Rattle.ring_layout.specs.declared.item.Item.{Item}
 use Rattle.ring_layout.specs.declared.item.Item.TheVariants as items
+pub use Rattle.one_run.specs.Messages.{numbered}
 
 -- a line, after the program's name
 abbrev pub told : List ℕ → List ℕ
 told text = codes "vtools: " ++ text ++ codes "\n"
-
--- a text with a number in it, in decimal
-abbrev pub numbered : List ℕ → ℕ → List ℕ → List ℕ
-numbered before number after = before ++ decimal number ++ after
 
 -- the message of an overrun
 abbrev pub overrun_message : ℕ → ℕ → List ℕ

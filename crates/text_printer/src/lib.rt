@@ -15,6 +15,7 @@ mod next;
 mod output;
 mod printer;
 
-pub use messages::{numbered, overrun_text, tell_both};
+pub use messages::{overrun_text, tell_both};
+pub use one_run::numbered;
 pub use output::{TextEnding, TextOutput};
 pub use printer::{PrintFault, Printer};

@@ -1,9 +1,9 @@
 //! Lines for standard error, in pieces.
 
 ghost use Rattle.std.specs.Prelude.{◌≡◌, ◌++◌, IfOk};
-ghost use Rattle.text_printer.specs.Messages.{numbered, overrun_message, told};
+ghost use Rattle.text_printer.specs.Messages.{overrun_message, told};
 
-use itoa::Buffer;
+use one_run::numbered;
 use std::alloc::{AllocError, Global};
 
 /// A line of two texts, after the program's name.
@@ -14,22 +14,6 @@ pub fn tell_both(alloc: Global, first: &[u8], second: &[u8]) -> Result<Vec<u8>, 
     text.extend_from_slice(first)?;
     text.extend_from_slice(second)?;
     text.push(b'\n')?;
-    Ok(text)
-}
-
-/// A text with a number in it.
-pub fn numbered(
-    alloc: Global,
-    before: &str,
-    number: u64,
-    after: &str,
-) -> Result<Vec<u8>, AllocError>
-    ensures { IfOk result (λ v. v.items ≡ numbered before.now number after.now) }
-{
-    let mut digits = Buffer::new();
-    let mut text = Vec::from_slice(alloc, before.as_bytes())?;
-    text.extend_from_slice(digits.format(number).as_bytes())?;
-    text.extend_from_slice(after.as_bytes())?;
     Ok(text)
 }
 

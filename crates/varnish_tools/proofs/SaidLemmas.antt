@@ -1,12 +1,9 @@
 -- The message of a fault, behind the work.
-use Rattle.std.proofs.Common.{◌≡◌, List, ℕ, [], ◌∷◌, Option, Some, Result, Ok, Err, refl, sym, ap, subst, inl, inr, codes}
-use Rattle.log_model.specs.Prefix.{IsProperPrefix}
+use Rattle.std.proofs.Common.{◌≡◌, List, ℕ, [], ◌∷◌, Option, Some, Result, Ok, Err, OnErr, OnOk, sym, subst}
 use Rattle.log_model.specs.declared.fault.Halt.{Halt}
 use Rattle.log_model.specs.declared.fault.Halt.TheVariants.{Fault, NoMemory}
-use Rattle.vio.specs.declared.world.TheConstants.{ERRORS}
-use Rattle.vio.specs.World.{Seen, Writing, Wrote, FaultsRose, HasStreams}
-use Rattle.vio.specs.Writes.{WroteOn}
-use Rattle.vio.specs.Calls.{Call, Called, Went, Failed, Write}
+use Rattle.vio.specs.World.{Seen}
+use Rattle.vio.specs.Calls.{Call, Called}
 use Rattle.one_run.specs.Promise.{Says, SaysPart}
 use Rattle.tool_words.specs.declared.fault.UsageFault.{UsageFault}
 use Rattle.tool_words.specs.declared.job.Job.{Job}
@@ -18,29 +15,17 @@ use Rattle.varnish_tools.specs.Faults.{message}
 use Rattle.varnish_tools.specs.Theorem.{LacksMessage, LacksWork, WorksOff}
 use Rattle.varnish_tools.specs.inside.Works.{DidWork, IsSettled, IsWorked, SaysPartOf}
 
--- it was written
-pub says_whole : (text written : List ℕ) (s t : Seen) → written ≡ text → Wrote ERRORS written s t → Called (Says text) s t
-says_whole text written s t is wrote = record { calls = Write ERRORS written Went ∷ []; did = (t, (wrote, tt), refl); is = inr (inl (ap (λ (x : List ℕ). Write ERRORS x Went ∷ []) is)) }
-
--- not all of it, where the write failed
-pub says_failed : (text written : List ℕ) (s t : Seen) → written ≡ text → HasStreams s → WroteOn ERRORS [] (λ part. IsProperPrefix part written) s t → FaultsRose Writing ERRORS s t → Called (Says text) s t
-says_failed text written s t is streams wrote rose = record {
-  calls = Write ERRORS wrote.added (Failed (codes "stderr")) ∷ [];
-  did = (t, (wrote.wrote, rose.each (codes "stderr") streams.error), refl);
-  is = inr (inr (wrote.added, subst (λ (x : List ℕ). IsProperPrefix wrote.added x) is wrote.is, refl));
-}
-
--- or there was no memory
-pub says_part : (text written : List ℕ) (s t : Seen) → written ≡ text → WroteOn ERRORS [] (λ part. IsProperPrefix part written) s t → Called (SaysPart text) s t
-says_part text written s t is wrote = record {
-  calls = Write ERRORS wrote.added Went ∷ [];
-  did = (t, (wrote.wrote, tt), refl);
-  is = inr (wrote.added, subst (λ (x : List ℕ). IsProperPrefix wrote.added x) is wrote.is, refl);
-}
-
 -- of the message of a fault
 pub part_of : (words : List (List ℕ)) (fault : Option ToolFault) (f : ToolFault) (s t : Seen) → fault ≡ Some f → Called (SaysPart (message words f)) s t → Called (SaysPartOf words fault) s t
 part_of words fault f s t is p = record { calls = p.calls; did = p.did; is = (f, is, p.is) }
+
+-- the message was said, or for want of memory a part of it
+pub said_so : {A E : Type 0} (r : Result A E) (text written : List ℕ) (s t : Seen) → written ≡ text → OnOk r (Called (Says written) s t) → OnOk r (Called (Says text) s t)
+said_so r text written s t is said = subst (λ (x : List ℕ). OnOk r (Called (Says x) s t)) is said
+
+pub part_said : {A E : Type 0} (r : Result A E) (words : List (List ℕ)) (fault : Option ToolFault) (f : ToolFault) (written : List ℕ) (s t : Seen) → fault ≡ Some f → written ≡ message words f → OnErr r (Called (SaysPart written) s t) → OnErr r (Called (SaysPartOf words fault) s t)
+part_said (Ok x) words fault f written s t is text part = tt
+part_said (Err e) words fault f written s t is text part = part_of words fault f s t is (subst (λ (x : List ℕ). Called (SaysPart x) s t) text part)
 
 -- ---- behind the work
 

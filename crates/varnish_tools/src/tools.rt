@@ -21,13 +21,14 @@ use job_steps::{
     take_counter_steps, take_group_steps,
 };
 use log_model::Halt;
+use one_run::say;
 use std::alloc::Global;
 use std::sync::Wait;
 use std::thread::Threads;
 use tool_consumers::consumer_of;
 use tool_words::Job;
 use traffic_feed::Gate;
-use vio::{ERRORS, NoMemory, World, WorldFault, write_all};
+use vio::{NoMemory, World};
 
 /// Works off a job that starts no thread, but for the message of a fault: takes its steps, and runs it.
 fn work_alone<W: World>(alloc: Global, job: &Job, world: &mut W) -> Result<Ran, Halt<ToolFault>>
@@ -105,11 +106,7 @@ fn report<W: World>(
         return Ok(());
     };
     let text = message_of(alloc, words, fault)?;
-    match write_all(world, ERRORS, &text) {
-        Ok(()) => Ok(()),
-        Err(WorldFault::Failed) => Ok(()),
-        Err(WorldFault::NoMemory) => Err(NoMemory),
-    }
+    say(world, &text)
 }
 
 /// What is answered where work ended so, once the message of its fault is said.
