@@ -80,7 +80,7 @@ def messages():
     faults = found(r"^(?:usage_message|query_message|message) (.*)", read("crates/varnish_tools/specs/Faults.antt"))
     faults += found(r"^overrun_message (.*)", read("crates/text_printer/specs/Messages.antt"))
     texts = {text.lstrip(": ") for line in faults for text in re.findall(r'codes "([^"]*)"', line)} - {""}
-    texts |= set(found(r'eprintln!\(rt; "vtools: ([^{"]*[^{"])', read("crates/vtools/src/answers.rt")))
+    texts |= set(found(r'eprintln!\(rt; "\{program\}: ([^{"]*[^{"])', read("crates/system_world/src/answers.rt")))
     if not texts:
         raise Failed("the source has no messages")
     for text in sorted(texts):

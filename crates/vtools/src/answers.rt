@@ -2,15 +2,20 @@
 
 ghost use Rattle.std.specs.Prelude.{◌≡◌, map, None, Some};
 ghost use Rattle.std.specs.String.{string_bytes};
-ghost use Rattle.vtools.specs.Command.{question_of, IsPrinted, IsToolStatus};
+ghost use Rattle.system_world.specs.Printed.{IsPrinted};
+ghost use Rattle.system_world.specs.Questions.{question_of};
+ghost use Rattle.vtools.specs.Command.{IsToolStatus};
 
-use crate::words::{Question, read_question};
 use std::alloc::Global;
 use std::io::Eprint;
 use std::sync::Wait;
 use std::thread::Threads;
+use system_world::{Question, answer, no_memory, read_question};
 use varnish_tools::{OpenGate, run_tools};
-use vio::{NoMemory, OUTPUT, World, WorldFault, write_all};
+use vio::{NoMemory, World};
+
+/// The program's name, with which its messages begin.
+pub const PROGRAM: &str = "vtools";
 
 /// What `vtools --version` prints.
 const VERSION: &str = "vtools 0.2\n";
@@ -137,36 +142,6 @@ All options and formats: docs/FORMATS.md. Manuals: docs/man/vtools.1, and
 docs/man/vtools-TOOL.1 for each TOOL.
 ";
 
-/// Prints a text, and answers 0, or 1 where a write failed, or 3 where there was no memory.
-fn answer<W: World>(world: &mut W, rt: &impl Eprint, text: &str) -> u8
-    ensures { IsPrinted text.now result (W.seen world.old) (W.seen world.new) }
-{
-    match write_all(world, OUTPUT, text.as_bytes()) {
-        Ok(()) => 0,
-        Err(WorldFault::Failed) => {
-            let _ = eprintln!(rt; "vtools: -: write failed");
-            1
-        }
-        Err(WorldFault::NoMemory) => no_memory(rt),
-    }
-}
-
-/// Says that there was no memory.
-pub fn no_memory(rt: &impl Eprint) -> u8
-    ensures { result ≡ 3 }
-{
-    let _ = eprintln!(rt; "vtools: out of memory");
-    3
-}
-
-/// Says that the argument at a place isn't UTF-8.
-pub fn not_text(rt: &impl Eprint, place: usize) -> u8
-    ensures { result ≡ 2 }
-{
-    let _ = eprintln!(rt; "vtools: argument {place} is not UTF-8");
-    2
-}
-
 /// Answers the words of a command line, and gives the exit status.
 pub fn run<R: Threads + Wait + Sync + Eprint, W: World>(
     alloc: Global,
@@ -179,11 +154,11 @@ pub fn run<R: Threads + Wait + Sync + Eprint, W: World>(
     ensures tools { question_of (map string_bytes words.now) ≡ None → IsToolStatus (map string_bytes words.now) result (W.seen world.old) (W.seen world.new) }
 {
     match read_question(words) {
-        Some(Question::Help) => answer(world, rt, HELP),
-        Some(Question::Version) => answer(world, rt, VERSION),
+        Some(Question::Help) => answer(world, rt, PROGRAM, HELP),
+        Some(Question::Version) => answer(world, rt, PROGRAM, VERSION),
         None => match run_tools(rt, alloc, words, world, &OpenGate) {
             Ok(outcome) => outcome.status,
-            Err(NoMemory) => no_memory(rt),
+            Err(NoMemory) => no_memory(rt, PROGRAM),
         },
     }
 }

@@ -7,14 +7,10 @@
 #![tactic(auto)]
 
 mod answers;
-mod edge;
-mod real_world;
-mod words;
 
-use answers::{no_memory, not_text, run};
-use real_world::RealWorld;
+use answers::{PROGRAM, run};
 use std::process::ExitCode;
-use words::{WordFault, read_words};
+use system_world::{RealWorld, WordFault, no_memory, not_text, read_words};
 
 fn main(rt: HostRuntime) -> ExitCode {
     let status = match read_words(rt.alloc(), &rt) {
@@ -22,8 +18,8 @@ fn main(rt: HostRuntime) -> ExitCode {
             let mut world = RealWorld::new(rt.alloc(), rt);
             run(rt.alloc(), &rt, &mut world, &words)
         }
-        Err(WordFault::NotText { place }) => not_text(&rt, place),
-        Err(WordFault::NoMemory) => no_memory(&rt),
+        Err(WordFault::NotText { place }) => not_text(&rt, PROGRAM, place),
+        Err(WordFault::NoMemory) => no_memory(&rt, PROGRAM),
     };
     ExitCode::from(status)
 }

@@ -1,8 +1,8 @@
 -- A refused call keeps the files.
 use Rattle.std.proofs.Common.{refl}
 use Rattle.vio.proofs.WholeLemmas.{OnErr-always}
-use Rattle.vtools.proofs.RealLemmas.{OnlyCounts-real}
-use Rattle.vtools.proofs.real_world.RealWorldWorld.read.Goals as goal
+use Rattle.system_world.proofs.RealLemmas.{OnlyCounts-real}
+use Rattle.system_world.proofs.real_world.RealWorldWorld.read.Goals as goal
 
 pub returns-clause-err : goal.returns-clause-err
 returns-clause-err c =

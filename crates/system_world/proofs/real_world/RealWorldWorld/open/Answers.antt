@@ -1,6 +1,6 @@
 -- A refused call keeps the files.
-use Rattle.vtools.proofs.RealLemmas.{OnlyCounts-real}
-use Rattle.vtools.proofs.real_world.RealWorldWorld.open.Goals as goal
+use Rattle.system_world.proofs.RealLemmas.{OnlyCounts-real}
+use Rattle.system_world.proofs.real_world.RealWorldWorld.open.Goals as goal
 
 pub returns-clause-err : goal.returns-clause-err
 returns-clause-err c =

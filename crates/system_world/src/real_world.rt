@@ -1,8 +1,7 @@
-//! The files and streams of the system, as a world. It tells no bytes, and has one count for all
-//! faults.
+//! The files and streams of the system, as a world. What the system's calls answer is taken as `edge` says.
 
-ghost use Rattle.std.specs.Prelude.{◌≡◌, [], true, false, ◌+◌, ◌-◌, ◌<◌, ◌≤◌, ◌↔◌, length, slice_get, IfOk, IfSome, IsErr, IsSome};
-ghost use Rattle.vtools.specs.RealWorld.{real_seen, HasStreams-real};
+ghost use Rattle.std.specs.Prelude.{◌≡◌, true, false, ◌+◌, ◌-◌, ◌<◌, ◌≤◌, ◌↔◌, length, slice_get, IfOk, IfSome, IsErr, IsSome};
+ghost use Rattle.system_world.specs.RealWorld.{seen_after, real_seen, HasStreams-real};
 
 use crate::edge::{
     FIRST_FILE, create_answer, how_to_create, open_answer, read_answer, write_answer,
@@ -13,22 +12,23 @@ use std::io::{Read, Write};
 use std::{fs, io};
 use vio::{Created, ERRORS, Failed, INPUT, OUTPUT, World, WorldFault};
 
-/// The system's files and streams. The file of handle `h` stands at `h - 3`.
+/// The system's files and streams. It tells no bytes, and has one count, which is that of each kind of call and of each name.
 ///
-/// What the system answers is taken as `edge` says. No call is tried again: also one that a signal cut
-/// short, which the system does to no program that handles no signal.
+/// No call is tried again: also one that a signal cut short, which the system does to no program that handles no signal. An opening
+/// for which no handle is left is want of memory.
 #[derive(Drop)]
 pub struct RealWorld {
     rt: HostRuntime,
+    /// In the order in which they were opened or created: that of handle `h` stands at `h - 3`.
     files: Vec<File>,
+    /// How many calls failed; at 2^64 - 1 it stands still.
     faults: u64,
 }
 
 impl RealWorld {
     /// A world in which nothing was opened yet.
     pub fn new(alloc: Global, rt: HostRuntime) -> RealWorld
-        ensures files { result.files.items ≡ [] }
-        ensures faults { result.faults ≡ 0 }
+        ensures { real_seen result ≡ seen_after 0 0 }
     {
         RealWorld {
             rt,
@@ -93,9 +93,9 @@ impl RealWorld {
 }
 
 impl World for RealWorld {
-    ghost seen = { λ w. real_seen (length w.files.items) w.faults };
+    ghost seen = { real_seen };
 
-    ghost streams = { λ w. HasStreams-real (length w.files.items) w.faults };
+    ghost streams = { HasStreams-real };
 
     fn open(&mut self, name: &str) -> Result<u32, WorldFault> {
         let given = fs::open(&self.rt, name);

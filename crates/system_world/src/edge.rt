@@ -3,7 +3,7 @@
 
 ghost use Rattle.std.specs.Prelude.{◌≡◌, ◌≤◌, ◌+◌, ◌++◌, ◌∷◌, [], ◌↔◌, length, is_err, IfOk, IfErr, OnOk, OnErr, IsErr};
 ghost use Rattle.std.specs.Result.{IsErrOf};
-ghost use Rattle.vtools.specs.Edge.{counted, answer_to_write, creates};
+ghost use Rattle.system_world.specs.inside.Edge.{counted, answer_to_write, creates};
 
 use std::fs::{File, OpenOptions};
 use std::io;

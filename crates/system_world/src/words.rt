@@ -1,11 +1,11 @@
-//! The words of the command line.
+//! The words of the command line, and what they ask of the program itself.
 
 ghost use Rattle.std.specs.Prelude.{◌≡◌, ◌++◌, ◌∷◌, [], ℕ, map, OnOk};
 ghost use Rattle.std.specs.Result.{IsErrOf};
 ghost use Rattle.std.specs.Str.{IsUtf8};
 ghost use Rattle.std.specs.String.{string_bytes};
-ghost use Rattle.vtools.specs.Command.{question_of};
-ghost use Rattle.vtools.specs.declared.words.WordFault.TheVariants.{NoMemory};
+ghost use Rattle.system_world.specs.Questions.{question_of};
+ghost use Rattle.system_world.specs.declared.words.WordFault.TheVariants.{NoMemory};
 
 use std::alloc::{AllocError, Global};
 use std::env::{Env, FillError};
@@ -13,7 +13,7 @@ use std::env::{Env, FillError};
 /// How many bytes of an argument are tried first.
 const FIRST_TRY: usize = 256;
 
-/// Why the words can't be read.
+/// Why the words of the command line can't be read.
 #[derive(Clone, Copy, Debug, PartialEq, Eq)]
 pub enum WordFault {
     /// An argument isn't UTF-8.
@@ -33,7 +33,7 @@ impl From<AllocError> for WordFault {
     }
 }
 
-/// What words ask of the program itself, and of no tool.
+/// What the words of a command line ask of the program itself.
 #[derive(Clone, Copy, Debug, PartialEq, Eq)]
 pub enum Question {
     /// `--help`: what the program does.
@@ -74,7 +74,7 @@ fn add_word(words: &mut Vec<String>, place: usize, bytes: Vec<u8>) -> Result<(),
     Ok(())
 }
 
-/// The arguments after the program's name. The first one that isn't UTF-8 is answered by its place.
+/// The arguments after the program's name, in their order. The first one that isn't UTF-8 is answered by its place.
 pub fn read_words(alloc: Global, env: &impl Env) -> Result<Vec<String>, WordFault> {
     let mut words = Vec::new(alloc);
     for place in 1..usize::MAX {
@@ -86,7 +86,8 @@ pub fn read_words(alloc: Global, env: &impl Env) -> Result<Vec<String>, WordFaul
     Ok(words)
 }
 
-/// What the words ask of the program itself.
+/// What the words of a command line ask of the program itself, where `--help` or `--version` is the only one; all other words ask it
+/// for its work, and are answered by `None`.
 pub fn read_question(words: &[String]) -> Option<Question>
     ensures { result ≡ question_of (map string_bytes words.now) }
 {

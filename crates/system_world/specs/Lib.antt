@@ -1,0 +1,4 @@
+pub mod Questions
+pub mod Printed
+pub mod RealWorld
+pub mod inside
