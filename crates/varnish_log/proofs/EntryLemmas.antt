@@ -10,8 +10,8 @@ use Rattle.vsl_record.specs.declared.mark.Mark.TheVariants.{Client, Backend, Pla
 use Rattle.vsl_record.specs.Unit.{vxid_end}
 use Rattle.vsl_record.specs.Words.{mark_bits}
 use Rattle.vsl_record.proofs.Steps.{below_cons}
-use Rattle.varnish_log.specs.Entries.{Entry, IsEntry, BeginsNoEntry, can_begin, entry_bytes, filling_of, size_said, stops_early}
-use Rattle.varnish_log.specs.inside.Views.{mark_of_id}
+use Rattle.varnish_log.specs.Entries.{Entry, IsEntry, can_begin, entry_bytes, filling_of, size_said, stops_early}
+use Rattle.varnish_log.specs.inside.Views.{BeginsNoEntry, mark_of_id}
 
 four_small : (a b c d : ℕ) → a < 256 → b < 256 → c < 256 → d < 256 → (i : ℕ) → get_or (a ∷ b ∷ c ∷ d ∷ []) i 0 < 256
 four_small a b c d p q r s = below_cons 256 a (b ∷ c ∷ d ∷ []) p (below_cons 256 b (c ∷ d ∷ []) q (below_cons 256 c (d ∷ []) r (below_cons 256 d [] s (λ i. omega arith))))

@@ -4,8 +4,12 @@ use Rattle.std.specs.Prelude.{codes}
 use Rattle.vsl_record.specs.declared.mark.Mark.TheVariants.{Client}
 use Rattle.varnish_log.specs.Counting.{none_counted}
 use Rattle.varnish_log.specs.Entries.{Entry, entry_bytes, stops_early}
-use Rattle.varnish_log.specs.First.{looks_of}
-use Rattle.varnish_log.specs.declared.first.Looks.TheVariants.{Empty, LogFile, OtherVersion, Gzip, Text, Unknown}
+use Rattle.raw_records.specs.declared.line.LineFault.TheVariants.{OtherForm}
+use Rattle.varnish_log.specs.First.{file_mark, looks_of, refused_as}
+use Rattle.varnish_log.specs.declared.first.Looks.TheVariants.{Empty, LogFile, VarnishLog, OtherVersion, Gzip, Text, Unknown}
+use Rattle.varnish_log.specs.declared.form.LogForm.TheVariants as forms
+use Rattle.varnish_log.specs.declared.loss.Loss.TheVariants as losses
+use Rattle.varnish_log.specs.Parts.{Said, loss_for, said_of}
 use Rattle.varnish_log.specs.Tags.{tag_at}
 use Rattle.varnish_log.specs.Taken.{counted, taken}
 
@@ -30,19 +34,34 @@ unfolding tag_at
 tags = refl
 
 -- a Backend is left out and counted; a text has no zero byte at its end, and the bytes of a frame have all
-three : taken (begin ∷ backend ∷ frame ∷ [])
-    ≡ record { vxid = 1; rec = record { tag = 42; mark = Client; payload = codes "sess 0 HTTP/1" } } ∷ record { vxid = 1; rec = record { tag = 49; mark = Client; payload = 0 ∷ 0 ∷ 0 ∷ [] } } ∷ []
-unfolding tag_at
-three = refl
+abbrev three : List Said
+three = map said_of (begin ∷ backend ∷ frame ∷ [])
 
-three_counted : counted none_counted (begin ∷ backend ∷ frame ∷ []) ≡ record { others = 1; cut = 0 }
+three_taken : taken three ≡ record { vxid = 1; rec = record { tag = 42; mark = Client; payload = codes "sess 0 HTTP/1" } } ∷ record { vxid = 1; rec = record { tag = 49; mark = Client; payload = 0 ∷ 0 ∷ 0 ∷ [] } } ∷ []
+unfolding tag_at
+three_taken = refl
+
+three_counted : counted none_counted three ≡ record none_counted { parts = 3; unknown_tags = 1 }
 unfolding tag_at
 three_counted = refl
+
+-- lines of another grouping, and of another form
+left_out : loss_for (codes "*   << Session  >> 1") OtherForm ∷ loss_for (codes "-   Begin          sess 0") OtherForm ∷ loss_for (codes "and more") OtherForm ∷ loss_for [] OtherForm ∷ []
+    ≡ losses.OtherGrouping ∷ losses.OtherGrouping ∷ losses.OtherForm ∷ losses.OtherForm ∷ []
+left_out = refl
 
 -- a record that is cut stops early, and one with bit 16 of its first word or with two marks doesn't
 cut : map stops_early ((14 ∷ 0 ∷ 0 ∷ 76 ∷ 1 ∷ 0 ∷ 0 ∷ 64 ∷ codes "sess") ∷ (14 ∷ 0 ∷ 1 ∷ 76 ∷ 1 ∷ 0 ∷ 0 ∷ 64 ∷ []) ∷ (14 ∷ 0 ∷ 0 ∷ 76 ∷ 1 ∷ 0 ∷ 0 ∷ 192 ∷ []) ∷ []) ≡ true ∷ false ∷ false ∷ []
 cut = refl
 
--- the first bytes of no file, of a log file, of another version's log, of a packed file, of a text, and of others
-looks : map looks_of ([] ∷ codes "VSLO" ∷ codes "VSL3" ∷ (31 ∷ 139 ∷ 8 ∷ 0 ∷ []) ∷ codes "    " ∷ (0 ∷ 0 ∷ 0 ∷ 0 ∷ []) ∷ []) ≡ Empty ∷ LogFile ∷ OtherVersion ∷ Gzip ∷ Text ∷ Unknown ∷ []
+-- the first bytes of no file, of Varnish's log, of a log file, of another version's log, of a packed file, of a text, and of others
+abbrev firsts : List (List ℕ)
+firsts = [] ∷ file_mark ∷ codes "VSLO" ∷ codes "VSL3" ∷ (31 ∷ 139 ∷ 8 ∷ 0 ∷ []) ∷ codes "    " ∷ (0 ∷ 0 ∷ 0 ∷ 0 ∷ []) ∷ []
+
+looks : map looks_of firsts ≡ Empty ∷ VarnishLog ∷ LogFile ∷ OtherVersion ∷ Gzip ∷ Text ∷ Unknown ∷ []
 looks = refl
+
+-- as a binary log all but one are refused, as a text four
+refused : (map (refused_as forms.Binary) firsts ≡ Some Empty ∷ None ∷ Some LogFile ∷ Some OtherVersion ∷ Some Gzip ∷ Some Text ∷ Some Unknown ∷ [])
+    × (map (refused_as forms.Text) firsts ≡ None ∷ Some VarnishLog ∷ Some LogFile ∷ Some OtherVersion ∷ Some Gzip ∷ None ∷ None ∷ [])
+refused = (refl, refl)

@@ -1,12 +1,12 @@
 -- Reading the first bytes of a log.
-use Rattle.std.proofs.Common.{◌≡◌, ◌≢◌, ℕ, ◌+◌, ◌<◌, ◌≤◌, List, [], ◌∷◌, ◌++◌, length, take, drop, inl, inr, refl, sym, ap, subst, ◌∙◌, arith}
-use Rattle.std.proofs.lemmas.List.{length-take-le, take_all}
+use Rattle.std.proofs.Common.{◌≡◌, ℕ, ◌+◌, ◌<◌, ◌≤◌, List, [], ◌∷◌, ◌++◌, length, take, drop, inl, inr, None, refl, sym, subst, ◌∙◌, arith}
+use Rattle.std.proofs.lemmas.List.{length-take-le}
 use Rattle.vio.specs.World.{Seen, Reading, Read, OnlyCounts, FaultsRose, IsAtEnd}
 use Rattle.vio.specs.Calls.{Went, MetEnd, FailedEach, Call, Called, Take}
 use Rattle.vio.proofs.CallLemmas.{did_take, did_then}
-use Rattle.vio.proofs.WholeLemmas.{FaultsRose-later, Read-nothing, Read-then}
-use Rattle.varnish_log.specs.declared.first.Looks.{Looks}
-use Rattle.varnish_log.specs.First.{IsOther, IsUnread, file_mark, looks_of}
+use Rattle.vio.proofs.WholeLemmas.{FaultsRose-later, Read-counts, Read-nothing, Read-then}
+use Rattle.varnish_log.specs.declared.form.How.{How}
+use Rattle.varnish_log.specs.First.{IsFirst, IsUnread, kept_of, refused_as}
 use Rattle.varnish_log.specs.Copied.{IsLog}
 use Rattle.varnish_log.specs.inside.Copying.{HasRead}
 use Rattle.varnish_log.proofs.CopyingLemmas.{piece_bytes}
@@ -21,50 +21,38 @@ module _ (input size : ℕ) (first : List ℕ) (s t u : Seen) (has : HasRead inp
   }
 
   -- the end came before the fourth
-  pub few_read : (looks : Looks) → size < 4 → Read input [] t u → IsAtEnd input u → looks ≡ looks_of (take size first) → Called (IsOther input looks) s u
-  few_read looks few read end is =
+  pub few_read : (new : List ℕ) → take size new ≡ take size first → size < 4 → Read input [] t u → IsAtEnd input u → Called (IsFirst input (take size new)) s u
+  few_read new kept few read end =
       let long : length (take size first) ≡ size = length-take-le size first (omega (arith, has.within, has.four)) in
-      record {
+      subst (λ (x : List ℕ). Called (IsFirst input x) s u) (sym kept) (record {
         calls = Take input (take size first) MetEnd ∷ [];
         did = did_take input (take size first) MetEnd s u (Read-nothing (take size first) has.read read) end;
-        is = record { first = take size first; other = λ same. absurd (short_none (take size first) (omega (arith, long, few)) same); is = is; are = inr (omega (arith, long, few), refl) };
-      }
-    where
-      short_none : (bytes : List ℕ) → length bytes < 4 → bytes ≡ file_mark → ⊥
-      short_none bytes short same = omega (arith, short, ap length same)
+        is = inr (omega (arith, long, few), refl);
+      })
 
   -- a read failed
   pub none_read : size < 4 → OnlyCounts t u → FaultsRose Reading input t u → Called (IsUnread input) s u
   none_read few only rose =
-      let nothing : Read input [] t u = record {
-        counts = only.counts;
-        loses = λ a told. (a, refl, only.left input ∙ told);
-        held = only.held;
-        lacks = only.lacks;
-        written = only.written;
-        other_left = λ i other. only.left i;
-        names = only.names;
-        given = only.given;
-      } in
       let long : length (take size first) ≡ size = length-take-le size first (omega (arith, has.within, has.four)) in
       record {
         calls = Take input (take size first) FailedEach ∷ [];
-        did = did_take input (take size first) FailedEach s u (Read-nothing (take size first) has.read nothing) (FaultsRose-later Reading input s t u has.read.counts has.read.names rose);
+        did = did_take input (take size first) FailedEach s u (Read-nothing (take size first) has.read (Read-counts input t u only)) (FaultsRose-later Reading input s t u has.read.counts has.read.names rose);
         is = record { part = take size first; short = omega (arith, long, few); are = refl };
       }
 
--- four others were read
-pub other_read : (input size : ℕ) (first : List ℕ) (looks : Looks) (s t : Seen) → HasRead input size first s t → 4 ≤ size → first ≢ file_mark → looks ≡ looks_of first → Called (IsOther input looks) s t
-other_read input size first looks s t has many other is = record {
-  calls = Take input first Went ∷ [];
-  did = did_take input first Went s t (subst (λ (x : List ℕ). Read input x s t) (take_all size first (omega (arith, has.four, many))) has.read) tt;
-  is = record { first = first; other = other; is = is; are = inl (has.four, refl) };
+-- four were read
+pub all_read : (input size : ℕ) (first : List ℕ) (s t : Seen) → HasRead input size first s t → 4 ≤ size → Called (IsFirst input (take size first)) s t
+all_read input size first s t has many = record {
+  calls = Take input (take size first) Went ∷ [];
+  did = did_take input (take size first) Went s t has.read tt;
+  is = inl (length-take-le size first (omega (arith, has.within, has.four)) ∙ omega (arith, has.within, many), refl);
 }
 
--- the mark was read, and then these calls were made
-pub log_then : (input : ℕ) (IsRest : List Call → Type 0) (s t u : Seen) → Called (λ calls. calls ≡ Take input file_mark Went ∷ []) s t → Called IsRest t u → Called (IsLog input IsRest) s u
-log_then input IsRest s t u first rest = record {
+-- the first bytes of a log were read, and then these calls were made
+pub log_then : (how : How) (input : ℕ) (bytes kept : List ℕ) (IsRest : List ℕ → List Call → Type 0) (s t u : Seen) → Called (IsFirst input bytes) s t → refused_as how.form bytes ≡ None → kept ≡ kept_of how.form bytes → Called (IsRest kept) t u
+    → Called (IsLog how input IsRest) s u
+log_then how input bytes kept IsRest s t u first log is rest = record {
   calls = first.calls ++ rest.calls;
   did = did_then first.calls rest.calls s t u first.did rest.did;
-  is = (rest.calls, ap (λ (x : List Call). x ++ rest.calls) first.is, rest.is);
+  is = record { first = bytes; begin = first.calls; rest = rest.calls; are = refl; came = first.is; is_log = log; is = subst (λ (x : List ℕ). IsRest x rest.calls) is rest.is };
 }

@@ -5,3 +5,4 @@ mod WrittenLemmas
 mod TakingLemmas
 mod CopyingLemmas
 mod FirstLemmas
+mod PartLemmas

@@ -1,8 +1,7 @@
 -- The binary log of Varnish itself, as its varnishlog writes it, behind its first four bytes, `VSL` and a zero byte (varnishlog(1), "-w"; the layout of
 -- Varnish 7.1). A word has four bytes, the lowest first.
-use Rattle.std.specs.Prelude.{◌≡◌, ◌≢◌, ℕ, ◌+◌, ◌-◌, ◌*◌, ◌/◌, ◌%◌, ◌<◌, ◌==◌, ◌&&◌, ◌||◌, nat_lt, Bool, List, ◌++◌, length, drop}
+use Rattle.std.specs.Prelude.{◌≡◌, ℕ, ◌+◌, ◌-◌, ◌*◌, ◌/◌, ◌%◌, ◌<◌, ◌==◌, ◌&&◌, ◌||◌, nat_lt, Bool, List, ◌++◌, length, drop}
 use Rattle.std.specs.Int.{w32, to_le_bytes, from_le_bytes}
-use Rattle.std.specs.List.{flat_map, AllByRecursion}
 use Rattle.vsl_record.specs.declared.mark.Mark.{Mark}
 use Rattle.vsl_record.specs.Unit.{vxid_end}
 use Rattle.vsl_record.specs.Words.{mark_bits}
@@ -34,10 +33,6 @@ pub record IsEntry (e : Entry) : Type 0 where
 abbrev pub entry_bytes : Entry → List ℕ
 entry_bytes e = to_le_bytes w32 (16777216 * e.number + length e.bytes) ++ to_le_bytes w32 (e.vxid + mark_bits e.mark) ++ e.bytes ++ e.filling
 
--- the bytes of no record begin them
-abbrev pub BeginsNoEntry : List ℕ → Type 0
-BeginsNoEntry bytes = (e : Entry) (more : List ℕ) → IsEntry e → bytes ≢ entry_bytes e ++ more
-
 -- whether two words can be a record's first: of the first the third byte is zero, and the second has at most one mark
 abbrev pub can_begin : ℕ → ℕ → Bool
 can_begin head id = (head / 65536 % 256 == 0) && nat_lt id (3 * vxid_end)
@@ -51,9 +46,3 @@ abbrev pub stops_early : List ℕ → Bool
 stops_early bytes =
     let head = from_le_bytes w32 bytes in
     nat_lt (length bytes) 8 || (can_begin head (from_le_bytes w32 (drop 4 bytes)) && nat_lt (length bytes) (8 + size_said head))
-
--- the bytes are these records, whole, and a rest that begins with no other
-pub record IsSplit (bytes : List ℕ) (entries : List Entry) (rest : List ℕ) : Type 0 where
-  pub are_entries : AllByRecursion IsEntry entries
-  pub parts : bytes ≡ flat_map entry_bytes entries ++ rest
-  pub none : BeginsNoEntry rest

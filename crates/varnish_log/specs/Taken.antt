@@ -1,52 +1,69 @@
--- What is taken of the records of Varnish's own log, and what is counted of the others (vsl(7); what is left out and cut is this project's choice).
-use Rattle.std.specs.Prelude.{◌≡◌, ℕ, ◌-◌, ◌==◌, nat_lt, if◌then◌else◌, List, ◌++◌, take, length, slice_index_or, Option, Some, None, option_map}
+-- What is taken of the parts of a log, and what is counted of them (vsl(7); what is left out and cut is this project's choice).
+use Rattle.std.specs.Prelude.{◌≡◌, nat_lt, if◌then◌else◌, true, false, List, ◌++◌, ℕ, length, Option, Some, None, Ok, Err}
 use Rattle.std.specs.List.{AllByRecursion, filter_map, fold}
 use Rattle.vsl_record.specs.Payload.{most_payload}
 use Rattle.vsl_record.specs.Words.{IsUnit}
 use Rattle.vsl_file.specs.File.{log_bytes}
-use Rattle.raw_records.specs.Lines.{LoggedRecord}
+use Rattle.raw_records.specs.Lines.{LoggedRecord, BlankLine, CommentLine, RecordLine}
 use Rattle.raw_records.specs.Gathered.{gathered, goes_on, shortened}
-use Rattle.varnish_log.specs.declared.counts.Counts.{Counts}
-use Rattle.varnish_log.specs.Counting.{with_cut, with_other}
-use Rattle.varnish_log.specs.Entries.{Entry, IsSplit}
-use Rattle.varnish_log.specs.Tags.{has_no_text, tag_at}
+use Rattle.varnish_log.specs.declared.form.How.{How}
+use Rattle.varnish_log.specs.declared.form.LogForm.{LogForm}
+use Rattle.varnish_log.specs.declared.loss.Counts.{Counts}
+use Rattle.varnish_log.specs.declared.loss.Loss.{Loss}
+use Rattle.varnish_log.specs.declared.loss.Loss.TheVariants.{LongPayload}
+use Rattle.varnish_log.specs.declared.taking.Stop.{Stop}
+use Rattle.varnish_log.specs.declared.taking.Stop.TheVariants.{GoesOn, Damaged, Lost}
+use Rattle.varnish_log.specs.Counting.{with_loss, with_part}
+use Rattle.varnish_log.specs.Parts.{BeginsNoPart, IsPart, Said, Splits, may_go_on}
 
--- a text without the zero byte at its end, if it has one
-abbrev pub without_zero : List ℕ → List ℕ
-without_zero bytes = if slice_index_or bytes (length bytes - 1) 1 == 0 then take (length bytes - 1) bytes else bytes
+-- what is taken of a record: its payload no longer than one may be
+abbrev pub taken_of : Said → Option LoggedRecord
+taken_of (Ok (RecordLine l)) = Some (shortened most_payload l)
+taken_of (Ok BlankLine) = None
+taken_of (Ok CommentLine) = None
+taken_of (Err loss) = None
 
--- what a record says: all of its bytes but that one, or all where it has no text
-abbrev pub text_of : Entry → List ℕ
-text_of e = if has_no_text e.number then e.bytes else without_zero e.bytes
+-- what is taken of parts, in order
+abbrev pub taken : List Said → List LoggedRecord
+taken said = filter_map taken_of said
 
--- a record with its tag of this profile, if it has one there
-abbrev pub named : Entry → Option LoggedRecord
-named e = option_map (λ tag. record { vxid = e.vxid; rec = record { tag = tag; mark = e.mark; payload = text_of e } }) (tag_at e.number)
+-- what is left out of a part, or cut
+abbrev pub loss_of : Said → Option Loss
+loss_of (Ok (RecordLine l)) = if nat_lt most_payload (length l.rec.payload) then Some LongPayload else None
+loss_of (Ok BlankLine) = None
+loss_of (Ok CommentLine) = None
+loss_of (Err loss) = Some loss
 
--- what is taken of a record: nothing where it has no tag of this profile, and of what it says no more than a payload has room for
-abbrev pub taken_of : Entry → Option LoggedRecord
-taken_of e = option_map (shortened most_payload) (named e)
+-- the counts with this left out or cut, if something is
+abbrev pub with_loss_of : Option Loss → Counts → Counts
+with_loss_of None counts = counts
+with_loss_of (Some loss) counts = with_loss loss counts
 
--- what is taken of records, in order
-abbrev pub taken : List Entry → List LoggedRecord
-taken entries = filter_map taken_of entries
+-- the counts with a part more
+abbrev pub counted_one : Counts → Said → Counts
+counted_one counts said = with_loss_of (loss_of said) (with_part counts)
 
--- the counts with a record more: it was left out, or taken, and then perhaps cut
-abbrev pub counted_one : Counts → Entry → Counts
-counted_one counts e = elim (named e) as (λ (o : Option LoggedRecord). Counts) [
-  | None ↦ with_other counts
-  | Some l ↦ if nat_lt most_payload (length l.rec.payload) then with_cut counts else counts
-]
+-- the counts with parts more
+abbrev pub counted : Counts → List Said → Counts
+counted counts said = fold counted_one counts said
 
--- the counts with records more
-abbrev pub counted : Counts → List Entry → Counts
-counted counts entries = fold counted_one counts entries
+-- a part begins the bytes of which something would be left out or cut
+abbrev pub BeginsWithLoss : LogForm → List ℕ → Loss → Type 0
+BeginsWithLoss form bytes loss = (part : List ℕ) × (more : List ℕ) × (said : Said) × IsPart form part said × (bytes ≡ part ++ more) × (loss_of said ≡ Some loss)
 
--- of bytes these were taken: all records that lie whole in them, and a rest that begins with no other; the list gained the units of what is taken
--- of them, each as long as it can be among these bytes, and no unit is too long; the counts are theirs
-pub record AreTaken (bytes rest old new : List ℕ) (before after : Counts) : Type 0 where
-  pub entries : List Entry
-  pub split : IsSplit bytes entries rest
-  pub added : new ≡ old ++ log_bytes (gathered goes_on (taken entries))
-  pub are_units : AllByRecursion IsUnit (gathered goes_on (taken entries))
-  pub counts : after ≡ counted before entries
+-- taking parts stops before such bytes: no part begins them, and they may go on as one, or can't; or, where copying is strict, a part does of which something would be left out or cut
+abbrev pub StopsAs : How → Stop → List ℕ → Type 0
+StopsAs how GoesOn bytes = BeginsNoPart how.form bytes × (may_go_on how.form bytes ≡ true)
+StopsAs how Damaged bytes = BeginsNoPart how.form bytes × (may_go_on how.form bytes ≡ false)
+StopsAs how (Lost loss) bytes = (how.strict ≡ true) × BeginsWithLoss how.form bytes loss
+
+-- of bytes these were taken: all parts that lie whole in them, but where copying is strict only those before the first of which something would be left out or cut; and this is the rest. The
+-- list gained the units of what is taken of them, each as long as it can be among these bytes, and no unit is too long; the counts are theirs
+pub record AreTaken (how : How) (stop : Stop) (bytes rest old new : List ℕ) (before after : Counts) : Type 0 where
+  pub said : List Said
+  pub splits : Splits how.form bytes said rest
+  pub none_lost : how.strict ≡ true → AllByRecursion (λ s. loss_of s ≡ None) said
+  pub stops : StopsAs how stop rest
+  pub added : new ≡ old ++ log_bytes (gathered goes_on (taken said))
+  pub are_units : AllByRecursion IsUnit (gathered goes_on (taken said))
+  pub counts : after ≡ counted before said

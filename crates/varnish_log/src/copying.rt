@@ -1,24 +1,23 @@
-//! Copying Varnish's own binary log to a log file, piece by piece.
+//! Copying a log to a log file, piece by piece.
 
-ghost use Rattle.std.specs.Prelude.{◌≡◌, ◌+◌, ◌^◌, ◌<◌, ◌≤◌, ◌∷◌, [], not, length, take, IfOk, IfSome, IfNone};
+ghost use Rattle.std.specs.Prelude.{◌≡◌, ◌+◌, ◌^◌, ◌<◌, ◌≤◌, ◌∷◌, [], ℕ, List, length, take, IfOk, IfSome, IfNone};
 ghost use Rattle.log_model.specs.Halts.{IfFault, OnShort};
 ghost use Rattle.vio.specs.Calls.{Called, MetEnd, Take};
-ghost use Rattle.varnish_log.specs.Entries.{stops_early};
+ghost use Rattle.varnish_log.specs.Parts.{capacity};
 ghost use Rattle.varnish_log.specs.Taken.{AreTaken};
-ghost use Rattle.varnish_log.specs.Copied.{CopiedThen, IsEnd, IsLog, IsNoLog, IsStarved, IsStopped};
-ghost use Rattle.varnish_log.specs.inside.Copying.{IsCopiedPiece, capacity};
-ghost use Rattle.varnish_log.specs.Counting.{none_counted};
+ghost use Rattle.varnish_log.specs.Copied.{CopiedThen, IsEnd, IsLog, IsNoLog, IsPlace, IsStarved, IsStopped};
+ghost use Rattle.varnish_log.specs.inside.Copying.{IsCopiedPiece, so_far};
 
-use crate::counts::Counts;
-use crate::first::{Looks, read_mark};
-use crate::taking::take_entries;
+use crate::first::{Looks, kept_of, read_first, refused_as};
+use crate::form::{How, LogForm};
+use crate::loss::{Counts, Loss};
+use crate::parts::CAPACITY;
+use crate::taking::{Stop, take_parts};
 use log_model::{Halt, NoMemory};
+use raw_records::TagCache;
 use std::alloc::Global;
 use vio::{World, WorldFault, write_all};
 use vsl_file::read_behind;
-
-/// How many bytes are held at most: a record, and as many again.
-const CAPACITY: usize = 131_088;
 
 /// How many bytes are copied at most: as many as a number has room for.
 const MOST_BYTES: u64 = u64::MAX - 2 * CAPACITY as u64;
@@ -26,17 +25,20 @@ const MOST_BYTES: u64 = u64::MAX - 2 * CAPACITY as u64;
 /// What came of copying a log to its end.
 #[derive(Clone, Copy, Debug, PartialEq, Eq)]
 pub struct Copied {
-    /// What was left out or cut.
+    /// What came, and what was left out or cut of it.
     pub counts: Counts,
-    /// How many bytes were left at the end: of a record that it cut, or fewer than eight. They were left out.
+    /// How many bytes were left at the end: of a record or a line that it cut. They were left out.
     pub left: usize,
 }
 
 /// Why copying stopped before the end.
 #[derive(Clone, Copy, Debug, PartialEq, Eq)]
 pub enum CopyFault {
-    /// No record begins at this byte, counted from the first record's.
+    /// No part of a log begins at this place: of a binary log the byte, counted from the first record's, of a text the line,
+    /// counted from 1.
     Damaged { at: u64 },
+    /// Copying is strict, and of the part at this place something would be left out or cut.
+    Lost { loss: Loss, at: u64 },
     /// A read failed, and the world counted it.
     ReadFault,
     /// A write failed, and the world counted it.
@@ -46,7 +48,7 @@ pub enum CopyFault {
 /// Why a log wasn't copied, or not to its end.
 #[derive(Clone, Copy, Debug, PartialEq, Eq)]
 pub enum LogFault {
-    /// It is none.
+    /// It is none of this form.
     NotALog {
         /// What it looks like.
         looks: Looks,
@@ -64,127 +66,167 @@ struct Ends {
     output: u32,
 }
 
-/// A piece that was copied.
+/// How far a log was copied.
 #[derive(Clone, Copy)]
-struct Copy {
+struct Progress {
     /// How many bytes came.
-    came: usize,
-    /// How many are held.
-    left: usize,
+    came: u64,
+    /// How many of them are held at the beginning of the buffer.
+    held: usize,
+    counts: Counts,
 }
 
-/// Takes what is whole of the first bytes of a buffer, and moves the rest to its beginning. Gives how much that is, and
-/// whether no record begins so.
+/// What was taken of a buffer's first bytes.
+#[derive(Clone, Copy)]
+struct Whole {
+    /// How many bytes are left.
+    left: usize,
+    counts: Counts,
+    stop: Stop,
+}
+
+/// Takes what is whole of the first bytes of a buffer, and moves the rest to its beginning.
 fn take_whole(
     alloc: Global,
+    how: How,
+    tags: &mut TagCache,
     buffer: &mut [u8],
     size: usize,
-    counts: &mut Counts,
+    counts: Counts,
     text: &mut Vec<u8>,
-) -> Result<(usize, bool), NoMemory>
+) -> Result<Whole, NoMemory>
     requires size { size ≤ length buffer.old }
     requires few { size ≤ capacity }
-    ensures taken { IfOk result (λ r. AreTaken (take size buffer.old) (take r.0 buffer.new) text.old.items text.new.items counts.old counts.new) }
-    ensures stops { IfOk result (λ r. stops_early (take r.0 buffer.new) ≡ not r.1) }
-    ensures within { IfOk result (λ r. r.0 ≤ size) }
+    ensures taken { IfOk result (λ w. AreTaken how w.stop (take size buffer.old) (take w.left buffer.new) text.old.items text.new.items counts w.counts) }
+    ensures within { IfOk result (λ w. w.left ≤ size) }
     ensures size { length buffer.new ≡ length buffer.old }
 {
     let (bytes, _) = buffer.split_at(size);
-    let rest = take_entries(alloc, bytes, counts, text)?;
+    let mut counts = counts;
+    let rest = take_parts(alloc, how, tags, bytes, &mut counts, text)?;
     let left = rest.bytes.len();
-    let damaged = rest.damaged;
+    let stop = rest.stop;
     buffer.copy_within(size - left..size, 0);
-    Ok((left, damaged))
+    Ok(Whole { left, counts, stop })
+}
+
+/// The place behind what was taken, before which so many bytes came.
+fn place_of(form: LogForm, came: u64, counts: Counts) -> u64
+    ensures { (all : ℕ) (rest : List ℕ) → came + length rest ≡ all → IsPlace form result all rest counts }
+{
+    match form {
+        LogForm::Binary => came,
+        LogForm::Text => counts.parts.saturating_add(1),
+    }
 }
 
 /// Copies a piece: reads more than is held, writes the units of what is whole, and holds the rest; none at the end of the
-/// input. So many bytes came before it.
+/// input.
 fn copy_piece<W: World>(
     alloc: Global,
     world: &mut W,
+    how: How,
     ends: Ends,
+    tags: &mut TagCache,
     buffer: &mut [u8],
-    held: usize,
-    came: u64,
-    counts: &mut Counts,
-) -> Result<Option<Copy>, Halt<CopyFault>>
+    at: Progress,
+) -> Result<Option<Progress>, Halt<CopyFault>>
     requires size { length buffer.old ≡ capacity }
-    requires held { held < capacity }
-    requires came { (held ≤ came) × (came + capacity < 2 ^ 64) }
-    ensures piece { IfOk result (λ o. IfSome o (λ copy. Called (IsCopiedPiece ends.input ends.output copy.came (take held buffer.old) (take copy.left buffer.new) counts.old counts.new) (W.seen world.old) (W.seen world.new))) }
-    ensures within { IfOk result (λ o. IfSome o (λ copy. (copy.left ≤ held + copy.came) × (copy.came ≤ capacity) × (copy.left < capacity) × (0 < copy.came))) }
+    requires held { at.held < capacity }
+    requires came { (at.held ≤ at.came) × (at.came + capacity < 2 ^ 64) }
+    ensures piece { IfOk result (λ o. IfSome o (λ next. Called (IsCopiedPiece how ends (so_far at buffer.old) (so_far next buffer.new)) (W.seen world.old) (W.seen world.new))) }
+    ensures within { IfOk result (λ o. IfSome o (λ next. (next.held ≤ next.came) × (next.held < capacity) × (at.came < next.came) × (next.came ≤ at.came + capacity))) }
     ensures end { IfOk result (λ o. IfNone o (Called (λ calls. calls ≡ Take ends.input [] MetEnd ∷ []) (W.seen world.old) (W.seen world.new))) }
-    ensures counts { IfOk result (λ o. IfNone o (counts.new ≡ counts.old)) }
-    ensures fault { IfFault result (λ fault. Called (IsStopped ends.input ends.output fault came (take held buffer.old) counts.old) (W.seen world.old) (W.seen world.new)) }
-    ensures short { OnShort result (Called (IsStarved ends.input ends.output came (take held buffer.old) counts.old) (W.seen world.old) (W.seen world.new)) }
+    ensures fault { IfFault result (λ fault. Called (IsStopped how ends.input ends.output fault (so_far at buffer.old)) (W.seen world.old) (W.seen world.new)) }
+    ensures short { OnShort result (Called (IsStarved how ends.input ends.output (so_far at buffer.old)) (W.seen world.old) (W.seen world.new)) }
     ensures size { length buffer.new ≡ length buffer.old }
 {
-    let Ok(n) = read_behind(buffer, held, ends.input, world) else {
+    let Ok(n) = read_behind(buffer, at.held, ends.input, world) else {
         return Err(Halt::Fault(CopyFault::ReadFault));
     };
     if n == 0 {
         return Ok(None);
     }
     let mut text = Vec::new(alloc);
-    let (left, damaged) = take_whole(alloc, buffer, held + n, counts, &mut text)?;
+    let whole = take_whole(alloc, how, tags, buffer, at.held + n, at.counts, &mut text)?;
     match write_all(world, ends.output, text.as_slice()) {
         Ok(()) => {}
         Err(WorldFault::Failed) => return Err(Halt::Fault(CopyFault::WriteFault)),
         Err(WorldFault::NoMemory) => return Err(Halt::NoMemory),
     }
-    if damaged {
-        let at = came + n as u64 - left as u64;
-        return Err(Halt::Fault(CopyFault::Damaged { at }));
+    let Whole { left, counts, stop } = whole;
+    let came = at.came + n as u64;
+    let place = place_of(how.form, came - left as u64, counts);
+    match stop {
+        Stop::GoesOn => Ok(Some(Progress {
+            came,
+            held: left,
+            counts,
+        })),
+        Stop::Damaged => Err(Halt::Fault(CopyFault::Damaged { at: place })),
+        Stop::Lost(loss) => Err(Halt::Fault(CopyFault::Lost { loss, at: place })),
     }
-    Ok(Some(Copy { came: n, left }))
 }
 
-/// Copies the records of a binary log, behind its first bytes, to units of a log file, until its end.
-fn copy_records<W: World>(
+/// Copies the parts of a log, of which the first bytes came, to units of a log file, until its end.
+fn copy_parts<W: World>(
     alloc: Global,
     world: &mut W,
-    input: u32,
-    output: u32,
+    how: How,
+    ends: Ends,
+    first: &[u8],
 ) -> Result<Copied, Halt<CopyFault>>
-    ensures copied { IfOk result (λ copied. Called (CopiedThen input output none_counted (IsEnd input copied)) (W.seen world.old) (W.seen world.new)) }
-    ensures fault { IfFault result (λ fault. Called (CopiedThen input output none_counted (IsStopped input output fault)) (W.seen world.old) (W.seen world.new)) }
-    ensures short { OnShort result (Called (CopiedThen input output none_counted (IsStarved input output)) (W.seen world.old) (W.seen world.new)) }
+    requires { length first.now ≤ 4 }
+    ensures copied { IfOk result (λ copied. Called (CopiedThen how ends.input ends.output first.now (IsEnd ends.input copied)) (W.seen world.old) (W.seen world.new)) }
+    ensures fault { IfFault result (λ fault. Called (CopiedThen how ends.input ends.output first.now (IsStopped how ends.input ends.output fault)) (W.seen world.old) (W.seen world.new)) }
+    ensures short { OnShort result (Called (CopiedThen how ends.input ends.output first.now (IsStarved how ends.input ends.output)) (W.seen world.old) (W.seen world.new)) }
 {
-    let ends = Ends { input, output };
     let mut buffer = [0; CAPACITY];
-    let mut counts = Counts::none();
-    let mut held = 0;
-    let mut came: u64 = 0;
-    while came < MOST_BYTES {
-        match copy_piece(alloc, world, ends, &mut buffer, held, came, &mut counts) {
-            Ok(Some(copy)) => {
-                held = copy.left;
-                came += copy.came as u64;
+    let (head, _) = buffer.split_at_mut(first.len());
+    head.copy_from_slice(first);
+    let mut tags = TagCache::new();
+    let mut at = Progress {
+        came: first.len() as u64,
+        held: first.len(),
+        counts: Counts::none(),
+    };
+    while at.came < MOST_BYTES {
+        match copy_piece(alloc, world, how, ends, &mut tags, &mut buffer, at) {
+            Ok(Some(next)) => at = next,
+            Ok(None) => {
+                return Ok(Copied {
+                    counts: at.counts,
+                    left: at.held,
+                });
             }
-            Ok(None) => return Ok(Copied { counts, left: held }),
             Err(halt) => return Err(halt),
         }
     }
     Err(Halt::NoMemory)
 }
 
-/// Copies Varnish's own binary log to units of a log file, until its end.
+/// Copies a log to units of a log file, until its end.
 pub fn copy_log<W: World>(
     alloc: Global,
     world: &mut W,
+    how: How,
     input: u32,
     output: u32,
 ) -> Result<Copied, Halt<LogFault>>
-    ensures copied { IfOk result (λ copied. Called (IsLog input (CopiedThen input output none_counted (IsEnd input copied))) (W.seen world.old) (W.seen world.new)) }
-    ensures fault { IfFault result (λ fault. Called (IsNoLog input output fault) (W.seen world.old) (W.seen world.new)) }
-    ensures short { OnShort result (Called (IsLog input (CopiedThen input output none_counted (IsStarved input output))) (W.seen world.old) (W.seen world.new)) }
+    ensures copied { IfOk result (λ copied. Called (IsLog how input (λ first. CopiedThen how input output first (IsEnd input copied))) (W.seen world.old) (W.seen world.new)) }
+    ensures fault { IfFault result (λ fault. Called (IsNoLog how input output fault) (W.seen world.old) (W.seen world.new)) }
+    ensures short { OnShort result (Called (IsLog how input (λ first. CopiedThen how input output first (IsStarved how input output))) (W.seen world.old) (W.seen world.new)) }
 {
-    match read_mark(world, input) {
-        Ok(None) => {}
-        Ok(Some(looks)) => return Err(Halt::Fault(LogFault::NotALog { looks })),
-        Err(_) => return Err(Halt::Fault(LogFault::Unread)),
+    let mut first = [0; 4];
+    let Ok(size) = read_first(world, input, &mut first) else {
+        return Err(Halt::Fault(LogFault::Unread));
+    };
+    let (first, _) = first.split_at(size);
+    if let Some(looks) = refused_as(how.form, first) {
+        return Err(Halt::Fault(LogFault::NotALog { looks }));
     }
-    match copy_records(alloc, world, input, output) {
+    let ends = Ends { input, output };
+    match copy_parts(alloc, world, how, ends, kept_of(how.form, first)) {
         Ok(copied) => Ok(copied),
         Err(Halt::Fault(fault)) => Err(Halt::Fault(LogFault::Stopped(fault))),
         Err(Halt::NoMemory) => Err(Halt::NoMemory),
@@ -219,31 +261,93 @@ mod tests {
     ping\x00\x05\x00\x00\xfe\x06\x00\x00\x03\x00\x00\x00\x00Wr 200\x00\x00\x04\x00\x00\xfe\
     \x03\x00\x001\x01\x00\x00@\x00\x00\x00\x00";
 
-    /// Copies the log by pieces of so many bytes at most, and compares what is written and left out.
+    /// The text of the same records, with a line of another grouping, one of a payload's second line, one of a VXID that is too
+    /// large, a comment and a blank line between them, and the beginning of a line.
+    const TEXT: &[u8] =
+        b"         1 Begin          c sess 0 HTTP/1\n         1 Backend        c 22 a b\n\
+    *   << Session  >> 1\n         1 Link           c req 2 rxreq\n# of the manager\n\n\
+    \x20        0 CLI            - Rd ping\nand more\n4294967296 CLI            - no\n\
+    \x20        0 CLI            - Wr 200\n         1 H2RxHdr        c \x00\x00\x00\n     1 End";
+
+    /// How a log of this form is copied, where nothing is refused.
+    const fn of(form: LogForm) -> How {
+        How {
+            form,
+            strict: false,
+        }
+    }
+
+    /// Copies a log by pieces of so many bytes at most, and compares what is written and left out.
     fn check(
         rt: &impl Abort,
         alloc: Global,
+        form: LogForm,
         most: usize,
         text: &[u8],
-    ) -> Result<(), Halt<LogFault>> {
+    ) -> Result<Counts, Halt<LogFault>> {
         let mut world = MemWorld::new(alloc)?;
-        world.file("-", LOG)?;
+        world.file(
+            "-",
+            match form {
+                LogForm::Binary => LOG,
+                LogForm::Text => TEXT
+            },
+        )?;
         world.piece(most);
-        let copied = copy_log(alloc, &mut world, INPUT, OUTPUT)?;
+        let copied = copy_log(alloc, &mut world, of(form), INPUT, OUTPUT)?;
         assert_eq!(rt; world.content(OUTPUT), text);
-        assert_eq!(rt; copied.counts, Counts { others: 1, cut: 0 });
-        assert_eq!(rt; copied.left, 6);
+        assert_eq!(rt;
+            copied.left,
+            match form {
+                LogForm::Binary => 6,
+                LogForm::Text => 10
+            }
+        );
+        Ok(copied.counts)
+    }
+
+    /// The counts of the binary log.
+    const COUNTS: Counts = Counts {
+        parts: 6,
+        unknown_tags: 1,
+        long_payloads: 0,
+        other_vxids: 0,
+        other_groupings: 0,
+        other_forms: 0,
+    };
+
+    #[test]
+    fn a_log_is_copied_at_once(rt: HostRuntime) -> Result<(), Halt<LogFault>> {
+        assert_eq!(rt;
+            check(&rt, rt.alloc(), LogForm::Binary, LOG.len(), UNITS)?,
+            COUNTS
+        );
         Ok(())
     }
 
     #[test]
-    fn a_log_is_copied_at_once(rt: HostRuntime) -> Result<(), Halt<LogFault>> {
-        check(&rt, rt.alloc(), LOG.len(), UNITS)
+    fn a_log_is_copied_by_few_bytes(rt: HostRuntime) -> Result<(), Halt<LogFault>> {
+        assert_eq!(rt; check(&rt, rt.alloc(), LogForm::Binary, 5, SINGLE)?, COUNTS);
+        Ok(())
     }
 
     #[test]
-    fn a_log_is_copied_by_few_bytes(rt: HostRuntime) -> Result<(), Halt<LogFault>> {
-        check(&rt, rt.alloc(), 5, SINGLE)
+    fn a_text_is_copied_as_its_binary_log(rt: HostRuntime) -> Result<(), Halt<LogFault>> {
+        for (most, units) in [(TEXT.len(), UNITS), (5, SINGLE)] {
+            let counts = check(&rt, rt.alloc(), LogForm::Text, most, units)?;
+            assert_eq!(rt;
+                counts,
+                Counts {
+                    parts: 11,
+                    unknown_tags: 1,
+                    long_payloads: 0,
+                    other_vxids: 1,
+                    other_groupings: 1,
+                    other_forms: 1
+                }
+            );
+        }
+        Ok(())
     }
 
     /// A read of the first four bytes, five reads of five bytes complete the first record, and the write that follows fails:
@@ -254,7 +358,7 @@ mod tests {
         world.file("-", LOG)?;
         world.piece(5);
         world.fail(7)?;
-        let copied = copy_log(rt.alloc(), &mut world, INPUT, OUTPUT);
+        let copied = copy_log(rt.alloc(), &mut world, of(LogForm::Binary), INPUT, OUTPUT);
         assert!(rt;
             matches!(
                 copied,

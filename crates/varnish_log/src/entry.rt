@@ -2,7 +2,7 @@
 
 ghost use Rattle.std.specs.Prelude.{◌≡◌, ◌++◌, ◌<◌, ◌≤◌, length, false, true, IfSome, IfNone, option_map};
 ghost use Rattle.vsl_record.specs.Unit.{vxid_end};
-ghost use Rattle.varnish_log.specs.Entries.{BeginsNoEntry, can_begin, filling_of, stops_early};
+ghost use Rattle.varnish_log.specs.Entries.{can_begin, filling_of, stops_early};
 ghost use Rattle.varnish_log.specs.inside.Views.{IsNext, mark_of_id};
 
 use vsl_record::{Mark, VXID_END, Vxid};

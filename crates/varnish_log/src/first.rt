@@ -1,21 +1,24 @@
-//! The first bytes of Varnish's own binary log.
+//! The first bytes of a log.
 
-ghost use Rattle.std.specs.Prelude.{◌≡◌, ◌∷◌, [], IfOk, IfNone, IfSome, OnErr};
+ghost use Rattle.std.specs.Prelude.{◌≡◌, ◌≤◌, length, take, IfOk, OnErr};
 ghost use Rattle.std.specs.List.{list_all};
-ghost use Rattle.vio.specs.Calls.{Called, Take, Went};
-ghost use Rattle.varnish_log.specs.First.{IsOther, IsUnread, file_mark, is_text, looks_of};
+ghost use Rattle.vio.specs.Calls.{Called};
+ghost use Rattle.varnish_log.specs.First.{IsFirst, IsUnread, is_text, kept_of, looks_of, no_binary, no_text, refused_as};
 
+use crate::form::LogForm;
 use vio::{Failed, World};
 use vsl_file::read_behind;
 
 /// The bytes with which Varnish's own binary log begins.
 const FILE_MARK: [u8; 4] = *b"VSL\0";
 
-/// What a file looks like that is none.
+/// What a file looks like.
 #[derive(Clone, Copy, Debug, PartialEq, Eq)]
 pub enum Looks {
     /// It has no bytes.
     Empty,
+    /// Varnish's binary log.
+    VarnishLog,
     /// A log file of this project.
     LogFile,
     /// A binary log of another version of Varnish.
@@ -32,7 +35,7 @@ pub enum Looks {
 fn is_text(b: u8) -> bool
     ensures { result ≡ is_text b }
 {
-    b >= b' ' || b == b'\t' || b == b'\n' || b == b'\r'
+    b >= b' ' && b != 0x7f || b == b'\t' || b == b'\n' || b == b'\r'
 }
 
 /// Whether all bytes are those of a text.
@@ -49,6 +52,9 @@ fn looks_of(first: &[u8]) -> Looks
     if first.is_empty() {
         return Looks::Empty;
     }
+    if first == FILE_MARK.as_slice() {
+        return Looks::VarnishLog;
+    }
     if first == b"VSLO".as_slice() {
         return Looks::LogFile;
     }
@@ -64,24 +70,64 @@ fn looks_of(first: &[u8]) -> Looks
     Looks::Unknown
 }
 
-/// Reads the first bytes of a log; answers what they look like where they aren't the mark.
-pub(crate) fn read_mark<W: World>(world: &mut W, input: u32) -> Result<Option<Looks>, Failed>
-    ensures log { IfOk result (λ o. IfNone o (Called (λ calls. calls ≡ Take input file_mark Went ∷ []) (W.seen world.old) (W.seen world.new))) }
-    ensures other { IfOk result (λ o. IfSome o (λ looks. Called (IsOther input looks) (W.seen world.old) (W.seen world.new))) }
+/// What makes a file no binary log.
+fn no_binary(looks: Looks) -> Option<Looks>
+    ensures { result ≡ no_binary looks }
+{
+    match looks {
+        Looks::VarnishLog => None,
+        _ => Some(looks),
+    }
+}
+
+/// What makes a file no text.
+fn no_text(looks: Looks) -> Option<Looks>
+    ensures { result ≡ no_text looks }
+{
+    match looks {
+        Looks::LogFile | Looks::VarnishLog | Looks::OtherVersion | Looks::Gzip => Some(looks),
+        Looks::Empty | Looks::Text | Looks::Unknown => None,
+    }
+}
+
+/// What a file looks like that begins so, where that makes it none of this form.
+pub(crate) fn refused_as(form: LogForm, first: &[u8]) -> Option<Looks>
+    ensures { result ≡ refused_as form first.now }
+{
+    match form {
+        LogForm::Binary => no_binary(looks_of(first)),
+        LogForm::Text => no_text(looks_of(first)),
+    }
+}
+
+/// What of the first bytes belongs to a log's parts.
+pub(crate) fn kept_of(form: LogForm, first: &[u8]) -> &[u8]
+    ensures kept { result.now ≡ kept_of form first.now }
+    ensures within { length result.now ≤ length first.now }
+{
+    match form {
+        LogForm::Binary => &[],
+        LogForm::Text => first,
+    }
+}
+
+/// Reads the first four bytes of a log, or as many as there are.
+pub(crate) fn read_first<W: World>(
+    world: &mut W,
+    input: u32,
+    first: &mut [u8; 4],
+) -> Result<usize, Failed>
+    ensures first { IfOk result (λ n. Called (IsFirst input (take n first.new)) (W.seen world.old) (W.seen world.new)) }
+    ensures within { IfOk result (λ n. n ≤ 4) }
     ensures failed { OnErr result (Called (IsUnread input) (W.seen world.old) (W.seen world.new)) }
 {
-    let mut first = [0; 4];
     let mut size = 0;
     while size < FILE_MARK.len() {
-        let n = read_behind(&mut first, size, input, world)?;
+        let n = read_behind(first, size, input, world)?;
         if n == 0 {
-            let (first, _) = first.split_at(size);
-            return Ok(Some(looks_of(first)));
+            return Ok(size);
         }
         size += n;
     }
-    if first == FILE_MARK {
-        return Ok(None);
-    }
-    Ok(Some(looks_of(&first)))
+    Ok(size)
 }

@@ -1,34 +1,35 @@
 -- What came of asking for a piece.
-use Rattle.std.specs.Prelude.{◌≡◌, ℕ, ◌<◌, ◌≤◌, true, List, [], length, take}
+use Rattle.std.specs.Prelude.{◌≡◌, ℕ, ◌+◌, ◌<◌, ◌≤◌, List, [], length, take}
 use Rattle.vio.specs.World.{Seen, Read}
 use Rattle.vio.specs.Calls.{Call, Called}
-use Rattle.varnish_log.specs.declared.counts.Counts.{Counts}
-use Rattle.varnish_log.specs.Entries.{stops_early}
-use Rattle.varnish_log.specs.Copied.{CopiedThen, IsPiece, Piece, piece_calls}
-use Rattle.varnish_log.specs.Counting.{none_counted}
+use Rattle.varnish_log.specs.declared.copying.Ends.{Ends}
+use Rattle.varnish_log.specs.declared.copying.Progress.{Progress}
+use Rattle.varnish_log.specs.declared.form.How.{How}
+use Rattle.varnish_log.specs.declared.taking.Stop.TheVariants as stops
+use Rattle.varnish_log.specs.Copied.{CopiedThen, IsPiece, Piece, SoFar, piece_calls}
+use Rattle.varnish_log.specs.Parts.{capacity}
 
--- the most bytes that are held
-abbrev pub capacity : ℕ
-capacity = 131088
+-- how far a log was copied, where so much of a buffer is held
+abbrev pub so_far : Progress → List ℕ → SoFar
+so_far p buffer = record { came = p.came; held = take p.held buffer; counts = p.counts }
 
--- a piece of so many bytes was copied
-pub record IsCopiedPiece (input output size : ℕ) (held rest : List ℕ) (before after : Counts) (calls : List Call) : Type 0 where
+-- a piece was copied behind this, and so far the log was copied then
+pub record IsCopiedPiece (how : How) (ends : Ends) (at next : SoFar) (calls : List Call) : Type 0 where
   pub piece : Piece
-  pub came : size ≡ length piece.came
-  pub are : calls ≡ piece_calls input output piece
-  pub is : IsPiece piece held rest before after
-  pub goes : stops_early rest ≡ true
+  pub came : next.came ≡ at.came + length piece.came
+  pub are : calls ≡ piece_calls ends.input ends.output piece
+  pub is : IsPiece how stops.GoesOn piece at.held next.held at.counts next.counts
 
--- nothing more was done: this much came, this is held, and this was counted
-abbrev pub IsSoFar : ℕ → List ℕ → Counts → ℕ → List ℕ → Counts → List Call → Type 0
-IsSoFar size kept counted came held counts calls = (calls ≡ []) × (came ≡ size) × (held ≡ kept) × (counts ≡ counted)
+-- nothing more was done, and the log was copied so far
+abbrev pub IsSoFar : SoFar → SoFar → List Call → Type 0
+IsSoFar so at calls = (calls ≡ []) × (at ≡ so)
 
--- pieces were copied so far: this much came, so much of the buffer is held, and this was counted
-pub record AreCopied (input output : ℕ) (buffer : List ℕ) (held came : ℕ) (counts : Counts) (before now : Seen) : Type 0 where
-  pub called : Called (CopiedThen input output none_counted (IsSoFar came (take held buffer) counts)) before now
+-- pieces were copied so far
+pub record AreCopied (how : How) (ends : Ends) (first buffer : List ℕ) (p : Progress) (before now : Seen) : Type 0 where
+  pub called : Called (CopiedThen how ends.input ends.output first (IsSoFar (so_far p buffer))) before now
   pub size : length buffer ≡ capacity
-  pub room : held < capacity
-  pub few : held ≤ came
+  pub room : p.held < capacity
+  pub few : p.held ≤ p.came
 
 -- so many bytes of four were read, by calls that are one
 pub record HasRead (input size : ℕ) (first : List ℕ) (before now : Seen) : Type 0 where

@@ -1,6 +1,6 @@
 use Rattle.std.proofs.Common.{◌-◌}
 use Rattle.varnish_log.specs.inside.Copying.{HasRead}
-use Rattle.varnish_log.proofs.first.read_mark.Given as goal
+use Rattle.varnish_log.proofs.first.read_first.Given as goal
 
 -- so many bytes were read
 abbrev pub invariant-loop-size : goal.invariant-loop-size
