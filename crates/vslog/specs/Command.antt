@@ -1,0 +1,12 @@
+-- What the program answers to the words of a command line (this project's choice).
+use Rattle.std.specs.Prelude.{◌≡◌, ◌⊎◌, ℕ, List}
+use Rattle.vio.specs.World.{Seen}
+use Rattle.vio.specs.Calls.{Called}
+use Rattle.vslog.specs.declared.ended.Ended.{Ended}
+use Rattle.vslog.specs.Theorem.{Lacks, Runs, status_of}
+use Rattle.vslog.specs.Words.{job_of}
+
+-- the log was copied that the words name, and the exit status is as it ended; or memory was refused, and it is 3
+abbrev pub IsCopyStatus : List (List ℕ) → ℕ → Seen → Seen → Type 0
+IsCopyStatus words status before now =
+    ((ended : Ended) × (status ≡ status_of ended) × Called (Runs words (job_of words) ended) before now) ⊎ ((status ≡ 3) × Called (Lacks words (job_of words)) before now)

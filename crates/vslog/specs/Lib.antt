@@ -1,0 +1,5 @@
+pub mod Words
+pub mod Messages
+pub mod Theorem
+pub mod Command
+pub mod inside
