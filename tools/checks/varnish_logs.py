@@ -1,0 +1,310 @@
+"""Runs vslog over logs of Varnish that are cut, changed, and made up, beside tools/reference/varnish_log.py.
+
+The records of what it writes are compared with those of the script, and so are its messages and its status; where a
+unit ends may differ with how the input is cut into pieces. One log is of a real server: it is cut at each of its first
+bytes, and each of its first bytes is changed. Others are made up from a seed, in all forms that a record or a line may
+have. They come by name, from standard input, and in pieces, and go to standard output, to a file, and behind what a
+file has. Of the real log that comes in pieces, all that is whole is written before the next piece comes.
+"""
+
+import collections
+import concurrent.futures
+import contextlib
+import fcntl
+import io
+import os
+import random
+import struct
+import subprocess
+import termios
+import time
+
+import varnish_log
+import vslog
+from checks.running import MOST_SECONDS, TOP, Failed, Run, run, same_run, some_lines, temporary_folder
+
+# What the program tells of what it left out and cut, by the names of the script's counts, in this order, each where it
+# isn't 0. With -q it tells nothing of these.
+COUNTED = {
+    "tags": "vslog: {name}: {count} records of other tags left out",
+    "cut": "vslog: {name}: {count} payloads cut to 4000 bytes",
+    "vxids": "vslog: {name}: {count} lines with a VXID out of range left out",
+    "groupings": "vslog: {name}: {count} lines of another grouping left out",
+    "lines": "vslog: {name}: {count} other lines left out",
+    "bytes": "vslog: {name}: {count} bytes of a last record left out",
+}
+# What it tells of a file that is no binary log, by the script's words for it, and of one that is damaged.
+FAULTS = {
+    "empty": "vslog: {name}: not a log of Varnish: it is empty",
+    "our log": "vslog: {name}: not a log of Varnish: it is a log file already",
+    "another version": "vslog: {name}: not a log of Varnish: it is of another version",
+    "gzip": "vslog: {name}: not a log of Varnish: it is compressed",
+    "text": "vslog: {name}: not a log of Varnish: it is a text, which -t reads",
+    "unknown": "vslog: {name}: not a log of Varnish",
+    "damaged": "vslog: {name}: damaged at {at}",
+}
+FAULT_STATUS = 1
+HEADS_WHAT_IS_NO_LOG = True  # whether a header is written where the input is no log
+
+LOG, TEXT = TOP / "examples/varnish.vsl", TOP / "examples/varnish.raw"
+CUTS, CUTS_BEHIND = 4000, 100
+CHANGED, CHANGED_WHOLLY = 200, 8  # so many first bytes are changed, and so many of these to all others
+OTHER_BYTES = 0x00, 0x01, 0x40, 0xC0, 0xFF
+SEED = 7
+LIVE_PIECES, MOST_PIECES = 30, 12
+LEAST_PIECE = 4096  # bytes of a file that are read at once
+END = varnish_log.NAMES.index("End")
+AT_ONCE = 2 * (os.cpu_count() or 1)
+
+FIRST_BYTES = [b"", b"V", b"VSL", b"VSL\1", b"VSLO", b"VSLOG-1\n", b"VSM\0", b"\x1f\x8b\x08\0", b"   1", b"\xff\0\xff"]
+LENGTHS = [0, 0, 1, 1, 2, 3, 4, 5, 8, 13, 30, 60, 255, 3999, 4000, 4001, 4002, 9000, 65535]
+PAYLOADS = [b"", b"", b" ", b"a b  c ", b"\t\x7f\\x09\xc8", b"\0", b"a\0b", b"\r"]
+PAYLOADS += [b"4" * length for length in (3999, 4000, 4001)]
+VXIDS = [b"0", b"1", b"2", b"2", b"2", b"3", b"0000000002", b"00000000002", b"1073741823", b"1073741824", b"9" * 11]
+NAMES = [b"End", b"Begin", b"VCL_Log", b"reqURL", b"H2RxHdr", b"Backend", b"VdpAcct", b"Nope", b"44", b"Req*", b"none"]
+LINES = [
+    *[b"", b" ", b"   ", b"\t", b"#", b"# 2 End c", b" # 2 End c", b"*   << Request  >> 2     ", b"-   End          "],
+    *[b"*", b"-", b"-2 End c", b" - 2 End c", b"2", b"2 ", b"2 End", b"2 End ", b"2 End C", b"2 End cb", b"2\tEnd c"],
+    *[b"x", b"End c", b"2 End c\0", b"a word's end", b"12 items - 3", b"12 items, 3", b"\xc3\xa4", b"2 End\r", b"\r"],
+]
+
+
+class Wanted:
+    """What the script takes of a log, and what the program is to tell of it."""
+
+    def __init__(self, log, is_text):
+        self.records, self.counts, self.fault, self.at, self.has_header = [], collections.Counter(), None, None, True
+        read, given = (varnish_log.read_text, io.BytesIO(log)) if is_text else (varnish_log.read_binary, log)
+        try:
+            self.records.extend(read(given, self.counts))
+        except varnish_log.NotVarnishs as other:
+            self.fault, self.has_header = str(other), HEADS_WHAT_IS_NO_LOG
+        except vslog.NotRead as damage:
+            self.fault, self.at = "damaged", damage.at
+
+    def status(self):
+        return FAULT_STATUS if self.fault else 0
+
+    def messages(self, name, is_quiet):
+        return messages(name, {} if is_quiet else self.counts, self.fault, self.at)
+
+
+def messages(name, counts, fault, at):
+    """The messages for a log of this name."""
+    texts = [text.format(name=name, count=counts[what]) for what, text in COUNTED.items() if counts.get(what)]
+    faults = [FAULTS[fault].format(name=name, at=at)] if fault else []
+    return "".join(f"{text}\n" for text in texts + faults).encode()
+
+
+def records_of(what, written):
+    """The records of a log file, whose units are as they are to be: of VXID 0 one, and an End only as the last."""
+    records = []
+    try:
+        for vxid, mark, unit in vslog.read_units(written):
+            if vxid == 0 and len(unit) > 1 or any(tag == "End" for tag, _ in unit[:-1]):
+                raise Failed(f"{what}: a unit of VXID {vxid} goes too far: {unit}")
+            records += [(vxid, mark, tag, payload) for tag, payload in unit]
+    except vslog.NotRead as fault:
+        raise Failed(f"{what}: what was written is no log file: {fault}") from None
+    return records
+
+
+def same_records(what, wanted, got):
+    """Fails where two lists of records differ, and shows the first that do."""
+    if wanted == got:
+        return
+    at = next((at for at, pair in enumerate(zip(wanted, got)) if pair[0] != pair[1]), min(len(wanted), len(got)))
+    ours, theirs = ([repr(record).encode() for record in records[at : at + 2]] for records in (wanted, got))
+    lines = some_lines("<", ours) + some_lines(">", theirs)
+    raise Failed(f"{what}: records differ from {at} on ('<' is wanted):{lines}")
+
+
+def compare(what, wanted, written, came, name="-", is_quiet=False, copies=1):
+    """Compares what a run wrote, told and answered with what is wanted of a log of this name."""
+    same_run(what, Run(wanted.status(), wanted.messages(name, is_quiet), came.stdout), came)
+    if wanted.has_header or written:
+        same_records(what, copies * wanted.records, records_of(what, written))
+
+
+def of_input(program, what, log, is_text=False):
+    """A run over standard input."""
+    came = run([program, *(["-t"] if is_text else [])], stdin=log)
+    compare(what, Wanted(log, is_text), came.stdout, came)
+
+
+def of_file(program, what, log, is_text, folder):
+    """A run over a file, quietly. Units are as long as they can be, but where a piece ends, or a text's last line."""
+    (folder / "log").write_bytes(log)
+    came, wanted = run([program, "-q", *(["-t"] if is_text else []), "log"], folder), Wanted(log, is_text)
+    compare(what, wanted, came.stdout, came, "log", is_quiet=True)
+    units, ends = len(list(vslog.read_units(came.stdout or vslog.HEADER))), len(log) // LEAST_PIECE + is_text
+    if units > unit_count(wanted.records) + ends:
+        raise Failed(f"{what}: {units} units, where {unit_count(wanted.records)} do")
+
+
+def unit_count(records):
+    """How many units records have at least."""
+    pairs = zip([(None, None, None, None), *records], records)
+    return sum(vxid == 0 or (vxid, mark) != before[:2] or before[2] == "End" for before, (vxid, mark, _, _) in pairs)
+
+
+def to_file(program, what, log, is_text, folder):
+    """Two runs that write to one file, the second behind the first."""
+    wanted, words = Wanted(log, is_text), [program, *(["-t"] if is_text else [])]
+    for copies in (1, 2):
+        came = run([*words, *(["-a"] if copies > 1 else []), "-w", "out"], folder, log)
+        compare(what, wanted, (folder / "out").read_bytes(), came, copies=copies)
+        if came.stdout:
+            raise Failed(f"{what}: -w out writes to standard output, too")
+
+
+def pieces_of(log, many):
+    """A log as so many pieces and one, of any lengths."""
+    cuts = sorted(random.Random(len(log)).sample(range(len(log) + 1), min(many, len(log))))
+    return [log[begin:end] for begin, end in zip([0, *cuts], [*cuts, len(log)])]
+
+
+def in_pieces(program, what, log, is_text, folder):
+    """A run over a pipe, into which each piece is put once the one before was taken out."""
+    with open(folder / "written", "w+b") as out, open(folder / "told", "w+b") as errors:
+        words = [program, *(["-t"] if is_text else [])]
+        child = subprocess.Popen(words, bufsize=0, stdin=subprocess.PIPE, stdout=out, stderr=errors)
+        with contextlib.suppress(BrokenPipeError):  # as of a log that is damaged
+            for piece in pieces_of(log, MOST_PIECES):
+                child.stdin.write(piece)
+                wait_until(what, lambda: is_empty(child.stdin) or child.poll() is not None)
+        child.stdin.close()
+        status = child.wait(MOST_SECONDS)
+    written = (folder / "written").read_bytes()
+    compare(what, Wanted(log, is_text), written, Run(status, (folder / "told").read_bytes(), written))
+
+
+def live(program, what, log, is_text):
+    """A run over a pipe, in which all that is whole of the pieces is written before the next one comes."""
+    with temporary_folder() as folder, open(folder / "written", "w+b") as out:
+        words, sent = [program, "-q", *(["-t"] if is_text else [])], b""
+        child = subprocess.Popen(words, bufsize=0, stdin=subprocess.PIPE, stdout=out)
+        for piece in pieces_of(log, LIVE_PIECES):
+            child.stdin.write(piece)
+            sent += piece
+            whole = sent[: sent.rfind(b"\n") + 1] if is_text else sent
+            wanted = Wanted(whole, is_text).records
+            wait_until(what, lambda: len(now_in(folder / "written")) >= len(wanted))
+            same_records(f"{what}, of which {len(sent)} bytes came", wanted, now_in(folder / "written"))
+        child.stdin.close()
+        if child.wait(MOST_SECONDS):
+            raise Failed(f"{what}: the status is {child.returncode}")
+
+
+def now_in(path):
+    """The records of the whole units that a log file has so far."""
+    records = []
+    with contextlib.suppress(vslog.NotRead):
+        for vxid, mark, unit in vslog.read_units(path.read_bytes()):
+            records += [(vxid, mark, tag, payload) for tag, payload in unit]
+    return records
+
+
+def is_empty(pipe):
+    """Whether all was taken out of a pipe."""
+    return not struct.unpack("i", fcntl.ioctl(pipe, termios.FIONREAD, bytes(4)))[0]
+
+
+def wait_until(what, holds):
+    """Waits until something holds, or fails."""
+    until = time.monotonic() + MOST_SECONDS
+    while not holds():
+        if time.monotonic() > until:
+            raise Failed(f"{what}: nothing has come for {MOST_SECONDS} seconds")
+        time.sleep(0.0002)
+
+
+def records_in(draw):
+    """Some records of a binary log, with and without a zero byte at the end, and any bytes in the last word."""
+    many, vxid, mark = draw.randrange(12), 2, 1
+    for _ in range(many):
+        if draw.randrange(3) == 0:
+            vxid, mark = draw.choice([0, 1, 2, 3, vslog.MOST_VXID]), draw.randrange(3)
+        number = draw.choice([draw.randrange(256), draw.randrange(1, 97), draw.randrange(87, 91), END])
+        payload = draw.randbytes(draw.choice(LENGTHS if draw.randrange(20) == 0 else LENGTHS[:13]))
+        payload = payload[:-1] + b"\0" if payload and draw.randrange(3) else payload
+        filling = draw.randbytes(-len(payload) % 4)
+        yield struct.pack("<II", number << 24 | len(payload), mark << 30 | vxid) + payload + filling
+
+
+def binary_log(draw):
+    """A binary log, of ten one with other first bytes, of five one that is cut, and of five one with a changed byte."""
+    log = varnish_log.FILE_MARK + b"".join(records_in(draw))
+    if draw.randrange(10) == 0:
+        log = draw.choice(FIRST_BYTES) + log[4:] * draw.randrange(2)
+    if draw.randrange(5) == 0:
+        log = log[: draw.randrange(len(log) + 1)]
+    if draw.randrange(5) == 0 and log:
+        at = draw.randrange(len(log))
+        log = log[:at] + draw.randbytes(1) + log[at + 1 :]
+    return log
+
+
+def line(draw):
+    """A line of a text: that of a record, with spaces anywhere, or one of another form."""
+    if draw.randrange(4) == 0:
+        return draw.choice(LINES)
+    spaces = [b" " * draw.randrange(least, 4) for least in (0, 1, 1)]
+    parts = [draw.choice(VXIDS), draw.choice(NAMES), draw.choice([b"c", b"c", b"b", b"-", b"x"])]
+    payload = draw.choice(PAYLOADS)
+    return b"".join(space + part for space, part in zip(spaces, parts)) + (b" " + payload if draw.randrange(5) else b"")
+
+
+def text_log(draw):
+    """A text, whose last line may lack its line feed."""
+    text = b"".join(line(draw) + draw.choice([b"\n", b"\n", b"\n", b"\r\n"]) for _ in range(draw.randrange(14)))
+    return text[:-1] if draw.randrange(3) == 0 else text
+
+
+def changed_logs(log):
+    """The log's first part with each of some bytes changed."""
+    for at in range(CHANGED):
+        others = range(256) if at < CHANGED_WHOLLY else (*OTHER_BYTES, log[at] ^ 0x01, log[at] ^ 0x80)
+        for byte in {*others} - {log[at]}:
+            what = f"the real log's first {CUTS} bytes with {byte} for byte {at}"
+            yield what, log[:at] + bytes([byte]) + log[at + 1 : CUTS], False
+
+
+def cut_logs(log):
+    """The log cut at each place of its first part, and at some behind."""
+    behind = random.Random(SEED).sample(range(CUTS, len(log)), CUTS_BEHIND)
+    for size in [*range(CUTS), *behind]:
+        yield f"the real log's first {size} bytes", log[:size], False
+
+
+def made_up_logs(many):
+    """Logs and texts that are made up, by turns with each way to run them."""
+    ways = [of_file, to_file, in_pieces]
+    for number in range(many):
+        for is_text, make in ((False, binary_log), (True, text_log)):
+            what = f"{'text' if is_text else 'binary log'} {number} that is made up"
+            yield ways[number % len(ways)], what, make(random.Random(f"{SEED} {number}")), is_text
+
+
+def both_ways(program, way, what, log, is_text):
+    """A run of a log over standard input, and one in another way."""
+    of_input(program, what, log, is_text)
+    with temporary_folder() as folder:
+        way(program, what, log, is_text, folder)
+
+
+def check(program, many):
+    log, text = LOG.read_bytes(), TEXT.read_bytes()
+    with concurrent.futures.ThreadPoolExecutor(AT_ONCE) as pool:
+        runs = [pool.submit(live, program, *real) for real in (("the real log", log, False), ("its text", text, True))]
+        runs += [pool.submit(both_ways, program, of_file, "the real log", log, False)]
+        runs += [pool.submit(both_ways, program, of_file, "its text", text, True)]
+        runs += [pool.submit(of_input, program, *cut) for cut in cut_logs(log)]
+        runs += [pool.submit(of_input, program, *changed) for changed in changed_logs(log)]
+        runs += [pool.submit(both_ways, program, *made) for made in made_up_logs(many)]
+        try:
+            for done in runs:
+                done.result()
+        finally:
+            pool.shutdown(cancel_futures=True)
+    return f"{len(runs)} logs"
