@@ -4,7 +4,9 @@
 
 PREFIX ?= /usr/local
 installed := "$(DESTDIR)$(PREFIX)"
+completions := $(installed)/share/bash-completion/completions
 pages := $(notdir $(wildcard docs/man/*.1))
+programs := vtools vslog
 
 help: ## prints this list
 	@sed -n 's/^\([a-z]*\):.*## /\1\t/p' $(MAKEFILE_LIST)
@@ -33,21 +35,22 @@ docs: ## checks the documents, and the tables and the completion that are made
 definitions: ## makes docs/DEFINITIONS.md, which isn't committed, from specs/ and src/
 	tools/definitions.py --write
 
-build: ## proves and builds bin/vtools
-	tools/build.py vtools
-	cd crates/vtools && rt run -- --version
-	install -D crates/vtools/out/vtools bin/vtools
+build: ## proves and builds bin/vtools and bin/vslog
+	tools/build.py $(programs)
+	set -e; for name in $(programs); do \
+	  (cd crates/$$name && rt run -- --version); install -D crates/$$name/out/$$name bin/$$name; done
 
 run: build ## runs bin/vtools: ARGS="varnishlog -r FILE"
 	bin/vtools $(ARGS)
 
-install: build ## installs program, man pages and completion: PREFIX=/usr/local DESTDIR=
-	install -D -m 755 bin/vtools $(installed)/bin/vtools
+install: build ## installs programs, man pages and completion: PREFIX=/usr/local DESTDIR=
+	for name in $(programs); do \
+	  install -D -m 755 bin/$$name $(installed)/bin/$$name && \
+	  install -D -m 644 completion/vtools.bash $(completions)/$$name || exit 1; done
 	for page in $(pages); do install -D -m 644 docs/man/$$page $(installed)/share/man/man1/$$page || exit 1; done
-	install -D -m 644 completion/vtools.bash $(installed)/share/bash-completion/completions/vtools
 
 uninstall: ## takes away the files of install, with the same PREFIX and DESTDIR
-	rm -f $(installed)/bin/vtools $(installed)/share/bash-completion/completions/vtools
+	for name in $(programs); do rm -f $(installed)/bin/$$name $(completions)/$$name || exit 1; done
 	for page in $(pages); do rm -f $(installed)/share/man/man1/$$page || exit 1; done
 
 .PHONY: cases

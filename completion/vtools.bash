@@ -1,8 +1,9 @@
-# Completes command lines of vtools in bash, 4.3 or later. tools/completion.py makes this file: nobody writes in it.
-# It needs no package. Read it with `source`, or install it where the package bash-completion finds it by its name.
+# Completes command lines of vtools and vslog in bash, 4.3 or later. tools/completion.py makes this file: nobody
+# writes in it. It needs no package. Read it with `source`, or install it where the package bash-completion finds it by its
+# name, once for each program.
 
 # Gives in `takes` what each option of the tool $1 takes, or without a tool each option before it: `flag` takes nothing,
-# and of a `text` nothing is known. An unknown tool has no options.
+# and of a `text` nothing is known. An unknown tool has no options. vslog is a tool here, which takes files too.
 _vtools_options() {
     case $1 in
     "")
@@ -33,6 +34,9 @@ _vtools_options() {
         takes=(
             [-1]=flag [-j]=flag [-l]=flag [-f]=counter
         )
+        ;;
+    vslog)
+        takes=([-t]=flag [-a]=flag [-q]=flag [-w]=file [--strict]=flag)
         ;;
     *)
         takes=()
@@ -241,3 +245,48 @@ _vtools() {
 }
 
 complete -F _vtools vtools
+
+# The same for vslog, whose words begin with its options, and which may have the name of a log among them.
+_vslog() {
+    local IFS=$' \t\n' typed=() wanted="" front=0 word is_target=false
+    local redirection='^[0-9]*[<>][<>&|]*$'
+    local -A takes=()
+    COMPREPLY=()
+    _vtools_options vslog
+    _vtools_typed
+    ((${#typed[@]} > 1)) || return 0
+
+    for word in "${typed[@]:1:${#typed[@]}-2}"; do
+        if $is_target; then
+            is_target=false
+        elif [[ $word =~ $redirection ]]; then
+            is_target=true
+        elif [[ -n $wanted ]]; then
+            wanted=""
+        elif [[ $word == --* ]]; then
+            [[ -n ${takes[$word]-} ]] || return 0
+        elif [[ $word == -?* ]]; then
+            _vtools_letters "$word" || return 0
+            ((front == ${#word})) || wanted=""
+        fi
+    done
+
+    word=${typed[-1]}
+    if $is_target || [[ -n $wanted ]]; then
+        _vtools_offer 0 file
+    elif [[ $word == --* || $word == - ]]; then
+        _vtools_offer 0 option
+        ((${#typed[@]} > 2)) || _vtools_offer 0 alone
+    elif [[ $word != -* ]]; then
+        _vtools_offer 0 file
+    elif _vtools_letters "$word"; then
+        if ((front < ${#word})); then
+            _vtools_offer "$front" "${takes[$wanted]}"
+        else
+            COMPREPLY=("$word")
+        fi
+    fi
+    return 0
+}
+
+complete -F _vslog vslog

@@ -1,12 +1,12 @@
 #!/usr/bin/env python3
-"""Proves and builds the crates that a crate stands on, side by side where none waits for another.
+"""Proves and builds the crates that some crates stand on, side by side where none waits for another.
 
 Each is a call of `rt lib`, once all below it are built, and at most one a processor. Each may use all processors, and
 where these don't suffice, those come first for which the longest chain of others waits. rt keeps others out of a
 crate's folder and of those below it, so each call is in one of as many copies of the crates, in a temporary folder; rt
 lends what was built in one to the others, and at last to this repository. A line tells the seconds of each; what a call
 printed is shown where it fails, and then the status is 1. What an earlier call proved is kept.
-Usage: tools/build.py CRATE.
+Usage: tools/build.py CRATE ..
 """
 import os
 import pathlib
@@ -23,11 +23,11 @@ TOP = pathlib.Path(__file__).resolve().parent.parent
 CRATES = TOP / "crates"
 
 
-def all_below(top):
-    """The crates below this one, each with those that crates.txt has it use."""
+def all_below(tops):
+    """The crates below these, each with those that crates.txt has it use."""
     rows = re.findall(r"^(\w+)[^:\n#]*:([^\n#]*)", (TOP / "crates.txt").read_text(), re.M)
     uses = {name: words.split() for name, words in rows}
-    found, left = {}, [top]
+    found, left = {}, list(tops)
     while left:
         for name in uses[left.pop()]:
             if name in uses and name not in found:
@@ -84,9 +84,9 @@ def build_all(below, rooms):
     return True
 
 
-def build_below(top):
-    """Builds the crates below this one, and has them in this repository: the status."""
-    below, rooms = all_below(top), queue.SimpleQueue()
+def build_below(tops):
+    """Builds the crates below these, and has them in this repository: the status."""
+    below, rooms = all_below(tops), queue.SimpleQueue()
     with tempfile.TemporaryDirectory(prefix="build-") as folder:
         for number in range(len(os.sched_getaffinity(0))):
             rooms.put(copied_to(pathlib.Path(folder) / str(number)))
@@ -96,6 +96,6 @@ def build_below(top):
         return max((subprocess.run(["rt", "lib"], cwd=CRATES / it).returncode for it in highest), default=0)
 
 
-if len(sys.argv) != 2 or not (CRATES / sys.argv[1]).is_dir():
-    sys.exit("usage: tools/build.py CRATE")
-sys.exit(build_below(sys.argv[1]))
+if len(sys.argv) < 2 or not all((CRATES / name).is_dir() for name in sys.argv[1:]):
+    sys.exit("usage: tools/build.py CRATE ..")
+sys.exit(build_below(sys.argv[1:]))

@@ -15,7 +15,9 @@ fail() {
 tools/completion.py >/dev/null
 # shellcheck source=completion/vtools.bash
 source completion/vtools.bash
-[ "$(complete -p vtools)" = "complete -F _vtools vtools" ] || fail "_vtools doesn't complete vtools"
+for program in vtools vslog; do
+    [ "$(complete -p $program)" = "complete -F _$program $program" ] || fail "_$program doesn't complete $program"
+done
 
 listed=$(tools/options.py)
 tags=$(PYTHONPATH=tools/reference python3 -B -c 'import vslog; print(*sorted(vslog.TAGS[1:]))')
@@ -70,7 +72,7 @@ check_rows() {
         [[ "$wanted" != "OPTIONS "* ]] || wanted=$(options_of "${wanted#OPTIONS }")
         take_apart "$before${BASH_REMATCH[2]}" "${#before}"
         COMPREPLY=(unset)
-        _vtools
+        "_${COMP_WORDS[0]}"
         offered=$(printf '%s\n' "${COMPREPLY[@]// /_}" | sort | tr '\n' ' ')
         [ "${offered% }" = "${wanted% }" ] || fail "$before| => ${offered% }, and not: $wanted"
         count=$((count + 1))
@@ -137,6 +139,22 @@ vtools varnishtop -f MAIN| =>
 vtools varnishncsa -r log >ac| => access.log
 vtools varnishlog 2>log -r q| => queries
 vtools varnishlog -r log:2>log -v| => -v
+vslog | => access.log at@one folder log log:old my_log queries
+vslog -| => --help --strict --version -a -q -t -w
+vslog --s| => --strict
+vslog --strict -| => --strict -a -q -t -w
+vslog --help=| =>
+vslog -tq| => -tq
+vslog -tv| =>
+vslog -v l| =>
+vslog -tw l| => log log:old
+vslog -taw log -q| => -q
+vslog -wfo| => -wfolder/
+vslog -w log q| => queries
+vslog - -w q| => queries
+vslog log -w folder/| => folder/log
+vslog -t >ac| => access.log
+vslog -q <log -w q| => queries
 ROWS
 
 # with `,`, and without `:`

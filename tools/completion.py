@@ -1,9 +1,9 @@
 #!/usr/bin/env python3
-"""Makes completion/vtools.bash, which completes command lines of vtools in bash, from the tables of the source.
+"""Makes completion/vtools.bash, which completes command lines of vtools and vslog in bash, from tables of the source.
 
-Options and their values are those of tool_words, without the options that are left out; tags are those of vsl_tags, and
-counters those of vsl_stat. With --write the file is written. Without it nothing is: it is said whether the file is what
-would be written, and the status is 1 where it isn't.
+Options and their values are those of tool_words, without the options that are left out, and of vslog those that it
+reads; tags are those of vsl_tags, and counters those of vsl_stat. With --write the file is written. Without it nothing
+is: it is said whether the file is what would be written, and the status is 1 where it isn't.
 """
 import re
 import sys
@@ -21,11 +21,12 @@ COUNTERS = TOP / "crates" / "vsl_stat" / "src" / "table.rt"
 OF_VALUE = {"FILE": "file", "TAGLIST": "tag", "GLOB": "counter"}
 OF_FORM = {"AnyGrouping": "grouping", "AccessGrouping": "access_grouping"}
 
-TEMPLATE = r"""# Completes command lines of vtools in bash, 4.3 or later. tools/completion.py makes this file: nobody writes in it.
-# It needs no package. Read it with `source`, or install it where the package bash-completion finds it by its name.
+TEMPLATE = r"""# Completes command lines of vtools and vslog in bash, 4.3 or later. tools/completion.py makes this file: nobody
+# writes in it. It needs no package. Read it with `source`, or install it where the package bash-completion finds it by its
+# name, once for each program.
 
 # Gives in `takes` what each option of the tool $1 takes, or without a tool each option before it: `flag` takes nothing,
-# and of a `text` nothing is known. An unknown tool has no options.
+# and of a `text` nothing is known. An unknown tool has no options. vslog is a tool here, which takes files too.
 _vtools_options() {
     case $1 in
 @OPTIONS@
@@ -207,6 +208,51 @@ _vtools() {
 }
 
 complete -F _vtools vtools
+
+# The same for vslog, whose words begin with its options, and which may have the name of a log among them.
+_vslog() {
+    local IFS=$' \t\n' typed=() wanted="" front=0 word is_target=false
+    local redirection='^[0-9]*[<>][<>&|]*$'
+    local -A takes=()
+    COMPREPLY=()
+    _vtools_options vslog
+    _vtools_typed
+    ((${#typed[@]} > 1)) || return 0
+
+    for word in "${typed[@]:1:${#typed[@]}-2}"; do
+        if $is_target; then
+            is_target=false
+        elif [[ $word =~ $redirection ]]; then
+            is_target=true
+        elif [[ -n $wanted ]]; then
+            wanted=""
+        elif [[ $word == --* ]]; then
+            [[ -n ${takes[$word]-} ]] || return 0
+        elif [[ $word == -?* ]]; then
+            _vtools_letters "$word" || return 0
+            ((front == ${#word})) || wanted=""
+        fi
+    done
+
+    word=${typed[-1]}
+    if $is_target || [[ -n $wanted ]]; then
+        _vtools_offer 0 file
+    elif [[ $word == --* || $word == - ]]; then
+        _vtools_offer 0 option
+        ((${#typed[@]} > 2)) || _vtools_offer 0 alone
+    elif [[ $word != -* ]]; then
+        _vtools_offer 0 file
+    elif _vtools_letters "$word"; then
+        if ((front < ${#word})); then
+            _vtools_offer "$front" "${takes[$wanted]}"
+        else
+            COMPREPLY=("$word")
+        fi
+    fi
+    return 0
+}
+
+complete -F _vslog vslog
 """
 
 
@@ -248,6 +294,12 @@ def options_branch(tool):
     return branch(pattern, ["takes=(", *(f"    {line}" for line in wrapped(" ".join(taken))), ")"])
 
 
+def vslog_branch():
+    """The branch that says what each option of vslog takes."""
+    taken = [f"[{name}]={'file' if has_value else 'flag'}" for name, has_value in options.of_vslog().items()]
+    return branch("vslog", [f"takes=({' '.join(taken)})"])
+
+
 def words_branch(kind, words):
     """The branch that has the words of a kind."""
     return branch(kind, wrapped(f'words="{" ".join(words)}"'))
@@ -262,7 +314,8 @@ def completion():
         "tag": table_words(TAGS, "static COLUMNS: [&str", r'^    "(\w+) *",$'),
         "counter": table_words(COUNTERS, "static COUNTERS: [(&str, &str)", r'^    \("([\w.]+)", "[^"]*"\),$'),
     }
-    return TEMPLATE.replace("@OPTIONS@", "\n".join(map(options_branch, ("vtools", *options.TOOLS)))).replace(
+    branches = [*map(options_branch, ("vtools", *options.TOOLS)), vslog_branch()]
+    return TEMPLATE.replace("@OPTIONS@", "\n".join(branches)).replace(
         "@WORDS@", "\n".join(words_branch(kind, words) for kind, words in kinds.items())
     )
 

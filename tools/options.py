@@ -28,6 +28,7 @@ FORMATS = TOP / "docs/FORMATS.md"
 COMING_FROM = TOP / "docs/COMING_FROM_VARNISH.md"
 TOOLS = ("varnishlog", "varnishncsa", "varnishtop", "varnishstat")
 PAGES = {tool: TOP / f"docs/man/vtools-{tool}.1" for tool in TOOLS} | {"vtools": TOP / "docs/man/vtools.1"}
+VSLOG_WORDS = TOP / "crates/vslog/src/words.rt"
 HELP_COLUMNS = 80
 KINDS = {"Flag": "flag", "Value": "value", "NotHere": "absent"}
 SETS = re.compile(r"^const (\w+): Tools = \(([a-z, ]+)\);$", re.M)
@@ -105,6 +106,16 @@ def all_options():
 def here(tool):
     """The options that a tool takes."""
     return [option for option in all_options() if tool in option.tools and option.kind != "absent"]
+
+
+def of_vslog():
+    """The options of vslog, by its source, each with whether it takes a value."""
+    text = VSLOG_WORDS.read_text()
+    letters = re.findall(r"^        b'(.)' => Some\(Letter::(\w+)\),$", text, re.M)
+    words = re.findall(r'^    if word == "(--[a-z]+)" \{$', text, re.M)
+    if not letters or not words:
+        refuse(f"{VSLOG_WORDS.name}: no options")
+    return {f"-{letter}": meaning == "Write" for letter, meaning in letters} | {word: False for word in words}
 
 
 def form_words(name):

@@ -2,9 +2,14 @@
 
 import re
 
+import options
 from checks.running import TOP, Failed
 
-PAGES = ["vtools", "vtools-varnishlog", "vtools-varnishncsa", "vtools-varnishtop", "vtools-varnishstat"]
+# Each man page with the program that it is of.
+PAGES = {
+    **{page: "vtools" for page in ("vtools", *[f"vtools-{tool}" for tool in options.TOOLS])},
+    "vslog": "vslog",
+}
 DOCUMENTS = [
     *["README.md", "CHANGELOG.md", "CONTRIBUTING.md", "docs/ARCHITECTURE.md", "docs/PROOF.md", "docs/FORMATS.md"],
     *["docs/DECISIONS.md", "docs/GUIDE.md", "docs/COMING_FROM_VARNISH.md", "docs/SPEED.md"],
@@ -59,34 +64,45 @@ def crates():
     return len(names)
 
 
+def printed_by(program):
+    """The version that a program prints."""
+    return found(rf'^const VERSION: &str = "({program} .*)\\n";$', read(f"crates/{program}/src/answers.rt"))[0]
+
+
 def version():
-    """The newest release of CHANGELOG is what the program prints, FORMATS and the header of each man page have."""
-    printed = found(r'^const VERSION: &str = "(vtools .*)\\n";$', read("crates/vtools/src/answers.rt"))[0]
-    number, date = re.search(r"^## ([0-9][0-9.]*), ([0-9-]*)$", read("CHANGELOG.md"), re.M).groups()
-    if f"vtools {number}" != printed:
-        raise Failed(f"CHANGELOG.md has the release {number}, and the program is {printed}")
-    if f"`vtools --version` prints `{printed}`." not in read("docs/FORMATS.md").splitlines():
-        raise Failed(f"docs/FORMATS.md has not the version {printed}")
-    for page in sorted((TOP / "docs/man").glob("*.1")):
-        if f'"{date}" "{printed}"' not in page.read_text().split("\n")[0]:
-            raise Failed(f'the header of {page.name} has not "{date}" "{printed}"')
-    return 2 + len(PAGES)
+    """The newest release of CHANGELOG is what each program prints that it names; FORMATS and man pages have it."""
+    release = re.search(r"^## ([0-9][0-9.]*), ([0-9-]*)$(.*?)(?=^## |\Z)", read("CHANGELOG.md"), re.M | re.S)
+    number, date, said = release.groups()
+    printed = {name: printed_by(name) for name in PAGES.values()}
+    for name, version in printed.items():
+        if f"`{name}` " in said and f"{name} {number}" != version:
+            raise Failed(f"CHANGELOG.md has the release {number}, and the program is {version}")
+        if f"`{name} --version` prints `{version}`." not in read("docs/FORMATS.md").splitlines():
+            raise Failed(f"docs/FORMATS.md has not the version {version}")
+    for page, name in PAGES.items():
+        if f'"{date}" "{printed[name]}"' not in read(f"docs/man/{page}.1").split("\n")[0]:
+            raise Failed(f'the header of {page}.1 has not "{date}" "{printed[name]}"')
+    return 2 * len(printed) + len(PAGES)
 
 
 def messages():
-    """Each text of a message has a row in FORMATS with words that bring it."""
-    rows = between(read("docs/FORMATS.md"), "### Errors as a person reads them", "Each text of a message")
-    table = "\n".join(row for row in rows if row.startswith("|"))
+    """Each text of a message has a row in FORMATS with words that bring it, and of vslog with its cause."""
     faults = found(r"^(?:usage_message|query_message|message) (.*)", read("crates/varnish_tools/specs/Faults.antt"))
     faults += found(r"^overrun_message (.*)", read("crates/text_printer/specs/Messages.antt"))
     texts = {text.lstrip(": ") for line in faults for text in re.findall(r'codes "([^"]*)"', line)} - {""}
     texts |= set(found(r'eprintln!\(rt; "\{program\}: ([^{"]*[^{"])', read("crates/system_world/src/answers.rt")))
-    if not texts:
-        raise Failed("the source has no messages")
-    for text in sorted(texts):
-        if text not in table:
-            raise Failed(f"docs/FORMATS.md has no words that bring the message `{text}`")
-    return len(texts)
+    all_codes = found(r'codes "([^"]*)"', read("crates/vslog/specs/Messages.antt"))
+    of_vslog = {text.lstrip(": ") for text in all_codes} - {"vslog: ", "vslog:", "\\n", ""}
+    tables = {"### Errors as a person reads them": texts, "### What vslog says": of_vslog}
+    for begin, wanted in tables.items():
+        rows = between(read("docs/FORMATS.md"), begin, "##")
+        table = "\n".join(row for row in rows if row.startswith("|"))
+        if not wanted:
+            raise Failed("the source has no messages")
+        for text in sorted(wanted):
+            if text not in table:
+                raise Failed(f"docs/FORMATS.md has no row of the message `{text}` behind {begin!r}")
+    return len(texts) + len(of_vslog)
 
 
 def edits():

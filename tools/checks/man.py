@@ -1,13 +1,15 @@
 """Runs the examples of docs/man/, README, GUIDE and COMING_FROM_VARNISH that show what is printed, from their own text.
 
 The log `f` of a page's examples is that of a case, of one or of another, whole, without its last byte or not there, as
-the sentence before an example says. Each option of a page's tool stands in an example of the page that was run. The
-other documents run `bin/vtools` in the top folder, and may leave out the empty line behind a last group; examples that
-write files are passed over.
+the sentence before an example says; those of vslog have the logs of Varnish of examples/. Each option of a page's tool
+stands in an example of the page that was run. The other documents run `bin/vtools` in the top folder, and may leave out
+the empty line behind a last group; examples that write files are passed over.
 """
 
+import os
 import re
 import shlex
+import shutil
 
 import options
 from checks.docs import PAGES, read
@@ -17,6 +19,7 @@ DOCUMENTS = ("README.md", "docs/GUIDE.md", "docs/COMING_FROM_VARNISH.md")
 LOG = TOP / "cases/written/a_log_is_written_to_standard_output/data/f"
 ANSWERED = TOP / "cases/ncsa/ncsa_prints_a_line_of_a_request/hex/f"
 QUERIES = "Link\n"
+VARNISH_LOGS = ("varnish.vsl", "varnish.raw")
 MARKS = {"\\(aq": "'", "\\(dq": '"', "\\(ti": "~", "\\(ha": "^", "\\-": "-", "\\ ": " ", "\\&": "", "\\e": "\\"}
 
 
@@ -26,10 +29,10 @@ def plain(line):
 
 
 def options_of(page):
-    """The options that the tool of a page has, and for `vtools` the word that prints its version."""
+    """The options that the tool of a page has, and for a program the word that prints its version."""
     tool = page.removeprefix("vtools-")
-    taken = [option.name for option in options.here(tool)]
-    return [*taken, "--version"] if tool == "vtools" else taken
+    taken = list(options.of_vslog()) if tool == "vslog" else [option.name for option in options.here(tool)]
+    return [*taken, "--version"] if tool in PAGES.values() else taken
 
 
 def log_for(sentence):
@@ -46,7 +49,7 @@ def log_for(sentence):
 
 def examples(page):
     """The sentence before each example, and its lines."""
-    for block in re.finditer(r"\.PP\n\.nf\n\.RS\n(\$ vtools .*?)\n\.RE\n\.fi", page, re.DOTALL):
+    for block in re.finditer(r"\.PP\n\.nf\n\.RS\n(\$ v(?:tools|slog) .*?)\n\.RE\n\.fi", page, re.DOTALL):
         before = page[: block.start()].rstrip("\n").split("\n.PP\n")[-1]
         yield before, [plain(line) for line in block.group(1).split("\n")]
 
@@ -60,9 +63,10 @@ def commands(lines):
             printed.append(line)
 
 
-def printed_by(program, command, folder):
+def printed_by(programs, command, folder):
     """What a command prints on standard output, and then on standard error."""
-    came = run([program, *shlex.split(command)[1:]], folder)
+    name, *words = shlex.split(command)
+    came = run([programs[os.path.basename(name)], *words], folder)
     return (came.stdout + came.stderr).decode().split("\n")[:-1]
 
 
@@ -73,17 +77,20 @@ def has_option(command, option):
     return re.search(rf" -[a-zA-Z1]*{option[1:]}", command) is not None
 
 
-def run_page(program, page):
+def run_page(programs, page):
     """Runs the examples of a page, and answers how many there are."""
     ran, name = [], f"{page}.1"
     for before, lines in examples(read(f"docs/man/{name}")):
         with temporary_folder() as folder:
             log = log_for(before)
             (folder / "queries").write_text(QUERIES)
-            if log is not None:
+            if PAGES[page] == "vslog":
+                for name in VARNISH_LOGS:
+                    shutil.copy(TOP / "examples" / name, folder)
+            elif log is not None:
                 (folder / "f").write_bytes(log)
             for command, wanted in list(commands(lines)):
-                got = printed_by(program, command, folder)
+                got = printed_by(programs, command, folder)
                 if got != wanted:
                     raise Failed(f"{name}: {command}: {got}, not {wanted}")
                 ran.append(command)
@@ -93,7 +100,7 @@ def run_page(program, page):
     return len(ran)
 
 
-def run_document(program, name):
+def run_document(programs, name):
     """Runs the examples of a document, and answers how many there are."""
     count = 0
     for block in re.finditer(r"^```text\n(\$ bin/vtools .*?)\n```$", read(name), re.DOTALL | re.MULTILINE):
@@ -101,7 +108,7 @@ def run_document(program, name):
         if any(word.startswith(">") for command, _ in all_commands for word in shlex.split(command)):
             continue
         for command, wanted in all_commands:
-            got = printed_by(program, command, TOP)
+            got = printed_by(programs, command, TOP)
             if got not in (wanted, [*wanted, ""]):
                 raise Failed(f"{name}: {command}: {got}, not {wanted}")
             count += 1
@@ -110,8 +117,9 @@ def run_document(program, name):
     return count
 
 
-def check(program):
+def check(program, vslog):
     if {page.name for page in (TOP / "docs/man").iterdir()} != {f"{page}.1" for page in PAGES}:
         raise Failed(f"the pages of docs/man are not {', '.join(PAGES)}")
-    count = sum(run_page(program, page) for page in PAGES) + sum(run_document(program, name) for name in DOCUMENTS)
+    programs = {"vtools": program, "vslog": vslog}
+    count = sum(run_page(programs, page) for page in PAGES) + sum(run_document(programs, name) for name in DOCUMENTS)
     return f"{count} examples"
