@@ -21,9 +21,9 @@ COUNTERS = TOP / "crates" / "vsl_stat" / "src" / "table.rt"
 OF_VALUE = {"FILE": "file", "TAGLIST": "tag", "GLOB": "counter"}
 OF_FORM = {"AnyGrouping": "grouping", "AccessGrouping": "access_grouping"}
 
-TEMPLATE = r"""# Completes command lines of vtools and vslog in bash, 4.3 or later. tools/completion.py makes this file: nobody
-# writes in it. It needs no package. Read it with `source`, or install it where the package bash-completion finds it by its
-# name, once for each program.
+TEMPLATE = r"""# Completes command lines of vtools and vslog in bash, 4.3 or later. tools/completion.py makes this file:
+# nobody writes in it. It needs no package. Read it with `source`, or install it where the package bash-completion finds
+# it by its name, once for each program.
 
 # Gives in `takes` what each option of the tool $1 takes, or without a tool each option before it: `flag` takes nothing,
 # and of a `text` nothing is known. An unknown tool has no options. vslog is a tool here, which takes files too.

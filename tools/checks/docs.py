@@ -93,15 +93,15 @@ def messages():
     texts |= set(found(r'eprintln!\(rt; "\{program\}: ([^{"]*[^{"])', read("crates/system_world/src/answers.rt")))
     all_codes = found(r'codes "([^"]*)"', read("crates/vslog/specs/Messages.antt"))
     of_vslog = {text.lstrip(": ") for text in all_codes} - {"vslog: ", "vslog:", "\\n", ""}
-    tables = {"### Errors as a person reads them": texts, "### What vslog says": of_vslog}
-    for begin, wanted in tables.items():
-        rows = between(read("docs/FORMATS.md"), begin, "##")
+    of_vtools = "### Errors as a person reads them", "Each text of a message"
+    for wanted, part in (texts, of_vtools), (of_vslog, ("### What vslog says", "##")):
+        rows = between(read("docs/FORMATS.md"), *part)
         table = "\n".join(row for row in rows if row.startswith("|"))
         if not wanted:
             raise Failed("the source has no messages")
         for text in sorted(wanted):
             if text not in table:
-                raise Failed(f"docs/FORMATS.md has no row of the message `{text}` behind {begin!r}")
+                raise Failed(f"docs/FORMATS.md has no row of the message `{text}` under {part[0]}")
     return len(texts) + len(of_vslog)
 
 
