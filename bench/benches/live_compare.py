@@ -99,7 +99,7 @@ def taken_of(came, counts, theirs):
     for entry in varnish_log.read_entries(bytes_of(came.taken), counts):
         record = varnish_log.taken_entry(entry, counts)
         if record:
-            theirs.want(varnish_line(*entry))
+            theirs.want(varnish_line(*entry[1:]))
             yield record
 
 

@@ -3,8 +3,9 @@
 The records of what it writes are compared with those of the script, and so are its messages and its status; where a
 unit ends may differ with how the input is cut into pieces. One log is of a real server: it is cut at each of its first
 bytes, and each of its first bytes is changed. Others are made up from a seed, in all forms that a record or a line may
-have. They come by name, from standard input, and in pieces, and go to standard output, to a file, and behind what a
-file has. Of the real log that comes in pieces, all that is whole is written before the next piece comes.
+have, and run with -q and --strict too. They come by name, from standard input, and in pieces, and go to standard output,
+to a file, and behind what a file has. Of the real log that comes in pieces, all that is whole is written before the next
+piece comes.
 """
 
 import collections
@@ -24,27 +25,36 @@ import vslog
 from checks.running import MOST_SECONDS, TOP, Failed, Run, run, same_run, some_lines, temporary_folder
 
 # What the program tells of what it left out and cut, by the names of the script's counts, in this order, each where it
-# isn't 0. With -q it tells nothing of these.
+# isn't 0. With -q, and where it stops, it tells nothing of these.
 COUNTED = {
-    "tags": "vslog: {name}: {count} records of other tags left out",
-    "cut": "vslog: {name}: {count} payloads cut to 4000 bytes",
-    "vxids": "vslog: {name}: {count} lines with a VXID out of range left out",
-    "groupings": "vslog: {name}: {count} lines of another grouping left out",
-    "lines": "vslog: {name}: {count} other lines left out",
-    "bytes": "vslog: {name}: {count} bytes of a last record left out",
+    "tags": "vslog: {count} records of tags that vtools doesn't have were left out",
+    "cut": "vslog: {count} payloads above 4000 bytes were cut",
+    "vxids": "vslog: {count} lines of VXIDs out of range were left out",
+    "groupings": "vslog: {count} lines of another grouping than raw were left out",
+    "lines": "vslog: {count} lines that are no raw lines were left out",
+    "bytes": "vslog: {count} bytes at the end, inside a part, were left out",
 }
-# What it tells of a file that is no binary log, by the script's words for it, and of one that is damaged.
-FAULTS = {
-    "empty": "vslog: {name}: not a log of Varnish: it is empty",
-    "our log": "vslog: {name}: not a log of Varnish: it is a log file already",
-    "another version": "vslog: {name}: not a log of Varnish: it is of another version",
-    "gzip": "vslog: {name}: not a log of Varnish: it is compressed",
-    "text": "vslog: {name}: not a log of Varnish: it is a text, which -t reads",
-    "unknown": "vslog: {name}: not a log of Varnish",
-    "damaged": "vslog: {name}: damaged at {at}",
+# What it tells of a file that is no log of the form that is read, by the script's words for what it looks like.
+LOOKS = {
+    "empty": "vslog: {name}: empty",
+    "binary": "vslog: {name}: Varnish's binary log: leave -t out",
+    "our log": "vslog: {name}: a log file of vtools: read it with -r",
+    "another version": "vslog: {name}: a binary log of another version of Varnish",
+    "gzip": "vslog: {name}: packed by gzip: unpack it first",
+    "text": "vslog: {name}: a text: use -t",
+    "unknown": "vslog: {name}: no log of Varnish",
 }
+# What it tells under --strict of what would be left out or cut, by the names of the script's counts, and of an end.
+LOST = {
+    "tags": "vslog: {name}: {place} {at}: a tag that vtools doesn't have",
+    "cut": "vslog: {name}: {place} {at}: a payload above 4000 bytes",
+    "vxids": "vslog: {name}: {place} {at}: a VXID out of range",
+    "groupings": "vslog: {name}: {place} {at}: a line of another grouping than raw",
+    "lines": "vslog: {name}: {place} {at}: no raw line",
+}
+CUT_SHORT = "vslog: {name}: ends inside a part: {left} bytes"
+DAMAGED = "vslog: {name}: damaged at {place} {at}"
 FAULT_STATUS = 1
-HEADS_WHAT_IS_NO_LOG = True  # whether a header is written where the input is no log
 
 LOG, TEXT = TOP / "examples/varnish.vsl", TOP / "examples/varnish.raw"
 CUTS, CUTS_BEHIND = 4000, 100
@@ -70,30 +80,32 @@ LINES = [
 
 
 class Wanted:
-    """What the script takes of a log, and what the program is to tell of it."""
+    """What the script takes of a log, and what the program is to tell of it; why it stops has the log's name left out."""
 
-    def __init__(self, log, is_text):
-        self.records, self.counts, self.fault, self.at, self.has_header = [], collections.Counter(), None, None, True
+    def __init__(self, log, words):
+        is_text, self.is_quiet, is_strict = (word in words for word in ("-t", "-q", "--strict"))
+        self.records, self.counts, self.fault = [], collections.Counter(), None
         read, given = (varnish_log.read_text, io.BytesIO(log)) if is_text else (varnish_log.read_binary, log)
+        place = "line" if is_text else "byte"
         try:
-            self.records.extend(read(given, self.counts))
+            self.records.extend(read(given, self.counts, is_strict))
         except varnish_log.NotVarnishs as other:
-            self.fault, self.has_header = str(other), HEADS_WHAT_IS_NO_LOG
+            self.fault = LOOKS[str(other)].format(name="{name}")
         except vslog.NotRead as damage:
-            self.fault, self.at = "damaged", damage.at
+            self.fault = DAMAGED.format(name="{name}", place=place, at=damage.at)
+        except varnish_log.Lost as lost:
+            self.fault = LOST[lost.what].format(name="{name}", place=place, at=lost.at)
+        if is_strict and not self.fault and self.counts["bytes"]:
+            self.fault = CUT_SHORT.format(name="{name}", left=self.counts["bytes"])
 
     def status(self):
         return FAULT_STATUS if self.fault else 0
 
-    def messages(self, name, is_quiet):
-        return messages(name, {} if is_quiet else self.counts, self.fault, self.at)
-
-
-def messages(name, counts, fault, at):
-    """The messages for a log of this name."""
-    texts = [text.format(name=name, count=counts[what]) for what, text in COUNTED.items() if counts.get(what)]
-    faults = [FAULTS[fault].format(name=name, at=at)] if fault else []
-    return "".join(f"{text}\n" for text in texts + faults).encode()
+    def messages(self, name):
+        """The messages for a log of this name."""
+        texts = [text.format(count=self.counts[what]) for what, text in COUNTED.items() if self.counts[what]]
+        texts = [self.fault.format(name=name)] if self.fault else [] if self.is_quiet else texts
+        return "".join(f"{text}\n" for text in texts).encode()
 
 
 def records_of(what, written):
@@ -119,25 +131,25 @@ def same_records(what, wanted, got):
     raise Failed(f"{what}: records differ from {at} on ('<' is wanted):{lines}")
 
 
-def compare(what, wanted, written, came, name="-", is_quiet=False, copies=1):
+def compare(what, wanted, written, came, name="-", copies=1):
     """Compares what a run wrote, told and answered with what is wanted of a log of this name."""
-    same_run(what, Run(wanted.status(), wanted.messages(name, is_quiet), came.stdout), came)
-    if wanted.has_header or written:
-        same_records(what, copies * wanted.records, records_of(what, written))
+    same_run(what, Run(wanted.status(), wanted.messages(name), came.stdout), came)
+    same_records(what, copies * wanted.records, records_of(what, written))
 
 
-def of_input(program, what, log, is_text=False):
+def of_input(program, what, log, words):
     """A run over standard input."""
-    came = run([program, *(["-t"] if is_text else [])], stdin=log)
-    compare(what, Wanted(log, is_text), came.stdout, came)
+    came = run([program, *words], stdin=log)
+    compare(what, Wanted(log, words), came.stdout, came)
 
 
-def of_file(program, what, log, is_text, folder):
-    """A run over a file, quietly. Units are as long as they can be, but where a piece ends, or a text's last line."""
+def of_file(program, what, log, words, folder):
+    """A run over a file, quietly. Units are as long as they can be, but where a piece ends."""
+    words = [*words, "-q"]
     (folder / "log").write_bytes(log)
-    came, wanted = run([program, "-q", *(["-t"] if is_text else []), "log"], folder), Wanted(log, is_text)
-    compare(what, wanted, came.stdout, came, "log", is_quiet=True)
-    units, ends = len(list(vslog.read_units(came.stdout or vslog.HEADER))), len(log) // LEAST_PIECE + is_text
+    came, wanted = run([program, *words, "log"], folder), Wanted(log, words)
+    compare(what, wanted, came.stdout, came, "log")
+    units, ends = len(list(vslog.read_units(came.stdout))), len(log) // LEAST_PIECE + 1
     if units > unit_count(wanted.records) + ends:
         raise Failed(f"{what}: {units} units, where {unit_count(wanted.records)} do")
 
@@ -148,11 +160,11 @@ def unit_count(records):
     return sum(vxid == 0 or (vxid, mark) != before[:2] or before[2] == "End" for before, (vxid, mark, _, _) in pairs)
 
 
-def to_file(program, what, log, is_text, folder):
+def to_file(program, what, log, words, folder):
     """Two runs that write to one file, the second behind the first."""
-    wanted, words = Wanted(log, is_text), [program, *(["-t"] if is_text else [])]
+    wanted = Wanted(log, words)
     for copies in (1, 2):
-        came = run([*words, *(["-a"] if copies > 1 else []), "-w", "out"], folder, log)
+        came = run([program, *words, *(["-a"] if copies > 1 else []), "-w", "out"], folder, log)
         compare(what, wanted, (folder / "out").read_bytes(), came, copies=copies)
         if came.stdout:
             raise Failed(f"{what}: -w out writes to standard output, too")
@@ -164,11 +176,10 @@ def pieces_of(log, many):
     return [log[begin:end] for begin, end in zip([0, *cuts], [*cuts, len(log)])]
 
 
-def in_pieces(program, what, log, is_text, folder):
+def in_pieces(program, what, log, words, folder):
     """A run over a pipe, into which each piece is put once the one before was taken out."""
     with open(folder / "written", "w+b") as out, open(folder / "told", "w+b") as errors:
-        words = [program, *(["-t"] if is_text else [])]
-        child = subprocess.Popen(words, bufsize=0, stdin=subprocess.PIPE, stdout=out, stderr=errors)
+        child = subprocess.Popen([program, *words], bufsize=0, stdin=subprocess.PIPE, stdout=out, stderr=errors)
         with contextlib.suppress(BrokenPipeError):  # as of a log that is damaged
             for piece in pieces_of(log, MOST_PIECES):
                 child.stdin.write(piece)
@@ -176,19 +187,17 @@ def in_pieces(program, what, log, is_text, folder):
         child.stdin.close()
         status = child.wait(MOST_SECONDS)
     written = (folder / "written").read_bytes()
-    compare(what, Wanted(log, is_text), written, Run(status, (folder / "told").read_bytes(), written))
+    compare(what, Wanted(log, words), written, Run(status, (folder / "told").read_bytes(), written))
 
 
-def live(program, what, log, is_text):
+def live(program, what, log, words):
     """A run over a pipe, in which all that is whole of the pieces is written before the next one comes."""
     with temporary_folder() as folder, open(folder / "written", "w+b") as out:
-        words, sent = [program, "-q", *(["-t"] if is_text else [])], b""
-        child = subprocess.Popen(words, bufsize=0, stdin=subprocess.PIPE, stdout=out)
+        child, sent = subprocess.Popen([program, "-q", *words], bufsize=0, stdin=subprocess.PIPE, stdout=out), b""
         for piece in pieces_of(log, LIVE_PIECES):
             child.stdin.write(piece)
             sent += piece
-            whole = sent[: sent.rfind(b"\n") + 1] if is_text else sent
-            wanted = Wanted(whole, is_text).records
+            wanted = Wanted(sent, words).records
             wait_until(what, lambda: len(now_in(folder / "written")) >= len(wanted))
             same_records(f"{what}, of which {len(sent)} bytes came", wanted, now_in(folder / "written"))
         child.stdin.close()
@@ -256,8 +265,10 @@ def line(draw):
 
 
 def text_log(draw):
-    """A text, whose last line may lack its line feed."""
+    """A text, of ten one with other first bytes, whose last line may lack its line feed."""
     text = b"".join(line(draw) + draw.choice([b"\n", b"\n", b"\n", b"\r\n"]) for _ in range(draw.randrange(14)))
+    if draw.randrange(10) == 0:
+        text = draw.choice([*FIRST_BYTES, varnish_log.FILE_MARK]) + text
     return text[:-1] if draw.randrange(3) == 0 else text
 
 
@@ -267,41 +278,42 @@ def changed_logs(log):
         others = range(256) if at < CHANGED_WHOLLY else (*OTHER_BYTES, log[at] ^ 0x01, log[at] ^ 0x80)
         for byte in {*others} - {log[at]}:
             what = f"the real log's first {CUTS} bytes with {byte} for byte {at}"
-            yield what, log[:at] + bytes([byte]) + log[at + 1 : CUTS], False
+            yield what, log[:at] + bytes([byte]) + log[at + 1 : CUTS], []
 
 
 def cut_logs(log):
     """The log cut at each place of its first part, and at some behind."""
     behind = random.Random(SEED).sample(range(CUTS, len(log)), CUTS_BEHIND)
     for size in [*range(CUTS), *behind]:
-        yield f"the real log's first {size} bytes", log[:size], False
+        yield f"the real log's first {size} bytes", log[:size], []
 
 
 def made_up_logs(many):
     """Logs and texts that are made up, by turns with each way to run them."""
     ways = [of_file, to_file, in_pieces]
     for number in range(many):
-        for is_text, make in ((False, binary_log), (True, text_log)):
-            what = f"{'text' if is_text else 'binary log'} {number} that is made up"
-            yield ways[number % len(ways)], what, make(random.Random(f"{SEED} {number}")), is_text
+        for words, make in (([], binary_log), (["-t"], text_log)):
+            what = f"{'text' if words else 'binary log'} {number} that is made up"
+            yield ways[number % len(ways)], what, make(random.Random(f"{SEED} {number}")), words
 
 
-def both_ways(program, way, what, log, is_text):
-    """A run of a log over standard input, and one in another way."""
-    of_input(program, what, log, is_text)
+def all_words(program, way, what, log, words):
+    """Runs of a log over standard input with and without each of -q and --strict, and one in another way."""
+    for more in ([], ["-q"], ["--strict"], ["-q", "--strict"]):
+        of_input(program, " ".join([what, *more]), log, [*words, *more])
     with temporary_folder() as folder:
-        way(program, what, log, is_text, folder)
+        way(program, what, log, words, folder)
 
 
 def check(program, many):
     log, text = LOG.read_bytes(), TEXT.read_bytes()
+    reals = [("the real log", log, []), ("its text", text, ["-t"])]
     with concurrent.futures.ThreadPoolExecutor(AT_ONCE) as pool:
-        runs = [pool.submit(live, program, *real) for real in (("the real log", log, False), ("its text", text, True))]
-        runs += [pool.submit(both_ways, program, of_file, "the real log", log, False)]
-        runs += [pool.submit(both_ways, program, of_file, "its text", text, True)]
+        runs = [pool.submit(live, program, *real) for real in reals]
+        runs += [pool.submit(all_words, program, of_file, *real) for real in reals]
         runs += [pool.submit(of_input, program, *cut) for cut in cut_logs(log)]
         runs += [pool.submit(of_input, program, *changed) for changed in changed_logs(log)]
-        runs += [pool.submit(both_ways, program, *made) for made in made_up_logs(many)]
+        runs += [pool.submit(all_words, program, *made) for made in made_up_logs(many)]
         try:
             for done in runs:
                 done.result()

@@ -1,11 +1,12 @@
 #!/usr/bin/env python3
-"""Prints what `vslog [-t] FILE` takes of a log of Varnish's own, as raw lines, and then what it counts.
+"""Prints what `vslog [-t] [--strict] FILE` takes of a log of Varnish's own, as raw lines, and then what it counts.
 
-    tools/reference/varnish_log.py [-t] FILE      FILE is what `varnishlog -w` writes, or with -t what `-g raw` prints
+    tools/reference/varnish_log.py [-t] [--strict] FILE
 
-It follows docs/FORMATS.md, "Varnish's binary log" and "Lines of a listing", alone, and is made to be read, not to be
-fast. A record is its VXID, its mark (`c`, `b` or `-`), the name of its tag, and its payload. The counts go to standard
-error, and so does the place where a binary log is damaged, with status 1.
+FILE is what `varnishlog -w` writes, or with -t what `varnishlog -g raw` prints. This follows docs/FORMATS.md, "Varnish's
+binary log" and "Lines of a listing", alone, and is made to be read, not to be fast. A record is its VXID, its mark (`c`,
+`b` or `-`), the name of its tag, and its payload. The counts go to standard error; where copying stops before the end,
+why and where goes there in their place, with status 1.
 """
 
 import collections
@@ -18,6 +19,7 @@ from vslog import MARKS, MOST_PAYLOAD, MOST_VXID, TAGS, NotRead, raw_line
 
 FILE_MARK = b"VSL\0"
 MOST_DIGITS = 10  # of a VXID
+MOST_HELD = 262208  # bytes in which a line's line feed must come
 MESSAGE = "Method URL Protocol Status Reason Header Unset Lost".split()
 # The names of Varnish's tags by their numbers, by vsl(7) of Varnish 7.1.
 NAMES = [
@@ -35,29 +37,48 @@ OUR_NAMES = {name.lower().encode(): name for name in TAGS[1:]}
 TAKEN = frozenset(OUR_NAMES.values())
 # A record's line: VXID, name and mark with spaces between them, and perhaps a space and a payload.
 LINE = re.compile(rb" *([0-9]+) +([^ ]+) +([cb-])(?: (.*))?", re.DOTALL)
+# What a file looks like that is given in the place of another; a text may be empty, and begin as nothing known.
+NO_BINARY = {"empty", "our log", "another version", "gzip", "text", "unknown"}
+NO_TEXT = {"binary", "our log", "another version", "gzip"}
 
 
 def looks_of(first):
-    """What a file looks like whose first four bytes are these, as many as it has, and are not the mark."""
+    """What a file looks like whose first four bytes are these, as many as it has."""
     if not first:
         return "empty"
+    if first == FILE_MARK:
+        return "binary"
     if first == b"VSLO":
         return "our log"
     if first.startswith(b"VSL"):
         return "another version"
     if first.startswith(b"\x1f\x8b"):
         return "gzip"
-    return "text" if all(byte >= 32 or byte in b"\t\n\r" for byte in first) else "unknown"
+    return "text" if all(byte >= 32 and byte != 127 or byte in b"\t\n\r" for byte in first) else "unknown"
 
 
 class NotVarnishs(Exception):
-    """A file is no binary log of Varnish. The message says what it looks like."""
+    """A file is no log of Varnish of the form that is read. The message says what it looks like."""
+
+
+class Lost(Exception):
+    """At this byte of a binary log, or in this line of a text, something would be left out or cut, named as its count."""
+
+    def __init__(self, what, at):
+        super().__init__(f"{what} at {at}")
+        self.what, self.at = what, at
+
+
+def check_looks(data, others):
+    """Fails where a file looks like one of the others."""
+    looks = looks_of(bytes(data[:4]))
+    if looks in others:
+        raise NotVarnishs(looks)
 
 
 def read_entries(data, counts):
-    """All records of a binary log, each as VXID, mark, number of its tag, and bytes. Where none begins, NotRead."""
-    if data[:4] != FILE_MARK:
-        raise NotVarnishs(looks_of(bytes(data[:4])))
+    """All records of a binary log, each as its place, VXID, mark, number of its tag, and bytes. Where none begins, NotRead."""
+    check_looks(data, NO_BINARY)
     at = 4
     while at + 8 <= len(data):
         head, number = struct.unpack_from("<II", data, at)
@@ -66,67 +87,91 @@ def read_entries(data, counts):
             raise NotRead("damaged", at)
         if (stop + 3) // 4 * 4 > len(data):
             break
-        yield number & MOST_VXID, MARKS[number >> 30], head >> 24, data[start:stop]
+        yield at, number & MOST_VXID, MARKS[number >> 30], head >> 24, data[start:stop]
         at = (stop + 3) // 4 * 4
     counts["bytes"] += len(data) - at
 
 
-def taken(vxid, mark, name, payload, counts):
-    """What is taken of a record, or None where its tag isn't one of ours."""
+def lose(what, at, counts, is_strict):
+    """Counts what is left out or cut, or stops before it."""
+    if is_strict:
+        raise Lost(what, at)
+    counts[what] += 1
+
+
+def taken(at, record, counts, is_strict):
+    """What is taken of a record, or None where its name isn't one of our tags."""
+    vxid, mark, name, payload = record
     if name not in TAKEN:
-        counts["tags"] += 1
-        return None
-    counts["cut"] += len(payload) > MOST_PAYLOAD
+        return lose("tags", at, counts, is_strict)
+    if len(payload) > MOST_PAYLOAD:
+        lose("cut", at, counts, is_strict)
     return vxid, mark, name, bytes(payload[:MOST_PAYLOAD])
 
 
-def taken_entry(entry, counts):
+def taken_entry(entry, counts, is_strict=False):
     """What is taken of a record of a binary log: of a text without the zero byte at its end."""
-    vxid, mark, number, payload = entry
+    at, vxid, mark, number, payload = entry
     name = NAMES[number] if number < len(NAMES) else None
     has_zero = name not in WITHOUT_TEXT and payload[-1:] == b"\0"
-    return taken(vxid, mark, name, payload[:-1] if has_zero else payload, counts)
+    return taken(at, (vxid, mark, name, payload[:-1] if has_zero else payload), counts, is_strict)
 
 
-def read_binary(data, counts):
-    """The records that are taken of a binary log. Where it is damaged those before, and then NotRead with its place."""
-    records = (taken_entry(entry, counts) for entry in read_entries(data, counts))
+def read_binary(data, counts, is_strict=False):
+    """The records that are taken of a binary log. Where copying stops early those before, and then why."""
+    records = (taken_entry(entry, counts, is_strict) for entry in read_entries(data, counts))
     return (record for record in records if record)
 
 
-def read_text(lines, counts):
-    """The records that are taken of lines, each of which has its line feed, which the last may lack."""
-    for line in lines:
-        line = re.sub(rb"\r?\n$", b"", line)
-        if line.startswith(b"#") or not line.strip(b" "):
-            continue
-        found = LINE.fullmatch(line)
-        if line.startswith((b"*", b"-")):
-            counts["groupings"] += 1
-        elif found is None:
-            counts["lines"] += 1
-        elif len(found[1]) > MOST_DIGITS or int(found[1]) > MOST_VXID:
-            counts["vxids"] += 1
-        else:
-            name = OUR_NAMES.get(found[2].lower())
-            record = taken(int(found[1]), found[3].decode(), name, found[4] or b"", counts)
-            if record:
-                yield record
+def line_fault(line, found):
+    """Why a line says nothing whatever its name is: it has another form, or else its VXID is out of range."""
+    if found is None:
+        return "groupings" if line.startswith((b"*", b"-")) else "lines"
+    return "vxids" if len(found[1]) > MOST_DIGITS or int(found[1]) > MOST_VXID else None
+
+
+def taken_line(number, line, counts, is_strict):
+    """What is taken of the line of this number, without its end, or None."""
+    if line.startswith(b"#") or not line.strip(b" "):
+        return None
+    found = LINE.fullmatch(line)
+    if fault := line_fault(line, found):
+        return lose(fault, number, counts, is_strict)
+    name = OUR_NAMES.get(found[2].lower())
+    return taken(number, (int(found[1]), found[3].decode(), name, found[4] or b""), counts, is_strict)
+
+
+def read_text(lines, counts, is_strict=False):
+    """The records that are taken of lines, each with its line feed; the last may lack it, and is left out then.
+
+    Where copying stops early those before, and then why.
+    """
+    for number, line in enumerate(lines, 1):
+        if number == 1:
+            check_looks(line, NO_TEXT)
+        if line.find(b"\n", 0, MOST_HELD) < 0 and len(line) >= MOST_HELD:
+            raise NotRead("damaged", number)
+        if not line.endswith(b"\n"):
+            counts["bytes"] += len(line)
+        elif record := taken_line(number, line[:-1].removesuffix(b"\r"), counts, is_strict):
+            yield record
 
 
 def main():
-    is_text, name = sys.argv[1:-1] == ["-t"], sys.argv[-1]
-    if len(sys.argv) != 2 + is_text:
+    *options, name = sys.argv[1:] or sys.exit(__doc__)
+    if set(options) - {"-t", "--strict"}:
         sys.exit(__doc__)
-    counts, fault = collections.Counter(), None
+    is_strict, counts = "--strict" in options, collections.Counter()
     with open(name, "rb") as log:
+        read, given = (read_text, log) if "-t" in options else (read_binary, log.read())
         try:
-            for record in read_text(log, counts) if is_text else read_binary(log.read(), counts):
+            for record in read(given, counts, is_strict):
                 sys.stdout.buffer.write(raw_line(*record))
-        except (NotVarnishs, NotRead) as stopped:
-            fault = stopped
+        except (NotVarnishs, NotRead, Lost) as stopped:
+            sys.exit(f"{name}: {stopped}")
+    if is_strict and counts["bytes"]:
+        sys.exit(f"{name}: ends inside a part of {counts['bytes']} bytes")
     print(*(f"{what}: {count}" for what, count in sorted(counts.items()) if count), sep="\n", file=sys.stderr)
-    sys.exit(fault and f"{name}: {fault}")
 
 
 if __name__ == "__main__":
