@@ -1,4 +1,4 @@
-"""Runs the whole command lines of cases/ over the program, each in a fresh folder, and compares all that comes out.
+"""Runs the whole command lines of cases/ over the programs, each in a fresh folder, and compares all that comes out.
 
 cases/README.md says what a case is.
 """
@@ -7,9 +7,11 @@ import os
 import re
 from concurrent.futures import ThreadPoolExecutor
 
-from checks.running import TOP, Failed, Run, run, same_run, same_tree, temporary_folder, tree, write_tree
+from checks.running import TOP, Failed, Run, check_program, run, same_run, same_tree, temporary_folder, tree, write_tree
 
 CASES = TOP / "cases"
+PROGRAM = "program"  # the file of a subject that names the program of its cases
+FIRST_PROGRAM = "vtools"  # without that file
 WORDS = {"args", "args.nul", "rows"}
 OF_ALL = WORDS | {"links", "hex", "data", "also_on_threads"}
 OF_NO_ROWS = {"stdout", "stderr", "status", "stdin", "files"}
@@ -128,6 +130,15 @@ def without_order(words):
     return kept + words[at:]
 
 
+def program_of(subject):
+    """The name of the program that the cases of a subject run."""
+    named = subject / PROGRAM
+    name = named.read_text().removesuffix("\n") if named.is_file() else FIRST_PROGRAM
+    if named.is_file() and name == FIRST_PROGRAM:
+        raise Failed(f"{named.relative_to(TOP)} has what it is without this file")
+    return name
+
+
 def all_cases():
     """The folders of all cases, by subject; a name stands in one subject alone."""
     names = set()
@@ -135,6 +146,8 @@ def all_cases():
         if subject.name == "README.md":
             continue
         for folder in sorted(subject.iterdir()) if subject.is_dir() else [subject]:
+            if folder == subject / PROGRAM:
+                continue
             if not folder.is_dir():
                 raise Failed(f"{folder.relative_to(TOP)} is no folder: a case is cases/SUBJECT/NAME")
             if folder.name in names:
@@ -143,10 +156,24 @@ def all_cases():
             yield folder
 
 
-def check(program):
-    cases = [Case(folder) for folder in all_cases()]
+def programs_of(folders, programs):
+    """The program of each case, by the paths of the programs that there are; each that a case runs is there."""
+    found = {}
+    for subject in {folder.parent for folder in folders}:
+        name = program_of(subject)
+        if name not in programs:
+            raise Failed(f"{(subject / PROGRAM).relative_to(TOP)}: no program {name}")
+        check_program(programs[name])
+        found[subject] = programs[name]
+    return [found[folder.parent] for folder in folders]
+
+
+def check(programs, subjects):
+    """Checks the cases of these subjects, or of all where none is named."""
+    folders = [folder for folder in all_cases() if not subjects or folder.parent.name in subjects]
+    cases, paths = [Case(folder) for folder in folders], programs_of(folders, programs)
     with ThreadPoolExecutor(os.cpu_count()) as pool:
-        list(pool.map(lambda case: case.run(program), cases))
+        list(pool.map(Case.run, cases, paths))
     failed = [case for case in cases if case.wrong]
     if failed:
         lines = [line for case in failed for line in case.wrong]

@@ -31,6 +31,12 @@ def temporary_folder():
         yield pathlib.Path(folder)
 
 
+def check_program(path):
+    """Fails where a program isn't there."""
+    if not os.access(path, os.X_OK):
+        raise Failed(f"{path} is missing: run rt ci first")
+
+
 def run(words, folder=TOP, stdin=b""):
     """Runs a command in a folder, over these bytes."""
     try:

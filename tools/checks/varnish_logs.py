@@ -3,9 +3,9 @@
 The records of what it writes are compared with those of the script, and so are its messages and its status; where a
 unit ends may differ with how the input is cut into pieces. One log is of a real server: it is cut at each of its first
 bytes, and each of its first bytes is changed. Others are made up from a seed, in all forms that a record or a line may
-have, and run with -q and --strict too. They come by name, from standard input, and in pieces, and go to standard output,
-to a file, and behind what a file has. Of the real log that comes in pieces, all that is whole is written before the next
-piece comes.
+have, and run with -q and --strict too; some have the longest parts that there may be. They come by name, from standard
+input, and in pieces, and go to standard output, to a file, and behind what a file has. Of the real log that comes in
+pieces, all that is whole is written before the next piece comes.
 """
 
 import collections
@@ -80,7 +80,7 @@ LINES = [
 
 
 class Wanted:
-    """What the script takes of a log, and what the program is to tell of it; why it stops has the log's name left out."""
+    """What the script takes of a log, and what the program is to tell of it. Why it stops lacks the log's name."""
 
     def __init__(self, log, words):
         is_text, self.is_quiet, is_strict = (word in words for word in ("-t", "-q", "--strict"))
@@ -288,6 +288,16 @@ def cut_logs(log):
         yield f"the real log's first {size} bytes", log[:size], []
 
 
+def limit_logs():
+    """Texts with a line of about as many bytes as are held, with and without a line feed, and the longest records."""
+    for size in range(varnish_log.MOST_HELD - 2, varnish_log.MOST_HELD + 3):
+        for end in (b"\n", b"\r\n", b""):
+            for line in (b"2 ReqURL c " + b"/" * (size - 11), b" " * size):
+                yield f"a text with a line of {size} bytes and {end}", b"1 End c\n" + line + end, ["-t"]
+    longest = bytes([0xFF, 0xFF, 0, END, 2, 0, 0, 0]) + bytes(65536)
+    yield "five of the longest record", varnish_log.FILE_MARK + 5 * longest, []
+
+
 def made_up_logs(many):
     """Logs and texts that are made up, by turns with each way to run them."""
     ways = [of_file, to_file, in_pieces]
@@ -313,6 +323,7 @@ def check(program, many):
         runs += [pool.submit(all_words, program, of_file, *real) for real in reals]
         runs += [pool.submit(of_input, program, *cut) for cut in cut_logs(log)]
         runs += [pool.submit(of_input, program, *changed) for changed in changed_logs(log)]
+        runs += [pool.submit(of_input, program, *limit) for limit in limit_logs()]
         runs += [pool.submit(all_words, program, *made) for made in made_up_logs(many)]
         try:
             for done in runs:

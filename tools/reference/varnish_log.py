@@ -3,10 +3,10 @@
 
     tools/reference/varnish_log.py [-t] [--strict] FILE
 
-FILE is what `varnishlog -w` writes, or with -t what `varnishlog -g raw` prints. This follows docs/FORMATS.md, "Varnish's
-binary log" and "Lines of a listing", alone, and is made to be read, not to be fast. A record is its VXID, its mark (`c`,
-`b` or `-`), the name of its tag, and its payload. The counts go to standard error; where copying stops before the end,
-why and where goes there in their place, with status 1.
+FILE is what `varnishlog -w` writes, or with -t what `varnishlog -g raw` prints. This follows docs/FORMATS.md,
+"Varnish's binary log" and "Lines of a listing", alone, and is made to be read, not to be fast. A record is its VXID,
+its mark (`c`, `b` or `-`), the name of its tag, and its payload. The counts go to standard error; where copying stops
+before the end, why and where goes there in their place, with status 1.
 """
 
 import collections
@@ -62,7 +62,7 @@ class NotVarnishs(Exception):
 
 
 class Lost(Exception):
-    """At this byte of a binary log, or in this line of a text, something would be left out or cut, named as its count."""
+    """Here, at a byte or in a line, something would be left out or cut that is named as its count."""
 
     def __init__(self, what, at):
         super().__init__(f"{what} at {at}")
@@ -77,7 +77,7 @@ def check_looks(data, others):
 
 
 def read_entries(data, counts):
-    """All records of a binary log, each as its place, VXID, mark, number of its tag, and bytes. Where none begins, NotRead."""
+    """All records of a binary log, each as place, VXID, mark, number of its tag, bytes. Where none begins, NotRead."""
     check_looks(data, NO_BINARY)
     at = 4
     while at + 8 <= len(data):
