@@ -1,6 +1,6 @@
 -- The steps of the work, and what was said behind it.
-use Rattle.std.proofs.Common.{◌≡◌, ℕ, ◌<◌, Bool, true, false, List, [], ◌∷◌, ◌++◌, Result, Ok, Err, inl, inr, refl, sym, ap, subst, ◌∙◌, codes}
-use Rattle.std.specs.Prelude.{if◌then◌else◌, ◌⊎◌, ◌&&◌, nat_lt}
+use Rattle.std.proofs.Common.{◌≡◌, ℕ, Bool, true, false, List, [], ◌∷◌, ◌++◌, Result, Ok, Err, inl, inr, refl, sym, ap, subst, ◌∙◌, codes}
+use Rattle.std.specs.Prelude.{if◌then◌else◌, ◌&&◌, nat_lt}
 use Rattle.std.specs.Bool.{MatchBool}
 use Rattle.std.specs.Str.{bytes_eq}
 use Rattle.std.proofs.lemmas.List.{append-nil}
@@ -18,7 +18,7 @@ use Rattle.vsl_file.specs.File.{file_header}
 use Rattle.one_run.specs.Promise.{Says, SaysPart}
 use Rattle.varnish_log.specs.declared.copying.Copied.{Copied}
 use Rattle.varnish_log.specs.Copied.{CopiedThen, IsLog, IsStarved}
-use Rattle.vslog.specs.declared.ended.RunFault.TheVariants.{NoInput, NoOutput, NoHeader, CutShort}
+use Rattle.vslog.specs.declared.ended.RunFault.TheVariants.{NoOutput, NoHeader, CutShort}
 use Rattle.vslog.specs.declared.ended.Ended.{Ended}
 use Rattle.vslog.specs.declared.ended.Ended.TheVariants.{Refused, Stopped, Done}
 use Rattle.vslog.specs.declared.words.UsageFault.{UsageFault}

@@ -1,5 +1,5 @@
 -- The main theorem of `vslog`: what the top call does in the world, for every command line, input and world (this project's choice).
-use Rattle.std.specs.Prelude.{◌≡◌, ◌⊎◌, ℕ, ◌<◌, ◌&&◌, nat_lt, if◌then◌else◌, Bool, true, false, List, [], ◌∷◌, ◌++◌, Result, Ok, Err, codes}
+use Rattle.std.specs.Prelude.{◌≡◌, ◌⊎◌, ℕ, ◌&&◌, nat_lt, if◌then◌else◌, Bool, true, false, List, [], ◌∷◌, ◌++◌, Result, Ok, Err, codes}
 use Rattle.std.specs.Bool.{MatchBool}
 use Rattle.std.specs.Str.{bytes_eq}
 use Rattle.log_model.specs.Prefix.{IsProperPrefix}
@@ -15,7 +15,7 @@ use Rattle.vslog.specs.declared.ended.Ended.{Ended}
 use Rattle.vslog.specs.declared.ended.Ended.TheVariants.{Refused, Stopped, Done}
 use Rattle.vslog.specs.declared.ended.RunFault.{RunFault}
 use Rattle.vslog.specs.declared.ended.RunFault.TheVariants.{NoInput, NoOutput, NoHeader, Log, CutShort}
-use Rattle.vslog.specs.Words.{Job, job_of}
+use Rattle.vslog.specs.Words.{Job}
 use Rattle.vslog.specs.Messages.{text_due, usage_message}
 
 -- ---- the exit status

@@ -1,4 +1,4 @@
-use Rattle.std.proofs.Common.{◌≡◌, ◌++◌, List, ℕ, Err, ap, refl, ◌∙◌}
+use Rattle.std.proofs.Common.{◌++◌, List, ℕ, Err, ap, refl, ◌∙◌}
 use Rattle.vsl_file.specs.File.{file_header}
 use Rattle.vslog.specs.Words.{job_as}
 use Rattle.vslog.proofs.WorkLemmas.{begun_empty, begun_full, lacks_header, lacks_output, no_header, no_output}
