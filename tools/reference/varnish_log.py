@@ -145,18 +145,13 @@ def taken_line(number, line, counts, is_strict):
 def read_text(lines, counts, is_strict=False):
     """The records that are taken of lines, each with its line feed; the last may lack it, and is left out then.
 
-    Where copying stops early those before, and then why. Of a text that ends with its first four bytes no line is read.
+    Where copying stops early those before, and then why.
     """
     lines, first = iter(lines), []
-    while sum(map(len, first)) <= 4 and (line := next(lines, None)) is not None:
+    while sum(map(len, first)) < 4 and (line := next(lines, None)) is not None:
         first.append(line)
-    if sum(map(len, first)) <= 4:
-        check_looks(b"".join(first), NO_TEXT)
-        counts["bytes"] += sum(map(len, first))
-        return
+    check_looks(b"".join(first), NO_TEXT)
     for number, line in enumerate(itertools.chain(first, lines), 1):
-        if number == 1:
-            check_looks(line, NO_TEXT)
         if line.find(b"\n", 0, MOST_HELD) < 0 and len(line) >= MOST_HELD:
             raise NotRead("damaged", number)
         if not line.endswith(b"\n"):

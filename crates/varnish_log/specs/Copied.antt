@@ -1,8 +1,8 @@
 -- Copying a log, piece by piece (this project's choice): what is whole of a piece is written before the next. How the input is cut into pieces isn't said.
-use Rattle.std.specs.Prelude.{◌≡◌, ◌⊎◌, ℕ, ◌+◌, List, [], ◌∷◌, ◌++◌, length, None, Some}
+use Rattle.std.specs.Prelude.{◌≡◌, ◌⊎◌, ℕ, ◌+◌, ◌<◌, List, [], ◌∷◌, ◌++◌, length, None, Some}
 use Rattle.std.specs.List.{flat_map, sum_by}
 use Rattle.log_model.specs.Prefix.{IsProperPrefix}
-use Rattle.vio.specs.Calls.{Went, MetEnd, FailedEach, Call, Take, Write}
+use Rattle.vio.specs.Calls.{Went, MetEnd, FailedEach, Mark, Call, Take, Write}
 use Rattle.varnish_log.specs.declared.form.How.{How}
 use Rattle.varnish_log.specs.declared.form.LogForm.{LogForm}
 use Rattle.varnish_log.specs.declared.form.LogForm.TheVariants.{Binary, Text}
@@ -31,14 +31,19 @@ came_by pieces = sum_by (λ p. length p.came) pieces
 abbrev pub IsPiece : How → Stop → Piece → List ℕ → List ℕ → Counts → Counts → Type 0
 IsPiece how stop piece held rest before after = AreTaken how stop (held ++ piece.came) rest [] piece.text before after
 
+-- the mark of a read that gave these bytes: where it gave none it met the end
+abbrev pub read_mark : List ℕ → Mark
+read_mark [] = MetEnd
+read_mark (b ∷ bytes) = Went
+
 -- the calls of a piece, read from one handle and written to another
 abbrev pub piece_calls : ℕ → ℕ → Piece → List Call
-piece_calls input output p = Take input p.came Went ∷ Write output p.text Went ∷ []
+piece_calls input output p = Take input p.came (read_mark p.came) ∷ Write output p.text Went ∷ []
 
--- with these pieces, one after the other, this is held in the end, and the counts are these: each time what is held may go on as a part
+-- with these pieces, one after the other and none without a byte, this is held in the end, and the counts are these: each time what is held may go on as a part
 abbrev pub ArePieces : How → List ℕ → Counts → List Piece → List ℕ → Counts → Type 0
 ArePieces how held before [] rest after = (rest ≡ held) × (after ≡ before)
-ArePieces how held before (p ∷ ps) rest after = (next : List ℕ) × (counts : Counts) × IsPiece how stops.GoesOn p held next before counts × ArePieces how next counts ps rest after
+ArePieces how held before (p ∷ ps) rest after = (0 < length p.came) × (next : List ℕ) × (counts : Counts) × IsPiece how stops.GoesOn p held next before counts × ArePieces how next counts ps rest after
 
 -- how far a log was copied: how many bytes came, of the first bytes only what belongs to its parts; what is held of them; and the counts
 pub record SoFar : Type 0 where
@@ -56,9 +61,14 @@ pub record CopiedThen (how : How) (input output : ℕ) (first : List ℕ) (IsLas
   pub copied : ArePieces how first none_counted pieces held counts
   pub is : IsLast (record { came = length first + came_by pieces; held = held; counts = counts }) last
 
--- the end of the input came, and what is held is left out: the beginning of a part that the end cuts
-abbrev pub IsEnd : ℕ → Copied → SoFar → List Call → Type 0
-IsEnd input copied at calls = (calls ≡ Take input [] MetEnd ∷ []) × (copied.counts ≡ at.counts) × (copied.left ≡ length at.held)
+-- the end of the input came, as a piece of no bytes: what is whole of what is held is taken, and the rest is left out, in which no part lies whole
+pub record IsEnd (how : How) (input output : ℕ) (copied : Copied) (at : SoFar) (calls : List Call) : Type 0 where
+  pub piece : Piece
+  pub rest : List ℕ
+  pub ended : piece.came ≡ []
+  pub is : IsPiece how stops.GoesOn piece at.held rest at.counts copied.counts
+  pub left : copied.left ≡ length rest
+  pub are : calls ≡ piece_calls input output piece
 
 -- of a piece that came, this is a part of what is written, and not all
 pub record IsPartWritten (how : How) (at : SoFar) (piece : Piece) (part : List ℕ) : Type 0 where
@@ -83,14 +93,14 @@ pub record StopsAt (how : How) (stop : Stop) (place : ℕ) (at : SoFar) (piece :
 -- it stopped: a read failed; or a piece came, and its write failed, or all was written of it, and behind that no part begins, or one of which something would be left out or cut
 abbrev pub IsStopped : How → ℕ → ℕ → CopyFault → SoFar → List Call → Type 0
 IsStopped how input output ReadFault at calls = calls ≡ Take input [] FailedEach ∷ []
-IsStopped how input output WriteFault at calls = (p : Piece) × (part : List ℕ) × IsPartWritten how at p part × (calls ≡ Take input p.came Went ∷ Write output part FailedEach ∷ [])
+IsStopped how input output WriteFault at calls = (p : Piece) × (part : List ℕ) × IsPartWritten how at p part × (calls ≡ Take input p.came (read_mark p.came) ∷ Write output part FailedEach ∷ [])
 IsStopped how input output (Damaged place) at calls = (p : Piece) × StopsAt how stops.Damaged place at p × (calls ≡ piece_calls input output p)
 IsStopped how input output (Lost loss place) at calls = (p : Piece) × StopsAt how (stops.Lost loss) place at p × (calls ≡ piece_calls input output p)
 
 -- there was no memory, or more bytes came than a number of 64 bits counts: before a piece, for one that came, or to write all of it
 abbrev pub IsStarved : How → ℕ → ℕ → SoFar → List Call → Type 0
 IsStarved how input output at calls =
-    (calls ≡ []) ⊎ (((bytes : List ℕ) × (calls ≡ Take input bytes Went ∷ [])) ⊎ ((p : Piece) × (part : List ℕ) × IsPartWritten how at p part × (calls ≡ Take input p.came Went ∷ Write output part Went ∷ [])))
+    (calls ≡ []) ⊎ (((bytes : List ℕ) × (calls ≡ Take input bytes (read_mark bytes) ∷ [])) ⊎ ((p : Piece) × (part : List ℕ) × IsPartWritten how at p part × (calls ≡ Take input p.came (read_mark p.came) ∷ Write output part Went ∷ [])))
 
 -- the first bytes of a log came, and then these calls were made: they are told of those that belong to its parts
 pub record IsLog (how : How) (input : ℕ) (IsRest : List ℕ → List Call → Type 0) (calls : List Call) : Type 0 where

@@ -1,8 +1,8 @@
 //! Copying a log to a log file, piece by piece.
 
-ghost use Rattle.std.specs.Prelude.{◌≡◌, ◌+◌, ◌^◌, ◌<◌, ◌≤◌, ◌∷◌, [], ℕ, List, length, take, IfOk, IfSome, IfNone};
+ghost use Rattle.std.specs.Prelude.{◌≡◌, ◌+◌, ◌^◌, ◌<◌, ◌≤◌, ◌∷◌, [], ℕ, List, length, take, IfOk};
 ghost use Rattle.log_model.specs.Halts.{IfFault, OnShort};
-ghost use Rattle.vio.specs.Calls.{Called, MetEnd, Take};
+ghost use Rattle.vio.specs.Calls.{Called};
 ghost use Rattle.varnish_log.specs.Parts.{capacity};
 ghost use Rattle.varnish_log.specs.Taken.{AreTaken};
 ghost use Rattle.varnish_log.specs.Copied.{CopiedThen, IsEnd, IsLog, IsNoLog, IsPlace, IsStarved, IsStopped};
@@ -120,8 +120,8 @@ fn place_of(form: LogForm, came: u64, counts: Counts) -> u64
     }
 }
 
-/// Copies a piece: reads more than is held, writes the units of what is whole, and holds the rest; none at the end of the
-/// input.
+/// Copies a piece: reads more than is held, writes the units of what is whole, and holds the rest. At the end of the input
+/// no more came.
 fn copy_piece<W: World>(
     alloc: Global,
     world: &mut W,
@@ -130,13 +130,12 @@ fn copy_piece<W: World>(
     tags: &mut TagCache,
     buffer: &mut [u8],
     at: Progress,
-) -> Result<Option<Progress>, Halt<CopyFault>>
+) -> Result<Progress, Halt<CopyFault>>
     requires size { length buffer.old ≡ capacity }
     requires held { at.held < capacity }
     requires came { (at.held ≤ at.came) × (at.came + capacity < 2 ^ 64) }
-    ensures piece { IfOk result (λ o. IfSome o (λ next. Called (IsCopiedPiece how ends (so_far at buffer.old) (so_far next buffer.new)) (W.seen world.old) (W.seen world.new))) }
-    ensures within { IfOk result (λ o. IfSome o (λ next. (next.held ≤ next.came) × (next.held < capacity) × (at.came < next.came) × (next.came ≤ at.came + capacity))) }
-    ensures end { IfOk result (λ o. IfNone o (Called (λ calls. calls ≡ Take ends.input [] MetEnd ∷ []) (W.seen world.old) (W.seen world.new))) }
+    ensures piece { IfOk result (λ next. Called (IsCopiedPiece how ends (so_far at buffer.old) (so_far next buffer.new)) (W.seen world.old) (W.seen world.new)) }
+    ensures within { IfOk result (λ next. (next.held ≤ next.came) × (next.held < capacity) × (at.came ≤ next.came) × (next.came ≤ at.came + capacity)) }
     ensures fault { IfFault result (λ fault. Called (IsStopped how ends.input ends.output fault (so_far at buffer.old)) (W.seen world.old) (W.seen world.new)) }
     ensures short { OnShort result (Called (IsStarved how ends.input ends.output (so_far at buffer.old)) (W.seen world.old) (W.seen world.new)) }
     ensures size { length buffer.new ≡ length buffer.old }
@@ -144,9 +143,6 @@ fn copy_piece<W: World>(
     let Ok(n) = read_behind(buffer, at.held, ends.input, world) else {
         return Err(Halt::Fault(CopyFault::ReadFault));
     };
-    if n == 0 {
-        return Ok(None);
-    }
     let mut text = Vec::new(alloc);
     let whole = take_whole(alloc, how, tags, buffer, at.held + n, at.counts, &mut text)?;
     match write_all(world, ends.output, text.as_slice()) {
@@ -158,11 +154,11 @@ fn copy_piece<W: World>(
     let came = at.came + n as u64;
     let place = place_of(how.form, came - left as u64, counts);
     match stop {
-        Stop::GoesOn => Ok(Some(Progress {
+        Stop::GoesOn => Ok(Progress {
             came,
             held: left,
             counts,
-        })),
+        }),
         Stop::Damaged => Err(Halt::Fault(CopyFault::Damaged { at: place })),
         Stop::Lost(loss) => Err(Halt::Fault(CopyFault::Lost { loss, at: place })),
     }
@@ -177,7 +173,7 @@ fn copy_parts<W: World>(
     first: &[u8],
 ) -> Result<Copied, Halt<CopyFault>>
     requires { length first.now ≤ 4 }
-    ensures copied { IfOk result (λ copied. Called (CopiedThen how ends.input ends.output first.now (IsEnd ends.input copied)) (W.seen world.old) (W.seen world.new)) }
+    ensures copied { IfOk result (λ copied. Called (CopiedThen how ends.input ends.output first.now (IsEnd how ends.input ends.output copied)) (W.seen world.old) (W.seen world.new)) }
     ensures fault { IfFault result (λ fault. Called (CopiedThen how ends.input ends.output first.now (IsStopped how ends.input ends.output fault)) (W.seen world.old) (W.seen world.new)) }
     ensures short { OnShort result (Called (CopiedThen how ends.input ends.output first.now (IsStarved how ends.input ends.output)) (W.seen world.old) (W.seen world.new)) }
 {
@@ -192,13 +188,13 @@ fn copy_parts<W: World>(
     };
     while at.came < MOST_BYTES {
         match copy_piece(alloc, world, how, ends, &mut tags, &mut buffer, at) {
-            Ok(Some(next)) => at = next,
-            Ok(None) => {
+            Ok(next) if next.came == at.came => {
                 return Ok(Copied {
-                    counts: at.counts,
-                    left: at.held,
+                    counts: next.counts,
+                    left: next.held,
                 });
             }
+            Ok(next) => at = next,
             Err(halt) => return Err(halt),
         }
     }
@@ -213,7 +209,7 @@ pub fn copy_log<W: World>(
     input: u32,
     output: u32,
 ) -> Result<Copied, Halt<LogFault>>
-    ensures copied { IfOk result (λ copied. Called (IsLog how input (λ first. CopiedThen how input output first (IsEnd input copied))) (W.seen world.old) (W.seen world.new)) }
+    ensures copied { IfOk result (λ copied. Called (IsLog how input (λ first. CopiedThen how input output first (IsEnd how input output copied))) (W.seen world.old) (W.seen world.new)) }
     ensures fault { IfFault result (λ fault. Called (IsNoLog how input output fault) (W.seen world.old) (W.seen world.new)) }
     ensures short { OnShort result (Called (IsLog how input (λ first. CopiedThen how input output first (IsStarved how input output))) (W.seen world.old) (W.seen world.new)) }
 {

@@ -59,7 +59,7 @@ pub record Begun (job : Job) (IsRest : ℕ → ℕ → List Call → Type 0) (ca
 
 -- the log was copied to its end
 abbrev pub Copies : Job → Copied → List Call → Type 0
-Copies job copied calls = Begun job (λ input output rest. IsLog job.how input (λ first. CopiedThen job.how input output first (IsEnd input copied)) rest) calls
+Copies job copied calls = Begun job (λ input output rest. IsLog job.how input (λ first. CopiedThen job.how input output first (IsEnd job.how input output copied)) rest) calls
 
 -- what is written was created, and was empty, and not all of the header was written, marked so
 pub record HeaderStops (job : Job) (IsLast : ℕ → List ℕ → List Call) (calls : List Call) : Type 0 where

@@ -1,6 +1,6 @@
 use Rattle.std.proofs.Common.{◌≡◌, ◌++◌, Option, length, take, refl, sym, arith}
 use Rattle.std.proofs.lemmas.List.{length-append, length-take-le, take_at}
-use Rattle.varnish_log.proofs.CopyingLemmas.{copied_more, copied_then, each_fault, each_short, none_copied}
+use Rattle.varnish_log.proofs.CopyingLemmas.{copied_more, copied_then, ended_at, each_fault, each_short, none_copied}
 use Rattle.varnish_log.specs.Copied.{IsEnd, IsStarved, IsStopped}
 use Rattle.varnish_log.specs.inside.Copying.{so_far}
 use Rattle.varnish_log.specs.declared.copying.Copied.{Copied}
@@ -21,20 +21,20 @@ loop-at-init g c =
 
 pub loop-at-preserved : goal.loop-at-preserved
 loop-at-preserved g c =
-    let piece = rw c.in-Ok-Some.field-0-is at c.in-Ok-Some.ensures.piece in
-    let within = rw c.in-Ok-Some.field-0-is at c.in-Ok-Some.ensures.within in
     record {
-      called = copied_more c.args.how c.args.ends c.args.first.now (so_far c.loop-at.at c.loop-at.buffer) _ _ c.loop-at.invariant.called (so_far c.in-Ok-Some.next c.copy_piece.new.buffer) _ piece;
+      called = copied_more c.args.how c.args.ends c.args.first.now (so_far c.loop-at.at c.loop-at.buffer) _ _ c.loop-at.invariant.called (so_far c.in-Ok.next c.copy_piece.new.buffer) _ (omega (arith, c.in-Ok.ensures.within.2)) c.in-Ok.ensures.piece;
       size = omega (arith, c.copy_piece.ensures.size, c.loop-at.invariant.size);
-      room = within.1;
-      few = within.0;
+      room = c.in-Ok.ensures.within.1;
+      few = c.in-Ok.ensures.within.0;
     }
 
-pub returns-in-Ok-None-clause-copied : goal.returns-in-Ok-None-clause-copied
-returns-in-Ok-None-clause-copied g c =
-    let ended = rw c.in-Ok-None.field-0-is at c.in-Ok-None.ensures.end in
-    copied_then c.args.how c.args.ends c.args.first.now (so_far c.loop-at.at c.loop-at.buffer) _ _ c.loop-at.invariant.called (IsEnd c.args.ends.input (record { counts = c.loop-at.at.counts; left = c.loop-at.at.held })) _
-    (record { calls = ended.calls; did = ended.did; is = (ended.is, refl, sym (length-take-le c.loop-at.at.held c.loop-at.buffer (omega (arith, c.loop-at.invariant.room, c.loop-at.invariant.size)))) })
+pub returns-in-Ok-clause-copied : goal.returns-in-Ok-clause-copied
+returns-in-Ok-clause-copied g c =
+    let copied : Copied = record { counts = c.in-Ok.next.counts; left = c.in-Ok.next.held } in
+    let now = so_far c.in-Ok.next c.copy_piece.new.buffer in
+    let left = sym (length-take-le c.in-Ok.next.held c.copy_piece.new.buffer (omega (arith, c.in-Ok.ensures.within.1, c.copy_piece.ensures.size, c.loop-at.invariant.size))) in
+    copied_then c.args.how c.args.ends c.args.first.now (so_far c.loop-at.at c.loop-at.buffer) _ _ c.loop-at.invariant.called (IsEnd c.args.how c.args.ends.input c.args.ends.output copied) _
+    (ended_at c.args.how c.args.ends (so_far c.loop-at.at c.loop-at.buffer) now copied _ _ c.if-next-at.true refl left c.in-Ok.ensures.piece)
 
 pub returns-in-Err-clause-fault : goal.returns-in-Err-clause-fault
 returns-in-Err-clause-fault g c =

@@ -5,7 +5,7 @@ use Rattle.vslog.proofs.work.work.Goals as goal
 
 pub returns-in-Ok-clause-copied : goal.returns-in-Ok-clause-copied
 returns-in-Ok-clause-copied g c =
-    begun_then (job_as c.args.job) c.in_ok-ends.ends (λ input output rest. IsLog c.args.job.how input (λ first. CopiedThen c.args.job.how input output first (IsEnd input c.in-Ok.copied)) rest) _ _ _ c.in_ok-ends.ensures.begun c.in-Ok.ensures.copied
+    begun_then (job_as c.args.job) c.in_ok-ends.ends (λ input output rest. IsLog c.args.job.how input (λ first. CopiedThen c.args.job.how input output first (IsEnd c.args.job.how input output c.in-Ok.copied)) rest) _ _ _ c.in_ok-ends.ensures.begun c.in-Ok.ensures.copied
 
 pub returns-in-Err-Fault-clause-fault : goal.returns-in-Err-Fault-clause-fault
 returns-in-Err-Fault-clause-fault g c =
