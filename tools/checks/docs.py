@@ -2,6 +2,7 @@
 
 import re
 
+import definitions
 import options
 from checks.running import TOP, Failed
 
@@ -136,6 +137,20 @@ def citations():
     return count
 
 
+def choices():
+    """Each choice of DECISIONS names definitions of specs/, or items of src/, that state it."""
+    stated = {name for spec in definitions.Index().specs for name in (*spec.items, *spec.constructors)}
+    for path in (TOP / "crates").glob("*/src/**/*.rt"):
+        stated.update(found(r"\b(?:fn|const|static) (\w+)", path.read_text()))
+    rows = found(r"^\| .* \| ((?:`[^`]+`(?:, )?)+) \|$", read("docs/DECISIONS.md"))
+    if not rows:
+        raise Failed("docs/DECISIONS.md has no choices")
+    for name in re.findall(r"`([^`]+)`", "\n".join(rows)):
+        if name not in stated:
+            raise Failed(f"docs/DECISIONS.md has a choice that `{name}` states, which is neither in specs/ nor in src/")
+    return len(rows)
+
+
 def check(_):
-    counts = documents(), crates(), version(), messages(), edits(), citations()
-    return "%d documents, %d crates, %d places of the version, %d messages, %d edits, %d files" % counts
+    counts = documents(), crates(), version(), messages(), edits(), choices(), citations()
+    return "%d documents, %d crates, %d places of the version, %d messages, %d edits, %d choices, %d files" % counts
