@@ -6,8 +6,9 @@ Usage: tools/options.py            prints a line of tool, option and kind for ea
        tools/options.py --check    says whether that stands as it would be written; the status is 1 where it doesn't
 
 Made are the usage and the paragraphs of options in the help, which is `HELP` in crates/vtools/src/answers.rt, and the
-case of the help; the tables of docs/FORMATS.md and of docs/COMING_FROM_VARNISH.md; and SYNOPSIS and OPTIONS of
-docs/man/*.1. In documents they stand between two comments. tools/completion.py makes the completion of the same rows.
+case of the help; the tables of docs/formats/command-line.md and of docs/COMING_FROM_VARNISH.md; and SYNOPSIS and
+OPTIONS of docs/man/*.1. In documents they stand between two comments. tools/completion.py makes the completion of the
+same rows, tools/tables.py the tables of docs/formats that are of no options.
 
 The tool is `vtools` for the options before the tool. The kind is `flag`, `value` (the option takes one) or `absent` (an
 option of Varnish that is left out). Lines above a row: `OPTION VALUE` and what the help says of it, in the help's own
@@ -24,7 +25,7 @@ from pathlib import Path
 TOP = Path(__file__).resolve().parent.parent
 SOURCE = TOP / "crates/tool_words/src/options.rt"
 ANSWERS = TOP / "crates/vtools/src/answers.rt"
-FORMATS = TOP / "docs/FORMATS.md"
+COMMAND_LINE = TOP / "docs/formats/command-line.md"
 COMING_FROM = TOP / "docs/COMING_FROM_VARNISH.md"
 TOOLS = ("varnishlog", "varnishncsa", "varnishtop", "varnishstat")
 PAGES = {tool: TOP / f"docs/man/vtools-{tool}.1" for tool in TOOLS} | {"vtools": TOP / "docs/man/vtools.1"}
@@ -280,11 +281,11 @@ def page_options(tool):
     return "\n".join(f".TP\n{shown_words(option)}\n{roff(option.of('page:'))}" for option in here(tool))
 
 
-def between(path, parts, marks):
-    """The text of a file, with each part between two comments."""
+def between(path, parts, marks, maker="tools/options.py"):
+    """The text of a file, with each part between two comments, which name what makes it."""
     text = path.read_text()
     for name, made in parts.items():
-        begin, end = (marks.replace("@", line) for line in (f"made by tools/options.py: {name}", "made until here"))
+        begin, end = (marks.replace("@", line) for line in (f"made by {maker}: {name}", "made until here"))
         before, found, rest = text.partition(begin)
         _, ended, after = rest.partition(end)
         if not found or not ended:
@@ -301,7 +302,7 @@ def all_made():
     for case in (TOP / "cases").rglob("help_is_printed"):
         yield case / "stdout", HELP.search(answers)[0]
     tables = {"options before the tool": words_table(), "options of the tools": letters_table()}
-    yield FORMATS, between(FORMATS, tables, "<!-- @ -->\n")
+    yield COMMAND_LINE, between(COMMAND_LINE, tables, "<!-- @ -->\n")
     yield COMING_FROM, between(COMING_FROM, {"options": varnish_table()}, "<!-- @ -->\n")
     for tool, page in PAGES.items():
         parts = {"usage": page_usage(tool), "options": page_options(tool)}

@@ -1,9 +1,11 @@
 """Checks the documents beside the repository: crates, version, messages, edits of wrong bodies, and what is cited."""
 
+import functools
 import re
 
 import definitions
 import options
+import tables
 from checks.running import TOP, Failed
 
 # Each man page with the program that it is of.
@@ -16,6 +18,11 @@ DOCUMENTS = [
     *["docs/DECISIONS.md", "docs/GUIDE.md", "docs/COMING_FROM_VARNISH.md", "docs/SPEED.md"],
     *[f"docs/man/{page}.1" for page in PAGES],
 ]
+# The index of the formats, and the folder of its pages.
+FORMATS, FORMATS_PAGES = "docs/FORMATS.md", "docs/formats"
+# Titles in quotes, with commas between them, that stand behind or before the name of the index.
+TITLES = r'"[^"]{2,60}"(?:(?:,| and|, and) "[^"]{2,60}")*'
+CITED = re.compile(rf'FORMATS(?:\]\([^)]*\))?, ({TITLES})|({TITLES}) in \[?FORMATS')
 # What is no text of the repository's own: what is made, and the data of examples, cases and programs.
 NO_TEXT = re.compile(r"(\.git|bin|examples)/|.*/out/|cases/[^/]*/|crates/[^/]*/data/|docs/DEFINITIONS\.md")
 NUMBERED = re.compile(
@@ -53,6 +60,77 @@ def documents():
     return len(DOCUMENTS)
 
 
+def formats():
+    """The text of each page of the formats, by its name in docs/."""
+    return {f"formats/{path.name}": path.read_text() for path in sorted((TOP / FORMATS_PAGES).glob("*.md"))}
+
+
+def headings(text):
+    """The titles of a document: of its lines that begin with number signs, outside of code."""
+    return found(r"^#+ (.*)$", re.sub(r"^```.*?^```$", "", text, flags=re.M | re.S))
+
+
+def anchor(title):
+    """The name by which a link finds a title in its document."""
+    return re.sub(r"[^\w\- ]", "", title.lower()).replace(" ", "-")
+
+
+@functools.cache
+def all_files():
+    """The files of the repository's own text: their names, each with its bytes as characters."""
+    names = ((path, path.relative_to(TOP).as_posix()) for path in sorted(TOP.rglob("*")))
+    own = [(path, name) for path, name in names if not NO_TEXT.match(name) and path.is_file()]
+    return [(name, path.read_bytes().decode("latin-1")) for path, name in own]
+
+
+def sections():
+    """The index has each section of the pages of formats, and each that is cited; no page is without a row."""
+    pages, titles = formats(), []
+    rows = re.findall(r"^\| \[.*?\]\((.*?)\) \|.*\| (.*) \|$", read(FORMATS), re.M)
+    if [name for name, _ in rows if name not in pages] or len(rows) != len(pages):
+        raise Failed(f"the rows of {FORMATS} are not those of the pages in {FORMATS_PAGES}")
+    for name, cell in rows:
+        listed = re.findall(r'"(.*?)"', cell)
+        first, *others = headings(pages[name])
+        if listed not in ([first, *others], others):
+            raise Failed(f"{FORMATS} has other sections of {name} than the page")
+        titles += listed
+    if len(set(titles)) != len(titles):
+        raise Failed(f"{FORMATS} has a section twice")
+    for name, text in all_files():
+        for behind, before in CITED.findall(re.sub(r"\s*\n\s*(?://[/!]?|--|#)?\s*", " ", text)):
+            for title in re.findall(r'"(.*?)"', behind or before):
+                if title not in titles:
+                    raise Failed(f'{name} cites the section "{title}" of the formats, which {FORMATS} has not')
+    return len(titles)
+
+
+def links():
+    """Each link of a document leads to a file that is there, and to a title of it."""
+    count, texts = 0, {name: read(name) for name in DOCUMENTS if name.endswith(".md")}
+    texts.update((f"docs/{name}", text) for name, text in formats().items())
+    for name, text in texts.items():
+        plain = re.sub(r"^```.*?^```$|`[^`\n]*`", "", text, flags=re.M | re.S)
+        for target in re.findall(r"\]\(([^)\s]+)\)", plain):
+            file, _, place = target.partition("#")
+            path = (TOP / name).parent / file if file else TOP / name
+            if re.match(r"[a-z]+:", target):
+                continue
+            if not path.exists():
+                raise Failed(f"{name} has a link to {target}, which is missing")
+            if place and place not in map(anchor, headings(path.read_text())):
+                raise Failed(f"{name} has a link to {target}, and {file or name} has no such title")
+            count += 1
+    return count
+
+
+def made():
+    """The tables of the source are as they would be made."""
+    for path, text in tables.all_made():
+        if path.read_text() != text:
+            raise Failed(f"{path.relative_to(TOP)} is not what `tools/tables.py --write` writes")
+
+
 def crates():
     """Each crate of crates.txt is named in PROOF and ARCHITECTURE."""
     names = found(r"^([a-z0-9_]+)(?: staticlib)?:", read("crates.txt"))
@@ -72,14 +150,15 @@ def printed_by(program):
 
 def version():
     """The newest release of CHANGELOG is what each program prints that it names; FORMATS and man pages have it."""
+    page = f"{FORMATS_PAGES}/command-line.md"
     release = re.search(r"^## ([0-9][0-9.]*), ([0-9-]*)$(.*?)(?=^## |\Z)", read("CHANGELOG.md"), re.M | re.S)
     number, date, said = release.groups()
     printed = {name: printed_by(name) for name in PAGES.values()}
     for name, version in printed.items():
         if f"`{name}` " in said and f"{name} {number}" != version:
             raise Failed(f"CHANGELOG.md has the release {number}, and the program is {version}")
-        if f"`{name} --version` prints `{version}`." not in read("docs/FORMATS.md").splitlines():
-            raise Failed(f"docs/FORMATS.md has not the version {version}")
+        if f"`{name} --version` prints `{version}`." not in read(page).splitlines():
+            raise Failed(f"{page} has not the version {version}")
     for page, name in PAGES.items():
         if f'"{date}" "{printed[name]}"' not in read(f"docs/man/{page}.1").split("\n")[0]:
             raise Failed(f'the header of {page}.1 has not "{date}" "{printed[name]}"')
@@ -94,15 +173,15 @@ def messages():
     texts |= set(found(r'eprintln!\(rt; "\{program\}: ([^{"]*[^{"])', read("crates/system_world/src/answers.rt")))
     all_codes = found(r'codes "([^"]*)"', read("crates/vslog/specs/Messages.antt"))
     of_vslog = {text.lstrip(": ") for text in all_codes} - {"vslog: ", "vslog:", "\\n", ""}
-    of_vtools = "### Errors as a person reads them", "Each text of a message"
-    for wanted, part in (texts, of_vtools), (of_vslog, ("### What vslog says", "##")):
-        rows = between(read("docs/FORMATS.md"), *part)
+    of_vtools = "messages", "## Errors as a person reads them"
+    for wanted, (page, title) in (texts, of_vtools), (of_vslog, ("varnish-log", "## What vslog says")):
+        rows = between(read(f"{FORMATS_PAGES}/{page}.md"), title, "##")
         table = "\n".join(row for row in rows if row.startswith("|"))
         if not wanted:
             raise Failed("the source has no messages")
         for text in sorted(wanted):
             if text not in table:
-                raise Failed(f"docs/FORMATS.md has no row of the message `{text}` under {part[0]}")
+                raise Failed(f"{FORMATS_PAGES}/{page}.md has no row of the message `{text}` under {title}")
     return len(texts) + len(of_vslog)
 
 
@@ -123,18 +202,12 @@ def edits():
 
 def citations():
     """No file cites a numbered paper, or a path outside the repository."""
-    count = 0
-    for path in sorted(TOP.rglob("*")):
-        name = path.relative_to(TOP).as_posix()
-        if NO_TEXT.match(name) or not path.is_file():
-            continue
-        count += 1
-        text = path.read_bytes().decode("latin-1")
+    for name, text in all_files():
         for pattern, what in (NUMBERED, "cites a number"), (OUTSIDE, "names a path outside the repository"):
             if re.search(pattern.pattern, text, re.M):
                 lines = [f"{at}: {line}" for at, line in enumerate(text.split("\n"), 1) if pattern.search(line)]
                 raise Failed("\n".join([f"{name} {what}:", *lines[:5]]))
-    return count
+    return len(all_files())
 
 
 def choices():
@@ -152,5 +225,9 @@ def choices():
 
 
 def check(_):
-    counts = documents(), crates(), version(), messages(), edits(), choices(), citations()
-    return "%d documents, %d crates, %d places of the version, %d messages, %d edits, %d choices, %d files" % counts
+    made()
+    counts = documents(), sections(), links(), crates(), version(), messages(), edits(), choices(), citations()
+    return (
+        "%d documents, %d sections of formats, %d links, %d crates, %d places of the version, %d messages, %d edits, "
+        "%d choices, %d files" % counts
+    )

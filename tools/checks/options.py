@@ -3,7 +3,7 @@
 import re
 
 import options
-from checks.docs import PAGES, read
+from checks.docs import PAGES, formats, read
 from checks.running import TOP, Failed
 
 
@@ -13,14 +13,14 @@ def options_in(text):
 
 
 def of_pages():
-    """Each option of a man page is in FORMATS."""
-    known = options_in(read("docs/FORMATS.md"))
+    """Each option of a man page is in the formats."""
+    known = options_in("\n".join(formats().values()))
     for page in PAGES:
         lines = [line for line in read(f"docs/man/{page}.1").splitlines() if not line.startswith('.\\"')]
         text = re.sub(r"\\f[BIRP]", " ", "\n".join(lines)).replace("\\-", "-")
         unknown = options_in(text) - known
         if unknown:
-            raise Failed(f"options of docs/man/{page}.1 that are not in docs/FORMATS.md: {' '.join(sorted(unknown))}")
+            raise Failed(f"options of docs/man/{page}.1 that are not in docs/formats: {' '.join(sorted(unknown))}")
 
 
 def check(_):

@@ -3,7 +3,7 @@
 
     tools/reference/access_lines.py [-b] [-c] [-E] [-s] RAW       RAW is what `vtools varnishlog -g raw -r LOG` prints
 
-With -s the format is '%h %{Varnish:hitmiss}x %s %b %D', else the default. It follows the rules of docs/FORMATS.md, and
+With -s the format is '%h %{Varnish:hitmiss}x %s %b %D', else the default. It follows the rules of docs/formats, and
 uses no output of varnishncsa. All transactions must end in the log, none too late for the limits.
 """
 

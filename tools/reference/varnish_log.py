@@ -3,9 +3,9 @@
 
     tools/reference/varnish_log.py [-t] [--strict] FILE
 
-FILE is what `varnishlog -w` writes, or with -t what `varnishlog -g raw` prints. This follows docs/FORMATS.md,
-"Varnish's binary log" and "Lines of a listing", alone, and is made to be read, not to be fast. A record is its VXID,
-its mark (`c`, `b` or `-`), the name of its tag, and its payload. The counts go to standard error; where copying stops
+FILE is what `varnishlog -w` writes, or with -t what `varnishlog -g raw` prints. This follows FORMATS,
+"Varnish's own log" and "Lines of a listing", alone, and is made to be read, not to be fast. A record is its VXID, its
+mark (`c`, `b` or `-`), the name of its tag, and its payload. The counts go to standard error; where copying stops
 before the end, why and where goes there in their place, with status 1.
 """
 

@@ -1,4 +1,4 @@
-"""Log files and raw lines, by the rules of docs/FORMATS.md alone: all scripts here read and write them so.
+"""Log files and raw lines, by the rules of docs/formats alone: all scripts here read and write them so.
 
 A unit is its VXID, its mark (`c`, `b` or `-`), and its records, each the name of a tag and a payload.
 """
@@ -10,13 +10,13 @@ import struct
 HEADER = b"VSLOG-1\n"
 UNIT_TOP = 0xFE
 MOST_WORDS, MOST_PAYLOAD, MOST_VXID = 1048576, 4000, 1073741823
-FORMATS = pathlib.Path(__file__).resolve().parents[2] / "docs" / "FORMATS.md"
+TAGS_PAGE = pathlib.Path(__file__).resolve().parents[2] / "docs" / "formats" / "tags.md"
 MARKS = "-cb"  # by the two bits above a VXID
 
 
 def listed_tags():
     """The names of the tags by their numbers, by FORMATS, "Tags"; no tag has the number 0."""
-    text = FORMATS.read_text().split("\n## Tags\n")[1].split("\n## ")[0]
+    text = TAGS_PAGE.read_text().split("\n## Tags\n")[1].split("\n## ")[0]
     tags = {int(number): name for number, name in re.findall(r"(\d+) (\w+) \|", text)}
     endings, *messages = [line.strip("| ").split(" | ") for line in text.split("with eight tags each:")[1].split("\n") if line[:1] == "|"]
     for message, *numbers in messages[1:]:
