@@ -4,7 +4,7 @@ ghost use Rattle.std.specs.Prelude.{◌≡◌, ◌++◌, ◌∷◌, [], ℕ, map
 ghost use Rattle.std.specs.Result.{IsErrOf};
 ghost use Rattle.std.specs.Str.{IsUtf8};
 ghost use Rattle.std.specs.String.{string_bytes};
-ghost use Rattle.system_world.specs.Questions.{question_of};
+ghost use Rattle.system_world.specs.Questions.{is_help, question_of};
 ghost use Rattle.system_world.specs.declared.words.WordFault.TheVariants.{NoMemory};
 
 use std::alloc::{AllocError, Global};
@@ -36,7 +36,7 @@ impl From<AllocError> for WordFault {
 /// What the words of a command line ask of the program itself.
 #[derive(Clone, Copy, Debug, PartialEq, Eq)]
 pub enum Question {
-    /// `--help`: what the program does.
+    /// `--help` or `-h`: what the program does.
     Help,
     /// `--version`: which version it is.
     Version,
@@ -86,15 +86,22 @@ pub fn read_words(alloc: Global, env: &impl Env) -> Result<Vec<String>, WordFaul
     Ok(words)
 }
 
-/// What the words of a command line ask of the program itself, where `--help` or `--version` is the only one; all other words ask it
-/// for its work, and are answered by `None`.
+/// Whether a word asks for help: `--help` or `-h`.
+pub fn is_help(word: &str) -> bool
+    ensures { result ≡ is_help word.now }
+{
+    word == "--help" || word == "-h"
+}
+
+/// What the words of a command line ask of a program without tools, where `--help`, `-h` or `--version` is the only one; all other words
+/// ask it for its work, and are answered by `None`.
 pub fn read_question(words: &[String]) -> Option<Question>
     ensures { result ≡ question_of (map string_bytes words.now) }
 {
     let [word] = words else {
         return None;
     };
-    if word.as_str() == "--help" {
+    if is_help(word.as_str()) {
         return Some(Question::Help);
     }
     if word.as_str() == "--version" {
