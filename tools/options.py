@@ -5,8 +5,9 @@ Usage: tools/options.py            prints a line of tool, option and kind for ea
        tools/options.py --write    writes what is made of the rows
        tools/options.py --check    says whether that stands as it would be written; the status is 1 where it doesn't
 
-Made are the usage and the paragraphs of options in the help, which is `HELP` in crates/vtools/src/answers.rt, and the
-case of the help; the tables of docs/formats/command-line.md and of docs/COMING_FROM_VARNISH.md; and SYNOPSIS and
+Made are the usage and the paragraphs of options in the help, which is `HELP` in crates/vtools/src/help.rt; of these,
+and of the sentence and the example that the help has of a tool, the help of each tool there; the cases of all these,
+and of vslog's help; the tables of docs/formats/command-line.md and of docs/COMING_FROM_VARNISH.md; and SYNOPSIS and
 OPTIONS of docs/man/*.1. In documents they stand between two comments. tools/completion.py makes the completion of the
 same rows, tools/tables.py the tables of docs/formats that are of no options.
 
@@ -14,7 +15,9 @@ The tool is `vtools` for the options before the tool. The kind is `flag`, `value
 option of Varnish that is left out). Lines above a row: `OPTION VALUE` and what the help says of it, in the help's own
 lines; `page:` for the man pages; `varnish:` for how it is beside Varnish's own, for each tool or for all, and how it
 differs; `instead:` for what to do where it is left out. A text goes on in lines that are indented. A line that ends
-with a colon, and an empty one, begin a paragraph of the help. It proves nothing.
+with a colon, and an empty one, begin a paragraph of the help. What the help says of an option is said of all rows of
+its name that have no such lines; what ends with `; not of TOOL` is left out of the help of this tool. It proves
+nothing.
 """
 
 import re
@@ -24,12 +27,13 @@ from pathlib import Path
 
 TOP = Path(__file__).resolve().parent.parent
 SOURCE = TOP / "crates/tool_words/src/options.rt"
-ANSWERS = TOP / "crates/vtools/src/answers.rt"
+HELPS = TOP / "crates/vtools/src/help.rt"
 COMMAND_LINE = TOP / "docs/formats/command-line.md"
 COMING_FROM = TOP / "docs/COMING_FROM_VARNISH.md"
 TOOLS = ("varnishlog", "varnishncsa", "varnishtop", "varnishstat")
 PAGES = {tool: TOP / f"docs/man/vtools-{tool}.1" for tool in TOOLS} | {"vtools": TOP / "docs/man/vtools.1"}
 VSLOG_WORDS = TOP / "crates/vslog/src/words.rt"
+VSLOG_HELP = TOP / "crates/vslog/src/answers.rt"
 HELP_COLUMNS = 80
 KINDS = {"Flag": "flag", "Value": "value", "NotHere": "absent"}
 SETS = re.compile(r"^const (\w+): Tools = \(([a-z, ]+)\);$", re.M)
@@ -40,7 +44,8 @@ ROW = re.compile(r"\((?:b'(.)', (\w+)|\"(--[a-z-]+)\"), (\w+)(?:\(Choice::(\w+)(
 LABEL = re.compile(r"(`[^`]*`|page:|varnish:|instead:)(?: |$)")
 FORM = re.compile(r"^    /// ([^\n]*)\.\n    (\w+)(?:\(u32\))?,$", re.M)
 RANGE = re.compile(r"^        Choice::(\w+) => \(([\d_]+), ([\d_]+)\),$", re.M)
-HELP = re.compile(r'(?<=^const HELP: &str = "\\\n)(.*?)(?=^";$)', re.M | re.S)
+HELP = re.compile(r'^((?:pub )?const (\w*?)_?HELP: &str = "\\\n)(.*?)(?=^";$)', re.M | re.S)
+EXAMPLE = re.compile(r"^  (vtools [^\n]*)\n      ([^\n]*)$", re.M)
 
 
 def refuse(what):
@@ -154,14 +159,27 @@ def unbroken(usage):
     return made
 
 
-def help_usage():
-    """The usage of the program, in which no line is broken within brackets or within an option."""
-    used = {tool: unbroken(usage_of(tool, lambda option: option.words().replace(" ", "\0"))) for tool in PAGES}
-    lines = [f"vtools [OPTIONS] {tool} {used[tool]}" for tool in TOOLS]
-    lines.insert(-1, f"vtools {used['vtools']} TOOL .., as above without -r FILE")
+def help_usage(tool="TOOL"):
+    """The usage of a tool, or of all, in which no line is broken within brackets or within an option."""
+    used = {it: unbroken(usage_of(it, lambda option: option.words().replace(" ", "\0"))) for it in PAGES}
+    over_log = {it: f"vtools [OPTIONS] {it} {used[it]}" for it in TOOLS}
+    over_feeds = f"vtools {used['vtools']} {tool}"
+    if tool == "varnishstat":
+        lines = [f"{over_feeds} {used[tool]}"]
+    else:
+        lines = [over_log[tool]] if tool in TOOLS else list(over_log.values())
+        lines.insert(3, f"{over_feeds} .., as above without -r\0FILE")
     broken = textwrap.TextWrapper(HELP_COLUMNS - 8, subsequent_indent=" " * 7, break_on_hyphens=False)
     made = "\n".join(broken.fill(line) for line in lines)
     return "usage: " + made.replace("\0", " ").replace("\n", "\n" + " " * 7)
+
+
+def in_help(words, lines):
+    """What the help says of an option, behind its words."""
+    made = [f"{'' if at else '  ' + words:<20}{line}" for at, line in enumerate(lines)]
+    if max(map(len, made)) > HELP_COLUMNS:
+        refuse(f"the help of {words} is wider than {HELP_COLUMNS} columns")
+    return made
 
 
 def help_options():
@@ -169,12 +187,55 @@ def help_options():
     paragraphs = {}
     for option in all_options():
         for words, lines in option.helps.items():
-            for at, line in enumerate(lines):
-                made = f"{'' if at else '  ' + words:<20}{line}"
-                paragraphs.setdefault(option.paragraph, []).append(made)
-                if len(made) > HELP_COLUMNS:
-                    refuse(f"the help of {words} is wider than {HELP_COLUMNS} columns")
+            if lines:
+                paragraphs.setdefault(option.paragraph, []).extend(in_help(words, lines))
     return ["\n".join(lines) for lines in paragraphs.values()]
+
+
+def tool_options(tool):
+    """What the help of a tool says of its options."""
+    made, silent = [], []
+    for option in here(tool):
+        same = [option, *(it for it in all_options() if it.name == option.name)]
+        helps = next((it.helps for it in same if it.does()), {})
+        for words, lines in helps.items():
+            said, _, others = " ".join(lines).partition("; not of ")
+            if said and others != tool:
+                made += in_help(words, textwrap.wrap(said, HELP_COLUMNS - 20) if others else lines)
+        if not helps:
+            silent.append(option.name)
+    none = [f"Taken too, and of no effect: {', '.join(silent)}."] if silent else []
+    return "\n\n".join(["\n".join(made), *none])
+
+
+def tool_help(text, tool):
+    """The help of a tool, by the help of the program and the rows."""
+    paragraphs = text.split("\n\n")
+
+    def paragraph(begin):
+        found = [it for it in paragraphs if it.startswith(begin)]
+        return found[0] if len(found) == 1 else refuse(f"the help has not one paragraph that begins with `{begin}`")
+
+    sentences = paragraph("varnishlog prints").replace("\n", " ").split(". ")
+    said = [sentence for sentence in sentences if sentence.startswith(f"{tool} ")]
+    shown = [f"  {command}\n      {does}" for command, does in EXAMPLE.findall(text) if f" {tool} " in command]
+    if len(said) != 1 or len(shown) != 1:
+        refuse(f"the help has not one sentence and one example of {tool}")
+    names = [option.name for option in here(tool)]
+    before = paragraph("In the place of -r FILE, before the tool").replace("\n", " ")
+    if "-r" not in names:
+        before = before.replace("In the place of -r FILE, before", "Before")
+    return "\n\n".join([
+        textwrap.fill(f"{said[0].removesuffix('.')}.", HELP_COLUMNS),
+        help_usage(tool),
+        tool_options(tool),
+        *([paragraph("The first -I or -X")] if "-I" in names else []),
+        textwrap.fill(before, HELP_COLUMNS),
+        tool_options("vtools"),
+        f"An example:\n\n{shown[0]}",
+        paragraph("Exit status"),
+        f"Manual: man {PAGES[tool].stem}.",
+    ]) + "\n"
 
 
 def help_made(text):
@@ -185,7 +246,19 @@ def help_made(text):
         refuse(f"the help has {len(places)} paragraphs of options, and not {len(made)}")
     for at, paragraph in zip(places, made):
         paragraphs[at] = paragraph
-    return "\n\n".join(help_usage() if paragraph.startswith("usage: ") else paragraph for paragraph in paragraphs)
+    return "\n\n".join(help_usage() if it.startswith("usage: ") else it for it in paragraphs)
+
+
+def all_helps():
+    """The source of the helps, and the text of each, by its name."""
+    source = HELPS.read_text()
+    names = {"": "vtools"} | {tool.removeprefix("varnish").upper(): tool for tool in TOOLS}
+    found = {names.get(name): text for _, name, text in HELP.findall(source)}
+    if list(found) != list(names.values()):
+        refuse(f"{HELPS.name} has not the texts of {', '.join(names.values())}")
+    text = help_made(found["vtools"])
+    helps = {"vtools": text} | {tool: tool_help(text, tool) for tool in TOOLS}
+    return HELP.sub(lambda it: it[1] + helps[names[it[2]]], source), helps
 
 
 def by_letter():
@@ -297,10 +370,13 @@ def between(path, parts, marks, maker="tools/options.py"):
 def all_made():
     """Each file in which something is made, with its text."""
     check_ranges()
-    answers = HELP.sub(lambda found: help_made(found[0]), ANSWERS.read_text())
-    yield ANSWERS, answers
-    for case in (TOP / "cases").rglob("help_is_printed"):
-        yield case / "stdout", HELP.search(answers)[0]
+    source, helps = all_helps()
+    yield HELPS, source
+    cases = {f"words/help_of_{tool}_is_printed": helps[tool] for tool in TOOLS}
+    cases["words/help_is_printed"] = helps["vtools"]
+    cases["varnish_logs/help_of_vslog_is_printed"] = HELP.search(VSLOG_HELP.read_text())[3]
+    for case, text in cases.items():
+        yield TOP / "cases" / case / "stdout", text
     tables = {"options before the tool": words_table(), "options of the tools": letters_table()}
     yield COMMAND_LINE, between(COMMAND_LINE, tables, "<!-- @ -->\n")
     yield COMING_FROM, between(COMING_FROM, {"options": varnish_table()}, "<!-- @ -->\n")

@@ -139,7 +139,7 @@ def write_pieces(path, pieces):
 def outputs(edges):
     """Standard output takes nothing. A run that writes nothing doesn't see it."""
     for words in (f"varnishlog -r {LOG}", "varnishlog -g raw -r one.log", f"varnishncsa -r {LOG}",
-                  f"varnishtop -1 -r {LOG}", "varnishstat -l", "--help", "--version"):
+                  f"varnishtop -1 -r {LOG}", "varnishstat -l", "--help", "varnishlog --help", "--version"):
         edges.unwritten(words)
     for out in FULL, CLOSED:
         edges.run(f"standard output {out} and nothing to write", "varnishlog -r header.log", out=out)
