@@ -3,10 +3,14 @@
 .PHONY: help check crate edits plant gate fmt docs definitions build run install uninstall demo
 
 PREFIX ?= /usr/local
+ZSH_FOLDER ?= share/zsh/site-functions
 installed := "$(DESTDIR)$(PREFIX)"
-completions := $(installed)/share/bash-completion/completions
-pages := $(notdir $(wildcard docs/man/*.1))
 programs := vtools vslog
+# what is installed beside the programs: where each file lies here, and where below PREFIX
+files := $(foreach page,$(notdir $(wildcard docs/man/*.1)),docs/man/$(page):share/man/man1/$(page)) \
+  $(foreach name,$(programs),completion/vtools.bash:share/bash-completion/completions/$(name)) \
+  $(foreach name,$(programs),completion/$(name).fish:share/fish/vendor_completions.d/$(name).fish) \
+  completion/_vtools:$(ZSH_FOLDER)/_vtools
 
 help: ## prints this list
 	@sed -n 's/^\([a-z]*\):.*## /\1\t/p' $(MAKEFILE_LIST)
@@ -44,14 +48,17 @@ run: build ## runs bin/vtools: ARGS="varnishlog -r FILE"
 	bin/vtools $(ARGS)
 
 install: build ## installs programs, man pages and completion: PREFIX=/usr/local DESTDIR=
-	for name in $(programs); do \
-	  install -D -m 755 bin/$$name $(installed)/bin/$$name && \
-	  install -D -m 644 completion/vtools.bash $(completions)/$$name || exit 1; done
-	for page in $(pages); do install -D -m 644 docs/man/$$page $(installed)/share/man/man1/$$page || exit 1; done
+	@$(MAKE) --no-print-directory place
+
+# what is in bin, proved or not
+.PHONY: place
+place:
+	@set -e; for name in $(programs); do install -D -m 755 bin/$$name $(installed)/bin/$$name; done
+	@set -e; for file in $(files); do install -D -m 644 $${file%:*} $(installed)/$${file#*:}; done
 
 uninstall: ## takes away the files of install, with the same PREFIX and DESTDIR
-	for name in $(programs); do rm -f $(installed)/bin/$$name $(completions)/$$name || exit 1; done
-	for page in $(pages); do rm -f $(installed)/share/man/man1/$$page || exit 1; done
+	@set -e; for name in $(programs); do rm -f $(installed)/bin/$$name; done
+	@set -e; for file in $(files); do rm -f $(installed)/$${file#*:}; done
 
 .PHONY: cases
 cases: build ## runs the command lines of cases/, and those that data can't say, over the proved program

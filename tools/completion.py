@@ -1,9 +1,11 @@
 #!/usr/bin/env python3
-"""Makes completion/vtools.bash, which completes command lines of vtools and vslog in bash, from tables of the source.
+"""Makes what completion/ has of the tables of the source, for command lines of vtools and vslog in bash, zsh and fish.
 
-Options and their values are those of tool_words, without the options that are left out, and of vslog those that it
-reads; tags are those of vsl_tags, and counters those of vsl_stat. With --write the file is written. Without it nothing
-is: it is said whether the file is what would be written, and the status is 1 where it isn't.
+Options, their values and what is said of them are those of tool_words, without the options that are left out, and of
+vslog those that it reads, as its help has them; tags are those of vsl_tags, counters those of vsl_stat, formatters
+those of ncsa_format, and what compares in a query that of query_parser. In the files they stand between two comments.
+With --write these are written. Without it nothing is: it is said whether the files have what would be written, and the
+status is 1 where one doesn't.
 """
 import re
 import sys
@@ -14,262 +16,64 @@ sys.dont_write_bytecode = True
 import options
 
 TOP = Path(__file__).resolve().parent.parent
-COMPLETION = TOP / "completion" / "vtools.bash"
-TAGS = TOP / "crates" / "vsl_tags" / "src" / "names.rt"
-COUNTERS = TOP / "crates" / "vsl_stat" / "src" / "table.rt"
+CRATES = TOP / "crates"
+COMPLETION = TOP / "completion"
+TAGS = CRATES / "vsl_tags/src/names.rt"
+COUNTERS = CRATES / "vsl_stat/src/table.rt"
+FORMATTERS = CRATES / "ncsa_format/src/formatter.rt"
+FORMAT = CRATES / "ncsa_format/src/format.rt"
+COMPARISONS = CRATES / "query_parser/src/operator.rt"
 # what is offered as the value of an option, by the value's name in the help, or else by its form; else nothing
-OF_VALUE = {"FILE": "file", "TAGLIST": "tag", "GLOB": "counter"}
+OF_VALUE = {"FILE": "file", "TAGLIST": "tag", "RULE": "rule", "GLOB": "counter", "FORMAT": "format", "TEXT": "query"}
 OF_FORM = {"AnyGrouping": "grouping", "AccessGrouping": "access_grouping"}
-
-TEMPLATE = r"""# Completes command lines of vtools and vslog in bash, 4.3 or later. tools/completion.py makes this file:
-# nobody writes in it. It needs no package. Read it with `source`, or install it where the package bash-completion finds
-# it by its name, once for each program.
-
-# Gives in `takes` what each option of the tool $1 takes, or without a tool each option before it: `flag` takes nothing,
-# and of a `text` nothing is known. An unknown tool has no options. vslog is a tool here, which takes files too.
-_vtools_options() {
-    case $1 in
-@OPTIONS@
-    *)
-        takes=()
-        ;;
-    esac
-}
-
-# Gives in `words` the words of a kind.
-_vtools_words() {
-    case $1 in
-    option)
-        words=${!takes[*]}
-        ;;
-@WORDS@
-    esac
-}
-
-# Gives in `typed` the words of the command line up to the cursor, of which the last may be empty. Bash has cut them at
-# the characters of COMP_WORDBREAKS too; only operators of `redirection` stay by themselves, with their number.
-_vtools_typed() {
-    local rest=${COMP_LINE:0:COMP_POINT} behind fragment index number='^[0-9]+$'
-    typed=()
-    for ((index = 0; index <= COMP_CWORD; index++)); do
-        behind=${rest#"${rest%%[![:space:]]*}"}
-        fragment=${COMP_WORDS[index]}
-        ((index < COMP_CWORD)) || fragment=$behind
-        if ((index == 0)) || [[ $behind != "$rest" || ${typed[-1]} =~ $redirection ]] ||
-            [[ $fragment =~ $redirection && ! ${typed[-1]} =~ $number ]]; then
-            typed+=("$fragment")
-        else
-            typed[-1]+=$fragment
-        fi
-        rest=${behind#"$fragment"}
-    done
-}
-
-# Reads a word of letters of options: gives in `wanted` the option that takes a value, if one does, and in `front` how
-# many characters stand before the value. It fails where the word has a letter that the tool doesn't take.
-_vtools_letters() {
-    local option
-    wanted=""
-    front=1
-    [[ $1 == -?* ]] || return 1
-    while ((front < ${#1})); do
-        option=-${1:front:1}
-        front=$((front + 1))
-        case ${takes[$option]-} in
-        "") return 1 ;;
-        flag) ;;
-        *)
-            wanted=$option
-            return 0
-            ;;
-        esac
-    done
-}
-
-# Gives in `plain` a text without its quotes, and in `kept` how many characters of it readline keeps and replaces none
-# of: up to a quote that is open, or else up to the last character of COMP_WORDBREAKS outside of quotes.
-_vtools_plain() {
-    local character quote="" opened=0 at
-    plain=""
-    kept=0
-    for ((at = 0; at < ${#1}; at++)); do
-        character=${1:at:1}
-        if [[ $character == "\\" && $quote != "'" ]]; then
-            at=$((at + 1))
-            plain+=${1:at:1}
-        elif [[ -n $quote && $character == "$quote" ]]; then
-            quote=""
-        elif [[ -z $quote && $character == [\"\'] ]]; then
-            quote=$character
-            opened=$((at + 1))
-        else
-            plain+=$character
-            if [[ -z $quote && ${COMP_WORDBREAKS-} == *"$character"* ]]; then
-                kept=$((at + 1))
-                [[ $character != @ ]] || kept=$at
-            fi
-        fi
-    done
-    [[ -z $quote ]] || kept=$opened
-}
-
-# Offers what the last word of `typed` can become when it has a value of kind $2 behind its first $1 characters.
-_vtools_offer() {
-    local front=$1 kind=$2 word=${typed[-1]} words="" plain kept names=() name offered before="" replaced=""
-    case $kind in
-    flag | text) return ;;
-    file)
-        _vtools_plain "${word:front}"
-        mapfile -t names < <(compgen -f -- "$plain")
-        compopt -o filenames 2>/dev/null || :
-        ;;
-    tag)
-        # the last name of a taglist
-        name=${word:front}
-        name=${name##*,}
-        front=$((${#word} - ${#name}))
-        ;;&
-    *)
-        _vtools_plain "${word:front}"
-        _vtools_words "$kind"
-        mapfile -t names < <(compgen -W "$words" -- "$plain")
-        ;;
-    esac
-
-    _vtools_plain "$word"
-    if ((kept < front)); then
-        before=${word:kept:front-kept}
-    else
-        _vtools_plain "${word:front:kept-front}"
-        replaced=$plain
-    fi
-    for name in "${names[@]}"; do
-        offered=$before${name#"$replaced"}
-        if [[ $kind == file && $offered != "$name" && -d $name ]]; then
-            # readline doesn't see that this is a folder
-            offered+=/
-            compopt -o nospace 2>/dev/null || :
-        fi
-        COMPREPLY+=("$offered")
-    done
-}
-
-# Gives in COMPREPLY what the word at the cursor can become. Behind an option that is refused nothing is offered.
-_vtools() {
-    local IFS=$' \t\n' typed=() tool="" wanted="" front=0 word is_target=false
-    local redirection='^[0-9]*[<>][<>&|]*$'
-    local -A takes=()
-    COMPREPLY=()
-    _vtools_options ""
-    _vtools_typed
-    ((${#typed[@]} > 1)) || return 0
-
-    for word in "${typed[@]:1:${#typed[@]}-2}"; do
-        if $is_target; then
-            is_target=false
-        elif [[ $word =~ $redirection ]]; then
-            is_target=true
-        elif [[ -n $wanted ]]; then
-            wanted=""
-        elif [[ -n $tool ]]; then
-            _vtools_letters "$word" || return 0
-            ((front == ${#word})) || wanted=""
-        elif [[ $word == -* ]]; then
-            case ${takes[$word]-} in
-            "") return 0 ;;
-            flag) ;;
-            *) wanted=$word ;;
-            esac
-        else
-            tool=$word
-            _vtools_options "$tool"
-        fi
-    done
-
-    word=${typed[-1]}
-    if $is_target; then
-        _vtools_offer 0 file
-    elif [[ -n $wanted ]]; then
-        _vtools_offer 0 "${takes[$wanted]}"
-    elif [[ -z $tool ]]; then
-        _vtools_offer 0 tool
-        _vtools_offer 0 option
-        ((${#typed[@]} > 2)) || _vtools_offer 0 alone
-    elif _vtools_letters "$word" && ((${#word} > 2)); then
-        if ((front < ${#word})); then
-            _vtools_offer "$front" "${takes[$wanted]}"
-        else
-            COMPREPLY=("$word")
-        fi
-    else
-        _vtools_offer 0 option
-    fi
-    return 0
-}
-
-complete -F _vtools vtools
-
-# The same for vslog, whose words begin with its options, and which may have the name of a log among them.
-_vslog() {
-    local IFS=$' \t\n' typed=() wanted="" front=0 word is_target=false
-    local redirection='^[0-9]*[<>][<>&|]*$'
-    local -A takes=()
-    COMPREPLY=()
-    _vtools_options vslog
-    _vtools_typed
-    ((${#typed[@]} > 1)) || return 0
-
-    for word in "${typed[@]:1:${#typed[@]}-2}"; do
-        if $is_target; then
-            is_target=false
-        elif [[ $word =~ $redirection ]]; then
-            is_target=true
-        elif [[ -n $wanted ]]; then
-            wanted=""
-        elif [[ $word == --* ]]; then
-            [[ -n ${takes[$word]-} ]] || return 0
-        elif [[ $word == -?* ]]; then
-            _vtools_letters "$word" || return 0
-            ((front == ${#word})) || wanted=""
-        fi
-    done
-
-    word=${typed[-1]}
-    if $is_target || [[ -n $wanted ]]; then
-        _vtools_offer 0 file
-    elif [[ $word == --* || $word == - ]]; then
-        _vtools_offer 0 option
-        ((${#typed[@]} > 2)) || _vtools_offer 0 alone
-    elif [[ $word != -* ]]; then
-        _vtools_offer 0 file
-    elif _vtools_letters "$word"; then
-        if ((front < ${#word})); then
-            _vtools_offer "$front" "${takes[$wanted]}"
-        else
-            COMPREPLY=("$word")
-        fi
-    fi
-    return 0
-}
-
-complete -F _vslog vslog
-"""
+# the words that are offered with what they are, or in longer texts
+LISTED = (*OF_FORM.values(), "tag", "counter", "formatter", "comparison")
 
 
 def kind_of(option):
     """What an option takes."""
     if option.kind == "flag":
         return "flag"
-    return OF_VALUE.get(option.value) or OF_FORM.get(option.form) or "text"
+    return OF_FORM.get(option.form) or OF_VALUE.get(option.value) or "text"
+
+
+def told(option):
+    """What an option does, in a few words."""
+    page = re.sub("[`*]", "", option.of("page:"))
+    text = option.does() if len(option.helps) == 1 and option.does() else page[0].lower() + page[1:]
+    return re.split(r"[;:.] |, as in ", text)[0].removesuffix(".")
+
+
+def taken(tool):
+    """Each option of a tool: its name, what it takes, the name of its value, and what it does."""
+    return [(option.name, kind_of(option), option.value, told(option)) for option in options.here(tool)]
+
+
+def taken_by_vslog():
+    """The same of vslog."""
+    text = options.HELP.search(options.VSLOG_HELP.read_text())[3]
+    rows = {name: (value, does) for name, value, does in re.findall(r"^  (--?\w+) ?([A-Z]*)  +(.*)$", text, re.M)}
+    read = options.of_vslog()
+    if not all(name in rows and bool(rows[name][0]) == has_value for name, has_value in read.items()):
+        sys.exit("completion: the help of vslog has not each of its options")
+    told = {name: (rows[name][0], re.split("[;,] ", rows[name][1])[0]) for name in read}
+    return [(name, "file" if value else "flag", value, does) for name, (value, does) in told.items()]
+
+
+def feeding():
+    """The options before the tool that feed."""
+    return [option.name for option in options.here("vtools") if option.form in ("FeedName", "CountAndSeed")]
 
 
 def form_words(name):
-    """The words that a form of values takes."""
-    return re.findall(r"`(\w+)`", options.form_words(name)) or sys.exit(f"completion: the form {name} names no words")
+    """The words that a form of values takes, each with what the help says of it."""
+    found = re.findall(r"`(\w+)`", options.form_words(name)) or sys.exit(f"completion: the form {name} names no words")
+    helps = {words: lines for option in options.all_options() for words, lines in option.helps.items()}
+    return {word: re.split("; ", " ".join(helps[f"-g {word}"]))[0] for word in found}
 
 
-def table_words(source, start, row):
-    """The first texts of the rows of a table, which begins with START and says how many there are."""
+def table_rows(source, start, row):
+    """The rows of a table, which begins with START and says how many there are."""
     table = re.search(re.escape(start) + r"[^\n]*; (\d+)\] = \[\n(.*?)^\];", source.read_text(), re.M | re.S)
     found = re.findall(row, table[2], re.M) if table else []
     if not found or len(found) != int(table[1]):
@@ -277,61 +81,156 @@ def table_words(source, start, row):
     return found
 
 
-def wrapped(text):
-    """A text in lines that fit into a branch."""
-    return textwrap.wrap(text, 100, break_long_words=False, break_on_hyphens=False)
+def variants(enum):
+    """The variants of an enum of FORMATTERS: for each its text, and what it is by the line above it, or by its name."""
+    body = re.search(rf"^pub enum {enum} \{{\n(.*?)^\}}", FORMATTERS.read_text(), re.M | re.S)[1]
+    found = re.findall(r"^    /// `([^`]+)`(?:, (.*))?\.\n    (\w+)", body, re.M)
+    return [(text, does or re.sub("(?<=[a-z])(?=[A-Z])", " ", name).lower()) for text, does, name in found]
 
 
-def branch(pattern, lines):
-    """A branch of a `case` of bash."""
-    return "\n".join([f"    {pattern})", *(f"        {line}" for line in lines), "        ;;"])
+def formatters():
+    """The formatters, each with what it is: a form or a header for each X, and of names with a key how they begin."""
+    headers = sorted(set(re.findall(r"%\{([\w-]+)\}([io])", FORMAT.read_text() + options.SOURCE.read_text())))
+    found = {}
+    for text, does in variants("Formatter"):
+        if text == "%{X}t":
+            found |= {f"%{{{form}}}t": of_form for form, of_form in variants("TimeForm") if form.islower()}
+        elif "X" in text:
+            found |= {text.replace("X", header): does for header, letter in headers if letter == text[-1]}
+        elif re.search(":(key|tag)", text):
+            found[re.sub("(key|tag).*", "", text)] = does
+        else:
+            found[text] = does
+    return found
 
 
-def options_branch(tool):
-    """The branch that says what each option of a tool takes."""
-    taken = [f"[{option.name}]={kind_of(option)}" for option in options.here(tool)]
-    pattern = '""' if tool == "vtools" else tool
-    return branch(pattern, ["takes=(", *(f"    {line}" for line in wrapped(" ".join(taken))), ")"])
-
-
-def vslog_branch():
-    """The branch that says what each option of vslog takes."""
-    taken = [f"[{name}]={'file' if has_value else 'flag'}" for name, has_value in options.of_vslog().items()]
-    return branch("vslog", [f"takes=({' '.join(taken)})"])
-
-
-def words_branch(kind, words):
-    """The branch that has the words of a kind."""
-    return branch(kind, wrapped(f'words="{" ".join(words)}"'))
-
-
-def completion():
-    """The text of the file."""
-    kinds = {
-        "tool": options.TOOLS,
-        "alone": ["--help", "--version"],
+def words():
+    """The words of each kind, each with what it is."""
+    counters = table_rows(COUNTERS, "static COUNTERS: [(&str, &str)", r'^    \("([\w.]+)", "([^"]*)"\),$')
+    tags = table_rows(TAGS, "static COLUMNS: [&str", r'^    "(\w+) *",$')
+    comparisons = re.findall(r'^        b"(\S+)" => Operator::', COMPARISONS.read_text(), re.M)
+    text = options.HELP.search(options.HELPS.read_text())[3]
+    return {
+        "tool": {tool: options.does_of(text, tool) for tool in options.TOOLS},
+        "feed": dict.fromkeys(feeding()),
         **{OF_FORM[form]: form_words(form) for form in OF_FORM},
-        "tag": table_words(TAGS, "static COLUMNS: [&str", r'^    "(\w+) *",$'),
-        "counter": table_words(COUNTERS, "static COUNTERS: [(&str, &str)", r'^    \("([\w.]+)", "[^"]*"\),$'),
+        "tag": dict.fromkeys(tags),
+        "counter": dict(counters),
+        "formatter": formatters(),
+        "comparison": dict.fromkeys(comparisons),
     }
-    branches = [*map(options_branch, ("vtools", *options.TOOLS)), vslog_branch()]
-    return TEMPLATE.replace("@OPTIONS@", "\n".join(branches)).replace(
-        "@WORDS@", "\n".join(words_branch(kind, words) for kind, words in kinds.items())
-    )
+
+
+def quoted(text):
+    """A text in single quotes, as bash and zsh read it."""
+    return "'" + text.replace("'", "'\\''") + "'"
+
+
+def wrapped(words, indent):
+    """Words in lines that are indented."""
+    blanks = " " * indent
+    return textwrap.fill(" ".join(words), 118, initial_indent=blanks, subsequent_indent=blanks, break_on_hyphens=False)
+
+
+def lines(rows, indent):
+    """Rows, each a line that is indented."""
+    return "\n".join(" " * indent + row for row in rows)
+
+
+def case_of(branches):
+    """The branches of a `case`, each with its lines."""
+    return "\n".join(f"    {pattern})\n{made}\n        ;;" for pattern, made in branches.items())
+
+
+def for_bash(rows, kinds):
+    """What the completion for bash has."""
+    taken = {tool: wrapped((f"[{name}]={kind}" for name, kind, _, _ in rows[tool]), 12) for tool in rows}
+    options = {'""' if tool == "vtools" else tool: f"        takes=(\n{taken[tool]}\n        )" for tool in rows}
+    words = {kind: wrapped([f"words='{' '.join(kinds[kind])}'"], 8) for kind in kinds}
+    return {"options": case_of(options), "words": case_of(words)}
+
+
+def zsh_option(name, kind, value, does):
+    """An option as `_arguments` of zsh reads it."""
+    told = re.sub(r"([\[\]])", r"\\\1", does)
+    if kind == "flag":
+        return quoted(f"*{name}[{told}]")
+    action = {"file": "_files", "text": " "}.get(kind, f"_vtools_{kind}")
+    return quoted(f"*{name}{'+' * (len(name) == 2)}[{told}]:{value}:{action}")
+
+
+def zsh_array(name, words):
+    """Words as an array, each with what it is behind a colon."""
+    told = [quoted(word.replace(":", "\\:") + (f":{does}" if does else "")) for word, does in words.items()]
+    return f"    {name}=(\n{lines(told, 8) if any(words.values()) else wrapped(told, 8)}\n    )"
+
+
+def for_zsh(rows, kinds):
+    """What the completion for zsh has."""
+    rows = {"feed": [row for row in rows["vtools"] if row[0] in kinds["feed"]], **rows}
+    made = {tool: lines((zsh_option(*row) for row in rows[tool]), 12) for tool in rows}
+    arrays = [zsh_array(f"{kind}s", kinds[kind]) for kind in ("tool", "feed", *LISTED)]
+    options = {tool: f"        specs=(\n{made[tool]}\n        )" for tool in rows}
+    return {"options": case_of(options), "words": "\n".join(arrays)}
+
+
+def fish_quoted(text):
+    """A text in single quotes, as fish reads it."""
+    return "'" + text.replace("\\", "\\\\").replace("'", "\\'") + "'"
+
+
+def fish_option(name, kind, _, does):
+    """An option as `complete` of fish reads it."""
+    taken = {"flag": "", "file": " -r -F", "text": " -x"}.get(kind, f" -x -a '(__vtools_{kind} {name[1:]})'")
+    return f"{'-s' if len(name) == 2 else '-l'} {name.lstrip('-')}{taken} -d {fish_quoted(does)}"
+
+
+def fish_list(name, words):
+    """Words as a list, each with what it is behind a tab."""
+    told = [fish_quoted(word) + (f"\\t{fish_quoted(does)}" if does else "") for word, does in words.items()]
+    made = lines(told, 4) if any(words.values()) else wrapped(told, 4)
+    return f"set -g __vtools_{name} \\\n" + made.replace("\n", " \\\n")
+
+
+def for_fish(rows, kinds):
+    """What the completion of vtools for fish has."""
+    valued = {name: None for name, kind, _, _ in rows["vtools"] if kind != "flag"}
+    lists = [fish_list(f"{kind}s", kinds[kind]) for kind in ("feed", *LISTED)] + [fish_list("valued", valued)]
+    given = [("__vtools_is_before", f"-a {tool} -d {fish_quoted(does)}") for tool, does in kinds["tool"].items()]
+    for row in rows["vtools"]:
+        given.append(("__vtools_is_before" if row[0] in kinds["feed"] else "__vtools_is_fed", fish_option(*row)))
+    for tool in kinds["tool"]:
+        given.append((f"'__vtools_is {tool}; and __vtools_has 2'", "-l help -d 'prints what the tool takes'"))
+        given += [(f"'__vtools_is {tool}'", fish_option(*row)) for row in rows[tool]]
+    options = (f"complete -c vtools -n {condition} {option}" for condition, option in given)
+    return {"words": lines(lists, 0), "options": lines(options, 0)}
+
+
+def for_vslog(rows, kinds):
+    """What the completion of vslog for fish has."""
+    return {"options": lines((f"complete -c vslog {fish_option(*row)}" for row in rows["vslog"]), 0)}
+
+
+def all_made():
+    """Each file of completion/, with its text."""
+    kinds = words()
+    rows = {tool: taken(tool) for tool in ("vtools", *options.TOOLS)} | {"vslog": taken_by_vslog()}
+    files = {"vtools.bash": for_bash, "_vtools": for_zsh, "vtools.fish": for_fish, "vslog.fish": for_vslog}
+    for name, made in files.items():
+        indent = "" if name.endswith(".fish") else "    "
+        maker = "tools/completion.py"
+        yield COMPLETION / name, options.between(COMPLETION / name, made(rows, kinds), f"{indent}# @\n", maker)
 
 
 def main():
     if sys.argv[1:] not in ([], ["--write"]):
         sys.exit("usage: tools/completion.py [--write]")
-    text = completion()
-    name = COMPLETION.relative_to(TOP)
-    if sys.argv[1:]:
-        COMPLETION.parent.mkdir(exist_ok=True)
-        COMPLETION.write_text(text)
-    elif not COMPLETION.is_file() or COMPLETION.read_text() != text:
-        sys.exit(f"completion: {name} is not what `tools/completion.py --write` writes")
-    else:
-        print(f"completion: {name} is up to date")
+    for path, text in list(all_made()):
+        if sys.argv[1:]:
+            path.write_text(text)
+        elif path.read_text() != text:
+            sys.exit(f"completion: {path.relative_to(TOP)} is not what `tools/completion.py --write` writes")
+    print("completion: all that is made is up to date")
 
 
 if __name__ == "__main__":

@@ -208,6 +208,12 @@ def tool_options(tool):
     return "\n\n".join(["\n".join(made), *none])
 
 
+def does_of(text, tool):
+    """What a tool does, by the sentence of the help that begins with its name."""
+    found = re.search(rf"(?:^|[.]\s+){tool}\s+([^.]*)[.]", text, re.M) or refuse(f"the help has no sentence of {tool}")
+    return " ".join(found[1].split())
+
+
 def tool_help(text, tool):
     """The help of a tool, by the help of the program and the rows."""
     paragraphs = text.split("\n\n")
@@ -216,17 +222,15 @@ def tool_help(text, tool):
         found = [it for it in paragraphs if it.startswith(begin)]
         return found[0] if len(found) == 1 else refuse(f"the help has not one paragraph that begins with `{begin}`")
 
-    sentences = paragraph("varnishlog prints").replace("\n", " ").split(". ")
-    said = [sentence for sentence in sentences if sentence.startswith(f"{tool} ")]
     shown = [f"  {command}\n      {does}" for command, does in EXAMPLE.findall(text) if f" {tool} " in command]
-    if len(said) != 1 or len(shown) != 1:
-        refuse(f"the help has not one sentence and one example of {tool}")
+    if len(shown) != 1:
+        refuse(f"the help has not one example of {tool}")
     names = [option.name for option in here(tool)]
     before = paragraph("In the place of -r FILE, before the tool").replace("\n", " ")
     if "-r" not in names:
         before = before.replace("In the place of -r FILE, before", "Before")
     return "\n\n".join([
-        textwrap.fill(f"{said[0].removesuffix('.')}.", HELP_COLUMNS),
+        textwrap.fill(f"{tool} {does_of(text, tool)}.", HELP_COLUMNS),
         help_usage(tool),
         tool_options(tool),
         *([paragraph("The first -I or -X")] if "-I" in names else []),
