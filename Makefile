@@ -40,8 +40,8 @@ definitions: ## makes docs/DEFINITIONS.md, which isn't committed, from specs/ an
 	tools/definitions.py --write
 
 build: ## proves and builds bin/vtools and bin/vslog
-	tools/build.py $(programs)
-	set -e; for name in $(programs); do \
+	@tools/build.py $(programs)
+	@set -e; for name in $(programs); do echo "$$name .."; \
 	  (cd crates/$$name && rt run -- --version); install -D crates/$$name/out/$$name bin/$$name; done
 
 run: build ## runs bin/vtools: ARGS="varnishlog -r FILE"
@@ -64,5 +64,5 @@ uninstall: ## takes away the files of install, with the same PREFIX and DESTDIR
 cases: build ## runs the command lines of cases/, and those that data can't say, over the proved program
 	tools/check cases edges --program bin/vtools
 
-demo: ## prints the first lines of a real log, by an unproved build that is thrown away
+demo: ## prints the slow requests of a real log, by an unproved build that is thrown away
 	@tools/demo.sh

@@ -4,9 +4,9 @@
 Each is a call of `rt lib`, once all below it are built, and at most one a processor. Each may use all processors, and
 where these don't suffice, those come first for which the longest chain of others waits. rt keeps others out of a
 crate's folder and of those below it, so each call is in one of as many copies of the crates, in a temporary folder; rt
-lends what was built in one to the others, and at last to this repository. A line tells the seconds of each; what a call
-printed is shown where it fails, and then the status is 1. What an earlier call proved is kept.
-Usage: tools/build.py CRATE ..
+lends what was built in one to the others, and at last to this repository. A line tells when each begins, and one how
+long it took; what a call printed is shown where it fails, and then the status is 1. What an earlier call proved is
+kept. Usage: tools/build.py CRATE ..
 """
 import os
 import pathlib
@@ -21,6 +21,7 @@ from concurrent.futures import FIRST_COMPLETED, ThreadPoolExecutor, wait
 
 TOP = pathlib.Path(__file__).resolve().parent.parent
 CRATES = TOP / "crates"
+FROM_NOTHING = "from nothing half an hour to an hour on four processors"
 
 
 def all_below(tops):
@@ -55,6 +56,11 @@ def copied_to(room):
     return room
 
 
+def lasted(seconds):
+    """So many seconds, for a person."""
+    return f"{seconds // 60:.0f} min {seconds % 60:.0f} s" if seconds >= 60 else f"{seconds:.0f} s"
+
+
 def build(name, rooms, lanes, nice):
     """Proves and builds a crate, whose libraries are built: its name, the status, what was printed, and the seconds."""
     begun, room = time.monotonic(), rooms.get()
@@ -71,12 +77,13 @@ def build_all(below, rooms):
     left, built, running = sorted(below, key=nice.get), set(), set()
     with ThreadPoolExecutor(lanes) as pool:
         while left or running:
-            ready = [it for it in left if built.issuperset(below[it])][:lanes - len(running)]
-            running |= {pool.submit(build, it, rooms, lanes, nice[it]) for it in ready}
-            left = [it for it in left if it not in ready]
+            for it in [it for it in left if built.issuperset(below[it])][:lanes - len(running)]:
+                left.remove(it)
+                print(f"{len(below) - len(left)} of {len(below)}: {it} ..", flush=True)
+                running.add(pool.submit(build, it, rooms, lanes, nice[it]))
             done, running = wait(running, return_when=FIRST_COMPLETED)
             for name, status, said, seconds in (it.result() for it in done):
-                print(f"{name}: {seconds:.0f} s", flush=True)
+                print(f"{name}: {lasted(seconds)}", flush=True)
                 if status:
                     print(said, flush=True)
                     return False
@@ -86,14 +93,17 @@ def build_all(below, rooms):
 
 def build_below(tops):
     """Builds the crates below these, and has them in this repository: the status."""
-    below, rooms = all_below(tops), queue.SimpleQueue()
+    begun, below, rooms = time.monotonic(), all_below(tops), queue.SimpleQueue()
+    print(f"{len(below)} crates, and then {' and '.join(tops)}: {FROM_NOTHING}; what was proved is kept", flush=True)
     with tempfile.TemporaryDirectory(prefix="build-") as folder:
         for number in range(len(os.sched_getaffinity(0))):
             rooms.put(copied_to(pathlib.Path(folder) / str(number)))
         if not build_all(below, rooms):
             return 1
         highest = [it for it in below if not any(it in others for others in below.values())]
-        return max((subprocess.run(["rt", "lib"], cwd=CRATES / it).returncode for it in highest), default=0)
+        status = max((subprocess.run(["rt", "lib"], cwd=CRATES / it).returncode for it in highest), default=0)
+    print(f"{len(below)} crates: {lasted(time.monotonic() - begun)}", flush=True)
+    return status
 
 
 if len(sys.argv) < 2 or not all((CRATES / name).is_dir() for name in sys.argv[1:]):
