@@ -60,6 +60,10 @@ uninstall: ## takes away the files of install, with the same PREFIX and DESTDIR
 	@set -e; for name in $(programs); do rm -f $(installed)/bin/$$name; done
 	@set -e; for file in $(files); do rm -f $(installed)/$${file#*:}; done
 
+.PHONY: deb
+deb: build ## makes a Debian package of what install puts, below bin/
+	@tools/deb.sh
+
 .PHONY: cases
 cases: build ## runs the command lines of cases/, and those that data can't say, over the proved program
 	tools/check cases edges --program bin/vtools
