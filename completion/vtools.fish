@@ -4,48 +4,46 @@
 
 # made by tools/completion.py: words
 set -g __vtools_feeds \
-    '--feed' '--gen'
+    --feed --gen
 set -g __vtools_groupings \
-    'raw'\t'takes each record by itself, in the order of the log' \
-    'vxid'\t'groups records by transaction' \
-    'request'\t'groups a request with all that it caused, as its fetch and its ESI parts' \
-    'session'\t'groups a client\'s session with all of its requests'
+    raw\t'takes each record by itself, in the order of the log' \
+    vxid\t'groups records by transaction' \
+    request\t'groups a request with all that it caused, as its fetch and its ESI parts' \
+    session\t"groups a client's session with all of its requests"
 set -g __vtools_access_groupings \
-    'vxid'\t'groups records by transaction' \
-    'request'\t'groups a request with all that it caused, as its fetch and its ESI parts'
+    vxid\t'groups records by transaction' \
+    request\t'groups a request with all that it caused, as its fetch and its ESI parts'
 set -g __vtools_tags \
-    'Debug' 'Error' 'CLI' 'SessOpen' 'SessClose' 'SessError' 'BackendOpen' 'BackendClose' 'Backend_health' \
-    'HttpGarbage' 'Proxy' 'ProxyGarbage' 'Length' 'FetchError' 'Fetch_Body' 'BogoHeader' 'LostHeader' 'TTL' 'VCL_acl' \
-    'VCL_call' 'VCL_trace' 'VCL_return' 'VCL_use' 'VCL_Log' 'VCL_Error' 'ReqStart' 'ReqAcct' 'BereqAcct' 'PipeAcct' \
-    'VfpAcct' 'Hit' 'HitMiss' 'HitPass' 'ExpBan' 'ExpKill' 'WorkThread' 'ESI_xmlerror' 'Hash' 'Gzip' 'Storage' \
-    'Timestamp' 'Begin' 'Link' 'End' 'VSL' 'Witness' 'Filters' 'Notice' 'H2RxHdr' 'H2RxBody' 'H2TxHdr' 'H2TxBody' \
-    'ReqMethod' 'ReqURL' 'ReqStatus' 'ReqReason' 'ReqProtocol' 'ReqHeader' 'ReqUnset' 'ReqLost' 'RespMethod' 'RespURL' \
-    'RespStatus' 'RespReason' 'RespProtocol' 'RespHeader' 'RespUnset' 'RespLost' 'BereqMethod' 'BereqURL' \
-    'BereqStatus' 'BereqReason' 'BereqProtocol' 'BereqHeader' 'BereqUnset' 'BereqLost' 'BerespMethod' 'BerespURL' \
-    'BerespStatus' 'BerespReason' 'BerespProtocol' 'BerespHeader' 'BerespUnset' 'BerespLost' 'ObjMethod' 'ObjURL' \
-    'ObjStatus' 'ObjReason' 'ObjProtocol' 'ObjHeader' 'ObjUnset' 'ObjLost'
+    Debug Error CLI SessOpen SessClose SessError BackendOpen BackendClose Backend_health HttpGarbage Proxy \
+    ProxyGarbage Length FetchError Fetch_Body BogoHeader LostHeader TTL VCL_acl VCL_call VCL_trace VCL_return VCL_use \
+    VCL_Log VCL_Error ReqStart ReqAcct BereqAcct PipeAcct VfpAcct Hit HitMiss HitPass ExpBan ExpKill WorkThread \
+    ESI_xmlerror Hash Gzip Storage Timestamp Begin Link End VSL Witness Filters Notice H2RxHdr H2RxBody H2TxHdr \
+    H2TxBody ReqMethod ReqURL ReqStatus ReqReason ReqProtocol ReqHeader ReqUnset ReqLost RespMethod RespURL RespStatus \
+    RespReason RespProtocol RespHeader RespUnset RespLost BereqMethod BereqURL BereqStatus BereqReason BereqProtocol \
+    BereqHeader BereqUnset BereqLost BerespMethod BerespURL BerespStatus BerespReason BerespProtocol BerespHeader \
+    BerespUnset BerespLost ObjMethod ObjURL ObjStatus ObjReason ObjProtocol ObjHeader ObjUnset ObjLost
 set -g __vtools_counters \
-    'MAIN.sess_conn'\t'Sessions accepted' \
-    'MAIN.client_req'\t'Good client requests received' \
-    'MAIN.cache_hit'\t'Cache hits' \
-    'MAIN.cache_hitpass'\t'Cache hits for pass' \
-    'MAIN.cache_hitmiss'\t'Cache hits for miss' \
-    'MAIN.cache_miss'\t'Cache misses' \
-    'MAIN.backend_conn'\t'Backend conn. success' \
-    'MAIN.backend_req'\t'Backend requests made' \
-    'MAIN.fetch_failed'\t'Fetch failed (all causes)' \
-    'MAIN.s_pipe'\t'Total pipe sessions seen' \
-    'MAIN.s_pass'\t'Total pass-ed requests seen' \
-    'MAIN.s_synth'\t'Total synthetic responses made' \
-    'MAIN.s_req_hdrbytes'\t'Request header bytes' \
-    'MAIN.s_req_bodybytes'\t'Request body bytes' \
-    'MAIN.s_resp_hdrbytes'\t'Response header bytes' \
-    'MAIN.s_resp_bodybytes'\t'Response body bytes' \
-    'MAIN.shm_records'\t'SHM records' \
-    'MAIN.shm_writes'\t'SHM writes' \
-    'MAIN.shm_flushes'\t'SHM flushes due to overflow' \
-    'MAIN.shm_cont'\t'SHM MTX contention' \
-    'MAIN.shm_cycles'\t'SHM cycles through buffer'
+    MAIN.sess_conn\t'Sessions accepted' \
+    MAIN.client_req\t'Good client requests received' \
+    MAIN.cache_hit\t'Cache hits' \
+    MAIN.cache_hitpass\t'Cache hits for pass' \
+    MAIN.cache_hitmiss\t'Cache hits for miss' \
+    MAIN.cache_miss\t'Cache misses' \
+    MAIN.backend_conn\t'Backend conn. success' \
+    MAIN.backend_req\t'Backend requests made' \
+    MAIN.fetch_failed\t'Fetch failed (all causes)' \
+    MAIN.s_pipe\t'Total pipe sessions seen' \
+    MAIN.s_pass\t'Total pass-ed requests seen' \
+    MAIN.s_synth\t'Total synthetic responses made' \
+    MAIN.s_req_hdrbytes\t'Request header bytes' \
+    MAIN.s_req_bodybytes\t'Request body bytes' \
+    MAIN.s_resp_hdrbytes\t'Response header bytes' \
+    MAIN.s_resp_bodybytes\t'Response body bytes' \
+    MAIN.shm_records\t'SHM records' \
+    MAIN.shm_writes\t'SHM writes' \
+    MAIN.shm_flushes\t'SHM flushes due to overflow' \
+    MAIN.shm_cont\t'SHM MTX contention' \
+    MAIN.shm_cycles\t'SHM cycles through buffer'
 set -g __vtools_formatters \
     '%h'\t'the address of the client or the backend' \
     '%l'\t'which is always missing' \
@@ -57,12 +55,12 @@ set -g __vtools_formatters \
     '%{msec_frac}t'\t'the milliseconds in the second, in three digits' \
     '%{usec_frac}t'\t'the microseconds in the second, in six digits' \
     '%r'\t'the request line' \
-    '%m'\t'method' \
+    '%m'\tmethod \
     '%U'\t'the URL up to its query' \
     '%q'\t'the query of the URL with its question mark' \
-    '%H'\t'protocol' \
-    '%s'\t'status' \
-    '%b'\t'bytes of the response\'s body' \
+    '%H'\tprotocol \
+    '%s'\tstatus \
+    '%b'\t"bytes of the response's body" \
     '%I'\t'bytes received' \
     '%O'\t'bytes sent' \
     '%{Host}i'\t'a header of the request' \
@@ -72,15 +70,15 @@ set -g __vtools_formatters \
     '%T'\t'how long it took, in seconds' \
     '%{Varnish:time_firstbyte}x'\t'first byte' \
     '%{Varnish:hitmiss}x'\t'hit miss' \
-    '%{Varnish:handling}x'\t'handling' \
-    '%{Varnish:side}x'\t'mark' \
-    '%{Varnish:vxid}x'\t'vxid' \
+    '%{Varnish:handling}x'\thandling \
+    '%{Varnish:side}x'\tmark \
+    '%{Varnish:vxid}x'\tvxid \
     '%{VCL_Log:'\t'log key' \
     '%{VSL:'\t'tag part'
 set -g __vtools_comparisons \
-    '==' '!=' '<' '<=' '>' '>=' 'eq' 'ne' '~' '!~'
+    '==' '!=' '<' '<=' '>' '>=' eq ne '~' '!~'
 set -g __vtools_valued \
-    '--feed' '--gen' '--turns' '--ring' '--reclen'
+    --feed --gen --turns --ring --reclen
 # made until here
 
 # Prints the tool that the words before the cursor's have, or nothing.
@@ -230,12 +228,12 @@ complete -c vtools -n '__vtools_is varnishlog; and __vtools_has 2' -l help -d 'p
 complete -c vtools -n '__vtools_is varnishlog' -s r -r -F -d 'reads the log file FILE'
 complete -c vtools -n '__vtools_is varnishlog' -s g -x -a '(__vtools_grouping g)' -d 'which records are a group'
 complete -c vtools -n '__vtools_is varnishlog' -s L -x -d 'keeps at most N transactions pending, 1 to 1000000'
-complete -c vtools -n '__vtools_is varnishlog' -s T -x -d 'force-completes a transaction that began more than N seconds before the log\'s time, 1 to 1000000'
+complete -c vtools -n '__vtools_is varnishlog' -s T -x -d "force-completes a transaction that began more than N seconds before the log's time, 1 to 1000000"
 complete -c vtools -n '__vtools_is varnishlog' -s q -x -a '(__vtools_query q)' -d 'takes only groups for which the query TEXT holds'
 complete -c vtools -n '__vtools_is varnishlog' -s Q -r -F -d 'reads queries from FILE, one a line'
 complete -c vtools -n '__vtools_is varnishlog' -s k -x -d 'takes the first N groups, shown or not, and reads no more, 1 to 999999999'
 complete -c vtools -n '__vtools_is varnishlog' -s b -d 'shows requests to a backend, and no other transactions but those of -c and -E'
-complete -c vtools -n '__vtools_is varnishlog' -s c -d 'shows clients\' requests, and no other transactions but those of -b and -E'
+complete -c vtools -n '__vtools_is varnishlog' -s c -d "shows clients' requests, and no other transactions but those of -b and -E"
 complete -c vtools -n '__vtools_is varnishlog' -s E -d 'the same as -c, with requests for ESI parts'
 complete -c vtools -n '__vtools_is varnishlog' -s C -d 'asks patterns, and texts of queries, without regard to case'
 complete -c vtools -n '__vtools_is varnishlog' -s d -d 'taken, and of no effect, because a log is read from its beginning anyway'
@@ -251,12 +249,12 @@ complete -c vtools -n '__vtools_is varnishncsa; and __vtools_has 2' -l help -d '
 complete -c vtools -n '__vtools_is varnishncsa' -s r -r -F -d 'reads the log file FILE'
 complete -c vtools -n '__vtools_is varnishncsa' -s g -x -a '(__vtools_access_grouping g)' -d 'which transactions are a group'
 complete -c vtools -n '__vtools_is varnishncsa' -s L -x -d 'keeps at most N transactions pending, 1 to 1000000'
-complete -c vtools -n '__vtools_is varnishncsa' -s T -x -d 'force-completes a transaction that began more than N seconds before the log\'s time, 1 to 1000000'
+complete -c vtools -n '__vtools_is varnishncsa' -s T -x -d "force-completes a transaction that began more than N seconds before the log's time, 1 to 1000000"
 complete -c vtools -n '__vtools_is varnishncsa' -s q -x -a '(__vtools_query q)' -d 'takes only groups for which the query TEXT holds'
 complete -c vtools -n '__vtools_is varnishncsa' -s Q -r -F -d 'reads queries from FILE, one a line'
 complete -c vtools -n '__vtools_is varnishncsa' -s k -x -d 'takes the first N groups, shown or not, and reads no more, 1 to 999999999'
 complete -c vtools -n '__vtools_is varnishncsa' -s b -d 'shows requests to a backend, and no other transactions but those of -c and -E'
-complete -c vtools -n '__vtools_is varnishncsa' -s c -d 'shows clients\' requests, and no other transactions but those of -b and -E'
+complete -c vtools -n '__vtools_is varnishncsa' -s c -d "shows clients' requests, and no other transactions but those of -b and -E"
 complete -c vtools -n '__vtools_is varnishncsa' -s E -d 'the same as -c, with requests for ESI parts'
 complete -c vtools -n '__vtools_is varnishncsa' -s C -d 'asks patterns, and texts of queries, without regard to case'
 complete -c vtools -n '__vtools_is varnishncsa' -s d -d 'taken, and of no effect, because a log is read from its beginning anyway'
@@ -267,12 +265,12 @@ complete -c vtools -n '__vtools_is varnishtop; and __vtools_has 2' -l help -d 'p
 complete -c vtools -n '__vtools_is varnishtop' -s r -r -F -d 'reads the log file FILE'
 complete -c vtools -n '__vtools_is varnishtop' -s g -x -a '(__vtools_grouping g)' -d 'which records are a group'
 complete -c vtools -n '__vtools_is varnishtop' -s L -x -d 'keeps at most N transactions pending, 1 to 1000000'
-complete -c vtools -n '__vtools_is varnishtop' -s T -x -d 'force-completes a transaction that began more than N seconds before the log\'s time, 1 to 1000000'
+complete -c vtools -n '__vtools_is varnishtop' -s T -x -d "force-completes a transaction that began more than N seconds before the log's time, 1 to 1000000"
 complete -c vtools -n '__vtools_is varnishtop' -s q -x -a '(__vtools_query q)' -d 'takes only groups for which the query TEXT holds'
 complete -c vtools -n '__vtools_is varnishtop' -s Q -r -F -d 'reads queries from FILE, one a line'
 complete -c vtools -n '__vtools_is varnishtop' -s k -x -d 'takes the first N groups, shown or not, and reads no more, 1 to 999999999'
 complete -c vtools -n '__vtools_is varnishtop' -s b -d 'shows requests to a backend, and no other transactions but those of -c and -E'
-complete -c vtools -n '__vtools_is varnishtop' -s c -d 'shows clients\' requests, and no other transactions but those of -b and -E'
+complete -c vtools -n '__vtools_is varnishtop' -s c -d "shows clients' requests, and no other transactions but those of -b and -E"
 complete -c vtools -n '__vtools_is varnishtop' -s E -d 'the same as -c, with requests for ESI parts'
 complete -c vtools -n '__vtools_is varnishtop' -s C -d 'asks patterns, and texts of queries, without regard to case'
 complete -c vtools -n '__vtools_is varnishtop' -s d -d 'taken, and of no effect, because a log is read from its beginning anyway'

@@ -122,8 +122,8 @@ def words():
 
 
 def quoted(text):
-    """A text in single quotes, as bash and zsh read it."""
-    return "'" + text.replace("'", "'\\''") + "'"
+    """A text as bash and zsh read it, in single quotes where it needs them."""
+    return text if re.fullmatch(r"[\w.-]+", text) else "'" + text.replace("'", "'\\''") + "'"
 
 
 def wrapped(words, indent):
@@ -175,8 +175,10 @@ def for_zsh(rows, kinds):
 
 
 def fish_quoted(text):
-    """A text in single quotes, as fish reads it."""
-    return "'" + text.replace("\\", "\\\\").replace("'", "\\'") + "'"
+    """A text as fish reads it, in single quotes where it needs them, or in double ones."""
+    if re.fullmatch(r"[\w.-]+", text):
+        return text
+    return f"'{text}'" if not re.search(r"['\\]", text) else '"' + re.sub(r'(["$\\])', r"\\\1", text) + '"'
 
 
 def fish_option(name, kind, _, does):
