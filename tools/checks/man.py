@@ -1,12 +1,12 @@
 """Runs the examples of docs/man/, README, GUIDE and COMING_FROM_VARNISH that show what is printed, from their own text.
 
-The log `f` of a page's examples is that of a case, of one or of another, whole, without its last byte or not there, as
-the sentence before an example says; those of vslog have the logs of Varnish of examples/. Each option of a page's tool
-stands in an example of the page that was run. The other documents run `bin/vtools` in the top folder, and may leave out
-the empty line behind a last group; examples that write files are passed over.
+Each example has a folder of its own, and bash runs its commands there, so they may have pipes and write files. Those of
+man pages find the programs by their names, and the logs of examples/ under short ones, as LOGS has them; those of
+documents find `bin/` and `examples/`, and may leave out the empty line behind a last group. An example that runs
+neither program, or one of Varnish's, is passed over. Each option of a page's tool stands in an example of the page that
+was run.
 """
 
-import os
 import re
 import shlex
 import shutil
@@ -16,16 +16,17 @@ from checks.docs import PAGES, read
 from checks.running import TOP, Failed, run, temporary_folder
 
 DOCUMENTS = ("README.md", "docs/GUIDE.md", "docs/COMING_FROM_VARNISH.md")
-LOG = TOP / "cases/written/a_log_is_written_to_standard_output/data/f"
-ANSWERED = TOP / "cases/ncsa/ncsa_prints_a_line_of_a_request/hex/f"
-QUERIES = "Link\n"
-VARNISH_LOGS = ("varnish.vsl", "varnish.raw")
-MARKS = {"\\(aq": "'", "\\(dq": '"', "\\(ti": "~", "\\(ha": "^", "\\-": "-", "\\ ": " ", "\\&": "", "\\e": "\\"}
+LOGS = {"log": "real-1.vslog", "traffic": "real-1.raw", "varnish.vsl": "varnish.vsl", "varnish.raw": "varnish.raw"}
+OF_PAGES = re.compile(r"^\.PP\n\.nf\n\.RS\n(\$ .*?)\n\.RE\n\.fi$", re.DOTALL | re.MULTILINE)
+OF_DOCUMENTS = re.compile(r"^```text\n(\$ .*?)\n```$", re.DOTALL | re.MULTILINE)
+OF_VARNISH = re.compile(r"\bvarnish(d|adm|log|ncsa|top|stat)\b")
+MARKS = {"\\(aq": "'", "\\(dq": '"', "\\(ti": "~", "\\(ha": "^", "\\-": "-", "\\ ": " ", "\\&": "", "\\e": "\\", "\\(ga": "`"}
+SETTINGS = 'export LC_ALL=C PATH="$PWD/bin:$PATH"; '
 
 
-def plain(line):
-    """A line of the page as it is shown."""
-    return re.sub(r"\\\(..|\\.", lambda mark: MARKS[mark.group()], line)
+def plain(text):
+    """The text of a page as it is shown."""
+    return re.sub(r"\\\(..|\\.", lambda mark: MARKS[mark.group()], text)
 
 
 def options_of(page):
@@ -35,83 +36,91 @@ def options_of(page):
     return [*taken, "--version"] if tool in PAGES.values() else taken
 
 
-def log_for(sentence):
-    """The bytes of the log that a sentence speaks of; none where there is no file."""
-    whole = LOG.read_bytes()
-    if "no file of that name" in sentence:
-        return None
-    if "request that was answered with 304" in sentence:
-        return bytes.fromhex("".join(line.split("#")[0] for line in ANSWERED.read_text().splitlines()))
-    if "last byte of the log is missing" in sentence or "damage is not seen" in sentence:
-        return whole[:-1]
-    return whole
-
-
-def examples(page):
-    """The sentence before each example, and its lines."""
-    for block in re.finditer(r"\.PP\n\.nf\n\.RS\n(\$ v(?:tools|slog) .*?)\n\.RE\n\.fi", page, re.DOTALL):
-        before = page[: block.start()].rstrip("\n").split("\n.PP\n")[-1]
-        yield before, [plain(line) for line in block.group(1).split("\n")]
-
-
-def commands(lines):
+def commands(example):
     """Each command of an example, and the lines that it prints."""
-    for line in lines:
+    for line in example.split("\n"):
         if line.startswith("$ "):
             yield line[2:], (printed := [])
         else:
             printed.append(line)
 
 
-def printed_by(programs, command, folder):
-    """What a command prints on standard output, and then on standard error."""
-    name, *words = shlex.split(command)
-    came = run([programs[os.path.basename(name)], *words], folder)
-    return (came.stdout + came.stderr).decode().split("\n")[:-1]
+def runs_of(command):
+    """The words of each program that a command runs."""
+    lexer = shlex.shlex(command, posix=True, punctuation_chars="|;&<>")
+    lexer.whitespace_split, lexer.commenters = True, ""
+    runs = [[]]
+    try:
+        for word in lexer:
+            if set(word) <= set("|;&"):
+                runs.append([])
+            else:
+                runs[-1].append(word)
+    except ValueError as error:
+        raise Failed(f"{command}: {error}") from None
+    return [words for words in runs if words]
 
 
-def has_option(command, option):
-    """Whether a command has an option: a word of `vtools`, or a letter of the tool."""
-    if option.startswith("--"):
-        return option in command.split()
-    return re.search(rf" -[a-zA-Z1]*{option[1:]}", command) is not None
+def can_be_run(example, programs):
+    """Whether a program of ours is run in an example, and none of Varnish."""
+    all_runs = [words for command, _ in example for words in runs_of(command)]
+    others = [word for words in all_runs if words[0] not in programs for word in words]
+    return any(words[0] in programs for words in all_runs) and not any(map(OF_VARNISH.search, others))
+
+
+def examples(blocks, programs):
+    """The commands of each example that can be run."""
+    return [example for block in blocks if can_be_run(example := list(commands(block)), programs)]
+
+
+def run_example(name, example, folder, last_line=()):
+    """Runs the commands of an example in a folder. What is printed may have a last line that isn't shown."""
+    for command, wanted in example:
+        came = run(["bash", "-c", SETTINGS + command], folder)
+        got = (came.stdout + came.stderr).decode().split("\n")[:-1]
+        if got not in (wanted, [*wanted, *last_line]):
+            raise Failed(f"{name}: {command}: {got}, not {wanted}")
+
+
+def link_programs(programs, folder):
+    """Puts the programs into a folder."""
+    (folder / "bin").mkdir()
+    for name, path in programs.items():
+        (folder / "bin" / name).symlink_to(path)
+
+
+def has_option(words, option):
+    """Whether a run of a program has an option, as a word or as a letter."""
+    pattern = re.compile(option if option.startswith("--") else rf"-[a-zA-Z1]*{option[1:]}.*")
+    return any(map(pattern.fullmatch, words[1:]))
 
 
 def run_page(programs, page):
-    """Runs the examples of a page, and answers how many there are."""
-    ran, name = [], f"{page}.1"
-    for before, lines in examples(read(f"docs/man/{name}")):
+    """Runs the examples of a page, and answers how many commands there are."""
+    name, tool, ran = f"docs/man/{page}.1", page.removeprefix("vtools-"), []
+    for example in examples(map(plain, OF_PAGES.findall(read(name))), programs):
         with temporary_folder() as folder:
-            log = log_for(before)
-            (folder / "queries").write_text(QUERIES)
-            if PAGES[page] == "vslog":
-                for name in VARNISH_LOGS:
-                    shutil.copy(TOP / "examples" / name, folder)
-            elif log is not None:
-                (folder / "f").write_bytes(log)
-            for command, wanted in list(commands(lines)):
-                got = printed_by(programs, command, folder)
-                if got != wanted:
-                    raise Failed(f"{name}: {command}: {got}, not {wanted}")
-                ran.append(command)
+            link_programs(programs, folder)
+            for short, file in LOGS.items():
+                shutil.copy(TOP / "examples" / file, folder / short)
+            run_example(name, example, folder)
+        ran += [words for command, _ in example for words in runs_of(command)]
+    own = [words for words in ran if words[0] == PAGES[page] and tool in (words[0], *words)]
     for option in options_of(page):
-        if not any(has_option(command, option) for command in ran):
+        if not any(has_option(words, option) for words in own):
             raise Failed(f"{name}: no example of {option} is run")
     return len(ran)
 
 
 def run_document(programs, name):
-    """Runs the examples of a document, and answers how many there are."""
+    """Runs the examples of a document, and answers how many commands there are."""
     count = 0
-    for block in re.finditer(r"^```text\n(\$ bin/vtools .*?)\n```$", read(name), re.DOTALL | re.MULTILINE):
-        all_commands = list(commands(block.group(1).split("\n")))
-        if any(word.startswith(">") for command, _ in all_commands for word in shlex.split(command)):
-            continue
-        for command, wanted in all_commands:
-            got = printed_by(programs, command, TOP)
-            if got not in (wanted, [*wanted, ""]):
-                raise Failed(f"{name}: {command}: {got}, not {wanted}")
-            count += 1
+    for example in examples(OF_DOCUMENTS.findall(read(name)), [f"bin/{program}" for program in programs]):
+        with temporary_folder() as folder:
+            link_programs(programs, folder)
+            (folder / "examples").symlink_to(TOP / "examples")
+            run_example(name, example, folder, last_line=[""])
+        count += len(example)
     if count == 0:
         raise Failed(f"{name} has no example")
     return count
