@@ -340,14 +340,13 @@ def shown_words(option):
 
 
 def page_usage(tool):
-    """The usage of a tool for its page; that of `vtools` is of any tool over feeds."""
-    before = f"\\fBvtools\\fR {usage_of('vtools', shown_words)}"
+    """The usage of a tool for its page. That of `vtools` has the options of feeds, which the others call FEEDS."""
     if tool == "vtools":
-        return f"{before} \\fITOOL\\fR [\\fIOPTIONS\\fR]"
-    behind = f"\\fB{tool}\\fR {usage_of(tool, shown_words)}"
+        return f"\\fBvtools\\fR {usage_of(tool, shown_words)} \\fITOOL\\fR [\\fIOPTIONS\\fR]"
+    over_feeds, behind = "\\fBvtools\\fR \\fIFEEDS\\fR", f"\\fB{tool}\\fR {usage_of(tool, shown_words)}"
     if tool == "varnishstat":
-        return f"{before} {behind}"
-    return f"\\fBvtools\\fR [\\fIOPTIONS\\fR] {behind}\n.br\n{before} \\fB{tool}\\fR [\\fIOPTIONS\\fR]"
+        return f"{over_feeds} {behind}"
+    return f"\\fBvtools\\fR {behind}\n.br\n{over_feeds} \\fB{tool}\\fR [\\fIOPTIONS\\fR]"
 
 
 def page_options(tool):
@@ -385,10 +384,7 @@ def all_made():
     yield COMMAND_LINE, between(COMMAND_LINE, tables, "<!-- @ -->\n")
     yield COMING_FROM, between(COMING_FROM, {"options": varnish_table()}, "<!-- @ -->\n")
     for tool, page in PAGES.items():
-        parts = {"usage": page_usage(tool), "options": page_options(tool)}
-        if tool != "vtools":
-            parts["options before the tool"] = page_options("vtools")
-        yield page, between(page, parts, '.\\" @\n')
+        yield page, between(page, {"usage": page_usage(tool), "options": page_options(tool)}, '.\\" @\n')
 
 
 def main():

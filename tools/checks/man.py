@@ -20,7 +20,10 @@ LOGS = {"log": "real-1.vslog", "traffic": "real-1.raw", "varnish.vsl": "varnish.
 OF_PAGES = re.compile(r"^\.PP\n\.nf\n\.RS\n(\$ .*?)\n\.RE\n\.fi$", re.DOTALL | re.MULTILINE)
 OF_DOCUMENTS = re.compile(r"^```text\n(\$ .*?)\n```$", re.DOTALL | re.MULTILINE)
 OF_VARNISH = re.compile(r"\bvarnish(d|adm|log|ncsa|top|stat)\b")
-MARKS = {"\\(aq": "'", "\\(dq": '"', "\\(ti": "~", "\\(ha": "^", "\\-": "-", "\\ ": " ", "\\&": "", "\\e": "\\", "\\(ga": "`"}
+MARKS = {
+    **{"\\(aq": "'", "\\(dq": '"', "\\(ti": "~", "\\(ha": "^", "\\(ga": "`"},
+    **{"\\-": "-", "\\ ": " ", "\\&": "", "\\e": "\\"},
+}
 SETTINGS = 'export LC_ALL=C PATH="$PWD/bin:$PATH"; '
 
 

@@ -16,7 +16,9 @@ def of_pages():
     """Each option of a man page is in the formats."""
     known = options_in("\n".join(formats().values()))
     for page in PAGES:
-        lines = [line for line in read(f"docs/man/{page}.1").splitlines() if not line.startswith('.\\"')]
+        # the examples are run, and have other programs, too
+        shown = re.sub(r"^\.nf\n.*?^\.fi$", "", read(f"docs/man/{page}.1"), flags=re.M | re.S)
+        lines = [line for line in shown.splitlines() if not line.startswith('.\\"')]
         text = re.sub(r"\\f[BIRP]", " ", "\n".join(lines)).replace("\\-", "-")
         unknown = options_in(text) - known
         if unknown:
