@@ -100,7 +100,7 @@ def has_option(words, option):
 
 def run_page(programs, page):
     """Runs the examples of a page, and answers how many commands there are."""
-    name, tool, ran = f"docs/man/{page}.1", page.removeprefix("vtools-"), []
+    name, tool, ran, count = f"docs/man/{page}.1", page.removeprefix("vtools-"), [], 0
     for example in examples(map(plain, OF_PAGES.findall(read(name))), programs):
         with temporary_folder() as folder:
             link_programs(programs, folder)
@@ -108,11 +108,12 @@ def run_page(programs, page):
                 shutil.copy(TOP / "examples" / file, folder / short)
             run_example(name, example, folder)
         ran += [words for command, _ in example for words in runs_of(command)]
+        count += len(example)
     own = [words for words in ran if words[0] == PAGES[page] and tool in (words[0], *words)]
     for option in options_of(page):
         if not any(has_option(words, option) for words in own):
             raise Failed(f"{name}: no example of {option} is run")
-    return len(ran)
+    return count
 
 
 def run_document(programs, name):
