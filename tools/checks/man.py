@@ -1,10 +1,10 @@
-"""Runs the examples of docs/man/, README, GUIDE and COMING_FROM_VARNISH that show what is printed, from their own text.
+"""Runs the examples of docs/man/ and of COMING_FROM_VARNISH that show what is printed, from their own text.
 
 Each example has a folder of its own, and bash runs its commands there, so they may have pipes and write files. Those of
-man pages find the programs by their names, and the logs of examples/ under short ones, as LOGS has them; those of
-documents find `bin/` and `examples/`, and may leave out the empty line behind a last group. An example that runs
-neither program, or one of Varnish's, is passed over. Each option of a page's tool stands in an example of the page that
-was run.
+man pages find the programs by their names, and what they need of examples/ by the names that FILES has; those of
+COMING_FROM_VARNISH find `bin/` and `examples/`, and may leave out the empty line behind a last group. An example that
+runs neither program, or one of Varnish's, is passed over. Each option of a page's tool stands in an example of the page
+that was run.
 """
 
 import re
@@ -15,8 +15,11 @@ import options
 from checks.docs import PAGES, read
 from checks.running import TOP, Failed, run, temporary_folder
 
-DOCUMENTS = ("README.md", "docs/GUIDE.md", "docs/COMING_FROM_VARNISH.md")
-LOGS = {"log": "real-1.vslog", "traffic": "real-1.raw", "varnish.vsl": "varnish.vsl", "varnish.raw": "varnish.raw"}
+DOCUMENTS = ("docs/COMING_FROM_VARNISH.md",)
+FILES = {
+    **{"log": "real-1.vslog", "traffic": "real-1.raw"},
+    **{name: name for name in ("varnish.vsl", "varnish.raw", "json.sed")},
+}
 OF_PAGES = re.compile(r"^\.PP\n\.nf\n\.RS\n(\$ .*?)\n\.RE\n\.fi$", re.DOTALL | re.MULTILINE)
 OF_DOCUMENTS = re.compile(r"^```text\n(\$ .*?)\n```$", re.DOTALL | re.MULTILINE)
 OF_VARNISH = re.compile(r"\bvarnish(d|adm|log|ncsa|top|stat)\b")
@@ -104,7 +107,7 @@ def run_page(programs, page):
     for example in examples(map(plain, OF_PAGES.findall(read(name))), programs):
         with temporary_folder() as folder:
             link_programs(programs, folder)
-            for short, file in LOGS.items():
+            for short, file in FILES.items():
                 shutil.copy(TOP / "examples" / file, folder / short)
             run_example(name, example, folder)
         ran += [words for command, _ in example for words in runs_of(command)]
