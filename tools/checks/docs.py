@@ -1,4 +1,4 @@
-"""Checks the documents beside the repository: crates, version, messages, edits of wrong bodies, and what is cited."""
+"""Checks the documents beside the repository: crates, promises, version, messages, edits, and what is cited."""
 
 import functools
 import re
@@ -143,6 +143,59 @@ def crates():
     return len(names)
 
 
+def functions(crate):
+    """The functions of a crate's source: the words of the impl or trait round each, its name, and its clauses."""
+    every = []
+    for file in (TOP / "crates" / crate / "src").rglob("*.rt"):
+        owner = []
+        for line in file.read_text().splitlines():
+            if re.match(r"(impl|pub trait)\b", line):
+                owner = re.findall(r"\w+", line)
+            elif line == "}":
+                owner = []
+            elif function := re.match(r"\s*(?:pub(?:\(crate\))? )?fn (\w+)", line):
+                every.append((owner, function[1], set()))
+            elif clause := re.match(r"\s*ensures (\w+) \{", line):
+                every[-1][2].add(clause[1])
+    return every
+
+
+def rows_of(text, heading):
+    """The cells of the rows of the first table behind a heading."""
+    rows = [line for line in between(text, re.escape(heading) + "$", "##") if line.startswith("|")]
+    return [[cell.strip() for cell in row.strip("|").split("|")] for row in rows[2:]]
+
+
+def cited_definitions(text):
+    """Each definition of PROOF's first table is in a file that stands beside it."""
+    count = 0
+    for names, places, _ in rows_of(text, "## The theorem of `vtools`"):
+        specs = [read(f"crates/{crate}/specs/{file}.antt") for crate, file in re.findall(r"`(\w+)`, (\w+)", places)]
+        for name in re.findall(r"`(\w+)`", names):
+            count += 1
+            if not any(re.search(rf"^ *(abbrev )?pub (record |data )?{name} ", spec, re.M) for spec in specs):
+                raise Failed(f"docs/PROOF.md has the definition {name} in {places}, where it isn't")
+    return count
+
+
+def promises(text):
+    """Each call of PROOF's other table is one of the crates beside it, and has the clauses that stand behind it."""
+    count, crates_named = 0, []
+    for crates_cell, _, calls in rows_of(text, "## Which call carries which promise"):
+        crates_named = re.findall(r"`(\w+)`", crates_cell) or crates_named
+        every = [function for crate in crates_named for function in functions(crate)]
+        for part in calls.split(";"):
+            names, _, clauses = part.partition("`: ")
+            wanted = set(re.findall(r"`(\w+)`", clauses))
+            for name in re.findall(r"`([\w:]+)`", names + "`"):
+                count += 1
+                owner, _, call = name.rpartition("::")
+                alike = [has for of, it, has in every if it == call and (not owner or owner in of)]
+                if not any(wanted <= has for has in alike):
+                    raise Failed(f"docs/PROOF.md has{part} in {', '.join(crates_named)}, where it isn't")
+    return count
+
+
 def printed_by(program):
     """The version that a program prints."""
     return found(rf'^const VERSION: &str = "({program} .*)\\n";$', read(f"crates/{program}/src/answers.rt"))[0]
@@ -226,8 +279,10 @@ def choices():
 
 def check(_):
     made()
-    counts = documents(), sections(), links(), crates(), version(), messages(), edits(), choices(), citations()
+    proof = read("docs/PROOF.md")
+    cited = cited_definitions(proof) + promises(proof)
+    counts = documents(), sections(), links(), crates(), cited, version(), messages(), edits(), choices(), citations()
     return (
-        "%d documents, %d sections of formats, %d links, %d crates, %d places of the version, %d messages, %d edits, "
-        "%d choices, %d files" % counts
+        "%d documents, %d sections of formats, %d links, %d crates, %d promises, %d places of the version, %d messages, "
+        "%d edits, %d choices, %d files" % counts
     )
