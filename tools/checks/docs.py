@@ -132,15 +132,23 @@ def made():
 
 
 def crates():
-    """Each crate of crates.txt is named in PROOF and ARCHITECTURE."""
-    names = found(r"^([a-z0-9_]+)(?: staticlib)?:", read("crates.txt"))
-    if not names:
+    """Each crate of crates.txt is named in PROOF and ARCHITECTURE, whose picture has it above those it stands on."""
+    lines = re.findall(r"^([a-z0-9_]+)(?: staticlib)?:(.*)$", read("crates.txt"), re.M)
+    uses = {name: low.split() for name, low in lines}
+    if not uses:
         raise Failed("crates.txt names no crate")
-    for name in names:
+    rows = between(read("docs/ARCHITECTURE.md"), "## Who stands on whom$", r"\*\*")
+    drawn = [name for row in reversed(rows) if row.startswith(" ") for name in row.split() if name in uses]
+    for name in uses:
         for file in "docs/PROOF.md", "docs/ARCHITECTURE.md":
             if f"`{name}`" not in read(file):
                 raise Failed(f"{file} does not name the crate {name}")
-    return len(names)
+        if drawn.count(name) != 1:
+            raise Failed(f"the picture of docs/ARCHITECTURE.md does not have the crate {name} once")
+        above = [low for low in uses[name] if low in drawn[drawn.index(name) :]]
+        if above:
+            raise Failed(f"the picture of docs/ARCHITECTURE.md has {name} below {above[0]}, on which it stands")
+    return len(uses)
 
 
 def functions(crate):
@@ -193,6 +201,37 @@ def promises(text):
                 alike = [has for of, it, has in every if it == call and (not owner or owner in of)]
                 if not any(wanted <= has for has in alike):
                     raise Failed(f"docs/PROOF.md has{part} in {', '.join(crates_named)}, where it isn't")
+    return count
+
+
+def changes():
+    """Each file of the table of changes in ARCHITECTURE is there, and has the names that stand behind it."""
+    count = 0
+    for change, specs, code, _ in rows_of(read("docs/ARCHITECTURE.md"), "## Where a change goes"):
+        parts = [(it, "specs", ".antt") for it in specs.split(";")] + [(it, "src", "") for it in code.split(";")]
+        for part, folder, ending in parts:
+            text = None  # of the file whose names stand behind its colon
+            for name, colon in re.findall(r"`([\w./]+)`(:?)", part):
+                count += 1
+                crate, slash, file = name.partition("/")
+                if slash:
+                    path = f"crates/{crate}/{folder}/{file}{ending}"
+                    if not (TOP / path).is_file():
+                        raise Failed(f"docs/ARCHITECTURE.md has {path} for {change}, and there is none")
+                    text = read(path) if colon else None
+                elif text and not re.search(rf"\b{re.escape(name)}\b", text):
+                    raise Failed(f"docs/ARCHITECTURE.md has {name} for {change}, which is not in {path}")
+    return count
+
+
+def paths():
+    """Each path that the pages for maintainers and sceptics name is there."""
+    count = 0
+    for page in "CONTRIBUTING.md", "docs/ARCHITECTURE.md", "docs/PROOF.md":
+        for path in re.findall(r"`((?:bench|cases|completion|crates|docs|examples|tools|wrong)/[\w./-]+)", read(page)):
+            count += 1
+            if "NAME" not in path and path != "docs/DEFINITIONS.md" and not (TOP / path.rstrip(".")).exists():
+                raise Failed(f"{page} names {path}, and there is none")
     return count
 
 
@@ -280,9 +319,9 @@ def choices():
 def check(_):
     made()
     proof = read("docs/PROOF.md")
-    cited = cited_definitions(proof) + promises(proof)
+    cited = cited_definitions(proof) + promises(proof) + changes() + paths()
     counts = documents(), sections(), links(), crates(), cited, version(), messages(), edits(), choices(), citations()
     return (
-        "%d documents, %d sections of formats, %d links, %d crates, %d promises, %d places of the version, %d messages, "
+        "%d documents, %d sections of formats, %d links, %d crates, %d names, %d places of the version, %d messages, "
         "%d edits, %d choices, %d files" % counts
     )
