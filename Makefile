@@ -10,7 +10,9 @@ programs := vtools vslog
 files := $(foreach page,$(notdir $(wildcard docs/man/*.1)),docs/man/$(page):share/man/man1/$(page)) \
   $(foreach name,$(programs),completion/vtools.bash:share/bash-completion/completions/$(name)) \
   $(foreach name,$(programs),completion/$(name).fish:share/fish/vendor_completions.d/$(name).fish) \
-  completion/_vtools:$(ZSH_FOLDER)/_vtools
+  completion/_vtools:$(ZSH_FOLDER)/_vtools \
+  $(foreach file,$(wildcard examples/queries/* examples/json.* examples/*.service examples/*.logrotate),\
+    $(file):share/doc/vtools/$(file))
 
 help: ## prints this list
 	@sed -n 's/^\([a-z]*\):.*## /\1\t/p' $(MAKEFILE_LIST)
@@ -47,7 +49,7 @@ build: ## proves and builds bin/vtools and bin/vslog
 run: build ## runs bin/vtools: ARGS="varnishlog -r FILE"
 	bin/vtools $(ARGS)
 
-install: build ## installs programs, man pages and completion: PREFIX=/usr/local DESTDIR=
+install: build ## installs programs, man pages, completion and examples: PREFIX=/usr/local DESTDIR=
 	@$(MAKE) --no-print-directory place
 
 # what is in bin, proved or not
@@ -59,6 +61,8 @@ place:
 uninstall: ## takes away the files of install, with the same PREFIX and DESTDIR
 	@set -e; for name in $(programs); do rm -f $(installed)/bin/$$name; done
 	@set -e; for file in $(files); do rm -f $(installed)/$${file#*:}; done
+	@set -e; for folder in vtools/examples/queries vtools/examples vtools; do folder=$(installed)/share/doc/$$folder; \
+	  [ ! -d "$$folder" ] || rmdir --ignore-fail-on-non-empty "$$folder"; done
 
 .PHONY: deb
 deb: build ## makes a Debian package of what install puts, below bin/
