@@ -227,12 +227,7 @@ def all_made():
 def main():
     if sys.argv[1:] not in ([], ["--write"]):
         sys.exit("usage: tools/completion.py [--write]")
-    for path, text in list(all_made()):
-        if sys.argv[1:]:
-            path.write_text(text)
-        elif path.read_text() != text:
-            sys.exit(f"completion: {path.relative_to(TOP)} is not what `tools/completion.py --write` writes")
-    print("completion: all that is made is up to date")
+    options.write_or_check(*sys.argv[1:] or ["--check"], "tools/completion.py", all_made())
 
 
 if __name__ == "__main__":

@@ -387,19 +387,24 @@ def all_made():
         yield page, between(page, {"usage": page_usage(tool), "options": page_options(tool)}, '.\\" @\n')
 
 
+def write_or_check(word, maker, made):
+    """With --write writes what is made of the source, and with --check fails where a file isn't that."""
+    for path, text in list(made):
+        if word == "--write":
+            path.write_text(text)
+        elif path.read_text() != text:
+            sys.exit(f"{Path(maker).stem}: {path.relative_to(TOP)} is not what `{maker} --write` writes")
+    if word == "--check":
+        print(f"{Path(maker).stem}: all that is made is up to date")
+
+
 def main():
     if sys.argv[1:] == []:
         for option in all_options():
             for tool in option.tools:
                 print(tool, option.name, option.kind)
-    elif sys.argv[1:] == ["--write"]:
-        for path, text in list(all_made()):
-            path.write_text(text)
-    elif sys.argv[1:] == ["--check"]:
-        for path, text in all_made():
-            if path.read_text() != text:
-                refuse(f"{path.relative_to(TOP)} is not what `tools/options.py --write` writes")
-        print("options: all that is made of them is up to date")
+    elif sys.argv[1:] in (["--write"], ["--check"]):
+        write_or_check(sys.argv[1], "tools/options.py", all_made())
     else:
         sys.exit("usage: tools/options.py [--write|--check]")
 

@@ -219,14 +219,8 @@ def main():
         for path, text in all_made():
             for made in re.findall(rf"<!-- made by {MAKER}: (.*?) -->\n(.*?)\n<!-- made until here -->", text, re.S):
                 print(f"{path.relative_to(TOP)}, {made[0]}:", made[1], sep="\n")
-    elif sys.argv[1:] == ["--write"]:
-        for path, text in list(all_made()):
-            path.write_text(text)
-    elif sys.argv[1:] == ["--check"]:
-        for path, text in all_made():
-            if path.read_text() != text:
-                refuse(f"{path.relative_to(TOP)} is not what `{MAKER} --write` writes")
-        print("tables: all that is made of the source is up to date")
+    elif sys.argv[1:] in (["--write"], ["--check"]):
+        options.write_or_check(sys.argv[1], MAKER, all_made())
     else:
         sys.exit("usage: tools/tables.py [--write|--check]")
 
