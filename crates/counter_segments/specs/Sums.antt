@@ -20,7 +20,8 @@ pub record CounterSet : Type 0 where
   pub table : TableId
   pub passes : ℕ
 
--- what contracts see of a pass: of which counters it is, and what it added to each
+-- what contracts see of a pass: of which counters it is, and what it added to each. Each writer has one: sixteen feeds,
+-- and the requests that are made up
 pub record PassSums : Type 0 where
   pub counters : CounterSet
   pub sums : List ℕ

@@ -3,7 +3,7 @@ use Rattle.std.specs.Prelude.{ℕ, Bool, ◌&&◌, ◌||◌, ◌==◌, nat_le}
 use Rattle.query_grammar.specs.declared.lex.Quote.{Quote}
 use Rattle.query_grammar.specs.declared.lex.Quote.TheVariants.{Double, Single}
 
--- space, tab, carriage return
+-- space, tab, carriage return. With the last of them files of either kind of line end are read (this project's choice)
 abbrev pub is_blank : ℕ → Bool
 is_blank c = (c == 32) || (c == 9) || (c == 13)
 

@@ -24,12 +24,15 @@ is_inside escaped q [] = not escaped
 is_inside true q (c ∷ w) = is_inside false q w
 is_inside false q (c ∷ w) = if c == backslash then is_inside true q w else (if c == quote_byte q then false else is_inside false q w)
 
--- a word has a byte or more, each a byte of words; a text in quotes ends where it is closed
+-- a word has a byte or more, each a byte of words; a text in quotes ends where it is closed. A quoted one may be empty:
+-- `:""` is a colon alone, `eq ''` asks for no bytes, and `~ ''` matches everywhere (vsl-query(7), "Operand"; that it
+-- may be empty is this project's choice)
 abbrev pub is_text : Text → Bool
 is_text (Plain w) = is_all is_word_byte w
 is_text (Quoted q w) = is_inside false q w
 
--- bytes between quotes without the backslashes that take a byte as it is
+-- bytes between quotes without the backslashes that take a byte as it is. Without them no text could have both kinds of
+-- quotes (this project's choice)
 abbrev pub unescaped : Bool → List ℕ → List ℕ
 unescaped escaped [] = []
 unescaped true (c ∷ w) = c ∷ unescaped false w
@@ -40,7 +43,8 @@ abbrev pub meant_by : Text → List ℕ
 meant_by (Plain w) = w
 meant_by (Quoted q w) = unescaped false w
 
--- what an operand's bytes stand for
+-- what an operand's bytes stand for. A pattern is read of what is left: `'x\.y'` is the pattern `x.y`, and `'x\\.y'`
+-- has the literal point (this project's choice)
 abbrev pub operand_meaning : List ℕ → List ℕ
 operand_meaning [] = []
 operand_meaning (c ∷ w) = if is_quote c then unescaped false (take (length w - 1) w) else c ∷ w

@@ -45,7 +45,8 @@ is_over begins w (c ∷ rest) = not (begins (w ++ c ∷ []))
 abbrev pub operator_words : List (List ℕ)
 operator_words = codes "eq" ∷ codes "ne" ∷ []
 
--- a token ends where what follows makes it no longer, and a criterion isn't a word by itself
+-- a token ends where what follows makes it no longer, and a criterion isn't a word by itself. So
+-- `RespStatus == 200and End` has the operand `200and`, which is no number
 abbrev pub is_ended : Token → List ℕ → Bool
 is_ended (CriterionToken w) rest = is_over (begins_from Begin) w rest && not (is_one_of words w && ends_word rest)
 is_ended (OperatorToken w) rest = is_over (begins_one_of operators) w rest && (not (is_one_of operator_words w) || ends_word rest)
@@ -117,7 +118,8 @@ abbrev pub IsDead : (List ℕ → Written → Type 0) → List ℕ → List ℕ 
 IsDead Is prefix [] = (q : Written) → Is prefix q → ⊥
 IsDead Is prefix (c ∷ back) = (more : List ℕ) (q : Written) → Is (prefix ++ c ∷ more) q → ⊥
 
--- `at` is the place of the first byte at which no query can go on, or the end of bytes that stop early
+-- `at` is the place of the first byte at which no query can go on, or the end of bytes that stop early. So `and End`
+-- stops at 3 and not at 0, because `andy` would be a name (this project's choice)
 pub record StopsAt (Is : List ℕ → Written → Type 0) (bytes : List ℕ) (at : ℕ) : Type 0 where
   pub prefix : List ℕ
   pub back : List ℕ

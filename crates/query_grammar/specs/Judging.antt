@@ -59,7 +59,8 @@ abbrev pub field_fault : ℕ → Option Lex → List ℕ → Option Fault
 field_fault at (Some l) (c ∷ w) = if is_field_open (lex l c) then field_value (at + 1) w else field_fault (at + 1) (lex l c) w
 field_fault _ _ _ = None
 
--- a criterion, also one that is cut off
+-- a criterion, also one that is cut off. Its names come first, so that a wrong name is told, whatever else is wrong
+-- with the test
 abbrev pub criterion_fault : (List ℕ → Bool) → ℕ → List ℕ → Option Fault
 criterion_fault is_tag at w = option_or (tags_fault is_tag at w) (option_or (level_fault at w) (field_fault at (Some Begin) w))
 
@@ -71,7 +72,8 @@ numeric_operators = codes "==" ∷ codes "!=" ∷ codes "<" ∷ codes "<=" ∷ c
 abbrev pub pattern_operators : List (List ℕ)
 pattern_operators = codes "~" ∷ codes "!~" ∷ []
 
--- a number is compared with a number, which may stand between quotes, and a pattern is a good one
+-- a number is compared with a number, which may stand between quotes, and a pattern is a good one. Between quotes
+-- nothing else may stand: `''` and `' 200'` are no numbers
 abbrev pub operand_fault : (List ℕ → Bool) → (List ℕ → Bool) → ℕ → List ℕ → List ℕ → Option Fault
 operand_fault is_decimal is_pattern at operator w =
     if is_one_of numeric_operators operator && not (is_decimal (operand_meaning w)) then Some (Number at) else (
@@ -87,7 +89,8 @@ test_fault is_tag is_decimal is_pattern most from place AfterCriterion k CloseMa
 test_fault is_tag is_decimal is_pattern most from place BeforeOperand k (OperandToken w) = option_or (criterion_fault is_tag place k.criterion) (operand_fault is_decimal is_pattern from k.operator w)
 test_fault is_tag is_decimal is_pattern most from place _ k _ = None
 
--- what is wrong with a test that is cut off
+-- what is wrong with a test that is cut off. What was read of it counts: `End[0` has a wrong number, though nothing
+-- closes it. An operand whose quote stays open isn't there, so in `End=="x` it isn't told that `x` is no number
 abbrev pub cut_fault : (List ℕ → Bool) → ℕ → ℕ → Mode → Kept → List ℕ → Option Fault
 cut_fault is_tag at place BeforeUnary k w = if is_one_of words w then None else criterion_fault is_tag (at - length w) w
 cut_fault is_tag at place AfterCriterion k w = criterion_fault is_tag place k.criterion

@@ -99,7 +99,8 @@ operators = codes "==" ∷ codes "!=" ∷ codes "<" ∷ codes "<=" ∷ codes ">"
 abbrev pub words : List (List ℕ)
 words = codes "not" ∷ codes "and" ∷ codes "or" ∷ codes "eq" ∷ codes "ne" ∷ []
 
--- a blank, a parenthesis, a quote or the line's end ends a word
+-- a blank, a parenthesis, a quote or the line's end ends a word. Before any other byte a test begins with the word as a
+-- name: `not:x` has an unknown tag, and `not*` matches Notice (this project's choice)
 abbrev pub ends_word : List ℕ → Bool
 ends_word [] = true
 ends_word (c ∷ rest) = is_blank c || (c == 40) || (c == 41) || is_quote c

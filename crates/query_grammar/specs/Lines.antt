@@ -28,7 +28,8 @@ AreQueries Is before (line ∷ lines) all = MatchBool (is_passed line) (AreQueri
 abbrev pub lines_of : List ℕ → List (List ℕ)
 lines_of text = slice_split (λ c. c == 10) text
 
--- the text is this query
+-- the text is this query. Each line is whole by itself: no parenthesis, quote or test goes on in the next one
+-- (vsl-query(7), "Query Expressions"; that a line is whole is this project's choice)
 abbrev pub IsText : List ℕ → Written → Type 0
 IsText text q = AreQueries IsQuery None (lines_of text) (Some q)
 
@@ -39,7 +40,8 @@ abbrev pub joined_steps : Option (List Step) → List Step → List Step
 joined_steps None s = s
 joined_steps (Some done) s = done ++ s ++ steps.Or ∷ []
 
--- what was read of all lines; none is a fault at the end of the text
+-- what was read of all lines; none is a fault at the end of the text. A query that is forgotten should not print all
+-- (this project's choice)
 abbrev pub ended_lines : ℕ → Option (List Step) → Result (List Step) Fault
 ended_lines at None = Err (Syntax (at - 1))
 ended_lines at (Some done) = Ok done

@@ -22,7 +22,7 @@ pub record Kept : Type 0 where
 abbrev pub State : Type 0
 State = Mode × Kept
 
--- what waits counts toward the depth
+-- what waits counts toward the depth. A `not` is open until the unary behind it has ended (this project's choice)
 abbrev pub is_open : Waiting → Bool
 is_open waits.Open = true
 is_open waits.Not = true

@@ -21,7 +21,9 @@ tree_of (Inside q) = tree_of q
 tree_of (And p q) = Both (tree_of p) (tree_of q)
 tree_of (Or p q) = Either (tree_of p) (tree_of q)
 
--- the steps of a query: its tests and operators, each operator behind its operands
+-- the steps of a query: its tests and operators, each operator behind its operands. A tree of boxes would need
+-- recursion to be read, asked and dropped; a list of steps has one tree, and leaves the truth of it (this project's
+-- choice)
 abbrev pub tree_steps : {A : Type 0} → Query A → List (StepOver A)
 tree_steps (Single t) = steps.Test t ∷ []
 tree_steps (Negated q) = tree_steps q ++ steps.Not ∷ []

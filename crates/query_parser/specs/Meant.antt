@@ -44,7 +44,8 @@ pub record AreParts (p : Parts) (c : Criterion) : Type 0 where
 abbrev pub IsCriterion : List ℕ → Criterion → Type 0
 IsCriterion text c = (p : Parts) × (is_criterion p ≡ true) × (criterion_text p ≡ text) × AreParts p c
 
--- an operand that is an integer has no period
+-- an operand that is an integer has no period. The operand tells what is compared, and not the payload (this project's
+-- choice)
 abbrev pub is_integer : List ℕ → Bool
 is_integer text = not (list_any (λ b. b == period) text)
 

@@ -29,7 +29,8 @@ most_open = 64
 abbrev pub IsQueryText : Bool → List ℕ → Written → Type 0
 IsQueryText caseless text q = IsUtf8 text × IsFineText matches_any is_decimal (is_good_pattern caseless) most_open text q
 
--- the first fault of a text
+-- the first fault of a text. The manual's word `vxid` is here a name like others, and no tag's: `-g raw` prints the
+-- number of each record (this project's choice)
 abbrev pub first_fault : Bool → List ℕ → Option Fault
 first_fault caseless text = query_fault matches_any is_decimal (is_good_pattern caseless) most_open text
 

@@ -8,7 +8,9 @@ use Rattle.system_world.specs.declared.words.Question.TheVariants.{Help, Version
 abbrev pub is_help : List ℕ → Bool
 is_help word = bytes_eq word (codes "--help") || bytes_eq word (codes "-h")
 
--- as the only word `--help` or `-h` asks for the help of a program without tools, and `--version` for its version; other words ask nothing of the program itself
+-- as the only word `--help` or `-h` asks for the help of a program without tools, and `--version` for its version;
+-- other words ask nothing of the program itself. The program answers before its top call, so that the contract of that
+-- has one meaning for all words
 abbrev pub question_of : List (List ℕ) → Option Question
 question_of (word ∷ []) =
     if is_help word then Some Help else (if bytes_eq word (codes "--version") then Some Version else None)

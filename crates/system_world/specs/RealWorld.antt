@@ -5,7 +5,9 @@ use Rattle.vio.specs.Streams.{below_more_than_three}
 use Rattle.vio.specs.World.{Seen, HasStreams}
 use Rattle.system_world.specs.declared.real_world.RealWorld.{RealWorld}
 
--- what the system tells where so many files were opened or created and so many calls failed
+-- what the system tells where so many files were opened or created and so many calls failed. Each handle has each name,
+-- because none is kept, and the one count of faults is that of each name: a fault of any handle is one of the name that
+-- is asked for
 abbrev pub seen_after : ℕ → ℕ → Seen
 seen_after opened failed = record {
   held = λ name. None;

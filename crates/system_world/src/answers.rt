@@ -32,7 +32,8 @@ pub fn no_memory(rt: &impl Eprint, program: &str) -> u8
 }
 
 /// Says on standard error that the argument at a place, from 1 on, isn't UTF-8, as `PROGRAM: argument 5 is not UTF-8`, and answers
-/// the exit status for a faulty command line.
+/// the exit status for a faulty command line. A program's `main` calls it, because its top call takes words as
+/// `String`.
 pub fn not_text(rt: &impl Eprint, program: &str, place: usize) -> u8
     ensures { result ≡ 2 }
 {

@@ -15,7 +15,8 @@ use vio::{Created, ERRORS, Failed, INPUT, OUTPUT, World, WorldFault};
 /// The system's files and streams. It tells no bytes, and has one count, which is that of each kind of call and of each name.
 ///
 /// No call is tried again: also one that a signal cut short, which the system does to no program that handles no signal. An opening
-/// for which no handle is left is want of memory.
+/// for which no handle is left is want of memory. A call that the system refuses for its own want of memory failed like
+/// any other, and is counted.
 #[derive(Drop)]
 pub struct RealWorld {
     rt: HostRuntime,

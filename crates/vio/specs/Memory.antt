@@ -80,7 +80,8 @@ tells files opened input output errors faults = record {
   given = λ h. nat_lt h (first_handle + length opened);
 }
 
--- what a world in memory tells
+-- what a world in memory tells. It keeps one count of faults for all kinds and names, so a cause says only that this
+-- one rose
 abbrev pub memory_seen : MemWorld → Seen
 memory_seen m = tells m.files.items m.opened.items m.input m.output.items m.errors.items m.faults
 
@@ -89,7 +90,8 @@ abbrev pub held_now : List MemFile → Option OpenFile → List ℕ
 held_now files None = []
 held_now files (Some file) = unwrap_or (held_in files file.name.items) []
 
--- the whole content behind a handle; of a handle never given nothing
+-- the whole content behind a handle; of a handle never given nothing. Of a file it is what its name holds now, where
+-- the handle itself reads what that held when it was opened
 abbrev pub content_of : MemWorld → ℕ → List ℕ
 content_of m h =
     if nat_eq h 0 then m.input.bytes.items else (if nat_eq h 1 then m.output.items else
@@ -159,7 +161,8 @@ pub record MemAnswers (before now : MemWorld) : Type 0 where
 abbrev pub is_answered : Bool → MemWorld → Bool
 is_answered has_object m = has_object && not (fails_next m.plan)
 
--- an opening: it fails where its call is to fail or the name isn't there, and nowhere else
+-- an opening: it fails where its call is to fail or the name isn't there, and nowhere else. That no handle is left is
+-- want of memory, and no fault
 abbrev pub MemOpens : List ℕ → MemWorld → MemWorld → Result ℕ WorldFault → Type 0
 MemOpens name old new (Ok h) = (is_answered (is_some (held_in old.files.items name)) old ≡ true) × MemAnswers old new
 MemOpens name old new (Err NoMemory) = (is_answered (is_some (held_in old.files.items name)) old ≡ true) × MemAnswers old new

@@ -7,7 +7,8 @@ use Rattle.vio.specs.declared.file.Plan.{Plan}
 abbrev pub fails_next : Plan → Bool
 fails_next plan = list_any (λ call. call == min (plan.calls + 1) (2 ^ 64 - 1)) plan.failing.items
 
--- how many bytes a call moves, where it could move so many: at most a piece, which has at least 1 byte
+-- how many bytes a call moves, where it could move so many: at most a piece, which has at least 1 byte, so that reads
+-- and writes go on
 abbrev pub moved : Plan → ℕ → ℕ
 moved plan most = min most (max plan.most 1)
 

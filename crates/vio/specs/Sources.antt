@@ -21,7 +21,8 @@ abbrev pub text_in : Access → Option (List ℕ)
 text_in (ForReading source) = None
 text_in (ForWriting text) = Some text.items
 
--- the bytes under a name: of the first file that has it
+-- the bytes under a name: of the first file that has it. It is the newest: older bytes of a name are kept behind newer
+-- ones, and a handle that was opened before keeps what it had
 abbrev pub held_in : List MemFile → List ℕ → Option (List ℕ)
 held_in [] name = None
 held_in (file ∷ files) name = if bytes_eq file.name.items name then Some file.bytes.items else held_in files name

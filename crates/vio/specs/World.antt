@@ -10,7 +10,8 @@ pub data CallKind : Type 0 where
   Reading : CallKind
   Writing : CallKind
 
--- what a world tells in one state
+-- what a world tells in one state. It may tell nothing of bytes, so one trait fits files in memory, which tell all, and
+-- the system's, which tell none
 pub record Seen : Type 0 where
   -- the bytes that a file of this name holds, where told
   pub held : List ℕ → Option (List ℕ)
@@ -66,13 +67,16 @@ pub record Opened (name : List ℕ) (h : ℕ) (before now : Seen) : Type 0 where
   pub other_names : (k : CallKind) (i : ℕ) (n : List ℕ) → i ≢ h → now.names k i n ≡ before.names k i n
   pub other_given : (i : ℕ) → i ≢ h → now.given i ≡ before.given i
 
--- what a file has when writing to it begins, where told: no bytes, or those that it held where it is to keep them
+-- what a file has when writing to it begins, where told: no bytes, or those that it held where it is to keep them. That
+-- there is no file is told apart from what a file holds, so that this can be said of a new one
 abbrev pub begins_with : Bool → List ℕ → Seen → Option (List ℕ)
 begins_with append name before =
     if before.lacks name then Some [] else (if append then before.held name else option_map (λ bytes. []) (before.held name))
 
 -- a file was created for writing: the handle is new, has the file's name in writes, and nothing was written to it; the file has no bytes, or those
--- that it is to keep, and it is known whether it has any; nothing else changed but counts, of which none fell
+-- that it is to keep, and it is known whether it has any; nothing else changed but counts, of which none fell. What
+-- handles have left stays, also of one that reads this file: nothing compares the two, since a file may have several
+-- names
 pub record FileCreated (append : Bool) (name : List ℕ) (h : ℕ) (empty : Bool) (before now : Seen) : Type 0 where
   pub counts : NoCountFalls before now
   pub fresh : before.given h ≡ false

@@ -28,7 +28,8 @@ pub struct Created {
 /// Files and standard streams.
 ///
 /// Handles 0, 1 and 2 are standard input, output and error. No call lowers a count of faults, and a
-/// call on one handle leaves the others as they are. A refused call changes counts alone.
+/// call on one handle leaves the others as they are. A refused call changes counts alone. No `Send` is asked of it:
+/// what reads and writes stays on the thread of the caller, and only workers go to others.
 pub trait World {
     /// What the world tells: its files, what each handle has left and took, and its counts of faults.
     ghost seen: { Self → Seen };

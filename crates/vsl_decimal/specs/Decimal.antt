@@ -81,7 +81,7 @@ abbrev pub decimal_of : List ℕ → Option ℤ
 decimal_of [] = None
 decimal_of (b ∷ text) = if b == minus then option_map (λ size. neg_ℤ (pos size)) (size_of text) else option_map pos (size_of (b ∷ text))
 
--- the integral part of a scaled value, cut toward zero
+-- the integral part of a scaled value, cut toward zero. So `-0.5 == 0` holds in a query, as `200.9 == 200` does
 abbrev pub integral_part : ℤ → ℤ
 integral_part (pos value) = pos (value / scale)
 integral_part (negsuc value) = neg_ℤ (pos (suc value / scale))

@@ -8,11 +8,13 @@ pub use Rattle.vsl_pattern.specs.inside.Options.{options}
 use Rattle.vsl_pattern.specs.declared.pattern.Pattern.{Pattern}
 use Rattle.vsl_pattern.specs.declared.pattern.Matching.{Matching}
 
--- a text is a good pattern: it is UTF-8, the grammar reads it, and it isn't nested deeper than 250
+-- a text is a good pattern: it is UTF-8, the grammar reads it, and it isn't nested deeper than 250. That depth is the
+-- crate's own limit
 abbrev pub is_good_pattern : Bool → List ℕ → Bool
 is_good_pattern caseless text = is_utf8 text && elim (read (options caseless) (chars text)) [ None ↦ false | Some x ↦ nat_le x.0.depth (options caseless).nest_limit ]
 
--- a pattern matches somewhere in these bytes
+-- a pattern matches somewhere in these bytes. Unlike PCRE2, which varnishlog asks, the crate reads no lookaround and no
+-- references to groups
 abbrev pub is_match : Bool → List ℕ → List ℕ → Bool
 is_match caseless text bytes = elim (read (options caseless) (chars text)) [ None ↦ false | Some x ↦ is_some (find x.0.value bytes 0) ]
 

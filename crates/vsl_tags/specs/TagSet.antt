@@ -17,7 +17,7 @@ comma = 44
 abbrev pub elements : List ℕ → List (List ℕ)
 elements text = slice_split (λ b. b == comma) text
 
--- an element is the name of a tag, or matches one
+-- an element is the name of a tag, or matches one. One that is neither is refused, since a test of it could never hold
 unfoldable pub matches_any : List ℕ → Bool
 matches_any element = list_any (matches element) tag_names
 

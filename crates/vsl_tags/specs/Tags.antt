@@ -82,7 +82,8 @@ message_endings =
 abbrev pub message_names : List ℕ → List (List ℕ)
 message_names message = map (λ ending. message ++ ending) message_endings
 
--- the names of all tags, in the order of their numbers: the single ones, then those of the five messages
+-- the names of all tags, in the order of their numbers: the single ones, then those of the five messages. The manual
+-- gives names and meanings of tags, and no numbers
 abbrev pub tag_names : List (List ℕ)
 tag_names =
     single_names ++ message_names (codes "Req") ++ message_names (codes "Resp") ++ message_names (codes "Bereq") ++ message_names (codes "Beresp")

@@ -10,7 +10,7 @@ abbrev pub counted : Bool → ℕ → ℕ
 counted failed before = if failed then min (before + 1) (2 ^ 64 - 1) else before
 
 -- what a write of a piece of this size answers: the system's count, but a failure where the system answers an error, or that nothing of
--- a piece that isn't empty was written
+-- a piece that isn't empty was written, so that a whole write ends
 abbrev pub answer_to_write : {E : Type 0} → Result ℕ E → ℕ → Result ℕ WorldFault
 answer_to_write (Ok n) size = if nat_eq n 0 && nat_lt 0 size then Err Failed else Ok n
 answer_to_write (Err e) size = Err Failed
