@@ -31,7 +31,9 @@ pub record IsFeed (reclen seg : ℕ) (bytes : List ℕ) (listing : Listing) : Ty
 abbrev pub AreListings : ℕ → ℕ → List (List ℕ) → List Listing → Type 0
 AreListings reclen seg contents listings = AllZip (IsFeed reclen seg) contents listings
 
--- the bytes of a feed, the n-th, have this fault: they are more than are read, or have a bad line
+-- the bytes of a feed, the n-th, have this fault: they are more than are read, or have a bad line. Nothing of such a
+-- feed is used, nor of the others: it is likely another file than was meant. Its number tells it, because one name may
+-- be given twice
 abbrev pub HasBytesFault : ℕ → List ℕ → List ℕ → FeedFault → Type 0
 HasBytesFault n name bytes (TooLarge called limit) = (called ≡ name) × (limit ≡ most_feed_bytes) × (most_feed_bytes < length bytes)
 HasBytesFault n name bytes (BadListing feed line) = (feed ≡ n) × (length bytes ≤ most_feed_bytes) × IsFirstBad bytes line
@@ -81,7 +83,8 @@ pub record IsWithinRing (seg size : ℕ) (listing : Listing) : Type 0 where
   pub few_records : record_count listing.units ≤ (size + 1) / 8
   pub few_cuts : listing.cuts ≤ record_count listing.units
 
--- a feed was read by these calls: its file was opened and read whole, its bytes are this listing, and it fits in a ring
+-- a feed was read by these calls: its file was opened and read whole, its bytes are this listing, and it fits in a
+-- ring. So `-w` may name a feed's own file: its bytes were read before that is emptied or appended to
 pub record FeedPasses (reclen seg : ℕ) (feed : Feed) (listing : Listing) (calls : List Call) : Type 0 where
   pub bytes : List ℕ
   pub read : IsReadBy most_feed_bytes feed.name bytes calls

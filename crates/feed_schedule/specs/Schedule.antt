@@ -82,7 +82,8 @@ after_writer k s = record s { log = s.log ++ put_by k s.writers; writers = witho
 
 -- ---- the reader's turn
 
--- the reader takes the unit that is due; where there is none it waits, or has ended where all writers left
+-- the reader takes the unit that is due; where there is none it waits, or has ended where all writers left. It waits
+-- for the turn of a writer, so that no turn goes by in which nothing can happen
 abbrev pub after_taking : ℕ → Option LogUnit → Stage → Stage
 after_taking seg (Some u) s = record s { number = s.number + 1; place = tail unit_words seg (take (s.number + 1) s.log); history = with_unit u s.history }
 after_taking seg None s = record s { reading = if count_writers s.writers == 0 then Ended else Waits }
@@ -95,7 +96,8 @@ last_segment seg s = tail unit_words seg s.log / seg
 abbrev pub is_overrun : ℕ → Stage → Bool
 is_overrun seg s = nat_le (s.place / seg + 6) (last_segment seg s)
 
--- the reader is overrun, and goes on with the first unit that starts in the segment four behind the writers', or later
+-- the reader is overrun, and goes on with the first unit that starts in the segment four behind the writers', or later.
+-- The ring has eight, so what it may take isn't written over yet, and it has room before it is overrun again
 abbrev pub after_overrun : ℕ → Stage → Stage
 after_overrun seg s =
     let from = last_segment seg s - 4 in
@@ -137,7 +139,8 @@ abbrev pub chosen_by : Option ℕ → ℕ → ℕ
 chosen_by None active = 0
 chosen_by (Some x) active = next_draw x % active
 
--- one turn: its draw is made, and the one that was chosen has it
+-- one turn: its draw is made, and the one that was chosen has it. A draw is made also where one alone may have the
+-- turn, so that it can be counted which draw is which turn's
 abbrev pub after_turn : ℕ → Stage → Stage
 after_turn seg s = if has_ended s.reading then s else after_turn_of seg (chosen_by s.drawn (count_active s)) (record s { drawn = option_map next_draw s.drawn })
 
@@ -147,7 +150,9 @@ after_turns n seg s = iterate (after_turn seg) n s
 
 -- ---- the whole
 
--- in this order of turns, drawn from a seed on, or none for feed after feed and then the reader, these feeds give this log and this history, the oldest item first
+-- in this order of turns, drawn from a seed on, or none for feed after feed and then the reader, these feeds give this
+-- log and this history, the oldest item first. Feeds could be taken as one list, but a log in memory has a size, and a
+-- reader that falls behind misses units: with a stated size and order each run shows the same
 abbrev pub IsScheduled : ℕ → Option ℕ → List Log → Log → List (HistoryItem LogUnit) → Type 0
 IsScheduled seg order feeds log history =
     (n : ℕ) × (has_ended (after_turns n seg (first_stage order feeds)).reading ≡ true)

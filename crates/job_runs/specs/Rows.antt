@@ -35,7 +35,8 @@ abbrev pub fills : Job → Ask → List Item → Bool
 fills job ask met = is_filled job.keep (chosen ask (groups_of (options_of job) (taken_of met) false))
 
 -- what is due: the header where one is due; and what is written of those groups of what was met that are asked for, at most as many as are kept. With all items what is pending is
--- flushed, and with these, or with the last group that is kept, the groups have ended
+-- flushed, and with these, or with the last group that is kept, the groups have ended. Queries are asked of all records
+-- of a group, shown or not, and that groups are fewer than are kept is no fault
 abbrev pub job_due : Job → Ask → Bool → Due
 job_due job ask empty = record {
   head = head_text job empty;
@@ -53,7 +54,8 @@ stop_answer name (stops.Damaged at) = Damaged name at
 stop_answer name stops.TooLarge = TooLarge name most_bytes
 stop_answer name stops.ReadFault = ReadFault name
 
--- how it is answered that an output ended so
+-- how it is answered that an output ended so. An overrun that can't be told is a fault: who can't be told that records
+-- are missing should not take the output for whole
 abbrev pub output_answer : TextEnding → Option ToolFault
 output_answer endings.Whole = None
 output_answer endings.Kept = None

@@ -35,14 +35,16 @@ pub record FedCame (job : Job) (listings : List Listing) (met : List Item) (all 
   pub parts : items_of history ≡ met ++ rest
   pub whole : all ≡ true → (rest ≡ []) × ReachesTail log history
 
--- a ring is recorded that is closed: this is its log, and this its only reader's history
+-- a ring is recorded that is closed: this is its log, and this its only reader's history. The ring holds no byte by
+-- then: contracts alone see its log
 pub record RecordsRing (recorded : RunRecord) (log : Log) (history : List (HistoryItem LogUnit)) : Type 0 where
   pub ring : ClosedState
   pub is : recorded ≡ Closed ring
   pub log_is : ring.log ≡ log
   pub only : ring.histories ≡ history ∷ []
 
--- these items came of feeds; where threads put them they are all that the reader took, and the ring is recorded
+-- these items came of feeds; where threads put them they are all that the reader took, and the ring is recorded. A run
+-- on threads may not end, since a call that waits may wait for ever, and then nothing is said
 pub record FeedsCame (job : Job) (listings : List Listing) (recorded : RunRecord) (met : List Item) (all : Bool) : Type 0 where
   pub came : FedCame job listings met all
   pub ring : is_on_threads job ≡ true → (came.rest ≡ []) × RecordsRing recorded came.log came.history

@@ -76,7 +76,8 @@ fn items_of(alloc: Global, job: &Job, listings: Vec<Listing>) -> Result<FeedItem
     Ok(FeedItems { alloc, replay })
 }
 
-/// Prints the groups of feeds, which are put in the order that a job states.
+/// Prints the groups of feeds, which are put in the order that a job states. The requests that are made up are made
+/// here, once the feeds were read, so a fault of a feed comes first.
 pub fn print_feeds<W: World, C: Consumer>(
     alloc: Global,
     job: &Job,

@@ -75,7 +75,9 @@ is_threads Threads = true
 is_threads (Turns seed) = false
 is_threads FeedFirst = false
 
--- whether workers put a job's feeds, or its made requests, on threads: where it has some and states no order
+-- whether workers put a job's feeds, or its made requests, on threads: where it has some and states no order. A log in
+-- memory is for writers that don't wait for its readers, and who wants the same at each run states an order. It is one
+-- rule for all tools, whatever their options are
 abbrev pub is_on_threads : Job → Bool
 is_on_threads job = is_fed job && is_threads job.order
 
@@ -88,6 +90,7 @@ abbrev pub made_listings : ℕ → ℕ → Option (ℕ × ℕ) → List Listing
 made_listings reclen seg None = []
 made_listings reclen seg (Some made) = record { units = made_units made.0 made.1 reclen seg; cuts = made_cuts made.0 made.1 reclen seg } ∷ []
 
--- what the writers of a job put: the listings of its feeds, and behind them the one that is made
+-- what the writers of a job put: the listings of its feeds, and behind them the one that is made. Where a feed has a
+-- VXID of theirs, the records are of one transaction, as those of two feeds are
 abbrev pub with_made : Job → List Listing → List Listing
 with_made job listings = listings ++ made_listings job.reclen job.seg job.made

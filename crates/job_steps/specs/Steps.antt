@@ -75,11 +75,13 @@ feed_steps job = map (ReadFeed job.reclen job.seg) (feeds_from 0 job.feeds)
 abbrev pub input_steps : Job → List Step
 input_steps job = if is_some job.file then OpenLog (file_of job) ∷ [] else feed_steps job
 
--- what a job does that prints groups
+-- what a job does that prints groups. What can be told without a log comes first, and the file to be written last: a
+-- query, a format, a log or a feed at fault leaves that file as it was
 abbrev pub group_steps : Job → List Step
 group_steps job = queries_from job.caseless 0 job.queries ++ (TakeFormat job.tool (format_text job) ∷ []) ++ input_steps job ++ MakeSink job.append (write_of job) ∷ []
 
--- what a job does that prints counters
+-- what a job does that prints counters. For names alone no feed is needed; those that are given are read all the same,
+-- so that a command line has its faults, whatever is printed
 abbrev pub counter_steps : Job → List Step
 counter_steps job = feed_steps job ++ MakeSink false (codes "-") ∷ []
 
@@ -103,7 +105,8 @@ steps_of (Ok job) = word_steps (Ok job) ++ job_steps job
 abbrev pub most_query_bytes : ℕ
 most_query_bytes = 65536
 
--- this is the text of a query: that of the word, or what was read of the file of this name
+-- this is the text of a query: that of the word, or what was read of the file of this name. The name `-` is that of a
+-- file like others: a run has one standard input, and the log is read from it
 abbrev pub IsTextBy : QueryText → List ℕ → List Call → Type 0
 IsTextBy query text calls = MatchBool query.file (IsReadBy most_query_bytes query.text text calls) ((text ≡ query.text) × (calls ≡ []))
 
@@ -111,7 +114,8 @@ IsTextBy query text calls = MatchBool query.file (IsReadBy most_query_bytes quer
 abbrev pub IsOpenedBy : List ℕ → ℕ → List Call → Type 0
 IsOpenedBy name h calls = MatchBool (bytes_eq name (codes "-")) ((h ≡ INPUT) × (calls ≡ [])) (calls ≡ Open name h ∷ [])
 
--- what is written under this name has this handle, and is empty or not
+-- what is written under this name has this handle, and is empty or not. Nothing can be asked of standard output, so it
+-- counts as empty
 abbrev pub IsMadeBy : Bool → List ℕ → ℕ → Bool → List Call → Type 0
 IsMadeBy append name h empty calls = MatchBool (bytes_eq name (codes "-")) ((h ≡ OUTPUT) × (empty ≡ true) × (calls ≡ [])) (calls ≡ Create append name h empty ∷ [])
 
@@ -154,13 +158,15 @@ feed_answer (feeds.ReadFault name) = ReadFault name
 feed_answer (feeds.TooLarge name limit) = TooLarge name limit
 feed_answer (feeds.BadListing feed line) = BadListing feed line
 
--- the file of a query isn't read; or its text has a fault, the first
+-- the file of a query isn't read; or its text has a fault, the first. A file past the bound is refused before its text
+-- is looked into: what a person writes is shorter
 abbrev pub QueryStops : Bool → ℕ → QueryText → ToolFault → List Call → Type 0
 QueryStops caseless n query fault calls =
     ((query.file ≡ true) × ((why : NamedFault) × IsRefusedBy most_query_bytes query.text why calls × (fault ≡ named_answer most_query_bytes query.text why)))
     ⊎ ((text : List ℕ) × (why : Fault) × IsTextBy query text calls × (first_fault caseless text ≡ Some why) × (fault ≡ BadQuery n (query_answer why)))
 
--- a step stops a job with this fault, by these calls
+-- a step stops a job with this fault, by these calls. What was done until then is said for all steps alike, so a new
+-- fault needs no new clause of the top call
 abbrev pub Stops : Step → ToolFault → List Call → Type 0
 Stops (RefuseWords why) fault calls = (calls ≡ []) × (fault ≡ Usage why)
 Stops (TakeRules caseless texts) fault calls = (calls ≡ []) × ((why : SelectFault) × (rules_fault caseless texts ≡ Some why) × IsRuleAnswer why fault)

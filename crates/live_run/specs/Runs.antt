@@ -25,7 +25,7 @@ abbrev pub feeds_of : List Listing → List Log
 feeds_of listings = map (λ l. l.units) listings
 
 -- workers may put these listings into a ring: there is one at least, and no more than the ring has writers; each unit has room in a segment, and words, records and cuts are so few that
--- neither the ring nor a counter is ever full
+-- neither the ring nor a counter is ever full, so there is no fault for a unit that wasn't put
 pub record MayBePut (seg : ℕ) (listings : List Listing) : Type 0 where
   pub some : 0 < length listings
   pub many : length listings ≤ most_writers
@@ -37,7 +37,8 @@ pub record MayBePut (seg : ℕ) (listings : List Listing) : Type 0 where
 -- ---- what was read
 
 -- these items came of a ring that is closed now and had one reader: its log is an interleaving of the feeds, and the items are all that the reader took of it, in order; where they are all
--- that there is, up to the log's tail
+-- that there is, up to the log's tail. Workers run to their end, also where the reader stopped: nobody tells them, and
+-- they wait for no reader
 pub record LiveCame (seg : ℕ) (feeds : List Log) (closed : ClosedState) (met : List Item) (all : Bool) : Type 0 where
   pub interleaved : IsInterleaving closed.log feeds
   pub history : List (HistoryItem LogUnit)
@@ -66,7 +67,8 @@ live_value which listings waits wraps = counter_value which listings wraps + wai
 abbrev pub live_values : List Listing → ℕ → ℕ → List ℕ
 live_values listings waits wraps = map (λ which. live_value which listings waits wraps) (range_with_len 0 counter_count)
 
--- so many waits are told of those that a closed ring keeps: all, where they are below 2^56, and else at least 2^56
+-- so many waits are told of those that a closed ring keeps: all, where they are below 2^56, and else at least 2^56. A
+-- writer tells no more, and nobody will see as many
 pub record AreTold (kept waits : ℕ) : Type 0 where
   pub exact : kept < most_waits → waits ≡ kept
   pub many : most_waits ≤ kept → most_waits ≤ waits

@@ -36,7 +36,7 @@ pub struct CountEnded {
 /// Puts listings into a ring, each by a worker on a thread of its own, or here where none can be made, and gives an
 /// output what one reader meets meanwhile, until the output ends or all that was put was met. A gate, for tests, is
 /// asked before each put and each call of the reader, of which no clause here speaks. It waits for the workers, also where
-/// there is no memory for the run.
+/// there is no memory for the run. All memory but that of the reader's run is taken before the first thread begins.
 pub fn run_live<R: Threads + Wait + Sync, W: World, O: Output, G: Gate>(
     rt: &R,
     alloc: Global,

@@ -99,7 +99,8 @@ pub record FoundCounter (seen : ℕ) (old new : ReaderState) : Type 0 where
   pub observed : new.reader.observed ≡ CounterSeen seen ∷ (before ++ old.reader.observed)
 
 -- what a call of `next` found: where it took a unit, a word at the unit's place; the end mark at its place where it answers that no unit is due; and the counter that it tells
--- where it was overrun
+-- where it was overrun. So a clause can say what this call looked at, for every answer and not for the last alone; the
+-- program keeps none of it
 abbrev pub HasFound : ReaderState → Step → ReaderState → Type 0
 HasFound old Took new = (place : ℕ) × ((word : ℕ) × FoundAt place word old new × (new.reader.place ≡ place + length new.words))
 HasFound old (NotYet p) new = FoundAt p end_mark old new

@@ -37,7 +37,9 @@ pub record HasPut (u : LogUnit) (old new : WriterState) : Type 0 where
   pub low : end_at old.ring.seg tail (length (unit_words u)) ≤ last_tail
   pub is : new ≡ record old { entries = old.entries ++ (tail, u) ∷ []; found = max old.found tail }
 
--- why a unit isn't put, and what is left: it has more words than a segment; another writer had the write token; the write token was got, and the unit has no place at the tail found
+-- why a unit isn't put, and what is left: it has more words than a segment; another writer had the write token; the
+-- write token was got, and the unit has no place at the tail found. With logs of less than 2^62 words the last never
+-- comes
 abbrev pub IsRefused : LogUnit → WriterState → PutFault → WriterState → Type 0
 IsRefused u old (TooLong n) new = (old.ring.seg < length (unit_words u)) × (n ≡ length (unit_words u)) × (new ≡ old)
 IsRefused u old Busy new = (length (unit_words u) ≤ old.ring.seg) × (new ≡ record old { busy = old.busy + 1 }) × (1 < old.ring.writers)

@@ -356,7 +356,8 @@ impl ReaderPass {
         self.next_with(ring, &mut NoPause)
     }
 
-    /// Takes the next unit as `next` does, and calls `pause` before each load.
+    /// Takes the next unit as `next` does, and calls `pause` before each load. A test stops a call anywhere so, and its
+    /// contract is the same.
     #[tactic(auto, using(crate::proofs::AnswerLemmas::answer_as, crate::proofs::AnswerLemmas::found_once, crate::proofs::AnswerLemmas::found_twice, crate::proofs::AnswerLemmas::free_stays))]
     pub fn next_with<P: Pause>(&mut self, ring: &Ring, pause: &mut P) -> Step
         requires ours { self.old.ring ≡ ring.now }

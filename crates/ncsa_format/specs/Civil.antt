@@ -70,7 +70,8 @@ part_text second parts.Date = date_text second
 part_text second parts.Clock = clock_text second
 part_text second parts.Zone = codes "+0000"
 
--- a time in a form; times are counted in units of 10^-18 seconds, and all is cut
+-- a time in a form; times are counted in units of 10^-18 seconds, and all is cut. Times are UTC, so that a log gives
+-- the same lines wherever it is read (this project's choice)
 abbrev pub time_text : TimeForm → ℕ → List ℕ
 time_text forms.Seconds time = decimal (time / scale)
 time_text forms.Millis time = decimal (time / 1_000_000_000_000_000)

@@ -12,7 +12,9 @@ use Rattle.ncsa_format.specs.declared.formatter.Formatter.{Formatter}
 abbrev pub NoEscape : List ℕ → Type 0
 NoEscape text = (rest : List ℕ) → (text ≢ codes "\\n" ++ rest) × (text ≢ codes "\\t" ++ rest)
 
--- a byte of text as it is written before the rest of a format: `%%` is a percent sign, a backslash before `n` and `t` a line feed and a tab, every other byte is itself
+-- a byte of text as it is written before the rest of a format: `%%` is a percent sign, a backslash before `n` and `t` a
+-- line feed and a tab, every other byte is itself. A format is read once, from the left: so `\\n` is a backslash and a
+-- line feed
 abbrev pub IsByteAt : ℕ → List ℕ → List ℕ → Type 0
 IsByteAt b text rest =
     ((b ≡ percent) × (text ≡ codes "%%" ++ rest))
@@ -30,7 +32,9 @@ abbrev pub IsFormat : List Piece → List ℕ → Type 0
 IsFormat [] text = text ≡ []
 IsFormat (piece ∷ pieces) text = (rest : List ℕ) × IsPieceAt piece text rest × IsFormat pieces rest
 
--- the first percent sign that begins no formatter stands at this place: what stands before it is a format, and neither a formatter nor a percent sign stands behind it
+-- the first percent sign that begins no formatter stands at this place: what stands before it is a format, and neither
+-- a formatter nor a percent sign stands behind it. A formatter is taken whole or not at all, so that is the place, too,
+-- where what is wrong stands inside its braces
 pub record IsFaultAt (text : List ℕ) (at : ℕ) : Type 0 where
   pub before : List ℕ
   pub behind : List ℕ

@@ -30,7 +30,7 @@ IsName name = list_any (λ b. b == brace) name ≡ false
 abbrev pub braced : List ℕ → List ℕ → List ℕ
 braced name letter = codes "{" ++ name ++ codes "}" ++ letter
 
--- how a part of a time is written
+-- how a part of a time is written. The directives are those that name a time without a zone or a language
 abbrev pub written_part : TimePart → List ℕ
 written_part (parts.Byte b) = if b == percent then codes "%%" else b ∷ []
 written_part parts.Year = codes "%Y"
@@ -73,7 +73,8 @@ IsFieldPart None text = text ≡ []
 IsFieldPart (Some n) text =
     (digits : List ℕ) × (text ≡ codes "[" ++ digits ++ codes "]") × AllDigits 10 digits × (1 ≤ length digits) × (digits_value 10 digits ≡ n) × (1 ≤ n) × (n ≤ 9999)
 
--- how a part of a record is written: a tag, a prefix and a field
+-- how a part of a record is written: a tag, a prefix and a field. The tag is no glob and no list, since a formatter
+-- prints one record
 pub record IsTagPart (tag : ℕ) (prefix : Option (List ℕ)) (field : Option ℕ) (text : List ℕ) : Type 0 where
   pub tag_text : List ℕ
   pub prefix_text : List ℕ

@@ -26,21 +26,22 @@ quoted_byte b =
     (if b == 9 then codes "\\t" else
     (if nat_lt b 32 || nat_lt 126 b then codes "\\x" ++ hex_digit (b / 16) ∷ hex_digit (b % 16) ∷ [] else b ∷ []))))
 
--- a value as it is printed
+-- a value as it is printed. So a value has no line feed and ends no quotes, and can be read back
 abbrev pub quoted : List ℕ → List ℕ
 quoted value = flat_map quoted_byte value
 
--- a value where there is one, and else `-`
+-- a value where there is one, and else `-`. So a line has as many columns as its format
 abbrev pub printed : Option (List ℕ) → List ℕ
 printed None = codes "-"
 printed (Some value) = quoted value
 
--- a piece of a format for a transaction
+-- a piece of a format for a transaction. The text of a format is no value and prints as it is. A text of directives is
+-- one, because what the formatter prints is one value
 abbrev pub piece_text : Member → Piece → List ℕ
 piece_text m (Byte b) = b ∷ []
 piece_text m (Value f) = printed (value_of f m)
 
--- whether a record says that a request starts again
+-- whether a record says that a request starts again. That request isn't answered: the one after it is, and has the line
 abbrev pub is_restart : Record → Bool
 is_restart rec = (rec.tag == VCL_RETURN) && bytes_eq rec.payload (codes "restart")
 
@@ -54,15 +55,18 @@ is_request kind = false
 abbrev pub has_line : Member → Bool
 has_line m = is_request m.kind && not (list_any is_restart m.records)
 
--- the line of a transaction, where it has one
+-- the line of a transaction, where it has one. It is made of the transaction's own records alone, whatever the group is
 abbrev pub line_of : List Piece → Member → List ℕ
 line_of pieces m = if has_line m then flat_map (piece_text m) pieces ++ codes "\n" else []
 
--- whose transactions are logged: without -b, -c and -E those of clients, but not for ESI parts
+-- whose transactions are logged: without -b, -c and -E those of clients, but not for ESI parts. An access log is of
+-- clients
 abbrev pub logged_sides : Sides → Sides
 logged_sides sides = if has_sides sides then sides else record { backend = false; client = true; esi = false }
 
--- whether a transaction is logged: with -c a request of a client, with -E also one for an ESI part, with -b one of a backend, which hides clients where it stands alone
+-- whether a transaction is logged: with -c a request of a client, with -E also one for an ESI part, with -b one of a
+-- backend, which hides clients where it stands alone. Its kind decides, and not a mark, since a line is of a
+-- transaction; of a session or an unknown one nobody knows what was asked for
 abbrev pub is_logged : Sides → Member → Bool
 is_logged sides m = shows_kind (logged_sides sides) m.kind m.reason Plain
 
@@ -70,6 +74,6 @@ is_logged sides m = shows_kind (logged_sides sides) m.kind m.reason Plain
 abbrev pub group_lines : List Piece → Sides → Group → List ℕ
 group_lines pieces sides group = flat_map (line_of pieces) (filter (is_logged sides) group.members)
 
--- the access log of groups
+-- the access log of groups. By transaction a line comes when its transaction ends, so a fetch before its request
 abbrev pub access_text : List Piece → Sides → List Group → List ℕ
 access_text pieces sides groups = flat_map (group_lines pieces sides) groups

@@ -49,15 +49,19 @@ abbrev pub is_backend : Kind → Bool
 is_backend kinds.BeReq = true
 is_backend kind = false
 
--- of a request: the first record of a client's, the last of a backend's
+-- of a request: the first record of a client's, the last of a backend's. That is what a client asked first, and what
+-- was sent to a backend last, behind what VCL changed
 abbrev pub requested : ℕ → ℕ → Part → Member → Option (List ℕ)
 requested client backend part m = if is_backend m.kind then last_of (in_tag backend part) m.records else first_of (in_tag client part) m.records
 
--- of a response: the last record of a client's, the first of a backend's
+-- of a response: the last record of a client's, the first of a backend's. That is what a client was answered last, and
+-- what a backend answered first, before VCL changes it
 abbrev pub responded : ℕ → ℕ → Part → Member → Option (List ℕ)
 responded client backend part m = if is_backend m.kind then first_of (in_tag backend part) m.records else last_of (in_tag client part) m.records
 
--- of a header that is named: the last record, of a client's and of a backend's
+-- of a header that is named: the last record, of a client's and of a backend's. So headers of a client's request are as
+-- VCL set them, and the user and the host of its request line as the client sent them: `%r` and `%{Host}i` may tell two
+-- hosts
 abbrev pub headed : ℕ → ℕ → Part → Member → Option (List ℕ)
 headed client backend part m = if is_backend m.kind then last_of (in_tag backend part) m.records else last_of (in_tag client part) m.records
 
@@ -67,7 +71,8 @@ stamped client backend m = last_of (in_tag TIMESTAMP (value_after (if is_backend
 
 -- ---- parts of values
 
--- a field of a text, from 1
+-- a field of a text, from 1. The record is chosen before its field: where it lacks that, the value is missing, though
+-- another record has it
 abbrev pub field_in : ℕ → Option (List ℕ) → Option (List ℕ)
 field_in n text = option_and_then (λ t. field_of t n) text
 
@@ -84,7 +89,8 @@ abbrev pub is_word : List ℕ → Option (List ℕ) → Bool
 is_word word None = false
 is_word word (Some text) = str_eq_ignore_ascii_case text word
 
--- the user of an Authorization header: its first field is `Basic`, in any case, and its second decodes to a user, a colon and more
+-- the user of an Authorization header: its first field is `Basic`, in any case, and its second decodes to a user, a
+-- colon and more. What is no such header is missing, since a line doesn't tell why; a user may be empty
 abbrev pub user_of : List ℕ → Option (List ℕ)
 user_of header = if is_word (codes "basic") (field_of header 1) then option_and_then before_colon (option_and_then decoded (field_of header 2)) else None
 
@@ -92,7 +98,8 @@ user_of header = if is_word (codes "basic") (field_of header 1) then option_and_
 abbrev pub last_second : ℕ
 last_second = 253_402_000_000
 
--- a time that is printed: exactly from 0 to the last one, so none with a fraction above that
+-- a time that is printed: exactly from 0 to the last one, so none with a fraction above that. The last is a round
+-- number in the last days of 9999, so that a year has four digits
 abbrev pub printed_time : ℤ → Option ℕ
 printed_time (pos time) = if nat_le time (last_second * scale) then Some time else None
 printed_time (negsuc time) = None
@@ -114,12 +121,13 @@ micros_of (negsuc time) = neg_ℤ (pos (suc time / 1_000_000_000_000))
 abbrev pub query_place : List ℕ → ℕ
 query_place url = position_or_len (λ b. b == 63) url
 
--- the host of a request line, by its Host header: it begins with `http://`, and is `http://localhost` where there is none
+-- the host of a request line, by its Host header: it begins with `http://`, and is `http://localhost` where there is
+-- none. A Host header may begin so by itself, as that of a request by proxy may
 abbrev pub host_of : Option (List ℕ) → List ℕ
 host_of None = codes "http://localhost"
 host_of (Some host) = if starts_with nat_eq host (codes "http://") then host else codes "http://" ++ host
 
--- a number of bytes; `0` is missing
+-- a number of bytes; `0` is missing. That is so in the common log format, and of no other text: `00` prints `00`
 abbrev pub unless_zero : List ℕ → Option (List ℕ)
 unless_zero text = if bytes_eq text (codes "0") then None else Some text
 
@@ -132,7 +140,8 @@ handling_of call =
     (if str_eq_ignore_ascii_case call (codes "pipe") then Some (codes "pipe") else
     (if str_eq_ignore_ascii_case call (codes "synth") then Some (codes "synth") else None))))
 
--- how a request was handled: the last VCL_call that tells it; nothing of a backend's
+-- how a request was handled: the last VCL_call that tells it; nothing of a backend's. A hit that ends in an error of
+-- VCL is `synth`, and a fetch is no hit, whatever VCL called
 abbrev pub handling : Member → Option (List ℕ)
 handling m = if is_backend m.kind then None else last_of (in_tag VCL_CALL handling_of) m.records
 
@@ -150,7 +159,7 @@ abbrev pub field_or_all : Option ℕ → Part
 field_or_all None text = Some text
 field_or_all (Some n) text = field_of text n
 
--- what of a payload has this prefix and field
+-- what of a payload has this prefix and field. As in a query a record that lacks one of them is passed over
 abbrev pub part_with : Option (List ℕ) → Option ℕ → Part
 part_with prefix field payload = option_and_then (field_or_all field) (behind prefix payload)
 
@@ -172,7 +181,8 @@ protocol_of m = unwrap_or (requested REQ_PROTOCOL BEREQ_PROTOCOL whole m) (codes
 abbrev pub request_line : Option (List ℕ) → Option (List ℕ) → Option (List ℕ) → List ℕ → List ℕ
 request_line method host url protocol = unwrap_or method (codes "-") ++ codes " " ++ host_of host ++ unwrap_or url [] ++ codes " " ++ protocol
 
--- what a formatter gives for a transaction, where it isn't missing
+-- what a formatter gives for a transaction, where it isn't missing. `%q` is nothing without a query, and not missing,
+-- because it stands behind `%U`
 abbrev pub value_of : Formatter → Member → Option (List ℕ)
 value_of Host m = if is_backend m.kind then field_in 3 (first_of (in_tag BACKEND_OPEN whole) m.records) else field_in 1 (first_of (in_tag REQ_START whole) m.records)
 value_of LogName m = None

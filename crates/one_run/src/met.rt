@@ -7,7 +7,8 @@ ghost use Rattle.one_run.specs.Counts.{HasRoom, IsMet};
 
 use ring_layout::Item;
 
-/// How much a run met.
+/// How much a run met. A run that met 4,294,967,295 overruns, or 2^64 - 1 units, goes no further, as for want of
+/// memory; feeds and requests that are made up have fewer units.
 #[derive(Clone, Copy, Debug, PartialEq, Eq)]
 pub struct Met {
     pub units: u64,

@@ -30,7 +30,8 @@ use Rattle.vsl_pattern.specs.Patterns.{is_match, pattern_text, pattern_caseless}
 
 -- ---- which records are selected, and what of them is asked
 
--- a member's level meets that of a criterion, where it has one
+-- a member's level meets that of a criterion, where it has one. So `{1}` is all of a log by transaction, none of its
+-- single records, and of a session the session alone (this project's choice)
 abbrev pub meets_level : Option Level → ℕ → Bool
 meets_level None level = true
 meets_level (Some l) level = elim l.bound [ Exactly ↦ level == l.number | AtLeast ↦ nat_le l.number level | AtMost ↦ nat_le level l.number ]
@@ -96,7 +97,8 @@ abbrev pub subject_satisfies : Check → Option (List ℕ) → Bool
 subject_satisfies check None = false
 subject_satisfies check (Some text) = satisfies check text
 
--- a record of a member of this level is selected, and satisfies what is asked
+-- a record of a member of this level is selected, and satisfies what is asked. So `ne`, `!=` and `!~` want a record,
+-- too: where `not` is wanted, it is written (this project's choice)
 abbrev pub record_satisfies : Test → ℕ → Record → Bool
 record_satisfies test level rec =
     meets_level test.criterion.level level && has_tag test.criterion.tags rec.tag && subject_satisfies test.check (subject test.criterion rec.payload)
@@ -105,7 +107,8 @@ record_satisfies test level rec =
 abbrev pub member_satisfies : Test → Member → Bool
 member_satisfies test member = list_any (record_satisfies test member.level) member.records
 
--- some record of some member of a group satisfies a test; all records count, shown or not
+-- some record of some member of a group satisfies a test; all records count, shown or not. A query chooses groups, and
+-- other options what of them is shown
 abbrev pub group_satisfies : Group → Test → Bool
 group_satisfies group test = list_any (member_satisfies test) group.members
 
@@ -118,6 +121,7 @@ abbrev pub last_truth : List Bool → Bool
 last_truth [] = false
 last_truth (b ∷ all) = b
 
--- a query holds for a group
+-- a query holds for a group. The query that always holds takes no memory, and raw lines are then made without groups
+-- (this project's choice)
 abbrev pub is_held : Query → Group → Bool
 is_held query group = query.always || last_truth (truths_of (group_satisfies group) query.steps.items [])

@@ -37,6 +37,8 @@ gathered goes (l ∷ ls) = gathered_from goes (unit_of l) ls
 abbrev pub has_end : LogUnit → Bool
 has_end u = list_any (λ rec. rec.tag == end_tag) u.records
 
--- whether a batch goes on with a record: the record's VXID is the batch's and not 0, its mark is the batch's, and the batch has no End
+-- whether a batch goes on with a record: the record's VXID is the batch's and not 0, its mark is the batch's, and the
+-- batch has no End. A listing doesn't tell which records were written at once, and those of VXID 0 don't belong
+-- together
 abbrev pub goes_on : LogUnit → LoggedRecord → Bool
 goes_on batch l = (batch.vxid == l.vxid) && not (l.vxid == 0) && is_same_mark batch.mark l.rec.mark && not (has_end batch)

@@ -74,7 +74,8 @@ most_digits = 10
 abbrev pub IsVxid : List ℕ → ℕ → Type 0
 IsVxid digits vxid = AllDigits 10 digits × (0 < length digits) × (length digits ≤ most_digits) × (digits_value 10 digits ≡ vxid) × (vxid < vxid_end)
 
--- the payload that is written; none is an empty one
+-- the payload that is written; none is an empty one. Nothing is unescaped: a tab was printed as `\x09`, and so was a
+-- payload of these four bytes, so nobody knows which it was
 abbrev pub payload_of : Option (List ℕ) → List ℕ
 payload_of None = []
 payload_of (Some payload) = payload
@@ -88,14 +89,16 @@ pub record IsWritten (w : WrittenRecord) (l : LoggedRecord) : Type 0 where
   pub mark : w.mark ≡ l.rec.mark
   pub payload : payload_of w.payload ≡ l.rec.payload
 
--- what a line's bytes mean: no bytes or spaces alone are a blank line, bytes behind a comment mark are a comment, and a record is written as above
+-- what a line's bytes mean: no bytes or spaces alone are a blank line, bytes behind a comment mark are a comment, and a
+-- record is written as above. A comment is passed over and ends no batch, so that a note can stand anywhere
 abbrev pub IsLine : List ℕ → Line → Type 0
 IsLine bytes BlankLine = (n : ℕ) × (bytes ≡ replicate n space)
 IsLine bytes CommentLine = (text : List ℕ) × (bytes ≡ comment_mark ∷ text)
 IsLine bytes (RecordLine l) = (w : WrittenRecord) × IsWritten w l × (bytes ≡ print_record w)
 
 -- why a line's bytes have no meaning: they are no blank line, no comment, and nothing of a record's form; or something of that form with another VXID,
--- or with a VXID and a word that is no tag's name
+-- or with a VXID and a word that is no tag's name. A tag that isn't known is refused, since records would be lost in
+-- silence else; varnishlog's own -x leaves out what isn't wanted
 abbrev pub IsRefused : List ℕ → LineFault → Type 0
 IsRefused bytes OtherForm = ¬ (IsLine bytes BlankLine) × ¬ (IsLine bytes CommentLine) × ((w : WrittenRecord) → HasForm w → bytes ≢ print_record w)
 IsRefused bytes OtherVxid = (w : WrittenRecord) × HasForm w × (bytes ≡ print_record w) × ((vxid : ℕ) → ¬ (IsVxid w.vxid vxid))
@@ -109,7 +112,8 @@ line_feed = 10
 abbrev pub HasNoFeed : List ℕ → Type 0
 HasNoFeed bytes = All (λ b. (b == line_feed) ≡ false) bytes
 
--- the first line that ends with a line feed, without it and a carriage return before it, and what follows
+-- the first line that ends with a line feed, without it and a carriage return before it, and what follows. So texts of
+-- either kind of line end are read; on a last line that isn't ended a carriage return may be of the payload
 abbrev pub IsEndedLine : List ℕ → List ℕ → List ℕ → Type 0
 IsEndedLine bytes line rest = (text : List ℕ) × HasNoFeed text × (bytes ≡ text ++ line_feed ∷ rest) × (line ≡ strip_carriage_return text)
 

@@ -79,7 +79,8 @@ pub record FileEnds (h : ℕ) (calls : List Call) (met : List Item) (now : Seen)
   pub begins : BeginsLog (taken_by h calls) units
   pub ends : (more : List ℕ) → now.left h ≡ Some more → IsFile (taken_by h calls ++ more) units ending
 
--- a read failed: the items are all that lie whole in the bytes that were taken
+-- a read failed: the items are all that lie whole in the bytes that were taken. Their bytes are right whatever would
+-- follow
 pub record FileUnread (h : ℕ) (calls : List Call) (met : List Item) : Type 0 where
   pub units : Log
   pub are : met ≡ unit_items units

@@ -36,12 +36,15 @@ whole d met all = d.head ++ d.text met all
 abbrev pub Grows : Due → Type 0
 Grows d = (met more : List Item) (all : Bool) → IsPrefix (d.text met false) (d.text (met ++ more) all)
 
--- when an item was printed, the messages up to its own had been written, and the text of what came before it
+-- when an item was printed, the messages up to its own had been written, and the text of what came before it. So the
+-- message of an overrun comes before the text of its flush, also where that completes the last group that is kept
 abbrev pub InOrder : ℕ → Due → List Item → List Call → Type 0
 InOrder sink d met calls = (earlier : List Item) (item : Item) (later : List Item) → met ≡ earlier ++ item ∷ later →
     (before : List Call) × (after : List Call) × (calls ≡ before ++ after) × (written_by sink before ≡ whole d earlier false) × (written_by ERRORS before ≡ messages_of (earlier ++ item ∷ []))
 
--- these items were printed whole, and complete fewer groups than are kept
+-- these items were printed whole, and complete fewer groups than are kept. What was printed before a fault stays, since
+-- it is right whatever follows. Nothing is flushed then: of what is pending nobody knows whether its End stood in what
+-- is missing
 pub record TextWritten (sink : ℕ) (d : Due) (calls : List Call) (done : List Item) : Type 0 where
   pub fewer : d.filled done ≡ false
   pub text : written_by sink calls ≡ whole d done false
@@ -49,7 +52,8 @@ pub record TextWritten (sink : ℕ) (d : Due) (calls : List Call) (done : List I
   pub order : InOrder sink d done calls
 
 -- how a run ends behind items that were printed whole, with at most one more: with all; with the last group that is kept; with a failed write of text, before all items or of the last, of
--- which not all was written; or with a failed write of the last item's message
+-- which not all was written; or with a failed write of the last item's message. Behind the last group nothing is
+-- flushed, and no fault of what follows is told, since nobody asked for it
 abbrev pub EndsSo : Due → TextEnding → List Item → List Item → Bool → List ℕ → List ℕ → Type 0
 EndsSo d endings.Whole done last all text told = (last ≡ []) × (all ≡ true) × (text ≡ whole d done true) × (told ≡ messages_of done)
 EndsSo d endings.Kept done last all text told = (all ≡ false) × (d.filled (done ++ last) ≡ true) × (text ≡ whole d (done ++ last) false) × (told ≡ messages_of (done ++ last))

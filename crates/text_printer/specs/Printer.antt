@@ -104,7 +104,9 @@ abbrev pub HasPrintCause : PrintFault → List ℕ → Seen → Seen → Type 0
 HasPrintCause (WriteFault name) sink before now = (name ≡ sink) × HasNewFault (before.faults Writing sink) (now.faults Writing sink)
 HasPrintCause NoMemory sink before now = Unit {0}
 
--- what a refusal leaves of the text that is due: a prefix, and after a failed write not all of it
+-- what a refusal leaves of the text that is due: a prefix, and after a failed write not all of it. What a unit
+-- completes goes out in one whole write, and there is no buffer over units, so what was read is printed also where a
+-- later unit is damaged
 abbrev pub IsLeft : PrintFault → List ℕ → List ℕ → Type 0
 IsLeft (WriteFault name) whole text = IsProperPrefix text whole
 IsLeft NoMemory whole text = IsPrefix text whole

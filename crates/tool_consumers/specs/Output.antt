@@ -56,6 +56,7 @@ tool_output tools.Stat job = λ groups ended. []
 abbrev pub output_of : Job → List Group → Bool → List ℕ
 output_of job = tool_output job.tool job
 
--- what a sink gains before any group: a log file that was empty begins with its header
+-- what a sink gains before any group: a log file that was empty begins with its header. It comes before a byte of the
+-- log is read: so a pipe sees a log at once, and a run that is cut short leaves a log (this project's choice)
 abbrev pub head_text : Job → Bool → List ℕ
 head_text job sink_empty = if writes_log job && sink_empty then file_header else []

@@ -70,7 +70,8 @@ with_query file value job = record job { queries = job.queries ++ record { file 
 abbrev pub with_rule : Bool → Bool → ℕ → List ℕ → Job → Job
 with_rule include pattern at value job = record job { rules = job.rules ++ record { include = include; regex = pattern; text = value; word = at } ∷ [] }
 
--- what an option changes in a job, by the place and the text of its value
+-- what an option changes in a job, by the place and the text of its value. `-d` changes nothing, because a log is read
+-- from its beginning anyway, and `-1` only lets a tool end (this project's choice)
 abbrev pub with_choice : Choice → ℕ → List ℕ → Job → Job
 with_choice choices.Append at value job = record job { append = true }
 with_choice choices.AsText at value job = record job { text = true }

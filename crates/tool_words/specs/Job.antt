@@ -72,6 +72,7 @@ abbrev pub job_read : Result Reading UsageFault → Result Job UsageFault
 job_read (Ok reading) = job_from reading.tool reading.given
 job_read (Err fault) = Err fault
 
--- the job of the words, or what is wrong with them
+-- the job of the words, or what is wrong with them. Whatever the words are it says which, and each job that words state
+-- is one that runs
 abbrev pub job_of : List (List ℕ) → Result Job UsageFault
 job_of words = job_read (read_all nothing 0 words)

@@ -86,7 +86,8 @@ abbrev pub has_minus : List ℕ → Bool
 has_minus [] = false
 has_minus (b ∷ text) = b == 45
 
--- whether a word has a minus sign in front and more behind it
+-- whether a word has a minus sign in front and more behind it. So `-` names no option, and no tool takes operands, from
+-- which `--` could divide the options
 abbrev pub has_letters : List ℕ → Bool
 has_letters [] = false
 has_letters (b ∷ []) = false

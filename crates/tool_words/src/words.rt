@@ -267,7 +267,8 @@ fn finish(reading: Reading, at: u32) -> Result<Reading, WordsFault>
     }
 }
 
-/// All words, one after the other.
+/// All words, one after the other. More than 4,000,000,000 of them count as want of memory, so that a place fits 32
+/// bits.
 fn take_words(alloc: Global, words: &[String]) -> Result<Reading, WordsFault>
     ensures { Gives result (read_all nothing 0 (map string_bytes words.now)) }
 {

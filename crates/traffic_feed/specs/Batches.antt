@@ -7,7 +7,8 @@ use Rattle.vsl_record.specs.Words.{IsUnit, unit_words}
 use Rattle.raw_records.specs.Gathered.{gathered, goes_on, logged, shortened, with_record}
 use Rattle.raw_records.specs.Lines.{LoggedRecord, Line, BlankLine, CommentLine, RecordLine}
 
--- the most bytes that are kept of a payload: as many as are asked for, and no more than a unit of one record has room for in a segment
+-- the most bytes that are kept of a payload: as many as are asked for, and no more than a unit of one record has room
+-- for in a segment. So each record goes in; a letter may be cut apart, since payloads are bytes
 abbrev pub most_kept : ℕ → ℕ → ℕ
 most_kept reclen seg = min reclen (4 * (seg - 3))
 

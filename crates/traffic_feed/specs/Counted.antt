@@ -40,7 +40,8 @@ pub data Cause : Type 0 where
   -- each unit that wraps in the ring
   EachWrap : Cause
 
--- what raises the counters, in the order of their numbers, from 0
+-- what raises the counters, in the order of their numbers, from 0. No tag tells a miss by itself, so VCL_call does, as
+-- it tells a pipe, a pass and a synthetic answer. A hit is told by Hit, and not by VCL_call too, so it counts once
 abbrev pub causes : List Cause
 causes =
     EachTag SESS_OPEN ∷
@@ -90,12 +91,14 @@ is_received Rxreq = true
 is_received Esi = false
 is_received Other = false
 
--- whether a Begin is that of a client's request: of kind `req`, for the reason `rxreq`
+-- whether a Begin is that of a client's request: of kind `req`, for the reason `rxreq`. A request for an ESI part and
+-- one after a restart are none, since no client sent them
 abbrev pub is_request : Option Claim → Bool
 is_request None = false
 is_request (Some claim) = is_request_kind claim.kind && is_received claim.reason
 
--- whether a Begin is that of a request to a backend: of kind `bereq`
+-- whether a Begin is that of a request to a backend: of kind `bereq`. A second Begin of a transaction counts, too:
+-- counters know no transactions
 abbrev pub is_fetch : Option Claim → Bool
 is_fetch None = false
 is_fetch (Some claim) = is_fetch_kind claim.kind
@@ -105,7 +108,7 @@ abbrev pub one_if : Bool → ℕ
 one_if true = 1
 one_if false = 0
 
--- the value of a field, which counts where it is 1 to 10 digits and below 2^32
+-- the value of a field, which counts where it is 1 to 10 digits and below 2^32. So no counter comes near its ceiling
 abbrev pub field_value : Option (List ℕ) → ℕ
 field_value None = 0
 field_value (Some text) = if nat_le (length text) 10 then unwrap_or (whole_number 0 (2 ^ 32 - 1) text) 0 else 0
@@ -151,19 +154,21 @@ share_at (Some cause) u = share cause u
 abbrev pub unit_share : ℕ → LogUnit → ℕ
 unit_share which u = share_at (slice_get causes which) u
 
--- by how much a listing raises a counter beside its units: its cuts raise one
+-- by how much a listing raises a counter beside its units: its cuts raise one. What overflows is a segment of the ring,
+-- so each cut of a batch is a flush
 abbrev pub cut_raise : Option Cause → ℕ → ℕ
 cut_raise None cuts = 0
 cut_raise (Some EachCut) cuts = cuts
 cut_raise (Some cause) cuts = 0
 
--- the same for a writer's waits
+-- the same for a writer's waits. In a stated order one alone has the turn, so no writer waits
 abbrev pub wait_raise : Option Cause → ℕ → ℕ
 wait_raise None waits = 0
 wait_raise (Some EachWait) waits = waits
 wait_raise (Some cause) waits = 0
 
--- the same for units that wrap in the ring
+-- the same for units that wrap in the ring. Each is the first of another lap. Where they wrap depends on the order of
+-- turns, or on threads
 abbrev pub wrap_raise : Option Cause → ℕ → ℕ
 wrap_raise None wraps = 0
 wrap_raise (Some EachWrap) wraps = wraps
@@ -177,6 +182,7 @@ listing_share which listing = sum_by (unit_share which) listing.units + cut_rais
 abbrev pub counter_value : ℕ → List Listing → ℕ → ℕ
 counter_value which listings wraps = sum_by (listing_share which) listings + wrap_raise (slice_get causes which) wraps
 
--- what the counters come to, in the order of their numbers
+-- what the counters come to, in the order of their numbers. All that is put is counted, also records of VXID 0 and of
+-- transactions that never end, because nobody groups them
 abbrev pub counter_values : List Listing → ℕ → List ℕ
 counter_values listings wraps = map (λ which. counter_value which listings wraps) (range_with_len 0 counter_count)

@@ -66,6 +66,6 @@ abbrev pub put_count : List (ℕ × LogUnit) → Option ℕ → ℕ
 put_count entries None = length entries
 put_count entries (Some tail) = length entries + 1
 
--- a gate was asked before each of these puts
+-- a gate was asked before each of these puts. So a test can hold any thread; the gate of the program holds nobody
 abbrev pub WasAskedEach : (ℕ → Type 0) → List (ℕ × LogUnit) → Option ℕ → Type 0
 WasAskedEach was_asked entries full = (unit : ℕ) → unit < put_count entries full → was_asked unit

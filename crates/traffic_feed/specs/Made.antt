@@ -14,12 +14,13 @@ use Rattle.traffic_feed.specs.Turns.{first_draw, next_draw}
 use Rattle.raw_records.specs.Lines.{Line, RecordLine}
 use Rattle.traffic_feed.specs.Batches.{listing_units, listing_cuts}
 
--- the number that is drawn from a seed for the k-th request, from 0
+-- the number that is drawn from a seed for the k-th request, from 0. It is of a sequence of its own, so the requests
+-- are the same in each order of turns
 abbrev pub draw_of : ℕ → ℕ → ℕ
 draw_of seed zero = next_draw (first_draw seed)
 draw_of seed (suc k) = next_draw (draw_of seed k)
 
--- whether a draw is a miss; else it is a hit
+-- whether a draw is a miss; else it is a hit. About a quarter of the draws are
 abbrev pub is_miss : ℕ → Bool
 is_miss x = x % 4 == 0
 
@@ -62,7 +63,8 @@ row_lines k x whose tag before number behind =
     RecordLine (record { vxid = vxid_of whose k; rec = record { tag = tag; mark = mark_of whose; payload = before ++ number_text number k x ++ behind } }) ∷ []
     else []
 
--- the lines of the k-th request, for which x was drawn
+-- the lines of the k-th request, for which x was drawn. They come in the order in which they end: the request to the
+-- backend, the request, the session
 abbrev pub request_lines : ℕ → ℕ → List Line
 request_lines k x = flat_map (λ row. row_lines k x row.0 row.1 row.2.now row.3 row.4.now) ROWS
 
@@ -70,7 +72,8 @@ request_lines k x = flat_map (λ row. row_lines k x row.0 row.1 row.2.now row.3 
 abbrev pub made_lines : ℕ → ℕ → List Line
 made_lines count seed = flat_map (λ k. request_lines k (draw_of seed k)) (range_with_len 0 count)
 
--- the units of so many requests that are made from a seed, where so many bytes are kept of a payload and a segment has so many words
+-- the units of so many requests that are made from a seed, where so many bytes are kept of a payload and a segment has
+-- so many words. So they are cut and counted by the rules of a feed, and there are no others
 abbrev pub made_units : ℕ → ℕ → ℕ → ℕ → Log
 made_units count seed reclen seg = listing_units reclen seg (made_lines count seed)
 

@@ -61,11 +61,13 @@ then_left first next = record { state = (next first.state).state; groups = first
 abbrev pub with_new : ℕ → State → State
 with_new vxid state = record state { pending = state.pending ++ empty_transaction state.begun vxid state.time ∷ []; begun = state.begun + 1 }
 
--- a record whose VXID has no open transaction begins a new one (this project's choice)
+-- a record whose VXID has no open transaction begins a new one. So no record behind an End is lost, and no group is
+-- printed twice (this project's choice)
 abbrev pub with_transaction : ℕ → State → State
 with_transaction vxid state = if is_open vxid state.pending then state else with_new vxid state
 
--- a claim on a VXID of which no transaction is pending begins one
+-- a claim on a VXID of which no transaction is pending begins one. It begins before it is asked whether the claim has
+-- an effect, and holds its group open until its End or a force-completion (this project's choice)
 abbrev pub with_other : ℕ → State → State
 with_other vxid state = if is_pending vxid state.pending then state else with_new vxid state
 
@@ -79,7 +81,8 @@ abbrev pub is_session : Kind → Bool
 is_session kinds.Session = true
 is_session kind = false
 
--- which claims give a parent: none alone, in a session all but those for number 0 and for a session, in a request none for a request of a client either (this
+-- which claims give a parent: none alone, in a session all but those for number 0 and for a session, in a request none
+-- for a request of a client either. A session has no parent, and a client's request is the root of its group (this
 -- project's choice)
 abbrev pub gives_parent : Grouping → Claim → Bool
 gives_parent Raw claim = false
@@ -120,7 +123,8 @@ abbrev pub first_known : Option ℕ → Option ℕ → Option ℕ
 first_known None time = time
 first_known (Some old) time = Some old
 
--- transactions that began before a time was known take the first that is known
+-- transactions that began before a time was known take the first that is known. So none of them is late by it (this
+-- project's choice)
 abbrev pub timed : Option ℕ → Transaction → Transaction
 timed time t = record t { time = first_known t.time time }
 
@@ -132,7 +136,8 @@ at_time now state = record state { time = now; pending = map (timed now) state.p
 abbrev pub with_time : Option ℕ → State → State
 with_time told state = at_time (raised told state.time) state
 
--- a well-formed Timestamp may raise the log time (this project's choice)
+-- a well-formed Timestamp may raise the log time. Time is that of the log, of all transactions together, and never that
+-- of the day: so a log gives the same groups whenever it is read (this project's choice)
 abbrev pub with_log_time : Record → State → State
 with_log_time rec state = if rec.tag == timestamp_tag then with_time (time_of rec.payload) state else state
 
@@ -201,7 +206,8 @@ forced_down limit (suc n) state =
 abbrev pub unfinished : State → ℕ
 unfinished state = count_by is_unfinished state.pending
 
--- no more than the limit stay pending (varnishlog(1), `-L`)
+-- no more than the limit stay pending. Transactions that have ended count while their group isn't complete, since they
+-- take memory too (varnishlog(1), `-L`)
 abbrev pub after_overflow : ℕ → State → Leaving
 after_overflow limit state = forced_down limit (unfinished state) state
 
@@ -242,7 +248,8 @@ passes_over grouping vxid = not (is_raw grouping) && vxid == 0
 abbrev pub unit_step : GroupOptions → LogUnit → State → Leaving
 unit_step options u state = if passes_over options.grouping u.vxid then nothing_left state else steps options u.vxid u.records state
 
--- the oldest transaction that has not ended is force-completed
+-- the oldest transaction that has not ended is force-completed. No run calls for it by itself: what the limit, the
+-- timeout and the end of a log ask for is done by steps and a flush (this project's choice)
 abbrev pub force : Cause → State → Leaving
 force cause state = forced_one is_unfinished cause state
 
@@ -250,7 +257,9 @@ force cause state = forced_one is_unfinished cause state
 abbrev pub flush : State → Leaving
 flush state = forced_all is_unfinished Flush state
 
--- one item that was taken: at an overrun all that have not ended are force-completed, the oldest first (this project's choice)
+-- one item that was taken: at an overrun all that have not ended are force-completed, the oldest first. Units are
+-- missing there, and nobody knows of which transactions. What comes later of a VXID is another transaction (this
+-- project's choice)
 abbrev pub taken_step : GroupOptions → Taken → State → Leaving
 taken_step options (TakenUnit u) state = unit_step options u state
 taken_step options Missed state = flush state
@@ -265,7 +274,8 @@ abbrev pub is_led_by_session : List Member → Bool
 is_led_by_session [] = false
 is_led_by_session (root ∷ members) = is_session root.kind
 
--- whether a group that left is reported: request grouping does not report sessions (vsl-query(7), "Grouping")
+-- whether a group that left is reported: request grouping does not report sessions. What isn't reported counts as
+-- pending until it leaves (vsl-query(7), "Grouping")
 abbrev pub is_reported : Grouping → Group → Bool
 is_reported Request group = not (is_led_by_session group.members)
 is_reported grouping group = true

@@ -47,7 +47,9 @@ leads_to serial (Some link) = link.serial == serial
 abbrev pub children : List Transaction → Transaction → ℕ
 children pending t = count_by (λ u. leads_to t.serial u.parent) pending
 
--- a transaction can get a parent: it has none, has not ended, and is neither the parent itself nor above it (this project's choice)
+-- a transaction can get a parent: it has none, has not ended, and is neither the parent itself nor above it. So no
+-- child is taken from its parent, a group that is complete never grows, and no parents go in a circle (this project's
+-- choice)
 abbrev pub can_join : List Transaction → Transaction → Transaction → Bool
 can_join pending child parent = is_none child.parent && not child.ended && not (is_in_line pending child parent)
 
@@ -77,7 +79,8 @@ abbrev pub link_number : Option ParentLink → List ℕ
 link_number None = []
 link_number (Some link) = link.number ∷ []
 
--- how many children its parent had before it, where it has a parent
+-- how many children its parent had before it, where it has a parent. That orders children as numbers of all claims
+-- would, and no count has to be kept (this project's choice)
 abbrev pub number_of : Transaction → List ℕ
 number_of t = link_number t.parent
 
@@ -96,7 +99,8 @@ abbrev pub placed : {X : Type 0} → (X → List ℕ) → X → List X → List 
 placed path t [] = t ∷ []
 placed path t (u ∷ ts) = if is_path_before (path t) (path u) then t ∷ u ∷ ts else u ∷ placed path t ts
 
--- transactions in preorder, children in the order in which they got their parent: sorted by their paths (this project's choice)
+-- transactions in preorder, children in the order in which they got their parent: sorted by their paths. Sorting is the
+-- definition, because it plainly keeps every transaction once; that it is the walk is a law (this project's choice)
 abbrev pub preorder : {X : Type 0} → (X → List ℕ) → List X → List X
 preorder path [] = []
 preorder path (t ∷ ts) = placed path t (preorder path ts)
@@ -110,7 +114,8 @@ parent_vxid (Some link) = link.vxid
 abbrev pub member_at : ℕ → Transaction → Member
 member_at level t = record { vxid = t.vxid; kind = t.kind; reason = t.reason; level = level; parent = parent_vxid t.parent; records = t.records }
 
--- a transaction as a member of its group
+-- a transaction as a member of its group. One rule tells levels: so a restarted request stands one level below the one
+-- before, as a retry of a fetch does, where vsl-query(7) leaves its level as it was (this project's choice)
 abbrev pub member_of : List Transaction → Transaction → Member
 member_of pending t = member_at (length (line_of pending t)) t
 

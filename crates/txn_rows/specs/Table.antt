@@ -17,7 +17,8 @@ pub record GainsPrefix (groups out_before out_now : List Group) : Type 0 where
   pub is : IsPrefix added groups
   pub gained : out_now ≡ out_before ++ added
 
--- the table failed, and a prefix of the groups that are reported was added to the list
+-- the table failed, and a prefix of the groups that are reported was added to the list. It stays failed, so that no
+-- group is printed of which a record is missing
 pub record TableFailed (leaving : Leaving) (before now : TableState) (out_before out_now : List Group) : Type 0 where
   pub options : now.options ≡ before.options
   pub failed : now.failed ≡ true

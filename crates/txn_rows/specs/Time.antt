@@ -21,6 +21,7 @@ at_least_zero None = None
 at_least_zero (Some (pos n)) = Some n
 at_least_zero (Some (negsuc n)) = None
 
--- the absolute time of a Timestamp: `label: absolute`, a decimal that is not below zero; other payloads tell none
+-- the absolute time of a Timestamp: `label: absolute`, a decimal that is not below zero; other payloads tell none. `-0`
+-- is one, since its value is zero (this project's choice)
 abbrev pub time_of : List ℕ → Option ℕ
 time_of payload = if has_label (field_of payload 1) then at_least_zero (named decimal_of (field_of payload 2)) else None

@@ -139,7 +139,8 @@ fn join_alone(
 
 /// The newest row of the first VXID, which stands at `below`, becomes a child of the newest of the second, at `above`,
 /// where it can. That paths would have more numbers than `MOST_NUMBERS` counts as want of memory: those of a chain grow
-/// with the square of its length. A child without children below a parent whose path is short is not counted.
+/// with the square of its length. A child without children below a parent whose path is short is not counted. At the
+/// default limit no more than 500,500 come.
 pub(crate) fn link_rows(
     alloc: Global,
     rows: &mut Vec<Row>,

@@ -27,7 +27,9 @@ pub record Piece : Type 0 where
 abbrev pub came_by : List Piece → ℕ
 came_by pieces = sum_by (λ p. length p.came) pieces
 
--- behind what is held a piece came: its text is that of the parts that were taken of both, and this is the rest
+-- behind what is held a piece came: its text is that of the parts that were taken of both, and this is the rest. What
+-- is whole is written before more is awaited, so a piece ends units: none waits for its next record, and readers go by
+-- VXIDs
 abbrev pub IsPiece : How → Stop → Piece → List ℕ → List ℕ → Counts → Counts → Type 0
 IsPiece how stop piece held rest before after = AreTaken how stop (held ++ piece.came) rest [] piece.text before after
 
@@ -61,7 +63,9 @@ pub record CopiedThen (how : How) (input output : ℕ) (first : List ℕ) (IsLas
   pub copied : ArePieces how first none_counted pieces held counts
   pub is : IsLast (record { came = length first + came_by pieces; held = held; counts = counts }) last
 
--- the end of the input came, as a piece of no bytes: what is whole of what is held is taken, and the rest is left out, in which no part lies whole
+-- the end of the input came, as a piece of no bytes: what is whole of what is held is taken, and the rest is left out,
+-- in which no part lies whole. A last line without a line feed may be the beginning of a longer one, since varnishlog
+-- may have been stopped inside it; a feed takes it, because a file is whole there
 pub record IsEnd (how : How) (input output : ℕ) (copied : Copied) (at : SoFar) (calls : List Call) : Type 0 where
   pub piece : Piece
   pub rest : List ℕ

@@ -39,7 +39,8 @@ no_text OtherVersion = Some OtherVersion
 no_text Gzip = Some Gzip
 no_text looks = None
 
--- what a file looks like that begins so, where that makes it none of this form
+-- what a file looks like that begins so, where that makes it none of this form. Which form it is has to be said, since
+-- nothing in a text says so
 abbrev pub refused_as : LogForm → List ℕ → Option Looks
 refused_as forms.Binary first = no_binary (looks_of first)
 refused_as forms.Text first = no_text (looks_of first)

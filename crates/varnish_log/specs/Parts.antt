@@ -72,7 +72,8 @@ BeginsNoPart form bytes = (part more : List ℕ) (said : Said) → IsPart form p
 abbrev pub capacity : ℕ
 capacity = 262208
 
--- whether the bytes that no part begins may go on as one
+-- whether the bytes that no part begins may go on as one. A second header is damage, too: passing over it would help
+-- only where the first log ended whole, and else its last record would take the bytes of the second for its own
 abbrev pub may_go_on : LogForm → List ℕ → Bool
 may_go_on Binary bytes = stops_early bytes
 may_go_on Text bytes = nat_lt (length bytes) capacity

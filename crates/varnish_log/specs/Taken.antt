@@ -27,7 +27,8 @@ taken_of (Err loss) = None
 abbrev pub taken : List Said → List LoggedRecord
 taken said = filter_map taken_of said
 
--- what is left out of a part, or cut
+-- what is left out of a part, or cut. The log of a running server comes once, so what has no place here is left out or
+-- cut, and counted, and not refused
 abbrev pub loss_of : Said → Option Loss
 loss_of (Ok (RecordLine l)) = if nat_lt most_payload (length l.rec.payload) then Some LongPayload else None
 loss_of (Ok BlankLine) = None
@@ -51,7 +52,9 @@ counted counts said = fold counted_one counts said
 abbrev pub BeginsWithLoss : LogForm → List ℕ → Loss → Type 0
 BeginsWithLoss form bytes loss = (part : List ℕ) × (more : List ℕ) × (said : Said) × IsPart form part said × (bytes ≡ part ++ more) × (loss_of said ≡ Some loss)
 
--- taking parts stops before such bytes: no part begins them, and they may go on as one, or can't; or, where copying is strict, a part does of which something would be left out or cut
+-- taking parts stops before such bytes: no part begins them, and they may go on as one, or can't; or, where copying is
+-- strict, a part does of which something would be left out or cut. Who asks for that wants all or nothing, and knows
+-- the place; what was before it is written
 abbrev pub StopsAs : How → Stop → List ℕ → Type 0
 StopsAs how GoesOn bytes = BeginsNoPart how.form bytes × (may_go_on how.form bytes ≡ true)
 StopsAs how Damaged bytes = BeginsNoPart how.form bytes × (may_go_on how.form bytes ≡ false)

@@ -7,7 +7,8 @@ use Rattle.vsl_dispatch.specs.declared.dispatcher.Dispatcher.{Dispatcher}
 use Rattle.vsl_dispatch.specs.declared.entry.Entry.{Entry}
 use Rattle.vsl_dispatch.specs.declared.entry.Entry.TheVariants.{Live, Gone}
 
--- the entries of a dispatcher, in order
+-- the entries of a dispatcher, in order. Each group is given to all of them, since a log on standard input can't be
+-- read twice
 abbrev pub entries_of : {C : Type 0} → Dispatcher C → List (Entry C)
 entries_of d = d.entries.items
 
@@ -58,7 +59,8 @@ module _ {C : Type 0} (keep : C → Option ℕ) (output : C → List Group → B
   Finished (Live c) (Gone bytes) = (groups : List Group) (taken : List ℕ) → represents c groups false taken → taken ++ bytes.items ≡ output c groups true
   Finished (Gone bytes) new = new ≡ Gone bytes
 
-  -- a text was taken from a consumer
+  -- a text was taken from a consumer. It is what was written since the last time: so the lines of varnishlog come with
+  -- each unit, and the report of varnishtop at the end
   pub record GaveText (text : List ℕ) (c d : C) : Type 0 where
     pub same : IsSame c d
     pub whole : (groups : List Group) (ended : Bool) (taken : List ℕ) → represents c groups ended taken → taken ++ text ≡ output c groups ended
@@ -75,7 +77,8 @@ module _ {C : Type 0} (keep : C → Option ℕ) (output : C → List Group → B
   TextTaken text (Live c) (Gone bytes) = ⊥
   TextTaken text (Gone bytes) new = (text ≡ bytes.items) × IsEmptied new
 
-  -- the records of a unit, each as a group by itself, were offered to a consumer, which took them or not
+  -- the records of a unit, each as a group by itself, were offered to a consumer, which took them or not. That is a
+  -- short way, and changes no text
   pub record Offered (u : LogUnit) (took : Bool) (c d : C) : Type 0 where
     pub same : IsSame c d
     pub takes : (groups : List Group) (taken : List ℕ) → represents c groups false taken → represents d (if took then groups ++ raw_groups u else groups) false taken

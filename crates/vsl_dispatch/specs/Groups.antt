@@ -8,7 +8,9 @@ use Rattle.txn_rows.specs.Grouping.{raw_group}
 abbrev pub raw_groups : LogUnit → List Group
 raw_groups u = map (raw_group u.vxid) u.records
 
--- the first of some groups, at most as many as are kept; all where no number is given
+-- the first of some groups, at most as many as are kept; all where no number is given. They count whether or not
+-- anything of them is shown: so one log with one query gives the same groups, whatever is hidden (this project's
+-- choice)
 abbrev pub kept : Option ℕ → List Group → List Group
 kept None groups = groups
 kept (Some most) groups = take most groups

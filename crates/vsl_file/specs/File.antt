@@ -14,7 +14,8 @@ file_header = codes "VSLOG-1\n"
 unfoldable pub most_bytes : ℕ
 most_bytes = 2 ^ 40
 
--- the bytes of a file that count: all of them, or its first 2^40
+-- the bytes of a file that count: all of them, or its first 2^40. So it is defined for every list of bytes what a file
+-- is, and sums stay far below 2^64
 abbrev pub bytes_read : List ℕ → List ℕ
 bytes_read bytes = take most_bytes bytes
 

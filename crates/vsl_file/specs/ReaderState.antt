@@ -34,7 +34,8 @@ pub record Represents (r : ReaderState) (taken : List ℕ) (units : Log) : Type 
   pub short : length r.rest < 65536
   pub most : length taken ≤ most_bytes
 
--- the next unit was given; fewer than 65,536 bytes past its end were taken
+-- the next unit was given; fewer than 65,536 bytes past its end were taken. A header is looked at before more is asked
+-- for, so a reader holds at most one unit and a piece
 pub record GaveUnit (u : LogUnit) (old new : ReaderState) (taken : List ℕ) (units : Log) (before now : Seen) : Type 0 where
   pub added : List ℕ
   pub read : Read old.handle added before now

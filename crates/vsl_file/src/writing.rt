@@ -115,7 +115,7 @@ fn put_words(vxid: Vxid, records: &[Record], out: &mut Vec<u8>) -> Result<(), No
 }
 
 /// Adds the bytes of the unit of these records, whose marks they tell. After want of memory the list is as
-/// it was.
+/// it was. Any VXID is taken, and whether the records are a unit's is for the caller.
 pub fn put_records(vxid: Vxid, records: &[Record], out: &mut Vec<u8>) -> Result<(), NoMemory>
     requires { (mark : LogMark) → length (unit_words (record { vxid = vxid; mark = mark; records = records.now })) ≤ most_words }
     ensures ok { OnOk result ((mark : LogMark) → out.new.items ≡ out.old.items ++ unit_bytes (record { vxid = vxid; mark = mark; records = records.now })) }

@@ -24,7 +24,8 @@ is_same_mark Backend Backend = true
 is_same_mark Plain Plain = true
 is_same_mark a b = false
 
--- whether a record goes into the unit of these records, behind them: it has their mark, and with it the unit has at most 65,536 words
+-- whether a record goes into the unit of these records, behind them: it has their mark, and with it the unit has at
+-- most 65,536 words. A unit has one mark, and a short unit lets a reader in pieces do with little memory
 abbrev pub goes_into : ℕ → List Record → Record → Bool
 goes_into vxid records rec =
     is_same_mark (first_mark records) rec.mark && nat_le (length (unit_words (file_unit vxid (records ++ rec ∷ [])))) most_file_words
@@ -40,6 +41,8 @@ abbrev pub units_of : ℕ → List Record → Log
 units_of vxid [] = []
 units_of vxid (rec ∷ records) = units_from vxid (rec ∷ []) records
 
--- the units of a group, or of what of it is shown: those of its members, in order
+-- the units of a group, or of what of it is shown: those of its members, in order. No Link is put in, because a written
+-- log has the records that were read: a child that its own Begin alone names is read back below another transaction, of
+-- unknown kind
 abbrev pub file_units : Group → Log
 file_units group = flat_map (λ m. units_of m.vxid m.records) group.members

@@ -30,7 +30,8 @@ header m = level_field 42 m.level ++ title m.kind ++ codes " " ++ at_left 10 (de
 abbrev pub record_text : Record → List ℕ
 record_text rec = tag_line rec.tag rec.payload
 
--- the line of a record in its transaction: the level in dashes, and the record's text; verbose, the level and the raw line
+-- the line of a record in its transaction: the level in dashes, and the record's text; verbose, the level and the raw
+-- line. The raw line has the VXID, as the header has, so that a line can be read by itself
 abbrev pub record_line : Bool → Member → Record → List ℕ
 record_line verbose m rec = level_field 45 m.level ++ (if verbose then raw_line m.vxid rec else record_text rec)
 
@@ -39,7 +40,8 @@ abbrev pub is_some_of : {A : Type 0} → List A → Bool
 is_some_of [] = false
 is_some_of (x ∷ xs) = true
 
--- the text of a transaction: its header and the lines of its records, where it has any
+-- the text of a transaction: its header and the lines of its records, where it has any. A header over nothing would be
+-- no line of the log (this project's choice)
 abbrev pub member_text : Bool → Member → List ℕ
 member_text verbose m = if is_some_of m.records then header m ++ flat_map (record_line verbose m) m.records else []
 
@@ -51,7 +53,8 @@ is_raw group = list_all (λ m. m.level == 0) group.members
 abbrev pub member_raw_lines : Member → List ℕ
 member_raw_lines m = flat_map (raw_line m.vxid) m.records
 
--- the text of transactions: their texts, and an empty line where any of them has a record
+-- the text of transactions: their texts, and an empty line where any of them has a record. No log gives a group without
+-- records, since an End is one, but where records are hidden
 abbrev pub transactions_text : Bool → List Member → List ℕ
 transactions_text verbose members = flat_map (member_text verbose) members ++ (if list_any (λ m. is_some_of m.records) members then codes "\n" else [])
 

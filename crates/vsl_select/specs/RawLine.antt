@@ -19,7 +19,8 @@ at_left columns text = text ++ replicate (columns - length text) 32
 abbrev pub hex_digit : ℕ → ℕ
 hex_digit n = if nat_lt n 10 then 48 + n else 87 + n
 
--- a byte below 32 and the byte 127 are printed as `\x` and two digits, every other byte as it is
+-- a byte below 32 and the byte 127 are printed as `\x` and two digits, every other byte as it is. So a record is one
+-- line, and a payload of the four bytes `\x09` and one of a tab print alike: a raw line can't always be read back
 abbrev pub escaped_byte : ℕ → List ℕ
 escaped_byte b = if nat_lt b 32 || (b == 127) then codes "\\x" ++ hex_digit (b / 16) ∷ hex_digit (b % 16) ∷ [] else b ∷ []
 

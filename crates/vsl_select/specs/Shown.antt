@@ -43,7 +43,8 @@ unless_empty [] = None
 unless_empty (x ∷ xs) = Some (x ∷ xs)
 
 -- the parts of what -I and -X are given: what stands before the first colon is a taglist, or none where it is empty, if it has only bytes of taglists; else all
--- is the pattern
+-- is the pattern. So a pattern with a colon often needs no taglist, as `^Host: a`; one that begins as a taglist would,
+-- as `Host: a`, gets a colon in front, which is dropped
 abbrev pub split_parts : List ℕ → Parts
 split_parts text =
     let at = position_or_len (λ b. b == colon) text in
@@ -88,11 +89,15 @@ is_matched caseless rec rule = names_tag rule rec.tag && elim (parts_of rule).pa
 abbrev pub first_says : (RuleText → Bool) → List RuleText → Option Bool
 first_says is_so rules = option_map (λ rule. rule.include) (find is_so rules)
 
--- a record for which no rule decides is hidden where the first of -i and -x is -i, or the first of -I and -X is -I
+-- a record for which no rule decides is hidden where the first of -i and -x is -i, or the first of -I and -X is -I. So
+-- `-i` alone shows its tags and no others, and `-x` alone all others; with `-i ReqURL -I Timestamp:^Resp` the two add
+-- up
 abbrev pub shows_others : List RuleText → Bool
 shows_others rules = not (unwrap_or (first_says (λ rule. not rule.regex) rules) false || unwrap_or (first_says (λ rule. rule.regex) rules) false)
 
--- whether a record is shown: the first -I or -X that matches it decides, else the last -i or -x that names its tag
+-- whether a record is shown: the first -I or -X that matches it decides, else the last -i or -x that names its tag. So
+-- a pattern makes an exception from taglists, wherever it stands, and a later taglist corrects an earlier one, as
+-- `-x '*' -i 'Req*'`
 abbrev pub is_shown_record : Showing → Record → Bool
 is_shown_record showing rec =
     unwrap_or
@@ -106,7 +111,7 @@ is_shown_record showing rec =
 abbrev pub has_sides : Sides → Bool
 has_sides sides = sides.backend || sides.client || sides.esi
 
--- whether what is a client's is shown; -E implies -c
+-- whether what is a client's is shown; -E implies -c. A page is seen with its parts
 abbrev pub shows_client : Sides → Bool
 shows_client sides = sides.client || sides.esi
 
@@ -115,13 +120,15 @@ abbrev pub is_esi : Reason → Bool
 is_esi reasons.Esi = true
 is_esi reason = false
 
--- whether a record by itself of this mark is shown
+-- whether a record by itself of this mark is shown. No record tells its transaction's reason, so -E is no more than -c
+-- here
 abbrev pub shows_mark : Sides → Mark → Bool
 shows_mark sides marks.Client = shows_client sides
 shows_mark sides marks.Backend = sides.backend
 shows_mark sides marks.Plain = false
 
--- whether a transaction of this kind and reason, or a record by itself of this mark, is shown with -b, -c or -E
+-- whether a transaction of this kind and reason, or a record by itself of this mark, is shown with -b, -c or -E. The
+-- options name requests: a session is none, and of an unknown transaction nobody knows whose it is
 abbrev pub shows_kind : Sides → Kind → Reason → Mark → Bool
 shows_kind sides kinds.Request reason mark = shows_client sides && (sides.esi || not (is_esi reason))
 shows_kind sides kinds.BeReq reason mark = sides.backend
@@ -135,7 +142,8 @@ is_shown_member sides m = not (has_sides sides) || shows_kind sides m.kind m.rea
 
 -- ---- groups
 
--- a transaction with its shown records
+-- a transaction with its shown records. Its level stays, also where its parent is hidden, so that one output of a log
+-- can be compared with another
 abbrev pub shown_member : Showing → Member → Member
 shown_member showing m = record m { records = filter (is_shown_record showing) m.records }
 

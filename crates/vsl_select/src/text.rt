@@ -5,7 +5,7 @@ ghost use Rattle.std.specs.Prelude.{◌≡◌, [], ◌∷◌, ◌++◌, IfOk, On
 use std::alloc::{AllocError, AllocFailed, Global};
 use std::marker::Model;
 
-/// A text as it was typed. Contracts see its bytes.
+/// A text as it was typed. Contracts see its bytes. So jobs and faults compare with what a definition has.
 #[derive(Debug, Drop)]
 pub struct Text {
     text: String,
@@ -42,7 +42,7 @@ impl Text {
     }
 }
 
-/// Values in the order of their words. Contracts see the list.
+/// Values in the order of their words. Contracts see the list. So jobs and faults compare with a definition's lists.
 #[derive(Debug, Drop)]
 pub struct Listed<T> {
     items: Vec<T>,

@@ -16,7 +16,8 @@ abbrev pub follows : ℕ → (List ℕ → Bool) → List ℕ → Bool
 follows byte test [] = false
 follows byte test (b ∷ name) = (byte == b) && test name
 
--- a name matches a glob: a star stands for any bytes, also for none, and every other byte for itself
+-- a name matches a glob: a star stands for any bytes, also for none, and every other byte for itself. Any text is a
+-- glob, so none is refused, and an empty one matches no name
 abbrev pub glob_matches : List ℕ → List ℕ → Bool
 glob_matches [] [] = true
 glob_matches [] (b ∷ name) = false

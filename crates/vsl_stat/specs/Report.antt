@@ -56,7 +56,8 @@ selected globs = filter (λ which. is_selected globs (name_of which)) (range_wit
 
 -- ---- as text
 
--- the line of a counter: its name left in 30 columns, its value right in 12, and what it counts, one space between each two, and a line feed
+-- the line of a counter: its name left in 30 columns, its value right in 12, and what it counts, one space between each
+-- two, and a line feed. A column per second would need a clock, and be another at each run
 abbrev pub stat_line : ℕ → ℕ → List ℕ
 stat_line which value = at_left 30 (name_of which) ++ codes " " ++ at_right 12 (decimal value) ++ codes " " ++ (counter_of which).description ++ codes "\n"
 
@@ -82,12 +83,14 @@ counter_data which value =
     (member (codes "format") (string (format_of which))
     (member (codes "value") (number (unsigned value)) no_members))))
 
--- counters by their names, each name once, in the order of bytes
+-- counters by their names, each name once, in the order of bytes. JSON has no order of keys; with this one text alone
+-- is right
 abbrev pub by_name : List ℕ → List ℕ → Members → Members
 by_name values [] members = members
 by_name values (which ∷ numbers) members = by_name values numbers (put (name_of which) (counter_data which (slice_index values which)) members)
 
--- the JSON of the selected counters, without a space, and a line feed
+-- the JSON of the selected counters, without a space, and a line feed. A timestamp would be another at each run. How
+-- the object is printed is the definition of the crate `serde_json`
 abbrev pub stat_json : List ℕ → List (List ℕ) → List ℕ
 stat_json values globs =
     compact_text (object (member (codes "counters") (object (by_name values (selected globs) no_members)) (member (codes "version") (number (unsigned 1)) no_members)))

@@ -18,15 +18,17 @@ pub record Key : Type 0 where
   pub tag : ℕ
   pub text : List ℕ
 
--- the key of a record: its tag, and its payload, or the first field of it, nothing where it has none
+-- the key of a record: its tag, and its payload, or the first field of it, nothing where it has none. So each shown
+-- record is counted once
 abbrev pub key_of : Bool → Record → Key
 key_of first_field rec = record { tag = rec.tag; text = if first_field then unwrap_or (field_of rec.payload 1) [] else rec.payload }
 
--- the keys of the shown records of groups, in order
+-- the keys of the shown records of groups, in order. They are those that varnishlog prints for the same options, also
+-- of a force-completion: VSL tells how often a limit, a timeout or the log's end cut a transaction
 abbrev pub keys_of : Showing → Bool → List Group → List Key
 keys_of showing first_field groups = map (key_of first_field) (flat_map (λ g. flat_map (λ m. m.records) (shown showing g).members) groups)
 
--- whether two keys are equal
+-- whether two keys are equal. Case counts, also with -C, which is of patterns and queries
 abbrev pub is_same : Key → Key → Bool
 is_same a b = (a.tag == b.tag) && bytes_eq a.text b.text
 
@@ -44,7 +46,8 @@ pub record Line : Type 0 where
   pub count : ℕ
   pub key : Key
 
--- the order of lines: the higher count first, then the tag's name by bytes, then the text by bytes
+-- the order of lines: the higher count first, then the tag's name by bytes, then the text by bytes. So a report is the
+-- same whatever the order of the log, and however its lines are printed
 abbrev pub line_order : Line → Line → Ordering
 line_order a b = ordering_then (nat_cmp b.count a.count) (ordering_then (slice_cmp nat_cmp (tag_name a.key.tag) (tag_name b.key.tag)) (slice_cmp nat_cmp a.key.text b.key.text))
 
@@ -62,7 +65,9 @@ in_order (line ∷ lines) = put_in line (in_order lines)
 abbrev pub lines_of : List Key → List Line
 lines_of keys = in_order (map (λ key. record { count = count_of key keys; key = key }) (distinct keys))
 
--- the text of a line: the count right in 10 columns, the tag left in 14, the text with its escapes, one space between each two, and a line feed
+-- the text of a line: the count right in 10 columns, the tag left in 14, the text with its escapes, one space between
+-- each two, and a line feed. Nothing is divided by a time, since a log that is read once has no clock. Two lines may
+-- print alike, as of the byte 1 and of the four bytes `\x01`
 abbrev pub line_text : Line → List ℕ
 line_text line = at_right 10 (decimal line.count) ++ codes " " ++ tag_line line.key.tag line.key.text
 
@@ -70,6 +75,7 @@ line_text line = at_right 10 (decimal line.count) ++ codes " " ++ tag_line line.
 abbrev pub top_text : Showing → Bool → List Group → List ℕ
 top_text showing first_field groups = flat_map line_text (lines_of (keys_of showing first_field groups))
 
--- what is written of groups: the report, where they have ended
+-- what is written of groups: the report, where they have ended. Counts of a part look like those of the whole, so a
+-- fault leaves no report
 abbrev pub top_output : Showing → Bool → List Group → Bool → List ℕ
 top_output showing first_field groups ended = if ended then top_text showing first_field groups else []

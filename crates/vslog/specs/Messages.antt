@@ -88,7 +88,8 @@ fault_message job (CutShort left) = told (job.input ++ numbered (codes ": ends i
 abbrev pub counted_line : ℕ → List ℕ → List ℕ
 counted_line n text = if nat_lt 0 n then told (numbered [] n text) else []
 
--- how much was left out or cut: one line a kind
+-- how much was left out or cut: one line a kind, at the end, since a message for each record would be as many as
+-- records
 abbrev pub counts_text : Copied → List ℕ
 counts_text copied =
     counted_line copied.counts.unknown_tags (codes " records of tags that vtools doesn't have were left out")
@@ -98,7 +99,8 @@ counts_text copied =
     ++ counted_line copied.counts.other_forms (codes " lines that are no raw lines were left out")
     ++ counted_line copied.left (codes " bytes at the end, inside a part, were left out")
 
--- what is said where a job ended so
+-- what is said where a job ended so. So counts are told when varnishlog is stopped, and not where a signal ends this
+-- program, too
 abbrev pub text_due : Job → Ended → List ℕ
 text_due job (Refused fault) = []
 text_due job (Stopped fault) = fault_message job fault

@@ -36,11 +36,13 @@ settled strict copied = if strict && nat_lt 0 copied.left then Stopped (CutShort
 abbrev pub IsOpenedBy : List ℕ → ℕ → List Call → Type 0
 IsOpenedBy name h calls = MatchBool (bytes_eq name (codes "-")) ((h ≡ INPUT) × (calls ≡ [])) (calls ≡ Open name h ∷ [])
 
--- what is written under this name has this handle, and is empty or not: `-` is standard output, which counts as empty
+-- what is written under this name has this handle, and is empty or not: `-` is standard output, which counts as empty.
+-- So a shell that appends gets a second header, and `-a -w FILE` is there for it
 abbrev pub IsMadeBy : Bool → List ℕ → ℕ → Bool → List Call → Type 0
 IsMadeBy append name h empty calls = MatchBool (bytes_eq name (codes "-")) ((h ≡ OUTPUT) × (empty ≡ true) × (calls ≡ [])) (calls ≡ Create append name h empty ∷ [])
 
--- the header of a log file is written where nothing is yet
+-- the header of a log file is written where nothing is yet. That is before the log is read, so that a reader behind a
+-- pipe sees a log at once
 abbrev pub header_calls : ℕ → Bool → List Call
 header_calls h empty = if empty then Write h file_header Went ∷ [] else []
 
@@ -104,7 +106,9 @@ pub record WorksOff (job : Job) (ended : Ended) (IsSaid : List Call → Type 0) 
   pub works : Works job ended work
   pub says : IsSaid said
 
--- what the call did where it answers how it ended: words that state no job are refused, and else the job was worked off and its message said
+-- what the call did where it answers how it ended: words that state no job are refused, and else the job was worked off
+-- and its message said. A program of its own makes log files and another reads them: so a pipe has a log file in its
+-- middle, which can be kept, and no tool has two readers
 abbrev pub Runs : List (List ℕ) → Result Job UsageFault → Ended → List Call → Type 0
 Runs words (Err fault) ended calls = (ended ≡ Refused fault) × Says (usage_message words fault) calls
 Runs words (Ok job) ended calls = WorksOff job ended (Says (text_due job ended)) calls

@@ -60,7 +60,8 @@ read_letters r at (letter ∷ rest) = elim (letter_of letter) [
   | Some meaning ↦ if is_write meaning then Ok (with_rest rest r) else read_letters (with_flag meaning r) at rest
 ]
 
--- behind a word that names the log
+-- behind a word that names the log. A filter takes its input as an operand, so there is no letter for it. There is no
+-- `--`: a name that begins with a minus sign is written `./NAME`
 abbrev pub read_input : Reading → ℕ → List ℕ → Result Reading UsageFault
 read_input r at word = if r.named then Err (TwoLogs at) else Ok (record { job = record (r.job) { input = word }; named = true; wanted = r.wanted })
 

@@ -21,7 +21,8 @@ help_of tool =
 abbrev pub asked_behind : List ℕ → List ℕ → Option Asked
 asked_behind tool word = if is_help word then help_of tool else None
 
--- what the words ask of the program itself; none but these one or two ask it for more than a tool's work
+-- what the words ask of the program itself; none but these one or two ask it for more than a tool's work. They are
+-- answered before the top call, whose contract so has one meaning for all words: to it these are faults like others
 abbrev pub asked_of : List (List ℕ) → Option Asked
 asked_of [] = None
 asked_of (word ∷ []) = asked_alone word

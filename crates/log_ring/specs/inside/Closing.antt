@@ -25,6 +25,6 @@ module _ (words : LogUnit → List ℕ) where
     pub readers : AllByRecursion (IsDone words v.ring.seg log) v.readers
     pub found : v.found ≤ tail words v.ring.seg log
 
-  -- a load by such a seat: it gets the log
+  -- a load by such a seat: it gets the log. It is in contracts alone: a closed ring holds no unit
   abbrev pub Settles : Step ℕ → Me ℕ View → ℕ → Me ℕ View → Type 0
   Settles st me found after = (log : Log) × (after ≡ (record me.0 { log = log }, me.1)) × IsWhole me.0 log

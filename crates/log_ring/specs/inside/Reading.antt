@@ -110,11 +110,12 @@ FindsEnd key x r after = after ≡ with_end key x r
 abbrev pub FindsLap : RingKey → ℕ → ReaderView → ReaderView → Type 0
 FindsLap key x r after = (after ≡ with_lap key.seg x r) × (after.place ≤ last_tail)
 
--- where it copied a unit: it takes the unit
+-- where it copied a unit: it takes the unit. Readers copy, and look at the counter after that: before nothing is said
+-- of the copy
 abbrev pub FindsUnit : (LogUnit → List ℕ) → RingKey → ℕ → ReaderView → ReaderView → Type 0
 FindsUnit words key x r after = (u : LogUnit) × IsUnit u × (unchecked_words r.unchecked ≡ words u) × HasRun r.items × (after ≡ with_taken (length (words u)) u x r) × (after.place ≤ last_tail)
 
--- where it found another word, it is overrun
+-- where it found another word, it is overrun. Since that is proved, there is no answer for a damaged ring
 abbrev pub FindsNothing : RingKey → ℕ → ReaderView → ReaderView → Type 0
 FindsNothing key x r after = ⊥
 

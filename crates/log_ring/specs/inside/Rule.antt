@@ -112,7 +112,8 @@ module _ (words : LogUnit → List ℕ) where
 
   -- ---- 2. the write token is the tail and one more while no writer has it, and 0 while one has it, who knows how far its put has come; no other put is in progress
 
-  -- what the write token's word is
+  -- what the write token's word is. Writers that reserved room at once could leave a hole where one is stopped, for
+  -- which readers would have to wait; so one writer alone stores, and a unit is in the log at one store
   abbrev pub IsToken : ℕ → Log → Progress → ℕ → Type 0
   IsToken seg log Free x = x ≡ tail words seg log + 1
   IsToken seg log progress x = x ≡ 0
@@ -133,7 +134,9 @@ module _ (words : LogUnit → List ℕ) where
   -- ---- 7. what a reader loaded is the log's, unless the counter has passed its place
 
   -- what was loaded and isn't checked yet says, as long as the counter c hasn't passed its place: words that were copied are the log's, and where all writers had left an
-  -- end mark is the log's end; a segment's start is the log's, and is four behind a counter that was loaded
+  -- end mark is the log's end; a segment's start is the log's, and is four behind a counter that was loaded. A reader
+  -- less than six segments behind has room for a put and more, and one that was overrun goes on four behind, so that it
+  -- isn't overrun again at once
   abbrev pub IsUnchecked : RingKey → Log → ℕ → ReaderView → Unchecked → Type 0
   IsUnchecked key log c r Nothing = Unit {0}
   IsUnchecked key log c r (Words xs) = c < r.place / key.seg + 8

@@ -76,7 +76,8 @@ after_word v = record v { progress = going_on (λ p. record p { word = p.word + 
 abbrev pub after_mark : View → View
 after_mark v = record v { progress = going_on (λ p. record p { mark = 1 }) v.progress }
 
--- after it stored the word at the old tail: the unit is put
+-- after it stored the word at the old tail: the unit is put. It was the end mark, so a reader takes the unit when this
+-- word has changed, and not before
 abbrev pub after_publish : View → View
 after_publish v = record v { writers = with_entry v.progress v.writers; progress = with_stored v.progress }
 
