@@ -17,7 +17,7 @@ use vsl_top::TopConsumer;
 /// A group of one transaction with a Begin of this payload.
 fn group_of(alloc: Global, payload: &[u8]) -> Result<Group, Fail> {
     let mut records = Records::new(alloc);
-    records.push(record_of(alloc, Tag::BEGIN, payload)?)?;
+    records.push(&record_of(alloc, Tag::BEGIN, payload)?.view())?;
     let mut members = Members::new(alloc);
     members.push(Member {
         vxid: 2,

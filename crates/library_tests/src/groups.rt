@@ -74,7 +74,7 @@ fn expect_table(
     let mut groups = Vec::new(alloc);
     let begin = record_of(alloc, Tag::BEGIN, b"req 1 rxreq")?;
     let records = Vec::from_array(alloc, [begin])?;
-    table.step(Unit::new(9, Mark::Client, records)?, &mut groups)?;
+    table.step(&Unit::new(9, Mark::Client, records)?, &mut groups)?;
     expect_text(rt, alloc, &groups, false, stepped)?;
     same(rt, table.rows(), pending);
     same(rt, table.unfinished(), pending);
@@ -121,7 +121,7 @@ fn member_of(
     let mut records = Records::new(alloc);
     for (tag, payload) in given {
         let tag = Tag::from_number(*tag).ok_or("a tag")?;
-        records.push(record_of(alloc, tag, *payload)?)?;
+        records.push(&record_of(alloc, tag, *payload)?.view())?;
     }
     Ok(Member {
         vxid,
@@ -182,14 +182,14 @@ fn a_raw_line_is_added_and_all_is_shown(rt: HostRuntime) -> Result<(), Fail> {
     let alloc = rt.alloc();
     let begin = record_of(alloc, Tag::BEGIN, b"req 1 rxreq")?;
     let mut out = Vec::from_slice(alloc, b"before\n")?;
-    raw_line(2, &begin, &mut out)?;
+    raw_line(2, &begin.view(), &mut out)?;
     same(
         &rt,
         out.as_slice(),
         b"before\n         2 Begin          c req 1 rxreq\n".as_slice(),
     );
     let selection = all_shown(alloc)?;
-    assert!(rt; selection.shows(&begin)?);
+    assert!(rt; selection.shows(&begin.view())?);
     assert!(rt; selection.shows_member(&member_of(alloc, 5, Kind::Session, 1, &[])?));
     Ok(())
 }

@@ -28,9 +28,10 @@ fn least_shape() -> Result<Shape, Fail>
 /// The unit has this VXID, and is of one record with this payload.
 fn expect_unit(rt: &impl Abort, unit: &Unit, vxid: u32, payload: &[u8]) {
     same(rt, unit.vxid(), vxid);
-    same(rt, unit.records().len(), 1);
-    for one in unit.records() {
-        same(rt, one.payload.as_slice(), payload);
+    let records = unit.records();
+    same(rt, records.len(), 1);
+    for i in 0..records.len() {
+        same(rt, records.get(i).payload(), payload);
     }
 }
 

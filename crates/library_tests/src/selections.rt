@@ -47,8 +47,8 @@ fn a_rule_with_a_pattern_shows_what_matches(rt: HostRuntime) -> Result<(), Fail>
     let first = record_of(alloc, Tag::BEGIN, b"req 1 rxreq")?;
     let second = record_of(alloc, Tag::BEGIN, b"bereq 2 fetch")?;
     let third = record_of(alloc, Tag::END, b"req 1 rxreq")?;
-    same(&rt, shown.shows(&first)?, true);
-    same(&rt, shown.shows(&second)?, false);
-    same(&rt, shown.shows(&third)?, false);
+    same(&rt, shown.shows(&first.view())?, true);
+    same(&rt, shown.shows(&second.view())?, false);
+    same(&rt, shown.shows(&third.view())?, false);
     Ok(())
 }

@@ -18,7 +18,7 @@ fn firsts(alloc: Global, groups: &[Group]) -> Result<Vec<(Vxid, usize)>, Fail> {
     let mut firsts = Vec::new(alloc);
     for group in groups {
         let first = group.members.as_slice().first().ok_or("a member")?;
-        firsts.push((first.vxid, first.records.as_slice().len()))?;
+        firsts.push((first.vxid, first.records.view().len()))?;
     }
     Ok(firsts)
 }
@@ -39,13 +39,13 @@ fn a_table_over_its_limit_ends_the_oldest(rt: HostRuntime) -> Result<(), Fail> {
     let mut table = small_table(alloc)?;
     let mut groups = Vec::new(alloc);
     let open = begun(alloc)?;
-    table.step(open, &mut groups)?;
+    table.step(&open, &mut groups)?;
     same(&rt, groups.len(), 0);
     let begin = record_of(alloc, Tag::BEGIN, b"req 1 rxreq")?;
     let end = record_of(alloc, Tag::END, b"")?;
     let records = Vec::from_array(alloc, [begin, end])?;
     let unit = Unit::new(4, Mark::Client, records)?;
-    table.step(unit, &mut groups)?;
+    table.step(&unit, &mut groups)?;
     same(
         &rt,
         firsts(alloc, &groups)?.as_slice(),
@@ -63,7 +63,7 @@ fn a_table_ends_what_is_open_on_demand(rt: HostRuntime) -> Result<(), Fail> {
     table.force(Cause::Timeout, &mut groups)?;
     same(&rt, groups.len(), 0);
     let open = begun(alloc)?;
-    table.step(open, &mut groups)?;
+    table.step(&open, &mut groups)?;
     same(&rt, table.unfinished(), 1);
     table.force(Cause::Timeout, &mut groups)?;
     same(&rt, firsts(alloc, &groups)?.as_slice(), [(2, 3)].as_slice());

@@ -16,10 +16,11 @@ use vsl_tags::named::TIMESTAMP;
 pub(crate) fn first_of<'a>(member: &'a Member, tag: u8, wanted: Wanted) -> Option<&'a [u8]>
     ensures { option_copied result ≡ first_of (in_tag tag (part_of wanted.entry)) member.now.records }
 {
-    let records = member.records.as_slice();
-    for rec in records {
-        if rec.tag.number() == tag {
-            let part = wanted.of(rec.payload.as_slice());
+    let records = member.records.view();
+    for i in 0..records.len() {
+        let rec = records.get(i);
+        if rec.tag().number() == tag {
+            let part = wanted.of(rec.payload());
             if part.is_some() {
                 return part;
             }
@@ -32,11 +33,11 @@ pub(crate) fn first_of<'a>(member: &'a Member, tag: u8, wanted: Wanted) -> Optio
 pub(crate) fn last_of<'a>(member: &'a Member, tag: u8, wanted: Wanted) -> Option<&'a [u8]>
     ensures { option_copied result ≡ last_of (in_tag tag (part_of wanted.entry)) member.now.records }
 {
-    let records = member.records.as_slice();
+    let records = member.records.view();
     for i in (0..records.len()).rev() {
-        let rec = &records[i];
-        if rec.tag.number() == tag {
-            let part = wanted.of(rec.payload.as_slice());
+        let rec = records.get(i);
+        if rec.tag().number() == tag {
+            let part = wanted.of(rec.payload());
             if part.is_some() {
                 return part;
             }

@@ -13,22 +13,22 @@ use crate::value::put_value;
 use log_model::{NoMemory, or_cut_back};
 use std::alloc::Global;
 use txn_rows::{Kind, Member};
-use vsl_record::Record;
+use vsl_record::{RecordView, RecordsView};
 use vsl_tags::named::VCL_RETURN;
 
 /// Whether a record says that a request starts again.
-fn is_restart(rec: &Record) -> bool
+fn is_restart(rec: &RecordView<'_>) -> bool
     ensures { result ≡ is_restart rec.now }
 {
-    rec.tag.number() == VCL_RETURN && rec.payload.as_slice() == b"restart".as_slice()
+    rec.tag().number() == VCL_RETURN && rec.payload() == b"restart".as_slice()
 }
 
 /// Whether a request starts again.
-fn starts_again(records: &[Record]) -> bool
+fn starts_again(records: &RecordsView<'_>) -> bool
     ensures { result ≡ list_any is_restart records.now }
 {
-    for rec in records {
-        if is_restart(rec) {
+    for i in 0..records.len() {
+        if is_restart(&records.get(i)) {
             return true;
         }
     }
@@ -40,7 +40,7 @@ fn has_line(member: &Member) -> bool
     ensures { result ≡ has_line member.now }
 {
     match member.kind {
-        Kind::Request | Kind::BeReq => !starts_again(member.records.as_slice()),
+        Kind::Request | Kind::BeReq => !starts_again(&member.records.view()),
         Kind::Session | Kind::Unknown | Kind::Record => false,
     }
 }

@@ -10,7 +10,7 @@ use query_parser::Test;
 use std::alloc::{AllocError, Global};
 use txn_rows::{Group, Member};
 use vsl_pattern::Matching;
-use vsl_record::Record;
+use vsl_record::RecordView;
 
 /// Whether some record of some member of the group satisfies the test. Only a test with a pattern takes memory, once a
 /// record with what is asked is there, and where nothing that asks it was made before.
@@ -46,8 +46,9 @@ fn member_satisfies<'t>(
     if !meets_level(test.criterion.level, member.level) {
         return Ok(false);
     }
-    for rec in member.records.as_slice() {
-        if record_satisfies(alloc, test, matching, rec)? {
+    let records = member.records.view();
+    for i in 0..records.len() {
+        if record_satisfies(alloc, test, matching, &records.get(i))? {
             return Ok(true);
         }
     }
@@ -59,16 +60,16 @@ fn record_satisfies<'t>(
     alloc: Global,
     test: &'t Test,
     matching: &mut Option<Matching<'t>>,
-    rec: &Record,
+    rec: &RecordView<'_>,
 ) -> Result<bool, AllocError>
     requires ready { IsReady test.now.check matching.old }
     ensures answer { IfOk result (λ b. (level : ℕ) → meets_level test.now.criterion.level level ≡ true → b ≡ record_satisfies test.now level rec.now) }
     ensures ready { IsReady test.now.check matching.new }
 {
-    if !test.criterion.tags.has(rec.tag) {
+    if !test.criterion.tags.has(rec.tag()) {
         return Ok(false);
     }
-    match subject(&test.criterion, rec.payload.as_slice()) {
+    match subject(&test.criterion, rec.payload()) {
         Some(text) => satisfies(alloc, &test.check, matching, text),
         None => Ok(false),
     }

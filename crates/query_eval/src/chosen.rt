@@ -3,7 +3,7 @@
 use txn_rows::Group;
 
 /// A group, and for each of several queries, in their order, whether it holds for the group.
-#[derive(Debug, Drop)]
+#[derive(Drop)]
 pub struct Chosen {
     pub group: Group,
     pub holds: Vec<bool>,

@@ -3,7 +3,7 @@
 use vsl_record::Unit;
 
 /// What a reader meets of a log.
-#[derive(Debug, Drop)]
+#[derive(Drop)]
 pub enum Item {
     /// A unit, which it took.
     Unit(Unit),

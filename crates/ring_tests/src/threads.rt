@@ -88,7 +88,7 @@ fn is_as_put(unit: UnitView<'_>) -> bool
         return false;
     }
     let vxid = unit.vxid();
-    let payload = unit.item(0).payload;
+    let payload = unit.item(0).payload();
     let byte = filling(vxid);
     payload.len() + 12 == 4 * words_of(vxid / 2) as usize && payload.iter().all(|b| *b == byte)
 }

@@ -73,7 +73,7 @@ pub(crate) fn complete<C: Consumer>(
             if offer(table, asker, entry, &unit)? {
                 return Ok(groups);
             }
-            table.step(unit, &mut groups)?;
+            table.step(&unit, &mut groups)?;
             Ok(groups)
         }
         Next::Missed | Next::End => {

@@ -8,11 +8,10 @@ ghost use Rattle.vsl_select.specs.FileUnits.{file_units, units_of};
 ghost use Rattle.tool_consumers.specs.Output.{laid_out};
 ghost use Rattle.tool_consumers.specs.inside.Consumer.{alone_bytes, raw_written};
 
-use std::array;
 use txn_rows::{Group, Member};
 use vio::NoMemory;
 use vsl_file::put_records;
-use vsl_record::{Record, Unit, Vxid};
+use vsl_record::{RecordsView, Unit, Vxid};
 use vsl_select::{Selection, first_unit, group_text, raw_lines};
 
 /// How groups are written.
@@ -34,13 +33,13 @@ pub struct Look {
 }
 
 /// Adds records as the units of a log file.
-fn put_units(out: &mut Vec<u8>, vxid: Vxid, records: &[Record]) -> Result<(), NoMemory>
+fn put_units(out: &mut Vec<u8>, vxid: Vxid, records: &RecordsView<'_>) -> Result<(), NoMemory>
     ensures { OnOk result (out.new.items ≡ out.old.items ++ log_bytes (units_of vxid records.now)) }
 {
-    let mut rest = records;
+    let (_, mut rest) = records.split_at(0);
     while !rest.is_empty() {
-        let (unit, after) = rest.split_at(first_unit(rest));
-        put_records(vxid, unit, out)?;
+        let (unit, after) = rest.split_at(first_unit(&rest));
+        put_records(vxid, &unit, out)?;
         rest = after;
     }
     Ok(())
@@ -55,10 +54,10 @@ fn put_member_units(
     ensures { OnOk result (out.new.items ≡ out.old.items ++ log_bytes (units_of member.now.vxid (shown_member selection.now member.now).records)) }
 {
     if selection.shows_every_record() {
-        return put_units(out, member.vxid, member.records.as_slice());
+        return put_units(out, member.vxid, &member.records.view());
     }
     let records = selection.shown_records(member)?;
-    put_units(out, member.vxid, &records)
+    put_units(out, member.vxid, &records.view())
 }
 
 /// Adds what is shown of a group as the units of a log file.
@@ -83,20 +82,16 @@ pub fn put_group(out: &mut Vec<u8>, look: &Look, group: &Group) -> Result<(), No
     }
 }
 
-/// Adds a record as a unit of a log file by itself.
-#[tactic(auto, unfolding(crate::specs::inside::Consumer::alone_bytes))]
-fn put_alone(out: &mut Vec<u8>, vxid: Vxid, rec: &Record) -> Result<(), NoMemory>
-    ensures { OnOk result (out.new.items ≡ out.old.items ++ alone_bytes vxid rec.now) }
-{
-    put_units(out, vxid, array::from_ref(rec))
-}
-
 /// Adds records as units of a log file, each by itself.
-fn put_each_alone(out: &mut Vec<u8>, vxid: Vxid, records: &[Record]) -> Result<(), NoMemory>
+#[tactic(auto, unfolding(crate::specs::inside::Consumer::alone_bytes))]
+fn put_each_alone(out: &mut Vec<u8>, vxid: Vxid, records: &RecordsView<'_>) -> Result<(), NoMemory>
     ensures { OnOk result (out.new.items ≡ out.old.items ++ flat_map (alone_bytes vxid) records.now) }
 {
-    for rec in records {
-        put_alone(out, vxid, rec)?;
+    let (_, mut rest) = records.split_at(0);
+    while !rest.is_empty() {
+        let (first, others) = rest.split_at(1);
+        put_units(out, vxid, &first)?;
+        rest = others;
     }
     Ok(())
 }
@@ -107,6 +102,6 @@ pub fn put_raw(out: &mut Vec<u8>, layout: Layout, unit: &Unit) -> Result<(), NoM
 {
     match layout {
         Layout::Lines => raw_lines(unit, out),
-        Layout::Units => put_each_alone(out, unit.vxid(), unit.records()),
+        Layout::Units => put_each_alone(out, unit.vxid(), &unit.records()),
     }
 }

@@ -10,7 +10,7 @@ ghost use Rattle.traffic_feed.specs.Batches.{has_room};
 use log_model::NoMemory;
 use std::alloc::Global;
 use std::marker::Model;
-use vsl_record::{Mark, Record, Unit, Vxid};
+use vsl_record::{Mark, Record, RecordView, Unit, Vxid};
 use vsl_tags::Tag;
 
 /// A unit to which records are added. Contracts see the unit.
@@ -44,7 +44,7 @@ impl BegunUnit {
         ensures unit { IfOk result (λ u. IsUnit u) }
     {
         let mark = rec.mark;
-        let words = 1 + rec.words();
+        let words = 1 + rec.view().words();
         let has_end = rec.tag == Tag::END;
         let mut records = Vec::new(alloc);
         records.push(rec)?;
@@ -65,7 +65,7 @@ impl BegunUnit {
     }
 
     /// Whether it has room for a record in a segment of so many words.
-    pub fn has_room(&self, seg: usize, rec: &Record) -> bool
+    pub fn has_room(&self, seg: usize, rec: &RecordView<'_>) -> bool
         ensures { (l : LoggedRecord) → l.rec ≡ rec.now → result ≡ has_room seg self.now l }
     {
         self.words + rec.words() <= seg
@@ -79,7 +79,7 @@ impl BegunUnit {
         ensures unit { OnOk result (IsUnit self.new) }
         ensures err { OnErr result (self.new ≡ self.old) }
     {
-        let words = rec.words();
+        let words = rec.view().words();
         let is_end = rec.tag == Tag::END;
         self.records.push(rec)?;
         self.words += words;

@@ -12,12 +12,13 @@ ghost use Rattle.raw_records.specs.LineRead.{IsInRange, line_of};
 
 use crate::begun_unit::BegunUnit;
 use crate::listing::Listing;
+use crate::units::Units;
 use log_model::NoMemory;
 use raw_records::LineRead;
 use ring_layout::Shape;
 use std::alloc::Global;
 use std::marker::Model;
-use vsl_record::{Mark, Record, RecordFault, Units, Vxid};
+use vsl_record::{Mark, Record, RecordFault, RecordView, Vxid};
 use vsl_tags::Tag;
 
 /// What was gathered of the lines of a listing.
@@ -105,7 +106,7 @@ impl Gathering {
     }
 
     /// Whether the unit that was begun has room for a record.
-    fn has_room(&self, rec: &Record) -> bool
+    fn has_room(&self, rec: &RecordView<'_>) -> bool
         ensures { (l : LoggedRecord) → l.rec ≡ rec.now → result ≡ begun_has_room self.now.seg self.now.begun l }
     {
         match &self.begun {
@@ -136,7 +137,7 @@ impl Gathering {
         if !self.goes_on(vxid, rec.mark) {
             return self.begin(vxid, rec);
         }
-        if !self.has_room(&rec) {
+        if !self.has_room(&rec.view()) {
             self.cuts += 1;
             return self.begin(vxid, rec);
         }

@@ -25,6 +25,7 @@ mod requests;
 mod shares;
 mod traffic;
 mod turns;
+mod units;
 mod waiting;
 mod worker;
 
@@ -38,4 +39,5 @@ pub use laws::{
 pub use listing::{Listing, read_listing};
 pub use traffic::generate;
 pub use turns::Turns;
+pub use units::Units;
 pub use worker::{Worker, run_workers};

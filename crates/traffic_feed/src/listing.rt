@@ -10,13 +10,13 @@ ghost use Rattle.traffic_feed.specs.Listing.{IsListing, record_count, word_count
 
 use crate::fault::ListFault;
 use crate::gathering::Gathering;
+use crate::units::Units;
 use raw_records::{TagCache, first_line, read_line};
 use ring_layout::Shape;
 use std::alloc::Global;
-use vsl_record::Units;
 
 /// What a listing has. Contracts see the units as a list.
-#[derive(Debug, Drop)]
+#[derive(Drop)]
 pub struct Listing {
     /// The units, in order.
     pub units: Units,

@@ -8,7 +8,7 @@ ghost use Rattle.traffic_feed.specs.inside.Raises.{raise_at};
 
 use txn_rows::{Claim, Kind, Reason, read_claim};
 use vsl_decimal::{field, whole_number};
-use vsl_record::Record;
+use vsl_record::RecordView;
 use vsl_tags::Tag;
 use vsl_tags::named::{
     BACKEND_OPEN, FETCH_ERROR, HIT, HIT_MISS, HIT_PASS, REQ_ACCT, SESS_OPEN, VCL_CALL,
@@ -16,7 +16,7 @@ use vsl_tags::named::{
 
 /// By how much a record raises a counter, as the table of varnish-counters(7), `MAIN.`, goes by number here. Units, cuts, waits and
 /// wraps raise the last four, and records don't.
-pub(crate) fn raised(which: u32, rec: &Record) -> u64
+pub(crate) fn raised(which: u32, rec: &RecordView<'_>) -> u64
     requires { which < counter_count }
     ensures raised { result ≡ raise_at (slice_get causes which) rec.now }
     ensures small { result < 2 ^ 32 }
@@ -44,14 +44,14 @@ pub(crate) fn raised(which: u32, rec: &Record) -> u64
 }
 
 /// Whether a record is of the tag with this number.
-fn has_tag(tag: u8, rec: &Record) -> bool
+fn has_tag(tag: u8, rec: &RecordView<'_>) -> bool
     ensures { result ≡ (rec.now.tag == tag) }
 {
-    rec.tag.number() == tag
+    rec.tag().number() == tag
 }
 
 /// One for a record of the tag with this number.
-fn tagged(tag: u8, rec: &Record) -> u64
+fn tagged(tag: u8, rec: &RecordView<'_>) -> u64
     ensures raised { result ≡ raise (EachTag tag) rec.now }
     ensures small { result < 2 ^ 32 }
 {
@@ -81,11 +81,11 @@ fn is_fetch(claim: Option<Claim>) -> bool
 }
 
 /// One for the Begin of a client's request.
-fn request_begun(rec: &Record) -> u64
+fn request_begun(rec: &RecordView<'_>) -> u64
     ensures raised { result ≡ raise EachRequest rec.now }
     ensures small { result < 2 ^ 32 }
 {
-    if rec.tag == Tag::BEGIN && is_request(read_claim(rec.payload.as_slice())) {
+    if rec.tag() == Tag::BEGIN && is_request(read_claim(rec.payload())) {
         1
     } else {
         0
@@ -93,11 +93,11 @@ fn request_begun(rec: &Record) -> u64
 }
 
 /// One for the Begin of a request to a backend.
-fn fetch_begun(rec: &Record) -> u64
+fn fetch_begun(rec: &RecordView<'_>) -> u64
     ensures raised { result ≡ raise EachFetch rec.now }
     ensures small { result < 2 ^ 32 }
 {
-    if rec.tag == Tag::BEGIN && is_fetch(read_claim(rec.payload.as_slice())) {
+    if rec.tag() == Tag::BEGIN && is_fetch(read_claim(rec.payload())) {
         1
     } else {
         0
@@ -105,11 +105,11 @@ fn fetch_begun(rec: &Record) -> u64
 }
 
 /// One for a VCL_call of a name, without regard to case.
-fn called(name: &[u8], rec: &Record) -> u64
+fn called(name: &[u8], rec: &RecordView<'_>) -> u64
     ensures raised { result ≡ raise (EachCall name.now) rec.now }
     ensures small { result < 2 ^ 32 }
 {
-    if has_tag(VCL_CALL, rec) && rec.payload.as_slice().eq_ignore_ascii_case(name) {
+    if has_tag(VCL_CALL, rec) && rec.payload().eq_ignore_ascii_case(name) {
         1
     } else {
         0
@@ -117,12 +117,12 @@ fn called(name: &[u8], rec: &Record) -> u64
 }
 
 /// The value of a field of a ReqAcct.
-fn accounted(n: u32, rec: &Record) -> u64
+fn accounted(n: u32, rec: &RecordView<'_>) -> u64
     ensures raised { result ≡ raise (EachField n) rec.now }
     ensures small { result < 2 ^ 32 }
 {
     if has_tag(REQ_ACCT, rec) {
-        value_of(field(rec.payload.as_slice(), n))
+        value_of(field(rec.payload(), n))
     } else {
         0
     }

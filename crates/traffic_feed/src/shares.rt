@@ -8,7 +8,7 @@ ghost use Rattle.traffic_feed.specs.inside.Raises.{raise_at};
 
 use crate::raises::raised;
 use counter_segments::COUNTERS;
-use vsl_record::{Record, Unit};
+use vsl_record::{RecordView, RecordsView, Unit};
 use vsl_tags::named::{
     BACKEND_OPEN, BEGIN, FETCH_ERROR, HIT, HIT_MISS, HIT_PASS, REQ_ACCT, SESS_OPEN, VCL_CALL,
 };
@@ -23,7 +23,7 @@ const RECORDS: u32 = 16;
 const UNITS: u32 = 17;
 
 /// Adds to a counter's sum what a record raises the counter by.
-fn add_raise(sums: &mut Sums, which: u32, rec: &Record)
+fn add_raise(sums: &mut Sums, which: u32, rec: &RecordView<'_>)
     requires counter { which < counter_count }
     requires low { slice_index sums.old which < 2 ^ 63 }
     ensures { sums.new ≡ slice_set sums.old which (slice_index sums.old which + raise_at (slice_get causes which) rec.now) }
@@ -32,12 +32,12 @@ fn add_raise(sums: &mut Sums, which: u32, rec: &Record)
 }
 
 /// Adds to each counter's sum what a record raises the counter by. Only the counters that its tag may raise are asked.
-fn add_raises(sums: &mut Sums, rec: &Record)
+fn add_raises(sums: &mut Sums, rec: &RecordView<'_>)
     requires low { (which : ℕ) → which < counter_count → slice_index sums.old which < 2 ^ 63 }
     ensures { (which : ℕ) → which < counter_count → slice_index sums.new which ≡ slice_index sums.old which + raise_at (slice_get causes which) rec.now }
 {
     add_raise(sums, RECORDS, rec);
-    match rec.tag.number() {
+    match rec.tag().number() {
         SESS_OPEN => add_raise(sums, 0, rec),
         BACKEND_OPEN => add_raise(sums, 6, rec),
         FETCH_ERROR => add_raise(sums, 8, rec),
@@ -65,13 +65,13 @@ fn add_raises(sums: &mut Sums, rec: &Record)
 }
 
 /// By how much records raise each counter, in all.
-fn raised_by_all(records: &[Record]) -> Sums
+fn raised_by_all(records: &RecordsView<'_>) -> Sums
     requires few { length records.now < 2 ^ 20 }
     ensures { (which : ℕ) → which < counter_count → slice_index result which ≡ sum_by (raise_at (slice_get causes which)) records.now }
 {
     let mut sums = [0; COUNTERS as usize];
-    for rec in records {
-        add_raises(&mut sums, rec);
+    for i in 0..records.len() {
+        add_raises(&mut sums, &records.get(i));
     }
     sums
 }
@@ -82,7 +82,7 @@ pub(crate) fn shares(unit: &Unit) -> Sums
     ensures shares { (which : ℕ) → which < counter_count → slice_index result which ≡ unit_share which unit.now }
     ensures small { (which : ℕ) → which < counter_count → slice_index result which ≤ 2 ^ 52 }
 {
-    let mut sums = raised_by_all(unit.records());
+    let mut sums = raised_by_all(&unit.records());
     sums[UNITS as usize] += 1;
     sums
 }

@@ -99,30 +99,39 @@ one_same f keeps rec t same = claimed_same f keeps (own_claim rec) (longer rec t
 one_keeps : (rec : Record) → KeepsLinks (with_one rec)
 one_keeps rec = record { serial = λ t. one_same (λ x. x.serial) (λ x c. refl) rec t refl; parent = λ t. one_same (λ x. x.parent) (λ x c. refl) rec t refl }
 
--- rows after a record
-pub added : (begun vxid at : ℕ) (rec : Record) (rows : List Row) (row new : Row) → AreTrees begun rows → IsNewestRow vxid at rows → row ≡ get_or rows at row → new ≡ row_told (with_one rec) row → Rows begun (with_kind vxid rec (with_record vxid rec (map transaction_of rows))) (set rows at new)
-added begun vxid at rec rows row new trees is read told =
+-- rows after a change of the newest
+pub changed_rows : (begun vxid at : ℕ) (change : Transaction → Transaction) → KeepsLinks change → (rows : List Row) (row new : Row) → AreTrees begun rows → IsNewestRow vxid at rows → row ≡ get_or rows at row → new ≡ row_told change row → Rows begun (with_newest vxid change (map transaction_of rows)) (set rows at new)
+changed_rows begun vxid at change keeps rows row new trees is read told =
     let t : Transaction = transaction_of row in
     let front : List Transaction = map transaction_of (take at rows) in
     let back : List Transaction = map transaction_of (drop (at + 1) rows) in
     let same : eqb row.vxid vxid ≡ true = eq-eqb row.vxid vxid (ap (λ (r : Row). r.vxid) read ∙ is.is row) in
     record {
-      trees = trees_set begun at rows row new trees is.within read (told_in_place (with_one rec) row new told);
+      trees = trees_set begun at rows row new trees is.within read (told_in_place change row new told);
       told =
           written at rows new is.within
-          ∙ ap (λ (x : Transaction). front ++ x ∷ back) (ap transaction_of told ∙ row_told_is (with_one rec) (one_keeps rec) row)
-          ∙ sym (one_told vxid rec (map transaction_of rows) ∙ ap (with_newest vxid (with_one rec)) (split_at_row at rows row is.within read) ∙ changed_in vxid (with_one rec) front t back same is.none_after);
+          ∙ ap (λ (x : Transaction). front ++ x ∷ back) (ap transaction_of told ∙ row_told_is change keeps row)
+          ∙ sym (ap (with_newest vxid change) (split_at_row at rows row is.within read) ∙ changed_in vxid change front t back same is.none_after);
     }
 
--- and the newest stays where it is
-pub added_newest : (vxid at : ℕ) (rec : Record) (rows : List Row) (row new : Row) → IsNewestRow vxid at rows → row ≡ get_or rows at row → new ≡ row_told (with_one rec) row → IsNewestRow vxid at (set rows at new)
-added_newest vxid at rec rows row new is read told = record {
+-- the newest stays where it is
+pub newest_stays : (vxid at : ℕ) (change : Transaction → Transaction) → ((t : Transaction) → (change t).vxid ≡ t.vxid) → (rows : List Row) (row new : Row) → IsNewestRow vxid at rows → row ≡ get_or rows at row → new ≡ row_told change row → IsNewestRow vxid at (set rows at new)
+newest_stays vxid at change keeps rows row new is read told = record {
   within = omega (arith, is.within, length-set rows at new);
   is = λ other.
-      ap (λ (r : Row). r.vxid) (get_or-set_same rows at new other is.within) ∙ ap (λ (r : Row). r.vxid) told ∙ one_same (λ x. x.vxid) (λ x c. refl) rec (transaction_of row) refl
+      ap (λ (r : Row). r.vxid) (get_or-set_same rows at new other is.within) ∙ ap (λ (r : Row). r.vxid) told ∙ keeps (transaction_of row)
       ∙ ap (λ (r : Row). r.vxid) read ∙ is.is row;
   none_after = ap (λ (rs : List Row). is_pending vxid (map transaction_of rs)) (drop-set-lt (at + 1) rows at new (omega arith)) ∙ is.none_after;
 }
+
+-- rows after a record
+pub added : (begun vxid at : ℕ) (rec : Record) (rows : List Row) (row new : Row) → AreTrees begun rows → IsNewestRow vxid at rows → row ≡ get_or rows at row → new ≡ row_told (with_one rec) row → Rows begun (with_kind vxid rec (with_record vxid rec (map transaction_of rows))) (set rows at new)
+added begun vxid at rec rows row new trees is read told =
+    let now = changed_rows begun vxid at (with_one rec) (one_keeps rec) rows row new trees is read told in
+    record { trees = now.trees; told = now.told ∙ sym (one_told vxid rec (map transaction_of rows)) }
+
+pub added_newest : (vxid at : ℕ) (rec : Record) (rows : List Row) (row new : Row) → IsNewestRow vxid at rows → row ≡ get_or rows at row → new ≡ row_told (with_one rec) row → IsNewestRow vxid at (set rows at new)
+added_newest vxid at rec rows row new is read told = newest_stays vxid at (with_one rec) (λ t. one_same (λ x. x.vxid) (λ x c. refl) rec t refl) rows row new is read told
 
 -- a row that ends is its transaction, ended
 pub ended_step : (grouping : Grouping) (begun vxid at : ℕ) (time : Option ℕ) (rows : List Row) (row new : Row) (now : List Row) (out_before out_now : List Group) → AreTrees begun rows → IsNewestRow vxid at rows → row ≡ get_or rows at row → new ≡ record row { ended = true } →

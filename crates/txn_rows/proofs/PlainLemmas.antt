@@ -1,5 +1,7 @@
 -- A record that tells nothing but itself.
-use Rattle.std.proofs.Common.{◌≡◌, ◌≤◌, ◌&&◌, ℕ, Bool, true, false, not, eqb, Option, Some, None, List, [], ◌∷◌, ◌++◌, length, refl, ap, sym, ◌∙◌, arith}
+use Rattle.std.proofs.Common.{◌≡◌, ◌<◌, ◌≤◌, ◌&&◌, ℕ, Bool, true, false, not, cond, eqb, Option, Some, None, List, [], ◌∷◌, ◌++◌, length, take, drop, get_or, refl, ap, sym, ◌∙◌, append_assoc, append-nil, arith}
+use Rattle.std.specs.List.{list_all}
+use Rattle.std.specs.Option.{option_map}
 use Rattle.std.proofs.lemmas.Bool.{and_parts, not-true, le-ltb}
 use Rattle.std.proofs.lemmas.List.{length-map}
 use Rattle.vsl_tags.specs.Tags.{begin_tag, link_tag, timestamp_tag, end_tag}
@@ -7,11 +9,13 @@ use Rattle.vsl_record.specs.declared.record_type.Record.{Record}
 use Rattle.txn_rows.specs.declared.group.Group.{Group}
 use Rattle.txn_rows.specs.declared.group.GroupOptions.{GroupOptions}
 use Rattle.txn_rows.specs.declared.pending.Pending.{Pending}
-use Rattle.txn_rows.specs.Transaction.{Transaction, is_open, with_record, with_kind}
-use Rattle.txn_rows.specs.Grouping.{State, nothing_left, has_risen, unfinished, after_overflow, grouped}
-use Rattle.txn_rows.specs.inside.Told.{is_plain}
+use Rattle.txn_rows.specs.Transaction.{Transaction, is_pending, is_open, newest, with_newest, with_record}
+use Rattle.txn_rows.specs.Grouping.{State, Leaving, nothing_left, then_left, has_risen, unfinished, after_overflow, grouped, is_raw, step, steps}
+use Rattle.txn_rows.specs.inside.Rows.{longer_by}
+use Rattle.txn_rows.specs.inside.Told.{is_plain, is_plain_record}
 use Rattle.txn_rows.specs.inside.States.{state_of, Went, WentBy}
-use Rattle.txn_rows.proofs.ChangeLemmas.{newest_same}
+use Rattle.txn_rows.proofs.ChangeLemmas.{newest_same, newest_is_changed, newest_twice}
+use Rattle.txn_rows.proofs.LineLemmas.{by_cases}
 use Rattle.txn_rows.proofs.ForceAllLemmas.{down_within}
 use Rattle.txn_rows.proofs.TakeLemmas.{nothing_step}
 
@@ -54,11 +58,98 @@ plain_step options vxid rec state plain opened few =
     let within : after_overflow options.limit now ≡ nothing_left now = down_within options.limit (unfinished now) now (omega (arith, few, longer_length vxid rec state)) in
     rw (opened, tags.begins, tags.links, tags.times, tags.ends, risen_same state.time) within
 
--- its row takes it, and nothing leaves
-pub plain_went : (options : GroupOptions) (vxid : ℕ) (rec : Record) (p now : Pending) (out : List Group) → is_plain rec.tag ≡ true → is_open vxid (state_of p).pending ≡ true → length (state_of p).pending ≤ options.limit →
-    Went (record (state_of p) { pending = with_kind vxid rec (with_record vxid rec (state_of p).pending) }) now → WentBy options.grouping (grouped options vxid rec (state_of p)) now out out
-plain_went options vxid rec p now out plain opened few went =
-    let tags = none_of_four rec.tag plain in
-    let step = plain_step options vxid rec (state_of p) plain opened few in
-    let told : state_of now ≡ longer vxid rec (state_of p) = rw tags.begins at went.told in
-    nothing_step options.grouping now.begun now.time now.rows.items out (grouped options vxid rec (state_of p)) went.trees (step ∙ ap nothing_left (sym told))
+-- ---- records one after another that tell nothing but themselves
+
+-- a change that is another, or none, of the newest
+changed_as : (vxid : ℕ) (f g : Transaction → Transaction) → ((t : Transaction) → f t ≡ g t) → (pending : List Transaction) → with_newest vxid f pending ≡ with_newest vxid g pending
+changed_as vxid f g same [] = refl
+changed_as vxid f g same (t ∷ pending) =
+    ap (λ (rest : List Transaction). cond (is_pending vxid pending) (t ∷ rest) (cond (eqb t.vxid vxid) (f t ∷ pending) (t ∷ pending))) (changed_as vxid f g same pending)
+    ∙ ap (λ (x : Transaction). cond (is_pending vxid pending) (t ∷ with_newest vxid g pending) (cond (eqb t.vxid vxid) (x ∷ pending) (t ∷ pending))) (same t)
+
+either_way : {A : Type 0} (b : Bool) (x : A) → cond b x x ≡ x
+either_way true x = refl
+either_way false x = refl
+
+changed_none : (vxid : ℕ) (pending : List Transaction) → with_newest vxid (λ t. t) pending ≡ pending
+changed_none vxid [] = refl
+changed_none vxid (t ∷ pending) =
+    ap (λ (rest : List Transaction). cond (is_pending vxid pending) (t ∷ rest) (cond (eqb t.vxid vxid) (t ∷ pending) (t ∷ pending))) (changed_none vxid pending)
+    ∙ ap (λ (rest : List Transaction). cond (is_pending vxid pending) (t ∷ pending) rest) (either_way (eqb t.vxid vxid) (t ∷ pending)) ∙ either_way (is_pending vxid pending) (t ∷ pending)
+
+-- whether a transaction is there that has not ended
+has_unended : Option Transaction → Bool
+has_unended None = false
+has_unended (Some t) = not t.ended
+
+open_is : (vxid : ℕ) (pending : List Transaction) → is_open vxid pending ≡ has_unended (newest vxid pending)
+unfolding has_unended
+open_is vxid [] = refl
+open_is vxid (t ∷ pending) =
+    by_cases (is_open vxid (t ∷ pending) ≡ has_unended (newest vxid (t ∷ pending))) (is_pending vxid pending)
+    (λ e. rw e (open_is vxid pending))
+    (λ e. by_cases (is_open vxid (t ∷ pending) ≡ has_unended (newest vxid (t ∷ pending))) (eqb t.vxid vxid) (λ s. rw (e, s) refl) (λ s. rw (e, s) refl))
+
+unended_still : (change : Transaction → Transaction) → ((t : Transaction) → (change t).ended ≡ t.ended) → (o : Option Transaction) → has_unended (option_map change o) ≡ has_unended o
+unfolding has_unended
+unended_still change keeps None = refl
+unended_still change keeps (Some t) = ap not (keeps t)
+
+-- with a record more it is as open as before
+open_still : (vxid : ℕ) (rec : Record) (pending : List Transaction) → is_open vxid (with_record vxid rec pending) ≡ is_open vxid pending
+open_still vxid rec pending =
+    let change : Transaction → Transaction = λ t. record t { records = t.records ++ rec ∷ [] } in
+    open_is vxid (with_record vxid rec pending) ∙ ap has_unended (newest_is_changed vxid change pending (λ t. refl)) ∙ unended_still change (λ t. refl) (newest vxid pending) ∙ sym (open_is vxid pending)
+
+-- the state with records more
+abbrev longer_run : ℕ → List Record → State → State
+longer_run vxid run state = record state { pending = with_newest vxid (longer_by run) state.pending }
+
+run_more : (vxid : ℕ) (rec : Record) (run : List Record) (state : State) → longer_run vxid run (longer vxid rec state) ≡ longer_run vxid (rec ∷ run) state
+run_more vxid rec run state =
+    let one : Transaction → Transaction = λ t. record t { records = t.records ++ rec ∷ [] } in
+    ap (λ (ts : List Transaction). record state { pending = ts })
+    (newest_twice vxid one (longer_by run) state.pending (λ t. refl) ∙ changed_as vxid (λ t. longer_by run (one t)) (longer_by (rec ∷ run)) (λ t. ap (λ (rs : List Record). record t { records = rs }) (append_assoc t.records (rec ∷ []) run)) state.pending)
+
+-- steps of such records are one append, while their row is open and no more are pending than the limit
+pub plain_steps : (options : GroupOptions) (vxid : ℕ) (run : List Record) (state : State) → is_raw options.grouping ≡ false → list_all is_plain_record run ≡ true → is_open vxid state.pending ≡ true → length state.pending ≤ options.limit →
+    steps options vxid run state ≡ nothing_left (longer_run vxid run state)
+plain_steps options vxid [] state grouped plain opened few =
+    ap (λ (ts : List Transaction). nothing_left (record state { pending = ts }))
+    (sym (changed_as vxid (longer_by []) (λ t. t) (λ t. ap (λ (rs : List Record). record t { records = rs }) (append-nil t.records)) state.pending ∙ changed_none vxid state.pending))
+plain_steps options vxid (rec ∷ run) state grouped plain opened few =
+    let tests = and_parts (is_plain rec.tag) (list_all is_plain_record run) plain in
+    let now : State = longer vxid rec state in
+    let one : step options vxid rec state ≡ nothing_left now = rw grouped (plain_step options vxid rec state tests.0 opened few) in
+    ap (λ (first : Leaving). then_left first (steps options vxid run)) one
+    ∙ plain_steps options vxid run now grouped tests.1 (open_still vxid rec state.pending ∙ opened) (omega (arith, few, longer_length vxid rec state))
+    ∙ ap nothing_left (run_more vxid rec run state)
+
+-- their row takes them, and nothing leaves
+pub run_went : (options : GroupOptions) (vxid : ℕ) (run : List Record) (p now : Pending) (out : List Group) → is_raw options.grouping ≡ false → list_all is_plain_record run ≡ true → is_open vxid (state_of p).pending ≡ true → length (state_of p).pending ≤ options.limit →
+    Went (longer_run vxid run (state_of p)) now → WentBy options.grouping (steps options vxid run (state_of p)) now out out
+run_went options vxid run p now out grouped plain opened few went =
+    nothing_step options.grouping now.begun now.time now.rows.items out (steps options vxid run (state_of p)) went.trees (plain_steps options vxid run (state_of p) grouped plain opened few ∙ ap nothing_left (sym went.told))
+
+-- ---- records one after another
+
+-- the steps of records and of more are both
+pub steps_both : (options : GroupOptions) (vxid : ℕ) (xs ys : List Record) (state : State) → steps options vxid (xs ++ ys) state ≡ then_left (steps options vxid xs state) (steps options vxid ys)
+steps_both options vxid [] ys state = refl
+steps_both options vxid (x ∷ xs) ys state =
+    let first : Leaving = step options vxid x state in
+    let mid : Leaving = steps options vxid xs first.state in
+    ap (λ (r : Leaving). record { state = r.state; groups = first.groups ++ r.groups }) (steps_both options vxid xs ys first.state)
+    ∙ ap (λ (gs : List Group). record { state = (steps options vxid ys mid.state).state; groups = gs }) (sym (append_assoc first.groups mid.groups (steps options vxid ys mid.state).groups))
+
+-- the first of records by itself
+pub one_step : (options : GroupOptions) (vxid : ℕ) (rec : Record) (state : State) → steps options vxid (rec ∷ []) state ≡ step options vxid rec state
+one_step options vxid rec state = ap (λ (gs : List Group). record { state = (step options vxid rec state).state; groups = gs }) (append-nil (step options vxid rec state).groups)
+
+pub first_of : (records : List Record) (rec : Record) → 0 < length records → rec ≡ get_or records 0 rec → take 1 records ≡ rec ∷ []
+first_of [] rec some is = absurd (omega (arith, some))
+first_of (r ∷ records) rec some is = ap (λ (x : Record). x ∷ []) (sym is)
+
+pub first_and_more : (records : List Record) (rec : Record) → 0 < length records → rec ≡ get_or records 0 rec → rec ∷ drop 1 records ≡ records
+first_and_more [] rec some is = absurd (omega (arith, some))
+first_and_more (r ∷ records) rec some is = ap (λ (x : Record). x ∷ records) is

@@ -14,7 +14,7 @@ use Rattle.txn_rows.specs.declared.pending.Pending.{Pending}
 use Rattle.txn_rows.specs.Claim.{claim_of}
 use Rattle.txn_rows.specs.Transaction.{Transaction, empty_transaction, newest, with_newest, with_record, with_kind, oldest, with_oldest, claimed_kind, ended, forced}
 use Rattle.txn_rows.specs.Links.{with_parent, can_join, children, root_of, tree_of, others, group_of}
-use Rattle.txn_rows.specs.Grouping.{State, Leaving, nothing_left, first_known, timed, raised, with_transaction, with_all_told, left_by, ended_one, forced_one, after_end, step, steps, flush}
+use Rattle.txn_rows.specs.Grouping.{State, Leaving, nothing_left, first_known, timed, raised, with_transaction, with_all_told, left_by, ended_one, forced_one, after_end, steps, flush}
 use Rattle.txn_rows.specs.inside.Steps.{test_of}
 use Rattle.txn_rows.specs.inside.Times.{TimesRise, NoneKnown, RiseTo, times_of, IsTimed}
 use Rattle.txn_rows.specs.inside.States.{state_of, AreOrdered, Went, WentBy}
@@ -178,8 +178,8 @@ pub steps_timed : (options : GroupOptions) (vxid : ℕ) (records : List Record) 
 steps_timed options vxid records state = steps_hold options TimedOn (timed_over options) vxid records state
 
 -- and so do those of the rows
-pub one_ordered : (options : GroupOptions) (vxid : ℕ) (rec : Record) {p now : Pending} {out out_now : List Group} → AreOrdered p → WentBy options.grouping (step options vxid rec (state_of p)) now out out_now → AreOrdered now
-one_ordered options vxid rec {p} o went = record { trees = went.trees; times = subst IsTimed (sym went.state) ((timed_over options).one vxid rec (state_of p) o.times) }
+pub some_ordered : (options : GroupOptions) (vxid : ℕ) (records : List Record) {p now : Pending} {out out_now : List Group} → AreOrdered p → WentBy options.grouping (steps options vxid records (state_of p)) now out out_now → AreOrdered now
+some_ordered options vxid records {p} o went = record { trees = went.trees; times = subst IsTimed (sym went.state) (steps_timed options vxid records (state_of p) o.times) }
 
 pub flush_timed : (state : State) → IsTimed state → IsTimed (flush state).state
 flush_timed state = flush_holds TimedOn timed_on state

@@ -14,18 +14,18 @@ use crate::leave::leave;
 use crate::rows::Row;
 use log_model::NoMemory;
 use std::alloc::Global;
-use vsl_record::{Mark, Payload, Record};
+use vsl_record::{Mark, Payload, Record, RecordsView};
 use vsl_tags::Tag;
 
 /// Force-completes a row: it gets a VSL record with the cause and an End.
 fn force_row(alloc: Global, row: &mut Row, cause: Cause) -> Result<(), NoMemory>
     ensures { OnOk result (row.new ≡ row_told (forced cause) row.old) }
 {
-    let mark = mark_of(row.records.as_slice());
+    let mark = mark_of(&row.records.view());
     let told = synthesized(alloc, Tag::VSL, mark, text_of(cause))?;
-    row.records.push(told)?;
+    row.records.push(&told.view())?;
     let end = synthesized(alloc, Tag::END, mark, b"synth")?;
-    row.records.push(end)?;
+    row.records.push(&end.view())?;
     row.ended = true;
     Ok(())
 }
@@ -43,13 +43,13 @@ fn text_of(cause: Cause) -> &'static [u8]
 }
 
 /// The mark of the first record, or none.
-fn mark_of(records: &[Record]) -> Mark
+fn mark_of(records: &RecordsView<'_>) -> Mark
     ensures { result ≡ first_mark records.now }
 {
-    match records {
-        [rec, ..] => rec.mark,
-        [] => Mark::Plain,
+    if records.is_empty() {
+        return Mark::Plain;
     }
+    records.get(0).mark()
 }
 
 /// A record that no worker wrote.

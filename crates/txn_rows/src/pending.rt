@@ -1,19 +1,19 @@
 //! What stands between two records, and how a record begins, names and links transactions.
 
 ghost use Rattle.std.specs.Prelude.{◌≡◌, ◌≢◌, ℕ, if◌then◌else◌, length, IfOk, OnOk, OnErr};
-ghost use Rattle.txn_rows.specs.Transaction.{with_record, with_kind};
+ghost use Rattle.txn_rows.specs.Transaction.{with_newest, with_record, with_kind};
 ghost use Rattle.txn_rows.specs.Grouping.{with_new, with_transaction, with_other, gives_parent, with_parent_named, with_child_named, ended_one, raised, with_time};
-ghost use Rattle.txn_rows.specs.inside.Rows.{IsNewestRow, AreTrees};
+ghost use Rattle.txn_rows.specs.inside.Rows.{IsNewestRow, AreTrees, longer_by};
 ghost use Rattle.txn_rows.specs.inside.States.{state_of, AreOrdered, Went, WentBy};
 
 use crate::claim::Claim;
 use crate::group::{Group, Grouping, Kind, Reason};
 use crate::join::link_rows;
 use crate::leave::leave;
-use crate::rows::{Row, add_record, empty_row, newest_row, time_rows};
+use crate::rows::{Row, add_record, add_records, empty_row, newest_row, time_rows};
 use log_model::NoMemory;
 use std::alloc::Global;
-use vsl_record::{Record, Vxid};
+use vsl_record::{RecordView, RecordsView, Vxid};
 
 /// The pending transactions, oldest first, and the log time.
 #[derive(Drop)]
@@ -130,15 +130,30 @@ pub(crate) fn add_to(
     pending: &mut Pending,
     at: usize,
     vxid: Vxid,
-    rec: Record,
+    rec: &RecordView<'_>,
 ) -> Result<(), NoMemory>
     requires { IsNewestRow vxid at pending.old.rows.items }
     ensures went { AreTrees pending.old.begun pending.old.rows.items →
-        OnOk result (Went (record (state_of pending.old) { pending = with_kind vxid rec (with_record vxid rec (state_of pending.old).pending) }) pending.new) }
+        OnOk result (Went (record (state_of pending.old) { pending = with_kind vxid rec.now (with_record vxid rec.now (state_of pending.old).pending) }) pending.new) }
     ensures newest { OnOk result (IsNewestRow vxid at pending.new.rows.items) }
 {
     add_record(&mut pending.rows[at], rec)?;
     Ok(())
+}
+
+/// Adds records that tell nothing but themselves to the newest row of their VXID.
+pub(crate) fn add_run(
+    pending: &mut Pending,
+    at: usize,
+    vxid: Vxid,
+    run: &RecordsView<'_>,
+) -> Result<(), NoMemory>
+    requires { IsNewestRow vxid at pending.old.rows.items }
+    ensures went { AreTrees pending.old.begun pending.old.rows.items →
+        OnOk result (Went (record (state_of pending.old) { pending = with_newest vxid (longer_by run.now) (state_of pending.old).pending }) pending.new) }
+    ensures newest { OnOk result (IsNewestRow vxid at pending.new.rows.items) }
+{
+    add_records(&mut pending.rows[at], run)
 }
 
 /// The newest row of a VXID ends, and may complete a group.

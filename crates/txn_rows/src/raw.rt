@@ -6,16 +6,16 @@ ghost use Rattle.txn_rows.specs.Grouping.{raw_group};
 use crate::group::{Group, Kind, Member, Members, Reason};
 use log_model::NoMemory;
 use std::alloc::Global;
-use vsl_record::{Record, Records, Vxid};
+use vsl_record::{RecordView, Records, Vxid};
 
 /// Adds a record as a group by itself.
 pub(crate) fn take_raw(
     alloc: Global,
     vxid: Vxid,
-    rec: Record,
+    rec: &RecordView<'_>,
     out: &mut Vec<Group>,
 ) -> Result<(), NoMemory>
-    ensures ok { OnOk result (out.new.items ≡ out.old.items ++ raw_group vxid rec ∷ []) }
+    ensures ok { OnOk result (out.new.items ≡ out.old.items ++ raw_group vxid rec.now ∷ []) }
     ensures err { OnErr result (out.new.items ≡ out.old.items) }
 {
     let mut records = Records::new(alloc);

@@ -3,14 +3,14 @@
 ghost use Rattle.std.specs.Prelude.{◌≡◌, ◌<◌, length, false, true, map, [], ◌∷◌, IfOk, OnOk, IfSome, IfNone, None};
 ghost use Rattle.txn_rows.specs.Transaction.{is_pending, claimed_kind};
 ghost use Rattle.txn_rows.specs.Grouping.{timed};
-ghost use Rattle.txn_rows.specs.inside.Rows.{transaction_of, row_told, IsNewestRow, with_one, own_claim};
+ghost use Rattle.txn_rows.specs.inside.Rows.{transaction_of, row_told, IsNewestRow, with_one, longer_by, own_claim};
 
 use crate::claim::{Claim, read_claim};
 use crate::group::{Kind, ParentLink, Reason};
 use crate::path::Path;
 use log_model::NoMemory;
 use std::alloc::Global;
-use vsl_record::{Record, Records, Vxid};
+use vsl_record::{RecordView, Records, RecordsView, Vxid};
 use vsl_tags::Tag;
 
 /// For so many records room is made when a row gets its first.
@@ -74,31 +74,39 @@ pub(crate) fn empty_row(alloc: Global, serial: u64, vxid: Vxid, time: Option<u12
 fn make_room(records: &mut Records) -> Result<(), NoMemory>
     ensures { records.new ≡ records.old }
 {
-    if records.as_slice().is_empty() {
+    if records.view().is_empty() {
         records.reserve(FIRST_RECORDS)?;
     }
     Ok(())
 }
 
 /// The claim of a Begin.
-fn own_claim(rec: &Record) -> Option<Claim>
+fn own_claim(rec: &RecordView<'_>) -> Option<Claim>
     ensures { result ≡ own_claim rec.now }
 {
-    if rec.tag != Tag::BEGIN {
+    if rec.tag() != Tag::BEGIN {
         return None;
     }
-    read_claim(rec.payload.as_slice())
+    read_claim(rec.payload())
 }
 
 /// Adds a record to a row; a Begin may tell the row's kind.
-pub(crate) fn add_record(row: &mut Row, rec: Record) -> Result<(), NoMemory>
-    ensures { OnOk result (row.new ≡ row_told (with_one rec) row.old) }
+pub(crate) fn add_record(row: &mut Row, rec: &RecordView<'_>) -> Result<(), NoMemory>
+    ensures { OnOk result (row.new ≡ row_told (with_one rec.now) row.old) }
 {
-    let claim = own_claim(&rec);
+    let claim = own_claim(rec);
     make_room(&mut row.records)?;
     row.records.push(rec)?;
     take_claim(row, claim);
     Ok(())
+}
+
+/// Adds records that tell nothing but themselves to a row.
+pub(crate) fn add_records(row: &mut Row, run: &RecordsView<'_>) -> Result<(), NoMemory>
+    ensures { OnOk result (row.new ≡ row_told (longer_by run.now) row.old) }
+{
+    make_room(&mut row.records)?;
+    row.records.append(run)
 }
 
 /// Gives a row of unknown kind what a claim says.

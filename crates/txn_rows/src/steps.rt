@@ -1,55 +1,36 @@
 //! The steps of a table: records one after another, a force-completion, and a flush.
 
-ghost use Rattle.std.specs.Prelude.{◌≡◌, IfOk, IfSome, OnOk, OnErr};
-ghost use Rattle.txn_rows.specs.Grouping.{step, steps, force, flush};
-ghost use Rattle.txn_rows.specs.inside.Rows.{AreTrees, IsNewestRow};
+ghost use Rattle.std.specs.Prelude.{◌≡◌, OnOk, OnErr};
+ghost use Rattle.txn_rows.specs.Grouping.{steps, force, flush};
+ghost use Rattle.txn_rows.specs.inside.Rows.{AreTrees};
 ghost use Rattle.txn_rows.specs.inside.Steps.{AddsPart};
 ghost use Rattle.txn_rows.specs.inside.States.{state_of, AreOrdered, WentBy};
 
 use crate::force::{Which, force_all, force_at, oldest_unfinished};
 use crate::group::{Cause, Group, GroupOptions, Grouping};
 use crate::pending::Pending;
-use crate::raw::take_raw;
-use crate::take::take_record;
+use crate::take::take_some;
 use log_model::NoMemory;
-use vsl_record::{Record, Vxid};
-
-/// Takes one record, and adds the groups that it completes. It is told and tells the place of the newest row of the
-/// VXID, where that is known.
-fn take_one(
-    options: GroupOptions,
-    pending: &mut Pending,
-    vxid: Vxid,
-    known: Option<usize>,
-    rec: Record,
-    out: &mut Vec<Group>,
-) -> Result<Option<usize>, NoMemory>
-    requires { IfSome known (λ at. IsNewestRow vxid at pending.old.rows.items) }
-    ensures ok { AreOrdered pending.old → OnOk result (WentBy options.grouping (step options vxid rec (state_of pending.old)) pending.new out.old.items out.new.items) }
-    ensures known { IfOk result (λ known. IfSome known (λ at. IsNewestRow vxid at pending.new.rows.items)) }
-    ensures err { AreOrdered pending.old → OnErr result (AddsPart options.grouping (step options vxid rec (state_of pending.old)) out.old.items out.new.items) }
-{
-    if options.grouping == Grouping::Raw {
-        take_raw(pending.alloc, vxid, rec, out)?;
-        return Ok(None);
-    }
-    take_record(options, pending, vxid, known, rec, out)
-}
+use vsl_record::{RecordsView, Vxid};
 
 /// Takes records of one VXID in order, and adds the groups that they complete.
 pub(crate) fn take_records(
     options: GroupOptions,
     pending: &mut Pending,
     vxid: Vxid,
-    records: Vec<Record>,
+    records: &RecordsView<'_>,
     out: &mut Vec<Group>,
 ) -> Result<(), NoMemory>
-    ensures ok { AreOrdered pending.old → OnOk result (WentBy options.grouping (steps options vxid records.items (state_of pending.old)) pending.new out.old.items out.new.items) }
-    ensures err { AreOrdered pending.old → OnErr result (AddsPart options.grouping (steps options vxid records.items (state_of pending.old)) out.old.items out.new.items) }
+    ensures ok { AreOrdered pending.old → OnOk result (WentBy options.grouping (steps options vxid records.now (state_of pending.old)) pending.new out.old.items out.new.items) }
+    ensures err { AreOrdered pending.old → OnErr result (AddsPart options.grouping (steps options vxid records.now (state_of pending.old)) out.old.items out.new.items) }
 {
     let mut known = None;
-    for rec in records {
-        known = take_one(options, pending, vxid, known, rec, out)?;
+    let (_, mut rest) = records.split_at(0);
+    while !rest.is_empty() {
+        let (count, place) = take_some(options, pending, vxid, known, &rest, out)?;
+        let (_, behind) = rest.split_at(count);
+        rest = behind;
+        known = place;
     }
     Ok(())
 }

@@ -58,10 +58,10 @@ impl Table {
 
     /// Takes the records of a unit in order, and adds the groups that they complete. No more transactions
     /// than the limit stay pending.
-    pub fn step(&mut self, unit: Unit, out: &mut Vec<Group>) -> Result<(), NoMemory>
-        ensures ok { OnOk result (TableStepped (unit_step self.old.options unit self.old.state) self.old self.new out.old.items out.new.items) }
+    pub fn step(&mut self, unit: &Unit, out: &mut Vec<Group>) -> Result<(), NoMemory>
+        ensures ok { OnOk result (TableStepped (unit_step self.old.options unit.now self.old.state) self.old self.new out.old.items out.new.items) }
         ensures limit { OnOk result (length self.new.state.pending ≤ self.new.options.limit) }
-        ensures err { OnErr result (TableFailed (unit_step self.old.options unit self.old.state) self.old self.new out.old.items out.new.items) }
+        ensures err { OnErr result (TableFailed (unit_step self.old.options unit.now self.old.state) self.old self.new out.old.items out.new.items) }
         ensures failed { self.old.failed ≡ true → IsErr result × (out.new.items ≡ out.old.items) }
     {
         if self.failed {
@@ -74,7 +74,7 @@ impl Table {
             self.options,
             &mut self.pending,
             unit.vxid(),
-            unit.into_records(),
+            &unit.records(),
             out,
         );
         self.failed = taken.is_err();

@@ -1,21 +1,24 @@
 //! Taking one record of a transaction.
 
-ghost use Rattle.std.specs.Prelude.{◌≡◌, ◌≤◌, true, length, map, IfOk, IfSome, OnOk, OnErr};
+ghost use Rattle.std.specs.Prelude.{◌≡◌, ◌<◌, ◌≤◌, true, false, length, map, take, IfOk, IfSome, OnOk, OnErr};
+ghost use Rattle.std.specs.List.{list_all};
+ghost use Rattle.vsl_record.specs.declared.record_type.Record.{Record};
 ghost use Rattle.txn_rows.specs.Transaction.{is_open};
-ghost use Rattle.txn_rows.specs.Grouping.{with_log_time, with_claim, with_all_told, after_end, after_timeouts, has_risen, grouped};
+ghost use Rattle.txn_rows.specs.Grouping.{with_log_time, with_claim, with_all_told, after_end, after_timeouts, has_risen, grouped, is_raw, step, steps};
 ghost use Rattle.txn_rows.specs.inside.Rows.{transaction_of, AreTrees, IsNewestRow};
-ghost use Rattle.txn_rows.specs.inside.Told.{Tells, is_plain};
+ghost use Rattle.txn_rows.specs.inside.Told.{Tells, is_plain, is_plain_record};
 ghost use Rattle.txn_rows.specs.inside.Steps.{AddsPart};
 ghost use Rattle.txn_rows.specs.inside.States.{state_of, AreOrdered, Went, WentBy};
 
 use crate::claim::{Claim, read_claim};
 use crate::force::{Which, force_all, keep_within};
 use crate::group::{Cause, Group, GroupOptions, Grouping};
-use crate::pending::{Pending, add_to, end_row, open_row, raise, take_claim};
+use crate::pending::{Pending, add_run, add_to, end_row, open_row, raise, take_claim};
+use crate::raw::take_raw;
 use crate::rows::{Row, newest_row};
 use crate::time::time_told;
 use log_model::NoMemory;
-use vsl_record::{Record, Vxid};
+use vsl_record::{RecordView, RecordsView, Vxid};
 use vsl_tags::Tag;
 
 /// What a record tells of its transaction's links, or of the time.
@@ -32,15 +35,15 @@ pub(crate) enum Told {
 }
 
 /// What a record tells.
-fn read_told(rec: &Record) -> Told
+fn read_told(rec: &RecordView<'_>) -> Told
     ensures { Tells rec.now result }
 {
-    let payload = rec.payload.as_slice();
-    if rec.tag == Tag::BEGIN {
+    let payload = rec.payload();
+    if rec.tag() == Tag::BEGIN {
         Told::Begin(read_claim(payload))
-    } else if rec.tag == Tag::LINK {
+    } else if rec.tag() == Tag::LINK {
         Told::Link(read_claim(payload))
-    } else if rec.tag == Tag::TIMESTAMP {
+    } else if rec.tag() == Tag::TIMESTAMP {
         Told::Time(time_told(payload))
     } else {
         Told::Nothing
@@ -71,10 +74,15 @@ fn follow(
 }
 
 /// A record goes to its row, and may tell the kind, a link and the time.
-fn tell(grouping: Grouping, pending: &mut Pending, vxid: Vxid, rec: Record) -> Result<(), NoMemory>
-    ensures { AreOrdered pending.old → OnOk result (Went (with_all_told grouping vxid rec (state_of pending.old)) pending.new) }
+fn tell(
+    grouping: Grouping,
+    pending: &mut Pending,
+    vxid: Vxid,
+    rec: &RecordView<'_>,
+) -> Result<(), NoMemory>
+    ensures { AreOrdered pending.old → OnOk result (Went (with_all_told grouping vxid rec.now (state_of pending.old)) pending.new) }
 {
-    let told = read_told(&rec);
+    let told = read_told(rec);
     let at = open_row(pending, vxid)?;
     add_to(pending, at, vxid, rec)?;
     follow(grouping, pending, at, vxid, told)
@@ -143,14 +151,14 @@ fn take_telling(
     options: GroupOptions,
     pending: &mut Pending,
     vxid: Vxid,
-    rec: Record,
+    rec: &RecordView<'_>,
     out: &mut Vec<Group>,
 ) -> Result<(), NoMemory>
-    ensures ok { AreOrdered pending.old → OnOk result (WentBy options.grouping (grouped options vxid rec (state_of pending.old)) pending.new out.old.items out.new.items) }
-    ensures err { AreOrdered pending.old → OnErr result (AddsPart options.grouping (grouped options vxid rec (state_of pending.old)) out.old.items out.new.items) }
+    ensures ok { AreOrdered pending.old → OnOk result (WentBy options.grouping (grouped options vxid rec.now (state_of pending.old)) pending.new out.old.items out.new.items) }
+    ensures err { AreOrdered pending.old → OnErr result (AddsPart options.grouping (grouped options vxid rec.now (state_of pending.old)) out.old.items out.new.items) }
 {
     let before = pending.time;
-    let tag = rec.tag;
+    let tag = rec.tag();
     tell(options.grouping, pending, vxid, rec)?;
     take_end(options.grouping, pending, vxid, tag, out)?;
     take_timeouts(options, pending, before, out)?;
@@ -168,6 +176,23 @@ fn is_plain(tag: Tag) -> bool
     ensures { result ≡ is_plain tag }
 {
     tag != Tag::BEGIN && tag != Tag::LINK && tag != Tag::TIMESTAMP && tag != Tag::END
+}
+
+/// How many records, from the first on, tell nothing but themselves. In raw grouping none does: each is a group.
+fn plain_run(grouping: Grouping, records: &RecordsView<'_>) -> usize
+    ensures inside { result ≤ length records.now }
+    ensures plain { list_all is_plain_record (take result records.now) ≡ true }
+    ensures grouped { 0 < result → is_raw grouping ≡ false }
+{
+    if grouping == Grouping::Raw {
+        return 0;
+    }
+    for i in 0..records.len() {
+        if !is_plain(records.get(i).tag()) {
+            return i;
+        }
+    }
+    records.len()
 }
 
 /// The place of the newest row of a VXID. It is searched where it isn't known.
@@ -198,27 +223,49 @@ fn open_place(rows: &[Row], limit: u32, vxid: Vxid, known: Option<usize>) -> Opt
     Some(at)
 }
 
-/// Takes one record of a transaction, and adds the groups that it completes. It is told and tells the place of the
-/// newest row of the VXID, where that is known: most records go to the row of the one before.
-pub(crate) fn take_record(
+/// Takes one record, and adds the groups that it completes.
+fn take_one(
+    options: GroupOptions,
+    pending: &mut Pending,
+    vxid: Vxid,
+    rec: &RecordView<'_>,
+    out: &mut Vec<Group>,
+) -> Result<(), NoMemory>
+    ensures ok { AreOrdered pending.old → OnOk result (WentBy options.grouping (step options vxid rec.now (state_of pending.old)) pending.new out.old.items out.new.items) }
+    ensures err { AreOrdered pending.old → OnErr result (AddsPart options.grouping (step options vxid rec.now (state_of pending.old)) out.old.items out.new.items) }
+{
+    if options.grouping == Grouping::Raw {
+        return take_raw(pending.alloc, vxid, rec, out);
+    }
+    take_telling(options, pending, vxid, rec, out)
+}
+
+/// Takes some records of one VXID, from the first on, and adds the groups that they complete: where their row is open,
+/// all that tell nothing but themselves at once, and else one. It answers how many. It is told and tells the place of
+/// the newest row of the VXID, where that is known: most records go to the row of the one before.
+pub(crate) fn take_some(
     options: GroupOptions,
     pending: &mut Pending,
     vxid: Vxid,
     known: Option<usize>,
-    rec: Record,
+    records: &RecordsView<'_>,
     out: &mut Vec<Group>,
-) -> Result<Option<usize>, NoMemory>
-    requires { IfSome known (λ at. IsNewestRow vxid at pending.old.rows.items) }
-    ensures ok { AreOrdered pending.old → OnOk result (WentBy options.grouping (grouped options vxid rec (state_of pending.old)) pending.new out.old.items out.new.items) }
-    ensures known { IfOk result (λ known. IfSome known (λ at. IsNewestRow vxid at pending.new.rows.items)) }
-    ensures err { AreOrdered pending.old → OnErr result (AddsPart options.grouping (grouped options vxid rec (state_of pending.old)) out.old.items out.new.items) }
+) -> Result<(usize, Option<usize>), NoMemory>
+    requires known { IfSome known (λ at. IsNewestRow vxid at pending.old.rows.items) }
+    requires some { 0 < length records.now }
+    ensures ok { AreOrdered pending.old → IfOk result (λ x. WentBy options.grouping (steps options vxid (take x.0 records.now) (state_of pending.old)) pending.new out.old.items out.new.items) }
+    ensures count { IfOk result (λ x. (0 < x.0) × (x.0 ≤ length records.now)) }
+    ensures known { IfOk result (λ x. IfSome x.1 (λ at. IsNewestRow vxid at pending.new.rows.items)) }
+    ensures err { AreOrdered pending.old → OnErr result (AddsPart options.grouping (steps options vxid records.now (state_of pending.old)) out.old.items out.new.items) }
 {
-    if is_plain(rec.tag) {
+    let count = plain_run(options.grouping, records);
+    if count > 0 {
         if let Some(at) = open_place(&pending.rows, options.limit, vxid, known) {
-            add_to(pending, at, vxid, rec)?;
-            return Ok(Some(at));
+            let (run, _) = records.split_at(count);
+            add_run(pending, at, vxid, &run)?;
+            return Ok((count, Some(at)));
         }
     }
-    take_telling(options, pending, vxid, rec, out)?;
-    Ok(None)
+    take_one(options, pending, vxid, &records.get(0), out)?;
+    Ok((1, None))
 }

@@ -8,7 +8,7 @@ ghost use Rattle.vsl_file.specs.inside.ReaderSteps.{Filled, Holds, GoesOn, HasEn
 
 use crate::fault::StepFault;
 use crate::filling::fill_to;
-use bytes::{Bytes, BytesMut};
+use bytes::BytesMut;
 use std::alloc::Global;
 use vio::{Failed, NoMemory, World};
 use vsl_record::{MAX_UNIT_WORDS, TOP_BYTE, UNIT_MARK, Unit, WordFault, read_unit_bytes};
@@ -74,8 +74,7 @@ fn read_sized(alloc: Global, bytes: &[u8], size: usize) -> Result<Option<Unit>, 
     ensures none { IfOk result (λ o. IfNone o (IsBroken bytes.now)) }
 {
     let (part, _) = bytes.split_at(size);
-    let content = Bytes::copy_from_slice(alloc, part)?;
-    match read_unit_bytes(alloc, content) {
+    match read_unit_bytes(alloc, part) {
         Ok((unit, _)) => Ok(Some(unit)),
         Err(fault) if fault == WordFault::NoMemory => Err(NoMemory),
         Err(_) => Ok(None),

@@ -15,7 +15,7 @@ use crate::header::HEADER;
 use crate::steps::WORD;
 use log_model::or_cut_back;
 use vio::NoMemory;
-use vsl_record::{HEADER_MARK, Mark, Record, TOP_BYTE, Unit, Vxid, count_words};
+use vsl_record::{HEADER_MARK, Mark, RecordsView, TOP_BYTE, Unit, Vxid, count_words};
 use vsl_tags::Tag;
 
 /// One more than the highest word.
@@ -72,11 +72,12 @@ pub fn put_record(
 
 /// Adds the bytes of records.
 #[tactic(auto, using(log_model::proofs::PrefixLemmas::adding))]
-fn put_body(vxid: Vxid, records: &[Record], out: &mut Vec<u8>) -> Result<(), NoMemory>
+fn put_body(vxid: Vxid, records: &RecordsView<'_>, out: &mut Vec<u8>) -> Result<(), NoMemory>
     ensures { Puts result out.old.items out.new.items (flat_map (record_bytes vxid) records.now) }
 {
-    for rec in records {
-        put_record(vxid, rec.mark, rec.tag, rec.payload.as_slice(), out)?;
+    for i in 0..records.len() {
+        let rec = records.get(i);
+        put_record(vxid, rec.mark(), rec.tag(), rec.payload(), out)?;
     }
     Ok(())
 }
@@ -104,7 +105,7 @@ pub fn put_unit_of(words: usize, body: &[u8], out: &mut Vec<u8>) -> Result<(), N
 
 /// Adds the header and the records of a unit, or a part of them.
 #[tactic(auto, using(log_model::proofs::PrefixLemmas::adding))]
-fn put_words(vxid: Vxid, records: &[Record], out: &mut Vec<u8>) -> Result<(), NoMemory>
+fn put_words(vxid: Vxid, records: &RecordsView<'_>, out: &mut Vec<u8>) -> Result<(), NoMemory>
     requires { (mark : LogMark) → length (unit_words (record { vxid = vxid; mark = mark; records = records.now })) ≤ most_words }
     ensures { (mark : LogMark) → Puts result out.old.items out.new.items (unit_bytes (record { vxid = vxid; mark = mark; records = records.now })) }
 {
@@ -116,7 +117,7 @@ fn put_words(vxid: Vxid, records: &[Record], out: &mut Vec<u8>) -> Result<(), No
 
 /// Adds the bytes of the unit of these records, whose marks they tell. After want of memory the list is as
 /// it was. Any VXID is taken, and whether the records are a unit's is for the caller.
-pub fn put_records(vxid: Vxid, records: &[Record], out: &mut Vec<u8>) -> Result<(), NoMemory>
+pub fn put_records(vxid: Vxid, records: &RecordsView<'_>, out: &mut Vec<u8>) -> Result<(), NoMemory>
     requires { (mark : LogMark) → length (unit_words (record { vxid = vxid; mark = mark; records = records.now })) ≤ most_words }
     ensures ok { OnOk result ((mark : LogMark) → out.new.items ≡ out.old.items ++ unit_bytes (record { vxid = vxid; mark = mark; records = records.now })) }
     ensures err { OnErr result (out.new.items ≡ out.old.items) }
@@ -131,5 +132,5 @@ pub fn put_unit(unit: &Unit, out: &mut Vec<u8>) -> Result<(), NoMemory>
     ensures ok { OnOk result (out.new.items ≡ out.old.items ++ unit_bytes unit.now) }
     ensures err { OnErr result (out.new.items ≡ out.old.items) }
 {
-    put_records(unit.vxid(), unit.records(), out)
+    put_records(unit.vxid(), &unit.records(), out)
 }

@@ -2,6 +2,7 @@ pub mod Examples
 pub mod Steps
 pub mod WordLemmas
 pub mod PayloadLemmas
+pub mod BlockLemmas
 mod MarkLemmas
 mod RecordLemmas
 pub mod UnitReadingLemmas
@@ -9,3 +10,4 @@ mod AnswerLemmas
 mod WritingLemmas
 mod WroteLemmas
 mod ViewLemmas
+mod LookLemmas

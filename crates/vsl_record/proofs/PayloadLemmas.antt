@@ -1,5 +1,5 @@
 -- A payload that is read is the payload whose words they are, and a payload's words are read again.
-use Rattle.std.proofs.Common.{◌≡◌, ℕ, zero, suc, ◌+◌, ◌-◌, ◌*◌, ◌^◌, ◌≤◌, true, eqb, List, [], ◌∷◌, ◌++◌, length, take, drop, refl, sym, ap, subst, ◌∙◌, arith}
+use Rattle.std.proofs.Common.{◌≡◌, ℕ, zero, suc, ◌+◌, ◌-◌, ◌*◌, ◌^◌, ◌≤◌, true, false, eqb, List, [], ◌∷◌, ◌++◌, length, take, drop, refl, sym, ap, subst, ◌∙◌, arith}
 use Rattle.std.specs.Prelude.{replicate}
 use Rattle.std.specs.List.{list_all}
 use Rattle.std.specs.Int.{w32, from_le_bytes}
@@ -93,6 +93,11 @@ pub payload_taken : (n : ℕ) (words bytes : List ℕ) → IsWords words → n �
 unfolding is_filled
 payload_taken n words bytes all short enough is zero_filled =
     rw is (payload_read n (drop 2 words) (below_drop (2 ^ 32) 2 words all) short (omega (arith, length-drop 2 words, enough)) (rw is at zero_filled))
+
+-- and where those behind it aren't zero, its last word isn't filled
+pub not_filled : (n : ℕ) (words bytes : List ℕ) → bytes ≡ held n words → list_all (λ b. eqb b 0) (drop n bytes) ≡ false → is_filled n words ≡ false
+unfolding is_filled
+not_filled n words bytes is some = rw is at some
 
 -- what the words of a payload give
 pub record PayloadAgain (p words rest : List ℕ) : Type 0 where

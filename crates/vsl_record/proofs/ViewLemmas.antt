@@ -1,5 +1,5 @@
 -- What the words of a unit and of a record tell a view.
-use Rattle.std.proofs.Common.{◌≡◌, ℕ, zero, suc, ◌+◌, ◌*◌, ◌%◌, ◌<◌, ◌≤◌, List, [], ◌∷◌, ◌++◌, length, take, drop, get_or, Some, Result, Ok, Err, refl, sym, ap, subst, ◌∙◌, arith}
+use Rattle.std.proofs.Common.{◌≡◌, ℕ, zero, suc, ◌+◌, ◌*◌, ◌/◌, ◌%◌, ◌<◌, ◌≤◌, List, [], ◌∷◌, ◌++◌, length, take, drop, get_or, Some, Result, Ok, Err, refl, sym, ap, subst, ◌∙◌, arith}
 use Rattle.std.specs.Prelude.{slice_get}
 use Rattle.std.specs.List.{flat_map, AllByRecursion}
 use Rattle.std.proofs.Math.Seq.{drop-nil}
@@ -123,3 +123,16 @@ one_there (suc i) (r ∷ records) inside = one_there i records (omega (arith, in
 pub no_words : (bytes : List ℕ) → length bytes < 4 → words_in bytes ≡ []
 no_words (a ∷ b ∷ c ∷ d ∷ bytes) few = absurd (omega (arith, few))
 no_words short few = refl
+
+-- the tag and the mark of the record that begins words
+pub starts_tag : (words rest : List ℕ) (rec : Record) → StartsWith words rec rest → get_or words 0 0 / 16777216 ≡ rec.tag
+starts_tag words rest rec s =
+    let short : length rec.payload ≤ 4000 = s.is_record.payload.short in
+    rw s.parts (omega (arith, short))
+
+pub starts_mark : (words rest : List ℕ) (rec : Record) → StartsWith words rec rest → mark_of (get_or words 1 0) ≡ rec.mark
+starts_mark words rest rec s = rw s.parts (id_tells s.vxid rec.mark s.in_range).mark
+
+pub made_of : (tag tag' : ℕ) (mark mark' : Mark) (payload payload' : List ℕ) → tag ≡ tag' → mark ≡ mark' → payload ≡ payload'
+    → Path Record (record { tag = tag; mark = mark; payload = payload }) (record { tag = tag'; mark = mark'; payload = payload' })
+made_of tag tag' mark mark' payload payload' t m p = rw (t, m, p) refl

@@ -1,3 +1,5 @@
+pub mod Blocks
+pub mod Bodies
 pub mod Payload
 pub mod Unit
 pub mod Views

@@ -3,7 +3,7 @@
 ghost use Rattle.std.specs.Prelude.{◌≡◌, ◌∷◌, [], drop, IfSome, IfNone};
 ghost use Rattle.vsl_record.specs.Words.{packed, unit_words};
 
-use crate::record_type::Record;
+use crate::lent::RecordsView;
 use crate::unit::{Unit, Vxid};
 use crate::writing::first_packed;
 use std::marker::Model;
@@ -17,7 +17,7 @@ pub struct UnitWords<'a> {
     /// What is left of a record's payload.
     payload: &'a [u8],
     /// The records behind it.
-    records: &'a [Record],
+    records: RecordsView<'a>,
 }
 
 impl<'a> Model for UnitWords<'a> {
@@ -28,7 +28,7 @@ impl<'a> Model for UnitWords<'a> {
 
     ghost Value = { List ℕ };
 
-    ghost view = { λ w. option_to_list w.pending ++ packed w.payload.now ++ flat_map (record_words w.vxid) w.records.now };
+    ghost view = { λ w. option_to_list w.pending ++ packed w.payload.now ++ flat_map (record_words w.vxid) w.records };
 
     ghost invariant = { λ w. w.vxid < vxid_end };
 }
@@ -61,10 +61,14 @@ impl UnitWords<'_> {
             self.payload = behind_first(self.payload);
             return Some(word);
         }
-        let (first, others) = self.records.split_first()?;
+        if self.records.is_empty() {
+            return None;
+        }
+        let first = self.records.get(0);
+        let (_, others) = self.records.split_at(1);
         self.records = others;
         self.pending = Some(first.id_word(self.vxid));
-        self.payload = first.payload.as_slice();
+        self.payload = first.payload();
         Some(first.head_word())
     }
 }

@@ -4,7 +4,6 @@ ghost use Rattle.std.specs.Prelude.{◌≡◌, ◌≤◌, length, IfOk};
 ghost use Rattle.vsl_record.specs.Payload.{most_payload, IsPayload};
 
 use crate::laws::are_bytes;
-use bytes::Bytes;
 use std::alloc::{AllocError, Global};
 use std::marker::Model;
 
@@ -12,9 +11,9 @@ use std::marker::Model;
 pub const MAX_PAYLOAD: usize = 4000;
 
 /// What a record says: 0 to 4,000 bytes of any value. Contracts see it as the list of its bytes.
-#[derive(Debug, Drop)]
+#[derive(Drop)]
 pub struct Payload {
-    bytes: Bytes,
+    bytes: Vec<u8>,
 }
 
 impl Model for Payload {
@@ -23,9 +22,9 @@ impl Model for Payload {
 
     ghost Value = { List ℕ };
 
-    ghost view = { λ p. p.bytes };
+    ghost view = { λ p. p.bytes.items };
 
-    ghost invariant = { λ p. IsPayload p.bytes };
+    ghost invariant = { λ p. IsPayload p.bytes.items };
 }
 
 impl Payload {
@@ -35,24 +34,9 @@ impl Payload {
         ensures { IfOk result (λ payload. payload ≡ bytes.now) }
     {
         are_bytes(bytes);
-        Ok(Payload::from_bytes(Bytes::copy_from_slice(alloc, bytes)?))
-    }
-
-    /// The payload of these bytes, with no copy.
-    pub(crate) fn from_bytes(bytes: Bytes) -> Payload
-        requires { IsPayload bytes }
-        ensures { result ≡ bytes }
-    {
-        Payload { bytes }
-    }
-
-    /// The same payload, with no copy of its bytes.
-    pub fn share(&self) -> Result<Payload, AllocError>
-        ensures { IfOk result (λ payload. payload ≡ self.now) }
-    {
-        Ok(Payload {
-            bytes: self.bytes.clone()?,
-        })
+        let mut copy = Vec::with_capacity(alloc, bytes.len())?;
+        copy.extend_from_slice(bytes)?;
+        Ok(Payload { bytes: copy })
     }
 
     /// The bytes, of which there are at most 4,000.
@@ -60,6 +44,6 @@ impl Payload {
         ensures bytes { result.now ≡ self.now }
         ensures payload { IsPayload self.now }
     {
-        self.bytes.as_slice()
+        &self.bytes
     }
 }

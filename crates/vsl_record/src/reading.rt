@@ -1,21 +1,25 @@
 //! Reading a unit from bytes.
 
-ghost use Rattle.std.specs.Prelude.{◌≡◌, ◌≢◌, ◌==◌, ◌⊎◌, ◌+◌, ◌-◌, ◌/◌, ◌%◌, ◌^◌, ◌<◌, ◌≤◌, [], ◌∷◌, ◌++◌, ℕ, List, true, false, length, slice_index, take, drop, IfOk, IfErr, IfSome, IfNone, OnOk};
+ghost use Rattle.std.specs.Prelude.{◌≡◌, ◌≢◌, ◌==◌, ◌⊎◌, ◌+◌, ◌-◌, ◌*◌, ◌/◌, ◌%◌, ◌^◌, ◌<◌, ◌≤◌, [], ◌∷◌, ◌++◌, ℕ, List, true, false, length, slice_index, take, drop, IfOk, IfErr, IfSome, IfNone, OnOk};
 ghost use Rattle.std.specs.List.{list_all};
 ghost use Rattle.vsl_record.specs.Payload.{most_payload};
 ghost use Rattle.vsl_record.specs.Unit.{LogUnit};
 ghost use Rattle.vsl_record.specs.WordFaults.{header_fault, payload_words, is_filled, record_fault, HasBadRecord, FirstFault};
-ghost use Rattle.vsl_record.specs.Words.{IsUnit, most_words, unit_words, word_bytes, words_in};
+ghost use Rattle.vsl_record.specs.Words.{IsUnit, most_words, unit_words, words_in};
+ghost use Rattle.vsl_record.specs.Blocks.{block_records, entry_record, IsBlock, IsEntryOf};
+ghost use Rattle.vsl_record.specs.inside.Blocks.{IsPlaced};
 ghost use Rattle.vsl_record.specs.inside.UnitReading.{IsHeaded, IsPayloadRead, IsRecordRead, AreRecordsRead, StopsAt};
 
+use crate::body::Body;
+use crate::entry::Entry;
 use crate::fault::WordFault;
 use crate::laws::are_bytes;
+use crate::lent::RecordView;
 use crate::mark::Mark;
-use crate::payload::{MAX_PAYLOAD, Payload};
-use crate::record_type::Record;
+use crate::payload::MAX_PAYLOAD;
+use crate::records::Records;
 use crate::unit::{MAX_UNIT_WORDS, TOP_BYTE, UNIT_MARK, Unit, VXID_END};
-use bytes::Bytes;
-use std::alloc::{AllocError, Global};
+use std::alloc::Global;
 use vsl_tags::Tag;
 
 /// An id word from here on has both marks.
@@ -52,25 +56,32 @@ pub(crate) fn second_word(bytes: &[u8]) -> u32
 }
 
 /// How many whole words the bytes are.
-fn word_count(bytes: &Bytes) -> usize
+fn word_count(bytes: &[u8]) -> usize
     ensures { result ≡ length (words_in bytes.now) }
 {
     bytes.len() / 4
 }
 
-/// Keeps the bytes of so many words.
-fn keep_words(bytes: &mut Bytes, count: usize)
-    requires { count ≤ most_words }
-    ensures { words_in bytes.new ≡ take count (words_in bytes.old) }
+/// The bytes of so many words.
+fn keep_words(bytes: &[u8], count: usize) -> &[u8]
+    requires few { count ≤ most_words }
+    requires enough { count ≤ length (words_in bytes.now) }
+    ensures { words_in result.now ≡ take count (words_in bytes.now) }
 {
-    bytes.truncate(4 * count);
+    let (kept, _) = bytes.split_at(4 * count);
+    kept
 }
 
 /// Whether all bytes are zero.
 fn are_zero(bytes: &[u8]) -> bool
     ensures { result ≡ list_all (λ b. b == 0) bytes.now }
 {
-    bytes.iter().all(|b| *b == 0)
+    for b in bytes {
+        if *b != 0 {
+            return false;
+        }
+    }
+    true
 }
 
 /// Whether the bytes from the place on are zero.
@@ -82,53 +93,49 @@ fn is_padded(bytes: &[u8], from: usize) -> bool
     are_zero(padding)
 }
 
-/// Takes the words of a record from the bytes, and gives the bytes of those that hold a payload of so many.
-fn take_record(count: usize, bytes: &mut Bytes) -> Result<Bytes, AllocError>
-    requires short { count ≤ most_payload }
-    requires enough { 2 + payload_words count ≤ length (words_in bytes.old) }
-    ensures held { IfOk result (λ held. held ≡ word_bytes (take (payload_words count) (drop 2 (words_in bytes.old)))) }
-    ensures long { IfOk result (λ held. count ≤ length held) }
-    ensures rest { OnOk result (words_in bytes.new ≡ drop (payload_words count) (drop 2 (words_in bytes.old))) }
-    ensures words { IfOk result (λ _. (i : ℕ) → slice_index (words_in bytes.old) i < 2 ^ 32) }
-{
-    are_bytes(bytes.as_slice());
-    bytes.advance(8);
-    let held = bytes.split_to(4 * ((count + 3) / 4))?;
-    Ok(held)
-}
-
-/// Takes the words of a record from the bytes, and gives its payload of so many bytes. The record begins
-/// at this place of the unit.
+/// The payload of so many bytes of the record that begins the bytes, and the bytes behind the record, which begins at
+/// this place of the unit.
 #[tactic(auto, unfolding(crate::specs::WordFaults::is_filled))]
-fn read_payload(at: u64, count: usize, bytes: &mut Bytes) -> Result<Payload, WordFault>
+fn look_at_payload(at: u64, count: usize, bytes: &[u8]) -> Result<(&[u8], &[u8]), WordFault>
     requires place { at ≤ most_words }
     requires short { count ≤ most_payload }
-    requires enough { 2 + payload_words count ≤ length (words_in bytes.old) }
-    ensures read { IfOk result (λ payload. IsPayloadRead count (drop 2 (words_in bytes.old)) payload (words_in bytes.new)) }
+    requires enough { 2 + payload_words count ≤ length (words_in bytes.now) }
+    ensures read { IfOk result (λ x. IsPayloadRead count (drop 2 (words_in bytes.now)) x.0.now (words_in x.1.now)) }
+    ensures placed { IfOk result (λ x. x.0.now ≡ take count (drop 8 bytes.now)) }
+    ensures behind { IfOk result (λ x. x.1.now ≡ drop (8 + 4 * payload_words count) bytes.now) }
+    ensures inside { OnOk result (8 + count ≤ length bytes.now) }
     ensures refused { IfErr result (λ fault. fault ≢ WordFault.NoMemory →
-        (is_filled count (drop 2 (words_in bytes.old)) ≡ false) × (fault ≡ WordFault.BadPadding (at + 2 + count / 4))) }
+        (is_filled count (drop 2 (words_in bytes.now)) ≡ false) × (fault ≡ WordFault.BadPadding (at + 2 + count / 4))) }
 {
-    let mut held = take_record(count, bytes)?;
-    if !is_padded(held.as_slice(), count) {
+    are_bytes(bytes);
+    let (_, behind) = bytes.split_at(8);
+    let (held, rest) = behind.split_at(4 * ((count + 3) / 4));
+    if !is_padded(held, count) {
         return Err(WordFault::BadPadding {
             at: at + 2 + (count / 4) as u64,
         });
     }
-    held.truncate(count);
-    Ok(Payload::from_bytes(held))
+    let (payload, _) = held.split_at(count);
+    Ok((payload, rest))
 }
 
-/// Takes the record that begins the bytes with this first word, where they reach to the end of a unit of
-/// so many words, the first record of which has this id word.
+/// The record that begins the bytes with this first word, and the bytes behind it. The bytes reach to the end of a
+/// unit of so many words, the first record of which has this id word.
 #[tactic(auto, unfolding(crate::specs::WordFaults::record_fault))]
-fn read_record(head: u32, id: u32, size: usize, bytes: &mut Bytes) -> Result<Record, WordFault>
-    requires head { slice_index (words_in bytes.old) 0 ≡ head }
-    requires some { 0 < length (words_in bytes.old) }
-    requires inside { length (words_in bytes.old) ≤ size }
+fn look_at_record(
+    head: u32,
+    id: u32,
+    size: usize,
+    bytes: &[u8],
+) -> Result<(RecordView<'_>, &[u8]), WordFault>
+    requires head { slice_index (words_in bytes.now) 0 ≡ head }
+    requires some { 0 < length (words_in bytes.now) }
+    requires inside { length (words_in bytes.now) ≤ size }
     requires few { size ≤ most_words }
-    ensures read { IfOk result (λ rec. IsRecordRead id (words_in bytes.old) rec (words_in bytes.new)) }
+    ensures read { IfOk result (λ x. IsRecordRead id (words_in bytes.now) x.0 (words_in x.1.now)) }
+    ensures placed { IfOk result (λ x. IsPlaced bytes.now x.0.payload x.1.now) }
     ensures refused { IfErr result (λ fault. fault ≢ WordFault.NoMemory →
-        record_fault id (size - length (words_in bytes.old)) (words_in bytes.old) ≡ Some fault) }
+        record_fault id (size - length (words_in bytes.now)) (words_in bytes.now) ≡ Some fault) }
 {
     let count = word_count(bytes);
     let at = (size - count) as u64;
@@ -142,35 +149,57 @@ fn read_record(head: u32, id: u32, size: usize, bytes: &mut Bytes) -> Result<Rec
     if count < 2 + (length + 3) / 4 {
         return Err(WordFault::BadLength { at });
     }
-    if second_word(bytes.as_slice()) != id {
+    if second_word(bytes) != id {
         return Err(WordFault::Mixed { at: at + 1 });
     }
     if id >= BOTH_MARKS {
         return Err(WordFault::BadMark { at: at + 1 });
     }
-    let payload = read_payload(at, length, bytes)?;
-    let mark = Mark::of_id(id);
-    Ok(Record { tag, mark, payload })
+    let (payload, rest) = look_at_payload(at, length, bytes)?;
+    Ok((RecordView::new(tag, Mark::of_id(id), payload), rest))
 }
 
-/// Takes records until the bytes end, which are those of a unit of so many words, without its header.
-fn read_records(
+/// The entry of a record of a block, the payload of which stands 8 bytes behind the first of those that are left.
+fn entry_of(block: &[u8], left: &[u8], rec: &RecordView<'_>) -> Entry
+    requires few { length block.now ≤ 4 * most_words + 3 }
+    requires left { left.now ≡ drop (length block.now - length left.now) block.now }
+    requires fewer { length left.now ≤ length block.now }
+    requires long { 8 + length rec.now.payload ≤ length left.now }
+    requires there { rec.now.payload ≡ take (length rec.now.payload) (drop 8 left.now) }
+    ensures record { entry_record block.now result ≡ rec.now }
+    ensures entry { IsEntryOf block.now result }
+{
+    Entry {
+        tag: rec.tag(),
+        mark: rec.mark(),
+        size: rec.payload().len() as u16,
+        at: (block.len() - left.len() + 8) as u32,
+    }
+}
+
+/// The entries of the records of a unit of so many words: its bytes are a block, and those from its first record on are
+/// given beside it.
+fn look_at_records(
     alloc: Global,
     id: u32,
     size: usize,
-    bytes: &mut Bytes,
-) -> Result<Vec<Record>, WordFault>
-    requires size { size ≡ 1 + length (words_in bytes.old) }
+    block: &[u8],
+) -> Result<Vec<Entry>, WordFault>
+    requires size { size ≡ length (words_in block.now) }
     requires few { size ≤ most_words }
-    ensures read { IfOk result (λ v. AreRecordsRead id (words_in bytes.old) v.items []) }
-    ensures refused { IfErr result (λ fault. fault ≢ WordFault.NoMemory → StopsAt id (words_in bytes.old) fault) }
+    requires some { 1 ≤ size }
+    ensures read { IfOk result (λ v. AreRecordsRead id (drop 1 (words_in block.now)) (block_records block.now v.items) []) }
+    ensures entries { IfOk result (λ v. IsBlock block.now v.items) }
+    ensures refused { IfErr result (λ fault. fault ≢ WordFault.NoMemory → StopsAt id (drop 1 (words_in block.now)) fault) }
 {
-    let mut records = Vec::with_capacity(alloc, size / USUAL_WORDS)?;
-    while let Some(head) = first_word(bytes.as_slice()) {
-        let rec = read_record(head, id, size, bytes)?;
-        records.push(rec)?;
+    let mut entries = Vec::with_capacity(alloc, size / USUAL_WORDS)?;
+    let (_, mut left) = block.split_at(4);
+    while let Some(head) = first_word(left) {
+        let (rec, rest) = look_at_record(head, id, size, left)?;
+        entries.push(entry_of(block, left, &rec))?;
+        left = rest;
     }
-    Ok(records)
+    Ok(entries)
 }
 
 /// How many words the unit has whose header word this is, where there are so many words; where there is
@@ -201,39 +230,41 @@ pub(crate) fn unit_size(head: u32, count: usize) -> Result<usize, WordFault>
     Ok(size)
 }
 
-/// Reads the unit of these bytes, which are as many words as its header counts.
-pub(crate) fn read_checked(alloc: Global, mut bytes: Bytes) -> Result<Unit, WordFault>
-    requires { IsHeaded (words_in bytes) }
-    ensures read { IfOk result (λ u. IsUnit u × (words_in bytes ≡ unit_words u)) }
-    ensures refused { IfErr result (λ fault. fault ≢ WordFault.NoMemory → HasBadRecord (words_in bytes) fault) }
+/// Reads the unit of these bytes, which are as many words as its header counts. It keeps a copy of them.
+pub(crate) fn read_checked(alloc: Global, bytes: &[u8]) -> Result<Unit, WordFault>
+    requires { IsHeaded (words_in bytes.now) }
+    ensures read { IfOk result (λ u. IsUnit u × (words_in bytes.now ≡ unit_words u)) }
+    ensures refused { IfErr result (λ fault. fault ≢ WordFault.NoMemory → HasBadRecord (words_in bytes.now) fault) }
 {
-    let size = word_count(&bytes);
-    bytes.advance(4);
-    let id = second_word(bytes.as_slice());
-    let records = read_records(alloc, id, size, &mut bytes)?;
-    Ok(Unit::from_parts(id % VXID_END, Mark::of_id(id), records))
+    let size = word_count(bytes);
+    let (_, behind) = bytes.split_at(4);
+    let id = second_word(behind);
+    let entries = look_at_records(alloc, id, size, bytes)?;
+    let mut block = Vec::with_capacity(alloc, bytes.len())?;
+    block.extend_from_slice(bytes)?;
+    let records = Records::of_block(block, entries);
+    Ok(Unit::from_parts(id % VXID_END, Mark::of_id(id), Body::Packed(records)))
 }
 
 /// Reads the unit that begins the bytes' words, and says how many words it has.
-fn read_prefix(alloc: Global, mut bytes: Bytes) -> Result<(Unit, usize), WordFault>
-    ensures found { IfOk result (λ x. IsUnit x.0 × (x.1 ≤ length (words_in bytes)) × (take x.1 (words_in bytes) ≡ unit_words x.0)) }
-    ensures refused { IfErr result (λ fault. fault ≢ WordFault.NoMemory → FirstFault (words_in bytes) fault) }
+fn read_prefix(alloc: Global, bytes: &[u8]) -> Result<(Unit, usize), WordFault>
+    ensures found { IfOk result (λ x. IsUnit x.0 × (x.1 ≤ length (words_in bytes.now)) × (take x.1 (words_in bytes.now) ≡ unit_words x.0)) }
+    ensures refused { IfErr result (λ fault. fault ≢ WordFault.NoMemory → FirstFault (words_in bytes.now) fault) }
 {
-    let head = header_word(bytes.as_slice());
-    let size = unit_size(head, word_count(&bytes))?;
-    keep_words(&mut bytes, size);
-    let unit = read_checked(alloc, bytes)?;
+    let head = header_word(bytes);
+    let size = unit_size(head, word_count(bytes))?;
+    let unit = read_checked(alloc, keep_words(bytes, size))?;
     Ok((unit, size))
 }
 
 /// Reads the unit that begins the bytes' words, whatever stands behind it, and says how many words it
-/// has. The records share the bytes. Bytes that are no whole word at the end don't count.
-pub fn read_unit_bytes(alloc: Global, bytes: Bytes) -> Result<(Unit, usize), WordFault>
-    ensures found { IfOk result (λ x. IsUnit x.0 × (x.1 ≤ length (words_in bytes)) × (take x.1 (words_in bytes) ≡ unit_words x.0)) }
-    ensures only { (u : LogUnit) (rest : List ℕ) → IsUnit u → words_in bytes ≡ unit_words u ++ rest →
+/// has. It keeps one copy of the unit's bytes. Bytes that are no whole word at the end don't count.
+pub fn read_unit_bytes(alloc: Global, bytes: &[u8]) -> Result<(Unit, usize), WordFault>
+    ensures found { IfOk result (λ x. IsUnit x.0 × (x.1 ≤ length (words_in bytes.now)) × (take x.1 (words_in bytes.now) ≡ unit_words x.0)) }
+    ensures only { (u : LogUnit) (rest : List ℕ) → IsUnit u → words_in bytes.now ≡ unit_words u ++ rest →
         (result ≡ Ok (u, length (unit_words u))) ⊎ (result ≡ Err WordFault.NoMemory) }
-    ensures refused { IfErr result (λ fault. fault ≢ WordFault.NoMemory → FirstFault (words_in bytes) fault) }
-    ensures faulty { (fault : WordFault) → FirstFault (words_in bytes) fault → (result ≡ Err fault) ⊎ (result ≡ Err WordFault.NoMemory) }
+    ensures refused { IfErr result (λ fault. fault ≢ WordFault.NoMemory → FirstFault (words_in bytes.now) fault) }
+    ensures faulty { (fault : WordFault) → FirstFault (words_in bytes.now) fault → (result ≡ Err fault) ⊎ (result ≡ Err WordFault.NoMemory) }
 {
     read_prefix(alloc, bytes)
 }

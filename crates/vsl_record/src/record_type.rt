@@ -1,18 +1,17 @@
 //! One record of a log.
 
 ghost use Rattle.std.specs.Prelude.{◌≡◌, ◌<◌, ◌≤◌, ℕ, length, IfOk, OnOk};
-ghost use Rattle.vsl_tags.specs.Tags.{IsTag};
-ghost use Rattle.vsl_record.specs.Payload.{most_payload, IsPayload};
-ghost use Rattle.vsl_record.specs.Words.{record_words};
+ghost use Rattle.vsl_record.specs.Payload.{most_payload};
 
 use crate::fault::RecordFault;
+use crate::lent::RecordView;
 use crate::mark::Mark;
 use crate::payload::{MAX_PAYLOAD, Payload};
-use std::alloc::{AllocError, Global};
+use std::alloc::Global;
 use vsl_tags::Tag;
 
 /// What a worker writes of one event: what it is about, its mark, and its bytes (vsl(7)).
-#[derive(Debug, Drop)]
+#[derive(Drop)]
 pub struct Record {
     /// What the record is about.
     pub tag: Tag,
@@ -42,25 +41,10 @@ impl Record {
         })
     }
 
-    /// How many words the record takes, whatever its VXID: two, and one for each four bytes of
-    /// payload or less.
-    pub fn words(&self) -> usize
-        ensures words { (vxid : ℕ) → result ≡ length (record_words vxid self.now) }
-        ensures tag { IsTag self.now.tag }
-        ensures payload { IsPayload self.now.payload }
+    /// The record, lent.
+    pub fn view(&self) -> RecordView<'_>
+        ensures { result ≡ self.now }
     {
-        let _tag = self.tag.number();
-        2 + self.payload.as_slice().len().div_ceil(4)
-    }
-
-    /// A copy of the record.
-    pub fn to_owned(&self, _alloc: Global) -> Result<Record, AllocError>
-        ensures { IfOk result (λ r. r ≡ self.now) }
-    {
-        Ok(Record {
-            tag: self.tag,
-            mark: self.mark,
-            payload: self.payload.share()?,
-        })
+        RecordView::new(self.tag, self.mark, self.payload.as_slice())
     }
 }

@@ -6,8 +6,11 @@ ghost use Rattle.vsl_tags.specs.Tags.{IsTag};
 ghost use Rattle.vsl_record.specs.Payload.{IsPayload};
 ghost use Rattle.vsl_record.specs.Unit.{vxid_end};
 ghost use Rattle.vsl_record.specs.Words.{IsUnit, most_words, record_words, unit_words};
+ghost use Rattle.vsl_record.specs.Bodies.{body_records};
 
+use crate::body::Body;
 use crate::fault::UnitFault;
+use crate::lent::RecordsView;
 use crate::mark::Mark;
 use crate::record_type::Record;
 use std::marker::Model;
@@ -32,22 +35,23 @@ pub const UNIT_MARK: u32 = 0xfe;
 pub const HEADER_MARK: u32 = 0xfe00_0000;
 
 /// What a worker writes at once: one or more records of one transaction and one mark (vsl(7)).
-#[derive(Debug, Drop)]
+#[derive(Drop)]
 pub struct Unit {
     vxid: Vxid,
     mark: Mark,
-    records: Vec<Record>,
+    body: Body,
 }
 
 impl Model for Unit {
     ghost use Rattle.vsl_record.specs.Unit.{LogUnit};
     ghost use Rattle.vsl_record.specs.Words.{IsUnit};
+    ghost use Rattle.vsl_record.specs.Bodies.{body_records};
 
     ghost Value = { LogUnit };
 
-    ghost view = { λ u. record { vxid = u.vxid; mark = u.mark; records = u.records.items } };
+    ghost view = { λ u. record { vxid = u.vxid; mark = u.mark; records = body_records u.body } };
 
-    ghost invariant = { λ u. IsUnit (record { vxid = u.vxid; mark = u.mark; records = u.records.items }) };
+    ghost invariant = { λ u. IsUnit (record { vxid = u.vxid; mark = u.mark; records = body_records u.body }) };
 }
 
 impl Unit {
@@ -66,23 +70,19 @@ impl Unit {
         if records.is_empty() {
             return Err(UnitFault::Empty);
         }
-        let words = count_words(&records);
+        let words = count_words(&RecordsView::listed(&records));
         if words > MAX_UNIT_WORDS as u64 {
             return Err(UnitFault::TooLong { words });
         }
-        Ok(Unit::from_parts(vxid, mark, records))
+        Ok(Unit::from_parts(vxid, mark, Body::Listed(records)))
     }
 
     /// The unit of parts that are known to be one.
-    pub(crate) fn from_parts(vxid: Vxid, mark: Mark, records: Vec<Record>) -> Unit
-        requires { IsUnit (record { vxid = vxid; mark = mark; records = records.items }) }
-        ensures { result ≡ record { vxid = vxid; mark = mark; records = records.items } }
+    pub(crate) fn from_parts(vxid: Vxid, mark: Mark, body: Body) -> Unit
+        requires { IsUnit (record { vxid = vxid; mark = mark; records = body_records body }) }
+        ensures { result ≡ record { vxid = vxid; mark = mark; records = body_records body } }
     {
-        Unit {
-            vxid,
-            mark,
-            records,
-        }
+        Unit { vxid, mark, body }
     }
 
     /// The VXID.
@@ -100,30 +100,26 @@ impl Unit {
     }
 
     /// The records, in order: at least one.
-    pub fn records(&self) -> &[Record]
-        ensures records { result.now ≡ self.now.records }
+    pub fn records(&self) -> RecordsView<'_>
+        ensures records { result ≡ self.now.records }
         ensures unit { IsUnit self.now }
     {
-        &self.records
-    }
-
-    /// The records, in order, with no copy.
-    pub fn into_records(self) -> Vec<Record>
-        ensures { result.items ≡ self.records }
-    {
-        self.records
+        match &self.body {
+            Body::Listed(records) => RecordsView::listed(records),
+            Body::Packed(records) => records.view(),
+        }
     }
 }
 
 /// How many words the records and a unit's header take, or 2^64 - 1 where that is greater.
-pub fn count_words(records: &[Record]) -> u64
+pub fn count_words(records: &RecordsView<'_>) -> u64
     ensures words { (vxid : ℕ) → result ≡ min (1 + length (flat_map (record_words vxid) records.now)) (2 ^ 64 - 1) }
     ensures tags { All (λ r. IsTag r.tag) records.now }
     ensures payloads { All (λ r. IsPayload r.payload) records.now }
 {
     let mut words: u64 = 1;
-    for rec in records {
-        words = words.saturating_add(rec.words() as u64);
+    for i in 0..records.len() {
+        words = words.saturating_add(records.get(i).words() as u64);
     }
     words
 }

@@ -7,26 +7,17 @@ ghost use Rattle.vsl_record.specs.Views.{Spells, StartsWith};
 ghost use Rattle.vsl_record.specs.Words.{words_in};
 
 use crate::laws::are_bytes;
+use crate::lent::RecordView;
 use crate::mark::Mark;
 use crate::reading::{header_word, read_unit_bytes, second_word};
 use crate::unit::{TOP_BYTE, Unit, VXID_END, Vxid};
-use bytes::Bytes;
 use log_model::NoMemory;
 use std::alloc::Global;
 use std::marker::Model;
 use vsl_tags::Tag;
 
-/// A record that is lent: its tag, and the bytes of its payload.
-#[derive(Clone, Copy, Debug)]
-pub struct RecordView<'a> {
-    /// What the record is about.
-    pub tag: Tag,
-    /// What it says: at most 4,000 bytes.
-    pub payload: &'a [u8],
-}
-
 /// A unit that is lent from the bytes of its words. It copies nothing. Contracts see the words.
-#[derive(Debug, Drop)]
+#[derive(Drop)]
 pub struct UnitView<'a> {
     bytes: &'a [u8],
 }
@@ -47,8 +38,7 @@ impl<'a> Model for UnitView<'a> {
 /// The record whose words begin these bytes, and the bytes behind them.
 fn first_view(bytes: &[u8]) -> (RecordView<'_>, &[u8])
     requires { (rec : Record) × (rest : List ℕ) × StartsWith (words_in bytes.now) rec rest }
-    ensures tag { (rec : Record) (rest : List ℕ) → StartsWith (words_in bytes.now) rec rest → result.0.tag ≡ rec.tag }
-    ensures payload { (rec : Record) (rest : List ℕ) → StartsWith (words_in bytes.now) rec rest → result.0.payload.now ≡ rec.payload }
+    ensures record { (rec : Record) (rest : List ℕ) → StartsWith (words_in bytes.now) rec rest → result.0 ≡ rec }
     ensures shorter { length result.1.now < length bytes.now }
     ensures rest { (rec : Record) (rest : List ℕ) → StartsWith (words_in bytes.now) rec rest → words_in result.1.now ≡ rest }
 {
@@ -61,7 +51,8 @@ fn first_view(bytes: &[u8]) -> (RecordView<'_>, &[u8])
     let (_, behind) = bytes.split_at(8);
     let (held, rest) = behind.split_at(4 * ((length + 3) / 4));
     let (payload, _) = held.split_at(length);
-    (RecordView { tag, payload }, rest)
+    let mark = Mark::of_id(second_word(bytes));
+    (RecordView::new(tag, mark, payload), rest)
 }
 
 impl<'a> UnitView<'a> {
@@ -112,8 +103,7 @@ impl<'a> UnitView<'a> {
     /// The record at this place, from 0. It walks over those before it.
     pub fn item(&self, place: usize) -> RecordView<'a>
         requires { (u : LogUnit) → Spells self.now u → place < length u.records }
-        ensures tag { (u : LogUnit) (rec : Record) → Spells self.now u → slice_get u.records place ≡ Some rec → result.tag ≡ rec.tag }
-        ensures payload { (u : LogUnit) (rec : Record) → Spells self.now u → slice_get u.records place ≡ Some rec → result.payload.now ≡ rec.payload }
+        ensures { (u : LogUnit) (rec : Record) → Spells self.now u → slice_get u.records place ≡ Some rec → result ≡ rec }
     {
         let mut rest = self.body();
         for _ in 0..place {
@@ -127,8 +117,7 @@ impl<'a> UnitView<'a> {
     pub fn to_unit(&self, alloc: Global) -> Result<Unit, NoMemory>
         ensures { (u : LogUnit) → Spells self.now u → IfOk result (λ unit. unit ≡ u) }
     {
-        let bytes = Bytes::copy_from_slice(alloc, self.bytes)?;
-        match read_unit_bytes(alloc, bytes) {
+        match read_unit_bytes(alloc, self.bytes) {
             Ok((unit, _)) => Ok(unit),
             Err(_) => Err(NoMemory),
         }

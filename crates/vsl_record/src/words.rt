@@ -8,19 +8,18 @@ ghost use Rattle.vsl_record.specs.Words.{IsUnit, most_words, unit_words, words_i
 use crate::fault::WordFault;
 use crate::reading::{read_checked, unit_size};
 use crate::unit::Unit;
-use bytes::Bytes;
 use std::alloc::{AllocError, Global};
 
 /// The bytes of words, the lowest byte of each word first.
-fn bytes_of(alloc: Global, words: &[u32]) -> Result<Bytes, AllocError>
+fn bytes_of(alloc: Global, words: &[u32]) -> Result<Vec<u8>, AllocError>
     requires { length words.now ≤ most_words }
-    ensures { IfOk result (λ bytes. words_in bytes ≡ words.now) }
+    ensures { IfOk result (λ bytes. words_in bytes.items ≡ words.now) }
 {
     let mut bytes = Vec::with_capacity(alloc, 4 * words.len())?;
     for word in words {
         bytes.extend_from_slice(&word.to_le_bytes())?;
     }
-    Ok(Bytes::from_vec(bytes)?)
+    Ok(bytes)
 }
 
 /// Reads the unit that begins the words, and says how many words it has.
@@ -32,7 +31,7 @@ fn read_prefix(alloc: Global, words: &[u32]) -> Result<(Unit, usize), WordFault>
     let size = unit_size(head, words.len())?;
     let (part, _) = words.split_at(size);
     let bytes = bytes_of(alloc, part)?;
-    let unit = read_checked(alloc, bytes)?;
+    let unit = read_checked(alloc, &bytes)?;
     Ok((unit, size))
 }
 

@@ -7,7 +7,7 @@ ghost use Rattle.vsl_record.specs.Unit.{vxid_end};
 ghost use Rattle.vsl_record.specs.inside.Writing.{Wrote};
 ghost use Rattle.vsl_record.specs.Words.{header_mark, mark_bits, most_words, packed, record_words, unit_words, word_bytes};
 
-use crate::record_type::Record;
+use crate::lent::{RecordView, RecordsView};
 use crate::unit::{HEADER_MARK, TOP_BYTE, Unit, Vxid, count_words};
 use log_model::NoMemory;
 use std::alloc::Global;
@@ -18,7 +18,7 @@ impl Unit {
         ensures words { result ≡ length (unit_words self.now) }
         ensures most { result ≤ most_words }
     {
-        count_words(self.records()) as usize
+        count_words(&self.records()) as usize
     }
 
     /// The word at this place, counted from the unit's header word. It walks over the records before it.
@@ -29,7 +29,7 @@ impl Unit {
         if place == 0 {
             return self.header_word();
         }
-        body_word(self.vxid(), self.records(), place - 1)
+        body_word(self.vxid(), &self.records(), place - 1)
     }
 
     /// Writes the bytes of the unit's words, the lowest byte of each word first. It takes no memory.
@@ -38,7 +38,7 @@ impl Unit {
         ensures { out.new ≡ word_bytes (unit_words self.now) }
     {
         write_at(out, 0, &self.header_word().to_le_bytes());
-        write_records(self.vxid(), self.records(), out, 4);
+        write_records(self.vxid(), &self.records(), out, 4);
     }
 
     /// The first word, which counts all.
@@ -49,12 +49,12 @@ impl Unit {
     }
 }
 
-impl Record {
+impl RecordView<'_> {
     /// The first word: the tag and the payload's length.
     pub(crate) fn head_word(&self) -> u32
         ensures { result ≡ 16777216 * self.now.tag + length self.now.payload }
     {
-        TOP_BYTE * u32::from(self.tag.number()) + self.payload.as_slice().len() as u32
+        TOP_BYTE * u32::from(self.tag().number()) + self.payload().len() as u32
     }
 
     /// The second word: the VXID and the mark.
@@ -62,7 +62,7 @@ impl Record {
         requires { vxid < vxid_end }
         ensures { result ≡ vxid + mark_bits self.now.mark }
     {
-        vxid + self.mark.bits()
+        vxid + self.mark().bits()
     }
 
     /// The word at this place of the record's, in a unit of this VXID.
@@ -74,7 +74,7 @@ impl Record {
         match place {
             0 => self.head_word(),
             1 => self.id_word(vxid),
-            _ => payload_word(self.payload.as_slice(), place - 2),
+            _ => payload_word(self.payload(), place - 2),
         }
     }
 
@@ -85,7 +85,7 @@ impl Record {
         ensures written { Wrote at (at + 4 * length (record_words vxid self.now)) (word_bytes (record_words vxid self.now)) out.old out.new }
         ensures size { result ≡ 4 * length (record_words vxid self.now) }
     {
-        let payload = self.payload.as_slice();
+        let payload = self.payload();
         let padding = &[0; 3][..(4 - payload.len() % 4) % 4];
         write_at(out, at, &self.head_word().to_le_bytes());
         write_at(out, at + 4, &self.id_word(vxid).to_le_bytes());
@@ -106,25 +106,26 @@ fn write_at(out: &mut [u8], at: usize, bytes: &[u8])
 }
 
 /// Writes the bytes of the records' words, in a unit of this VXID, from a place on.
-fn write_records(vxid: Vxid, records: &[Record], out: &mut [u8], at: usize)
+fn write_records(vxid: Vxid, records: &RecordsView<'_>, out: &mut [u8], at: usize)
     requires in_range { vxid < vxid_end }
     requires room { at + 4 * length (flat_map (record_words vxid) records.now) ≤ length out.old }
     ensures { Wrote at (at + 4 * length (flat_map (record_words vxid) records.now)) (word_bytes (flat_map (record_words vxid) records.now)) out.old out.new }
 {
     let mut place = at;
-    for rec in records {
-        place += rec.write_bytes(vxid, out, place);
+    for i in 0..records.len() {
+        place += records.get(i).write_bytes(vxid, out, place);
     }
 }
 
 /// The word at this place of the records' words, in a unit of this VXID.
-fn body_word(vxid: Vxid, records: &[Record], place: usize) -> u32
+fn body_word(vxid: Vxid, records: &RecordsView<'_>, place: usize) -> u32
     requires in_range { vxid < vxid_end }
     requires inside { place < length (flat_map (record_words vxid) records.now) }
     ensures { result ≡ slice_index (flat_map (record_words vxid) records.now) place }
 {
     let mut left = place;
-    for rec in records {
+    for i in 0..records.len() {
+        let rec = records.get(i);
         let size = rec.words();
         if left < size {
             return rec.word_at(vxid, left);

@@ -15,19 +15,21 @@ use crate::selection::Selection;
 use crate::vxid_columns::VxidColumns;
 use log_model::{NoMemory, or_cut_back};
 use txn_rows::{Group, Member};
-use vsl_record::{Record, Vxid};
+use vsl_record::{RecordView, Vxid};
 
 /// Adds the raw lines of the shown records of a member.
 fn put_raw_member(out: &mut Vec<u8>, selection: &Selection, member: &Member) -> Result<(), NoMemory>
     ensures { Puts result out.old.items out.new.items (member_raw_lines (shown_member selection.now member.now)) }
 {
     if selection.shows_every_record() {
-        return put_raw_lines(out, member.vxid, member.records.as_slice());
+        return put_raw_lines(out, member.vxid, &member.records.view());
     }
     let columns = VxidColumns::new(member.vxid);
-    for rec in member.records.as_slice() {
-        if selection.shows(rec)? {
-            put_raw_line(out, &columns, rec)?;
+    let records = member.records.view();
+    for i in 0..records.len() {
+        let rec = records.get(i);
+        if selection.shows(&rec)? {
+            put_raw_line(out, &columns, &rec)?;
         }
     }
     Ok(())
@@ -70,10 +72,10 @@ fn put_header(out: &mut Vec<u8>, member: &Member) -> Result<(), NoMemory>
 }
 
 /// Adds the text of a record in its transaction, after the level.
-fn put_record_text(out: &mut Vec<u8>, rec: &Record) -> Result<(), NoMemory>
+fn put_record_text(out: &mut Vec<u8>, rec: &RecordView<'_>) -> Result<(), NoMemory>
     ensures { Puts result out.old.items out.new.items (record_text rec.now) }
 {
-    put_tag_line(out, rec.tag, rec.payload.as_slice())
+    put_tag_line(out, rec.tag(), rec.payload())
 }
 
 /// Adds the line of a record in a transaction of this level, in dashes, and VXID.
@@ -82,7 +84,7 @@ fn put_record(
     verbose: bool,
     level: &LevelField,
     vxid: &VxidColumns,
-    rec: &Record,
+    rec: &RecordView<'_>,
 ) -> Result<(), NoMemory>
     ensures { Puts result out.old.items out.new.items (level.now ++ (if verbose then raw_line vxid.now rec.now else record_text rec.now)) }
 {
@@ -100,8 +102,9 @@ fn put_every_record(out: &mut Vec<u8>, verbose: bool, member: &Member) -> Result
 {
     let level = LevelField::new(b'-', member.level);
     let vxid = VxidColumns::new(member.vxid);
-    for rec in member.records.as_slice() {
-        put_record(out, verbose, &level, &vxid, rec)?;
+    let records = member.records.view();
+    for i in 0..records.len() {
+        put_record(out, verbose, &level, &vxid, &records.get(i))?;
     }
     Ok(())
 }
@@ -120,9 +123,11 @@ fn put_records(
     }
     let level = LevelField::new(b'-', member.level);
     let vxid = VxidColumns::new(member.vxid);
-    for rec in member.records.as_slice() {
-        if selection.shows(rec)? {
-            put_record(out, verbose, &level, &vxid, rec)?;
+    let records = member.records.view();
+    for i in 0..records.len() {
+        let rec = records.get(i);
+        if selection.shows(&rec)? {
+            put_record(out, verbose, &level, &vxid, &rec)?;
         }
     }
     Ok(())

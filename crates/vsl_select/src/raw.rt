@@ -10,7 +10,7 @@ ghost use Rattle.vsl_select.specs.RawLine.{escaped, tag_line, raw_line, raw_line
 use crate::parts::{letter_of, put_byte, put_escaped, put_text};
 use crate::vxid_columns::VxidColumns;
 use log_model::{NoMemory, or_cut_back};
-use vsl_record::{Record, Unit, Vxid};
+use vsl_record::{RecordView, RecordsView, Unit, Vxid};
 use vsl_tags::{Tag, name_columns};
 
 /// Adds a tag's name in its columns, and a space.
@@ -43,14 +43,14 @@ pub(crate) fn put_tag_line(out: &mut Vec<u8>, tag: Tag, text: &[u8]) -> Result<(
 pub(crate) fn put_raw_line(
     out: &mut Vec<u8>,
     vxid: &VxidColumns,
-    rec: &Record,
+    rec: &RecordView<'_>,
 ) -> Result<(), NoMemory>
     ensures { Puts result out.old.items out.new.items (raw_line vxid.now rec.now) }
 {
     put_text(out, vxid.as_slice())?;
-    put_tag(out, rec.tag)?;
-    put_text(out, &[letter_of(rec.mark), b' '])?;
-    put_line_end(out, rec.payload.as_slice())?;
+    put_tag(out, rec.tag())?;
+    put_text(out, &[letter_of(rec.mark()), b' '])?;
+    put_line_end(out, rec.payload())?;
     Ok(())
 }
 
@@ -58,13 +58,13 @@ pub(crate) fn put_raw_line(
 pub(crate) fn put_raw_lines(
     out: &mut Vec<u8>,
     vxid: Vxid,
-    records: &[Record],
+    records: &RecordsView<'_>,
 ) -> Result<(), NoMemory>
     ensures { Puts result out.old.items out.new.items (flat_map (raw_line vxid) records.now) }
 {
     let columns = VxidColumns::new(vxid);
-    for rec in records {
-        put_raw_line(out, &columns, rec)?;
+    for i in 0..records.len() {
+        put_raw_line(out, &columns, &records.get(i))?;
     }
     Ok(())
 }
@@ -79,7 +79,7 @@ pub fn tag_line(tag: Tag, text: &[u8], out: &mut Vec<u8>) -> Result<(), NoMemory
 }
 
 /// Adds the raw line of a record (varnishlog(1), `-g raw`). After want of memory the list is as it was.
-pub fn raw_line(vxid: Vxid, rec: &Record, out: &mut Vec<u8>) -> Result<(), NoMemory>
+pub fn raw_line(vxid: Vxid, rec: &RecordView<'_>, out: &mut Vec<u8>) -> Result<(), NoMemory>
     ensures { Adds result out.old.items out.new.items (raw_line vxid rec.now) }
 {
     let before = out.len();
@@ -92,6 +92,6 @@ pub fn raw_lines(unit: &Unit, out: &mut Vec<u8>) -> Result<(), NoMemory>
     ensures { Adds result out.old.items out.new.items (raw_lines unit.now) }
 {
     let before = out.len();
-    let put = put_raw_lines(out, unit.vxid(), unit.records());
+    let put = put_raw_lines(out, unit.vxid(), &unit.records());
     or_cut_back(put, before, out)
 }

@@ -10,7 +10,7 @@ use crate::rule_text::{RuleText, SelectFault};
 use log_model::{Halt, NoMemory};
 use std::alloc::Global;
 use vsl_pattern::{NoGoodPattern, Pattern};
-use vsl_record::Record;
+use vsl_record::RecordView;
 use vsl_tags::{Tag, TagSet};
 
 /// A rule that was read. Where it has no taglist it names every tag, and where it has no pattern every payload is well.
@@ -137,15 +137,15 @@ impl Rule {
 
     /// Whether the rule matches the record. Its tag is asked first; a payload is looked at only where there is a
     /// pattern. What asks a pattern is made for each record that is asked, so a taglist makes `-I` and `-X` faster.
-    pub fn fits(&self, alloc: Global, rec: &Record) -> Result<bool, NoMemory>
+    pub fn fits(&self, alloc: Global, rec: &RecordView<'_>) -> Result<bool, NoMemory>
         ensures fits { (caseless : Bool) → IsRead caseless self.now → IfOk result (λ b. b ≡ is_matched caseless rec.now self.now.text) }
         ensures answered { self.now.pattern ≡ None → IsOk result }
     {
-        if !self.names(rec.tag) {
+        if !self.names(rec.tag()) {
             return Ok(false);
         }
         match &self.pattern {
-            Some(pattern) => Ok(pattern.matching(alloc)?.is_match(rec.payload.as_slice())),
+            Some(pattern) => Ok(pattern.matching(alloc)?.is_match(rec.payload())),
             None => Ok(true),
         }
     }

@@ -2,6 +2,8 @@
 
 ghost use Rattle.std.specs.Prelude.{◌≡◌, ◌≢◌, ◌==◌, ◌&&◌, ◌||◌, not, true, false, List, Some, map, reverse, length, unwrap_or, IfOk, OnOk, IfErr, IsOk};
 ghost use Rattle.std.specs.List.{All, filter, list_any};
+ghost use Rattle.std.specs.Option.{option_or};
+ghost use Rattle.vsl_record.specs.declared.record_type.Record.{Record};
 ghost use Rattle.txn_rows.specs.declared.group.Group.{Group};
 ghost use Rattle.vsl_select.specs.Showing.{Showing};
 ghost use Rattle.vsl_select.specs.Shown.{first_says, has_sides, is_esi, is_matched, is_shown_member, is_shown_record, names_tag, rules_fault, shown, shows_client, shows_everything, shows_kind, shows_mark, shows_others};
@@ -14,7 +16,7 @@ use log_model::NoMemory;
 use std::alloc::Global;
 use std::marker::Model;
 use txn_rows::{Kind, Member, Reason};
-use vsl_record::{Mark, Record};
+use vsl_record::{Mark, RecordView, Records};
 use vsl_tags::Tag;
 
 /// Which transactions and records are shown. Contracts see the sides and the rules that it was made of.
@@ -159,14 +161,14 @@ impl Selection {
         match member.kind {
             Kind::Request => shows_request(self.sides, member.reason),
             Kind::BeReq => self.sides.backend,
-            Kind::Record => shows_mark(self.sides, first_mark(member.records.as_slice())),
+            Kind::Record => shows_mark(self.sides, first_mark(&member.records.view())),
             Kind::Session => false,
             Kind::Unknown => false,
         }
     }
 
     /// What the first of `-I` and `-X` that matches the record says.
-    fn first_match(&self, rec: &Record) -> Result<Option<bool>, NoMemory>
+    fn first_match(&self, rec: &RecordView<'_>) -> Result<Option<bool>, NoMemory>
         ensures said { IfOk result (λ said. said ≡ first_says (λ r. r.regex && is_matched self.now.caseless rec.now r) self.now.rules) }
         ensures answered { list_any (λ r. r.regex) self.now.rules ≡ false → IsOk result }
     {
@@ -198,31 +200,41 @@ impl Selection {
         !first_list_includes(&self.rules) && !first_pattern_includes(&self.rules)
     }
 
+    /// What the rules say of the record, where one of them decides.
+    fn said_of(&self, rec: &RecordView<'_>) -> Result<Option<bool>, NoMemory>
+        ensures said { IfOk result (λ said. said ≡ option_or (first_says (λ r. r.regex && is_matched self.now.caseless rec.now r) self.now.rules)
+            (first_says (λ r. not r.regex && names_tag r rec.now.tag) (reverse self.now.rules))) }
+        ensures answered { list_any (λ r. r.regex) self.now.rules ≡ false → IsOk result }
+    {
+        match self.first_match(rec)? {
+            Some(said) => Ok(Some(said)),
+            None => Ok(self.last_named(rec.tag())),
+        }
+    }
+
     /// Whether the record is shown, in a transaction that is. Without `-I` and `-X` this takes no memory.
-    pub fn shows(&self, rec: &Record) -> Result<bool, NoMemory>
+    pub fn shows(&self, rec: &RecordView<'_>) -> Result<bool, NoMemory>
         ensures shown { IfOk result (λ b. b ≡ is_shown_record self.now rec.now) }
         ensures answered { list_any (λ r. r.regex) self.now.rules ≡ false → IsOk result }
     {
-        let said = match self.first_match(rec)? {
-            Some(said) => Some(said),
-            None => self.last_named(rec.tag),
-        };
-        match said {
+        match self.said_of(rec)? {
             Some(said) => Ok(said),
             None => Ok(self.shows_others()),
         }
     }
 
-    /// Copies of the shown records of a transaction, which share their payloads.
-    pub fn shown_records(&self, member: &Member) -> Result<Vec<Record>, NoMemory>
-        ensures { IfOk result (λ records. records.items ≡ filter (is_shown_record self.now) member.now.records) }
+    /// Copies of the shown records of a transaction.
+    pub fn shown_records(&self, member: &Member) -> Result<Records, NoMemory>
+        ensures { IfOk result (λ records. records ≡ filter (is_shown_record self.now) member.now.records) }
     {
-        let mut records = Vec::new(self.alloc);
-        for rec in member.records.as_slice() {
-            if self.shows(rec)? {
-                records.push(rec.to_owned(self.alloc)?)?;
+        let mut shown = Records::new(self.alloc);
+        let records = member.records.view();
+        for i in 0..records.len() {
+            let rec = records.get(i);
+            if self.shows(&rec)? {
+                shown.push(&rec)?;
             }
         }
-        Ok(records)
+        Ok(shown)
     }
 }

@@ -90,7 +90,7 @@ impl Consumer for TopConsumer {
         if !self.selection.shows_everything() {
             return Ok(false);
         }
-        self.counts.add_records(self.first_field, unit.records())?;
+        self.counts.add_records(self.first_field, &unit.records())?;
         Ok(true)
     }
 

@@ -15,7 +15,7 @@ use log_model::NoMemory;
 use std::alloc::Global;
 use txn_rows::{Group, Member};
 use vsl_decimal::field;
-use vsl_record::Record;
+use vsl_record::{RecordView, RecordsView};
 use vsl_select::Selection;
 use vsl_tags::{Tag, names_differ};
 
@@ -30,10 +30,10 @@ pub(crate) struct Counts {
 }
 
 /// The text of a record's key: with `first_field` the first field of the payload, and else the payload.
-fn text_of(first_field: bool, rec: &Record) -> &[u8]
+fn text_of<'a>(first_field: bool, rec: &RecordView<'a>) -> &'a [u8]
     ensures { result.now ≡ (key_of first_field rec.now).text }
 {
-    let payload = rec.payload.as_slice();
+    let payload = rec.payload();
     if first_field {
         field(payload, 1).unwrap_or(&[])
     } else {
@@ -78,12 +78,13 @@ impl Counts {
     pub(crate) fn add_records(
         &mut self,
         first_field: bool,
-        records: &[Record],
+        records: &RecordsView<'_>,
     ) -> Result<(), NoMemory>
         ensures { OnOk result ((keys : List report.Key) → AreCounted keys self.old → AreCounted (keys ++ map (key_of first_field) records.now) self.new) }
     {
-        for rec in records {
-            self.add(rec.tag, text_of(first_field, rec))?;
+        for i in 0..records.len() {
+            let rec = records.get(i);
+            self.add(rec.tag(), text_of(first_field, &rec))?;
         }
         Ok(())
     }
@@ -93,12 +94,12 @@ impl Counts {
         &mut self,
         selection: &Selection,
         first_field: bool,
-        rec: &Record,
+        rec: &RecordView<'_>,
     ) -> Result<(), NoMemory>
         ensures { OnOk result ((keys : List report.Key) → AreCounted keys self.old → AreCounted (keys ++ shown_keys selection.now first_field (rec.now ∷ [])) self.new) }
     {
         if selection.shows(rec)? {
-            self.add(rec.tag, text_of(first_field, rec))
+            self.add(rec.tag(), text_of(first_field, rec))
         } else {
             Ok(())
         }
@@ -109,12 +110,12 @@ impl Counts {
         &mut self,
         selection: &Selection,
         first_field: bool,
-        records: &[Record],
+        records: &RecordsView<'_>,
     ) -> Result<(), NoMemory>
         ensures { OnOk result ((keys : List report.Key) → AreCounted keys self.old → AreCounted (keys ++ shown_keys selection.now first_field records.now) self.new) }
     {
-        for rec in records {
-            self.add_shown(selection, first_field, rec)?;
+        for i in 0..records.len() {
+            self.add_shown(selection, first_field, &records.get(i))?;
         }
         Ok(())
     }
@@ -129,7 +130,7 @@ impl Counts {
         ensures { OnOk result ((keys : List report.Key) → AreCounted keys self.old → AreCounted (keys ++ member_keys selection.now first_field (member.now ∷ [])) self.new) }
     {
         if selection.shows_member(member) {
-            self.add_all_shown(selection, first_field, member.records.as_slice())
+            self.add_all_shown(selection, first_field, &member.records.view())
         } else {
             Ok(())
         }

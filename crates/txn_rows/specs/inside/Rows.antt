@@ -39,6 +39,10 @@ own_claim rec = if rec.tag == begin_tag then claim_of rec.payload else None
 abbrev pub with_one : Record → Transaction → Transaction
 with_one rec t = claimed_kind (own_claim rec) (longer rec t)
 
+-- a transaction with records at its end
+abbrev pub longer_by : List Record → Transaction → Transaction
+longer_by records t = record t { records = t.records ++ records }
+
 -- the row of a serial number
 abbrev pub row_of : ℕ → List Row → Option Row
 row_of serial rows = find (λ row. row.serial == serial) rows

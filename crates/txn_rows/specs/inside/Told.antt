@@ -17,3 +17,7 @@ Tells rec told.Nothing = ((rec.tag == begin_tag) ≡ false) × ((rec.tag == link
 -- whether a record of this tag tells nothing but itself
 abbrev pub is_plain : ℕ → Bool
 is_plain tag = not (tag == begin_tag) && not (tag == link_tag) && not (tag == timestamp_tag) && not (tag == end_tag)
+
+-- whether a record tells nothing but itself
+abbrev pub is_plain_record : Record → Bool
+is_plain_record rec = is_plain rec.tag

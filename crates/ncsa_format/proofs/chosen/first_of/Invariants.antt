@@ -4,5 +4,5 @@ use Rattle.ncsa_format.specs.Value.{first_of, in_tag}
 use Rattle.ncsa_format.specs.inside.Wanted.{part_of}
 use Rattle.ncsa_format.proofs.chosen.first_of.Given as goal
 
-abbrev pub invariant-loop-rec : goal.invariant-loop-rec
-invariant-loop-rec l = first_of (in_tag l.tag (part_of l.wanted)) l.records ≡ first_of (in_tag l.tag (part_of l.wanted)) (drop l.rec-index l.records)
+abbrev pub invariant-loop-i : goal.invariant-loop-i
+invariant-loop-i l = first_of (in_tag l.tag (part_of l.wanted)) l.records ≡ first_of (in_tag l.tag (part_of l.wanted)) (drop l.i l.records)

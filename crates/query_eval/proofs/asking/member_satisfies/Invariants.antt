@@ -5,5 +5,5 @@ use Rattle.query_eval.specs.inside.Asking.{IsReady}
 use Rattle.query_eval.proofs.asking.member_satisfies.Given as goal
 
 -- none of the records before the index satisfies the test, and what asks its pattern is that of the test
-abbrev pub invariant-loop-rec : goal.invariant-loop-rec
-invariant-loop-rec l = record { unmet : list_any (record_satisfies l.test l.member.level) (take l.rec-index l.member.records) ≡ false; ready : IsReady l.test.check l.matching }
+abbrev pub invariant-loop-i : goal.invariant-loop-i
+invariant-loop-i l = record { unmet : list_any (record_satisfies l.test l.member.level) (take l.i l.member.records) ≡ false; ready : IsReady l.test.check l.matching }

@@ -5,5 +5,5 @@ use Rattle.tool_consumers.proofs.layout.put_units.Goals as goal
 
 pub loop-rest-preserved : goal.loop-rest-preserved
 loop-rest-preserved c =
-    rw c.split_at.ensures.back (one_more _ _ _ _ _ _ c.loop-rest.invariant (c.first_unit.ensures.units c.args.vxid)
-    (rw c.split_at.ensures.front at (c.in_ok-put_records.ensures.ok (first_mark c.split_at.result.0.now))))
+    rw c.split_at-unit.ensures.back (one_more _ _ _ _ _ _ c.loop-rest.invariant (c.first_unit.ensures.units c.args.vxid)
+    (rw c.split_at-unit.ensures.front at (c.in_ok-put_records.ensures.ok (first_mark c.split_at-unit.result.0))))

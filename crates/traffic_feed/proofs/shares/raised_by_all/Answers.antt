@@ -8,5 +8,5 @@ use Rattle.traffic_feed.proofs.shares.raised_by_all.Goals as goal
 
 pub add_raises-requires : goal.add_raises-requires
 add_raises-requires c = record {
-  low = λ which below. omega (arith, c.loop-rec.invariant which below, sum_by-take-le (raise_at (slice_get causes which)) c.args.records.now c.loop-rec.rec-index, sum_at_small (slice_get causes which) c.args.records.now, c.requires.few);
+  low = λ which below. omega (arith, c.loop-i.invariant which below, sum_by-take-le (raise_at (slice_get causes which)) c.args.records.now c.loop-i.i, sum_at_small (slice_get causes which) c.args.records.now, c.requires.few);
 }

@@ -7,5 +7,5 @@ use Rattle.traffic_feed.specs.Counted.{causes}
 use Rattle.traffic_feed.specs.inside.Raises.{raise_at}
 use Rattle.traffic_feed.proofs.shares.raised_by_all.Given as goal
 
-abbrev pub invariant-loop-rec : goal.invariant-loop-rec
-invariant-loop-rec l = (which : ℕ) → which < counter_count → slice_index l.sums which ≡ sum_by (raise_at (slice_get causes which)) (take l.rec-index l.records)
+abbrev pub invariant-loop-i : goal.invariant-loop-i
+invariant-loop-i l = (which : ℕ) → which < counter_count → slice_index l.sums which ≡ sum_by (raise_at (slice_get causes which)) (take l.i l.records)

@@ -9,7 +9,7 @@ use Rattle.txn_rows.proofs.take.tell.Goals as goal
 pub returns : goal.returns
 returns c = λ ordered.
     let vxid = c.args.vxid in
-    let rec = c.args.rec in
+    let rec = c.args.rec.now in
     let begun = c.in_ok-at.ensures.went ordered.trees in
     let added = c.in_ok-add_to.ensures.went begun.trees in
     let follows : State → State = λ s. with_log_time rec (with_claim c.args.grouping vxid rec s) in

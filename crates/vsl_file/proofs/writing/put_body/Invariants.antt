@@ -4,5 +4,5 @@ use Rattle.std.specs.List.{flat_map}
 use Rattle.vsl_file.specs.File.{record_bytes}
 use Rattle.vsl_file.proofs.writing.put_body.Given as goal
 
-abbrev pub invariant-loop-rec : goal.invariant-loop-rec
-invariant-loop-rec l = l.out.items ≡ l.initial.out.items ++ flat_map (record_bytes l.vxid) (take l.rec-index l.records)
+abbrev pub invariant-loop-i : goal.invariant-loop-i
+invariant-loop-i l = l.out.items ≡ l.initial.out.items ++ flat_map (record_bytes l.vxid) (take l.i l.records)

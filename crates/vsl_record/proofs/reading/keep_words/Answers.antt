@@ -1,7 +1,10 @@
-use Rattle.std.proofs.Common.{ap, ◌∙◌}
+use Rattle.std.proofs.Common.{ap, ◌∙◌, arith}
 use Rattle.vsl_record.specs.Words.{words_in}
-use Rattle.vsl_record.proofs.WordLemmas.{words_in-take}
+use Rattle.vsl_record.proofs.WordLemmas.{length-words_in, words_in-take}
 use Rattle.vsl_record.proofs.reading.keep_words.Goals as goal
 
+pub split_at-requires : goal.split_at-requires
+split_at-requires c = omega (arith, c.requires.enough, length-words_in c.args.bytes.now)
+
 pub returns : goal.returns
-returns c = ap words_in c.truncate.ensures ∙ words_in-take c.args.count c.args.bytes.now
+returns c = ap words_in c.split_at.ensures.front ∙ words_in-take c.args.count c.args.bytes.now

@@ -3,4 +3,4 @@ use Rattle.vsl_record.proofs.WordLemmas.{length-words_in}
 use Rattle.vsl_record.proofs.reading.word_count.Goals as goal
 
 pub returns : goal.returns
-returns c = omega (arith, length-words_in c.args.bytes.now, c.len.ensures.value)
+returns c = omega (arith, length-words_in c.args.bytes.now)

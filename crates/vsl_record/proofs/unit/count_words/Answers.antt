@@ -13,20 +13,20 @@ use Rattle.vsl_record.proofs.unit.count_words.Goals as goal
 length-one_more : {X : Type 0} (f : X → List ℕ) (xs : List X) (i : ℕ) (x : X) → i < length xs → x ≡ get_or xs i x → length (flat_map f (take (i + 1) xs)) ≡ length (flat_map f (take i xs)) + length (f x)
 length-one_more f xs i x within is = rw (take_more xs i x within, ← is, flat_map-append, length-append) (simp length-append (omega arith))
 
-pub loop-rec-preserved : goal.loop-rec-preserved
-loop-rec-preserved c =
+pub loop-i-preserved : goal.loop-i-preserved
+loop-i-preserved c =
     let all = c.args.records.now in
-    let i = c.loop-rec.rec-index in
-    let rec = c.rec-item.result in
-    let within : i < length all = c.loop-rec-test.true in
+    let i = c.loop-i.i in
+    let rec = c.get.result in
+    let within : i < length all = (rw c.len-i-end.ensures at c.loop-i-test.true) in
     record {
-      words = λ vxid. omega (arith, length-one_more (record_words vxid) all i rec within c.rec-item.is, c.words.ensures.words vxid, c.loop-rec.invariant.words vxid, c.saturating_add-words.ensures);
-      tags = All-more (λ (r : Record). IsTag r.tag) all i rec within c.loop-rec.invariant.tags (subst (λ (r : Record). IsTag r.tag) c.rec-item.is c.words.ensures.tag);
-      payloads = All-more (λ (r : Record). IsPayload r.payload) all i rec within c.loop-rec.invariant.payloads (subst (λ (r : Record). IsPayload r.payload) c.rec-item.is c.words.ensures.payload);
+      words = λ vxid. omega (arith, length-one_more (record_words vxid) all i rec within c.get.ensures, c.words.ensures.words vxid, c.loop-i.invariant.words vxid, c.saturating_add-words.ensures);
+      tags = All-more (λ (r : Record). IsTag r.tag) all i rec within c.loop-i.invariant.tags (subst (λ (r : Record). IsTag r.tag) c.get.ensures c.words.ensures.tag);
+      payloads = All-more (λ (r : Record). IsPayload r.payload) all i rec within c.loop-i.invariant.payloads (subst (λ (r : Record). IsPayload r.payload) c.get.ensures c.words.ensures.payload);
     }
 
 pub returns-clause-tags : goal.returns-clause-tags
-returns-clause-tags c = rw (take_all c.loop-rec.rec-index c.args.records.now c.loop-rec-test.false) at c.loop-rec.invariant.tags
+returns-clause-tags c = rw (take_all c.loop-i.i c.args.records.now (rw c.len-i-end.ensures at c.loop-i-test.false)) at c.loop-i.invariant.tags
 
 pub returns-clause-payloads : goal.returns-clause-payloads
-returns-clause-payloads c = rw (take_all c.loop-rec.rec-index c.args.records.now c.loop-rec-test.false) at c.loop-rec.invariant.payloads
+returns-clause-payloads c = rw (take_all c.loop-i.i c.args.records.now (rw c.len-i-end.ensures at c.loop-i-test.false)) at c.loop-i.invariant.payloads

@@ -6,9 +6,9 @@ use Rattle.vsl_record.specs.Payload.{IsPayload}
 use Rattle.vsl_record.specs.Words.{record_words}
 use Rattle.vsl_record.proofs.unit.count_words.Given as goal
 
-abbrev pub invariant-loop-rec : goal.invariant-loop-rec
-invariant-loop-rec l = record {
-  words : (vxid : ℕ) → l.words ≡ min (1 + length (flat_map (record_words vxid) (take l.rec-index l.records))) (2 ^ 64 - 1);
-  tags : All (λ r. IsTag r.tag) (take l.rec-index l.records);
-  payloads : All (λ r. IsPayload r.payload) (take l.rec-index l.records);
+abbrev pub invariant-loop-i : goal.invariant-loop-i
+invariant-loop-i l = record {
+  words : (vxid : ℕ) → l.words ≡ min (1 + length (flat_map (record_words vxid) (take l.i l.records))) (2 ^ 64 - 1);
+  tags : All (λ r. IsTag r.tag) (take l.i l.records);
+  payloads : All (λ r. IsPayload r.payload) (take l.i l.records);
 }

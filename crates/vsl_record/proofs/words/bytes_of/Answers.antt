@@ -6,5 +6,5 @@ use Rattle.vsl_record.proofs.words.bytes_of.Goals as goal
 
 pub returns : goal.returns
 returns c =
-    ap words_in (c.in_ok-from_vec.ensures.ok ∙ c.loop-word.invariant ∙ ap word_bytes (take_all c.loop-word.word-index c.args.words.now c.loop-word-test.false))
+    ap words_in (c.loop-word.invariant ∙ ap word_bytes (take_all c.loop-word.word-index c.args.words.now c.loop-word-test.false))
     ∙ words_in_again c.args.words.now (λ i. omega (arith, c.type_inv.words i))

@@ -9,16 +9,16 @@ word_at-requires-clause-inside c = omega (arith, c.if-left-size.true, c.words-si
 
 pub returns-then-left-size : goal.returns-then-left-size
 returns-then-left-size c =
-    let parts = next_piece (record_words c.args.vxid) c.args.records.now c.loop-rec.rec-index c.rec-item.result c.loop-rec-test.true c.rec-item.is in
-    c.word_at.ensures ∙ in_first (record_words c.args.vxid c.rec-item.result) _ _ c.loop-rec.left parts (omega (arith, c.if-left-size.true, c.words-size.ensures.words c.args.vxid)) ∙ c.loop-rec.invariant.same
+    let parts = next_piece (record_words c.args.vxid) c.args.records.now c.loop-i.i c.get-rec.result (rw c.len-i-end.ensures at c.loop-i-test.true) c.get-rec.ensures in
+    c.word_at.ensures ∙ in_first (record_words c.args.vxid c.get-rec.result) _ _ c.loop-i.left parts (omega (arith, c.if-left-size.true, c.words-size.ensures.words c.args.vxid)) ∙ c.loop-i.invariant.same
 
-pub loop-rec-preserved : goal.loop-rec-preserved
-loop-rec-preserved c =
+pub loop-i-preserved : goal.loop-i-preserved
+loop-i-preserved c =
     let f = record_words c.args.vxid in
-    let others : List ℕ = flat_map f (drop (c.loop-rec.rec-index + 1) c.args.records.now) in
-    let parts = next_piece f c.args.records.now c.loop-rec.rec-index c.rec-item.result c.loop-rec-test.true c.rec-item.is in
+    let others : List ℕ = flat_map f (drop (c.loop-i.i + 1) c.args.records.now) in
+    let parts = next_piece f c.args.records.now c.loop-i.i c.get-rec.result (rw c.len-i-end.ensures at c.loop-i-test.true) c.get-rec.ensures in
     let size = c.words-size.ensures.words c.args.vxid in
     record {
-      same = rw size (behind_first (f c.rec-item.result) others _ c.loop-rec.left parts (omega (arith, c.if-left-size.false, size))) ∙ c.loop-rec.invariant.same;
-      inside = omega (arith, c.if-left-size.false, size, c.loop-rec.invariant.inside, ap length parts, length-append (f c.rec-item.result) others);
+      same = rw size (behind_first (f c.get-rec.result) others _ c.loop-i.left parts (omega (arith, c.if-left-size.false, size))) ∙ c.loop-i.invariant.same;
+      inside = omega (arith, c.if-left-size.false, size, c.loop-i.invariant.inside, ap length parts, length-append (f c.get-rec.result) others);
     }

@@ -9,19 +9,19 @@ use Rattle.vsl_record.proofs.writing.write_records.Goals as goal
 pub write_bytes-place-requires-clause-room : goal.write_bytes-place-requires-clause-room
 write_bytes-place-requires-clause-room c =
     let f = record_words c.args.vxid in
-    let room = records_room f c.args.records.now c.loop-rec.rec-index c.rec-item.result c.loop-rec-test.true c.rec-item.is in
-    omega (arith, room, c.requires.room, c.loop-rec.auto.out, c.loop-rec.invariant.size, length-word_bytes (flat_map f (take c.loop-rec.rec-index c.args.records.now)))
+    let room = records_room f c.args.records.now c.loop-i.i c.get.result (rw c.len-i-end.ensures at c.loop-i-test.true) c.get.ensures in
+    omega (arith, room, c.requires.room, c.loop-i.auto.out, c.loop-i.invariant.size, length-word_bytes (flat_map f (take c.loop-i.i c.args.records.now)))
 
-pub loop-rec-preserved : goal.loop-rec-preserved
-loop-rec-preserved c =
+pub loop-i-preserved : goal.loop-i-preserved
+loop-i-preserved c =
     let f = record_words c.args.vxid in
-    let room = records_room f c.args.records.now c.loop-rec.rec-index c.rec-item.result c.loop-rec-test.true c.rec-item.is in
-    let both = wrote_then c.args.at _ _ _ _ _ _ _ _ c.loop-rec.invariant c.write_bytes-place.ensures.written refl
-    (omega (arith, room, c.requires.room, c.loop-rec.invariant.size, length-word_bytes (flat_map f (take c.loop-rec.rec-index c.args.records.now)))) in
-    wrote_as _ _ _ _ _ _ _ both (omega (arith, c.write_bytes-place.ensures.size)) (sym (records_more f c.args.records.now c.loop-rec.rec-index c.rec-item.result c.loop-rec-test.true c.rec-item.is))
+    let room = records_room f c.args.records.now c.loop-i.i c.get.result (rw c.len-i-end.ensures at c.loop-i-test.true) c.get.ensures in
+    let both = wrote_then c.args.at _ _ _ _ _ _ _ _ c.loop-i.invariant c.write_bytes-place.ensures.written refl
+    (omega (arith, room, c.requires.room, c.loop-i.invariant.size, length-word_bytes (flat_map f (take c.loop-i.i c.args.records.now)))) in
+    wrote_as _ _ _ _ _ _ _ both (omega (arith, c.write_bytes-place.ensures.size)) (sym (records_more f c.args.records.now c.loop-i.i c.get.result (rw c.len-i-end.ensures at c.loop-i-test.true) c.get.ensures))
 
 pub returns : goal.returns
 returns c =
     let f = record_words c.args.vxid in
-    let whole = ap (flat_map f) (take_all c.loop-rec.rec-index c.args.records.now c.loop-rec-test.false) in
-    wrote_as _ _ _ _ _ _ _ c.loop-rec.invariant (omega (arith, c.loop-rec.invariant.size, length-word_bytes (flat_map f (take c.loop-rec.rec-index c.args.records.now)), ap length whole)) (ap word_bytes whole)
+    let whole = ap (flat_map f) (take_all c.loop-i.i c.args.records.now (rw c.len-i-end.ensures at c.loop-i-test.false)) in
+    wrote_as _ _ _ _ _ _ _ c.loop-i.invariant (omega (arith, c.loop-i.invariant.size, length-word_bytes (flat_map f (take c.loop-i.i c.args.records.now)), ap length whole)) (ap word_bytes whole)

@@ -4,5 +4,5 @@ use Rattle.std.specs.List.{flat_map}
 use Rattle.vsl_select.specs.Lines.{record_line}
 use Rattle.vsl_select.proofs.lines.put_every_record.Given as goal
 
-abbrev pub invariant-loop-rec : goal.invariant-loop-rec
-invariant-loop-rec l = l.out.items ≡ l.initial.out.items ++ flat_map (record_line l.verbose l.member) (take l.rec-index l.rec-items)
+abbrev pub invariant-loop-i : goal.invariant-loop-i
+invariant-loop-i l = l.out.items ≡ l.initial.out.items ++ flat_map (record_line l.verbose l.member) (take l.i l.records)

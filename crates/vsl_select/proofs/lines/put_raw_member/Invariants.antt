@@ -5,5 +5,5 @@ use Rattle.vsl_select.specs.RawLine.{raw_line}
 use Rattle.vsl_select.specs.Shown.{is_shown_record}
 use Rattle.vsl_select.proofs.lines.put_raw_member.Given as goal
 
-abbrev pub invariant-loop-rec : goal.invariant-loop-rec
-invariant-loop-rec l = l.out.items ≡ l.initial.out.items ++ flat_map (raw_line l.member.vxid) (filter (is_shown_record l.selection) (take l.rec-index l.rec-items))
+abbrev pub invariant-loop-i : goal.invariant-loop-i
+invariant-loop-i l = l.out.items ≡ l.initial.out.items ++ flat_map (raw_line l.member.vxid) (filter (is_shown_record l.selection) (take l.i l.records))

@@ -15,7 +15,7 @@ pub returns-then-not-has_room : goal.returns-then-not-has_room
 returns-then-not-has_room c =
     let l : LoggedRecord = record { vxid = c.args.vxid; rec = c.args.rec } in
     let on = sym (c.goes_on.ensures l refl refl) ∙ c.if-not-goes_on.false in
-    let full = sym (c.has_room.ensures l refl) ∙ c.if-not-has_room.true in
+    let full = sym (c.has_room.ensures l (sym c.view.ensures)) ∙ c.if-not-has_room.true in
     let g : Gathered = record { most = c.self.inside.most; seg = c.self.inside.seg; units = c.self.inside.units; cuts = c.self.inside.cuts; begun = c.self.inside.begun } in
     on_ok_weaker c.begin-then-not-has_room.result (λ is. is ∙ taken_cut g c.args.self.now l c.self.view_is on full) c.begin-then-not-has_room.ensures
 
@@ -28,5 +28,5 @@ pub returns : goal.returns
 returns c =
     let l : LoggedRecord = record { vxid = c.args.vxid; rec = c.args.rec } in
     let on = sym (c.goes_on.ensures l refl refl) ∙ c.if-not-goes_on.false in
-    let room = sym (c.has_room.ensures l refl) ∙ c.if-not-has_room.false in
+    let room = sym (c.has_room.ensures l (sym c.view.ensures)) ∙ c.if-not-has_room.false in
     on_ok_weaker c.push.result (λ is. taken_on c.args.self.now.begun c.args.self.now c.push.new.self l on room is) c.push.ensures

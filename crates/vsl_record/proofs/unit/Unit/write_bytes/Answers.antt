@@ -14,6 +14,6 @@ returns c =
     let u = c.args.self.now in
     let count : header_mark + length (unit_words u) ≡ header_mark + (1 + length (body_words u)) = omega arith in
     let head : c.to_le_bytes.result ≡ to_le_bytes w32 (header_mark + (1 + length (body_words u))) = c.to_le_bytes.ensures ∙ ap (to_le_bytes w32) (c.header_word.ensures ∙ count) in
-    let body : flat_map (record_words c.vxid.result) c.records.result.now ≡ body_words u = ap (λ (v : ℕ). flat_map (record_words v) c.records.result.now) c.vxid.ensures ∙ ap (flat_map (record_words u.vxid)) c.records.ensures.records in
+    let body : flat_map (record_words c.vxid.result) c.records.result ≡ body_words u = ap (λ (v : ℕ). flat_map (record_words v) c.records.result) c.vxid.ensures ∙ ap (flat_map (record_words u.vxid)) c.records.ensures.records in
     let both = wrote_then 0 _ _ _ _ _ _ _ _ c.write_at.ensures c.write_records.ensures (omega (arith, ap length c.to_le_bytes.ensures)) (omega (arith, ap length body, c.requires)) in
-    wrote_all _ _ _ _ both (omega (arith, ap length body, c.requires)) ∙ ap (λ (b : List ℕ). b ++ word_bytes (flat_map (record_words c.vxid.result) c.records.result.now)) head ∙ ap (λ (ws : List ℕ). to_le_bytes w32 (header_mark + (1 + length (body_words u))) ++ word_bytes ws) body
+    wrote_all _ _ _ _ both (omega (arith, ap length body, c.requires)) ∙ ap (λ (b : List ℕ). b ++ word_bytes (flat_map (record_words c.vxid.result) c.records.result)) head ∙ ap (λ (ws : List ℕ). to_le_bytes w32 (header_mark + (1 + length (body_words u))) ++ word_bytes ws) body

@@ -24,8 +24,5 @@ first_view-view-requires c =
     let there = one_there c.args.place u.records (c.requires u s) in
     (there.0, _, starts_left _ _ u c.args.place there.0 s (rw (at_end c.loop.counter c.args.place c.loop.auto.counter-end c.loop-test.false) at (c.loop.invariant u s)) there.1)
 
-pub returns-clause-tag : goal.returns-clause-tag
-returns-clause-tag c = λ u rec s e. c.first_view-view.ensures.tag rec _ (starts_left _ _ u c.args.place rec s (rw (at_end c.loop.counter c.args.place c.loop.auto.counter-end c.loop-test.false) at (c.loop.invariant u s)) e)
-
-pub returns-clause-payload : goal.returns-clause-payload
-returns-clause-payload c = λ u rec s e. c.first_view-view.ensures.payload rec _ (starts_left _ _ u c.args.place rec s (rw (at_end c.loop.counter c.args.place c.loop.auto.counter-end c.loop-test.false) at (c.loop.invariant u s)) e)
+pub returns : goal.returns
+returns c = λ u rec s e. c.first_view-view.ensures.record rec _ (starts_left _ _ u c.args.place rec s (rw (at_end c.loop.counter c.args.place c.loop.auto.counter-end c.loop-test.false) at (c.loop.invariant u s)) e)

@@ -5,5 +5,5 @@ use Rattle.vsl_top.specs.Counting.{AreCounted}
 use Rattle.vsl_top.specs.inside.Keys.{shown_keys}
 use Rattle.vsl_top.proofs.counts.Counts.add_all_shown.Given as goal
 
-abbrev pub invariant-loop-rec : goal.invariant-loop-rec
-invariant-loop-rec l = (keys : List Key) → AreCounted keys l.initial.self → AreCounted (keys ++ shown_keys l.selection l.first_field (take l.rec-index l.records)) l.self
+abbrev pub invariant-loop-i : goal.invariant-loop-i
+invariant-loop-i l = (keys : List Key) → AreCounted keys l.initial.self → AreCounted (keys ++ shown_keys l.selection l.first_field (take l.i l.records)) l.self

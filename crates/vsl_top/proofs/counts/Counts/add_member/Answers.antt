@@ -10,5 +10,5 @@ use Rattle.vsl_top.proofs.counts.Counts.add_member.Goals as goal
 pub returns-then-shows_member : goal.returns-then-shows_member
 returns-then-shows_member c = on_ok c.add_all_shown.result
     (λ step keys so_far. rw (sym c.shows_member.ensures ∙ c.if-shows_member.true, append-nil (filter (is_shown_record c.args.selection.now) c.args.member.now.records))
-    (subst (λ (records : List Record). AreCounted (keys ++ shown_keys c.args.selection.now c.args.first_field records) c.add_all_shown.new.self) c.as_slice.ensures (step keys so_far)))
+    (subst (λ (records : List Record). AreCounted (keys ++ shown_keys c.args.selection.now c.args.first_field records) c.add_all_shown.new.self) c.view.ensures (step keys so_far)))
     c.add_all_shown.ensures

@@ -2,12 +2,12 @@
 
 ghost use Rattle.std.specs.Prelude.{◌≡◌, List, [], ◌∷◌, ◌++◌, OnOk, OnErr};
 
-use crate::unit::Unit;
 use std::alloc::{AllocFailed, Global};
 use std::marker::Model;
+use vsl_record::Unit;
 
 /// Units in order, as a log or a part of it. Contracts see the list.
-#[derive(Debug, Drop)]
+#[derive(Drop)]
 pub struct Units {
     items: Vec<Unit>,
 }
