@@ -3,7 +3,7 @@
 ghost use Rattle.std.specs.Prelude.{◌≡◌, ◌≢◌, ℕ, if◌then◌else◌, length, IfOk, OnOk, OnErr};
 ghost use Rattle.txn_rows.specs.Transaction.{with_newest, with_record, with_kind};
 ghost use Rattle.txn_rows.specs.Grouping.{with_new, with_transaction, with_other, gives_parent, with_parent_named, with_child_named, ended_one, raised, with_time};
-ghost use Rattle.txn_rows.specs.inside.Rows.{IsNewestRow, AreTrees, longer_by};
+ghost use Rattle.txn_rows.specs.inside.Rows.{IsNewestRow, AreTrees, longer_by, own_claim};
 ghost use Rattle.txn_rows.specs.inside.States.{state_of, AreOrdered, Went, WentBy};
 
 use crate::claim::Claim;
@@ -125,19 +125,23 @@ pub(crate) fn take_claim(
     )
 }
 
-/// Adds a record to the newest row of its VXID; a Begin may tell the row's kind.
+/// Adds a record to the newest row of its VXID; a Begin may tell the row's kind. Where the row has
+/// no records, room is made for those at hand.
 pub(crate) fn add_to(
     pending: &mut Pending,
     at: usize,
     vxid: Vxid,
     rec: &RecordView<'_>,
+    claim: Option<Claim>,
+    at_hand: &RecordsView<'_>,
 ) -> Result<(), NoMemory>
-    requires { IsNewestRow vxid at pending.old.rows.items }
+    requires newest { IsNewestRow vxid at pending.old.rows.items }
+    requires claim { claim ≡ own_claim rec.now }
     ensures went { AreTrees pending.old.begun pending.old.rows.items →
         OnOk result (Went (record (state_of pending.old) { pending = with_kind vxid rec.now (with_record vxid rec.now (state_of pending.old).pending) }) pending.new) }
     ensures newest { OnOk result (IsNewestRow vxid at pending.new.rows.items) }
 {
-    add_record(&mut pending.rows[at], rec)?;
+    add_record(&mut pending.rows[at], rec, claim, at_hand)?;
     Ok(())
 }
 

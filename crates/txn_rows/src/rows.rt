@@ -5,16 +5,12 @@ ghost use Rattle.txn_rows.specs.Transaction.{is_pending, claimed_kind};
 ghost use Rattle.txn_rows.specs.Grouping.{timed};
 ghost use Rattle.txn_rows.specs.inside.Rows.{transaction_of, row_told, IsNewestRow, with_one, longer_by, own_claim};
 
-use crate::claim::{Claim, read_claim};
+use crate::claim::Claim;
 use crate::group::{Kind, ParentLink, Reason};
 use crate::path::Path;
 use log_model::NoMemory;
 use std::alloc::Global;
 use vsl_record::{RecordView, Records, RecordsView, Vxid};
-use vsl_tags::Tag;
-
-/// For so many records room is made when a row gets its first.
-const FIRST_RECORDS: usize = 48;
 
 /// A pending transaction, and where it stands in its tree.
 #[derive(Drop)]
@@ -70,32 +66,28 @@ pub(crate) fn empty_row(alloc: Global, serial: u64, vxid: Vxid, time: Option<u12
     }
 }
 
-/// Makes room for a row's first records where it has none.
-fn make_room(records: &mut Records) -> Result<(), NoMemory>
+/// Where a row has no records, makes room for some.
+fn make_room(records: &mut Records, more: &RecordsView<'_>) -> Result<(), NoMemory>
     ensures { records.new ≡ records.old }
 {
-    if records.view().is_empty() {
-        records.reserve(FIRST_RECORDS)?;
+    if records.view().is_empty() && !more.is_empty() {
+        records.reserve(more)?;
     }
     Ok(())
 }
 
-/// The claim of a Begin.
-fn own_claim(rec: &RecordView<'_>) -> Option<Claim>
-    ensures { result ≡ own_claim rec.now }
-{
-    if rec.tag() != Tag::BEGIN {
-        return None;
-    }
-    read_claim(rec.payload())
-}
-
-/// Adds a record to a row; a Begin may tell the row's kind.
-pub(crate) fn add_record(row: &mut Row, rec: &RecordView<'_>) -> Result<(), NoMemory>
+/// Adds a record to a row; a Begin may tell the row's kind. Where the row has no records, room
+/// is made for those at hand.
+pub(crate) fn add_record(
+    row: &mut Row,
+    rec: &RecordView<'_>,
+    claim: Option<Claim>,
+    at_hand: &RecordsView<'_>,
+) -> Result<(), NoMemory>
+    requires { claim ≡ own_claim rec.now }
     ensures { OnOk result (row.new ≡ row_told (with_one rec.now) row.old) }
 {
-    let claim = own_claim(rec);
-    make_room(&mut row.records)?;
+    make_room(&mut row.records, at_hand)?;
     row.records.push(rec)?;
     take_claim(row, claim);
     Ok(())
@@ -105,7 +97,7 @@ pub(crate) fn add_record(row: &mut Row, rec: &RecordView<'_>) -> Result<(), NoMe
 pub(crate) fn add_records(row: &mut Row, run: &RecordsView<'_>) -> Result<(), NoMemory>
     ensures { OnOk result (row.new ≡ row_told (longer_by run.now) row.old) }
 {
-    make_room(&mut row.records)?;
+    make_room(&mut row.records, run)?;
     row.records.append(run)
 }
 

@@ -25,12 +25,14 @@ pub(crate) fn take_records(
     ensures err { AreOrdered pending.old → OnErr result (AddsPart options.grouping (steps options vxid records.now (state_of pending.old)) out.old.items out.new.items) }
 {
     let mut known = None;
+    let mut begin = true;
     let (_, mut rest) = records.split_at(0);
     while !rest.is_empty() {
-        let (count, place) = take_some(options, pending, vxid, known, &rest, out)?;
+        let (count, place) = take_some(options, pending, vxid, known, begin, &rest, out)?;
         let (_, behind) = rest.split_at(count);
         rest = behind;
         known = place;
+        begin = false;
     }
     Ok(())
 }

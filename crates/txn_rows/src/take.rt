@@ -5,7 +5,7 @@ ghost use Rattle.std.specs.List.{list_all};
 ghost use Rattle.vsl_record.specs.declared.record_type.Record.{Record};
 ghost use Rattle.txn_rows.specs.Transaction.{is_open};
 ghost use Rattle.txn_rows.specs.Grouping.{with_log_time, with_claim, with_all_told, after_end, after_timeouts, has_risen, grouped, is_raw, step, steps};
-ghost use Rattle.txn_rows.specs.inside.Rows.{transaction_of, AreTrees, IsNewestRow};
+ghost use Rattle.txn_rows.specs.inside.Rows.{transaction_of, AreTrees, IsNewestRow, own_claim};
 ghost use Rattle.txn_rows.specs.inside.Told.{Tells, is_plain, is_plain_record};
 ghost use Rattle.txn_rows.specs.inside.Steps.{AddsPart};
 ghost use Rattle.txn_rows.specs.inside.States.{state_of, AreOrdered, Went, WentBy};
@@ -50,6 +50,16 @@ fn read_told(rec: &RecordView<'_>) -> Told
     }
 }
 
+/// What a record claims of its own transaction: what a Begin does.
+fn own_claim(told: Told) -> Option<Claim>
+    ensures { (rec : Record) → Tells rec told → result ≡ own_claim rec }
+{
+    match told {
+        Told::Begin(claim) => claim,
+        _ => None,
+    }
+}
+
 /// What a record told may link its transaction, the newest row of which is at this place, or raise the log time.
 fn follow(
     grouping: Grouping,
@@ -79,12 +89,13 @@ fn tell(
     pending: &mut Pending,
     vxid: Vxid,
     rec: &RecordView<'_>,
+    at_hand: &RecordsView<'_>,
 ) -> Result<(), NoMemory>
     ensures { AreOrdered pending.old → OnOk result (Went (with_all_told grouping vxid rec.now (state_of pending.old)) pending.new) }
 {
     let told = read_told(rec);
     let at = open_row(pending, vxid)?;
-    add_to(pending, at, vxid, rec)?;
+    add_to(pending, at, vxid, rec, own_claim(told), at_hand)?;
     follow(grouping, pending, at, vxid, told)
 }
 
@@ -152,6 +163,7 @@ fn take_telling(
     pending: &mut Pending,
     vxid: Vxid,
     rec: &RecordView<'_>,
+    at_hand: &RecordsView<'_>,
     out: &mut Vec<Group>,
 ) -> Result<(), NoMemory>
     ensures ok { AreOrdered pending.old → OnOk result (WentBy options.grouping (grouped options vxid rec.now (state_of pending.old)) pending.new out.old.items out.new.items) }
@@ -159,7 +171,7 @@ fn take_telling(
 {
     let before = pending.time;
     let tag = rec.tag();
-    tell(options.grouping, pending, vxid, rec)?;
+    tell(options.grouping, pending, vxid, rec, at_hand)?;
     take_end(options.grouping, pending, vxid, tag, out)?;
     take_timeouts(options, pending, before, out)?;
     keep_within(
@@ -229,6 +241,7 @@ fn take_one(
     pending: &mut Pending,
     vxid: Vxid,
     rec: &RecordView<'_>,
+    at_hand: &RecordsView<'_>,
     out: &mut Vec<Group>,
 ) -> Result<(), NoMemory>
     ensures ok { AreOrdered pending.old → OnOk result (WentBy options.grouping (step options vxid rec.now (state_of pending.old)) pending.new out.old.items out.new.items) }
@@ -237,17 +250,19 @@ fn take_one(
     if options.grouping == Grouping::Raw {
         return take_raw(pending.alloc, vxid, rec, out);
     }
-    take_telling(options, pending, vxid, rec, out)
+    take_telling(options, pending, vxid, rec, at_hand, out)
 }
 
 /// Takes some records of one VXID, from the first on, and adds the groups that they complete: where their row is open,
 /// all that tell nothing but themselves at once, and else one. It answers how many. It is told and tells the place of
-/// the newest row of the VXID, where that is known: most records go to the row of the one before.
+/// the newest row of the VXID, where that is known: most records go to the row of the one before. Room for all of them
+/// is made where they begin a unit, and so never for more than the units have.
 pub(crate) fn take_some(
     options: GroupOptions,
     pending: &mut Pending,
     vxid: Vxid,
     known: Option<usize>,
+    begin: bool,
     records: &RecordsView<'_>,
     out: &mut Vec<Group>,
 ) -> Result<(usize, Option<usize>), NoMemory>
@@ -266,6 +281,7 @@ pub(crate) fn take_some(
             return Ok((count, Some(at)));
         }
     }
-    take_one(options, pending, vxid, &records.get(0), out)?;
+    let (at_hand, _) = records.split_at(if begin { records.len() } else { 0 });
+    take_one(options, pending, vxid, &records.get(0), &at_hand, out)?;
     Ok((1, None))
 }

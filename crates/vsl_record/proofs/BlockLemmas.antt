@@ -1,6 +1,6 @@
 -- Records of a block: what stays as bytes are added, and where a record's payload stands.
-use Rattle.std.proofs.Common.{◌≡◌, ℕ, zero, suc, ◌+◌, ◌-◌, ◌^◌, ◌<◌, ◌≤◌, List, [], ◌∷◌, ◌++◌, length, take, drop, get_or, map, Some, Result, Ok, Err, refl, sym, ap, subst, ◌∙◌, arith}
-use Rattle.std.specs.Prelude.{slice_get, OnOk, OnErr}
+use Rattle.std.proofs.Common.{◌≡◌, ℕ, zero, suc, ◌+◌, ◌-◌, ◌<◌, ◌≤◌, List, [], ◌∷◌, ◌++◌, length, take, drop, get_or, map, Result, Ok, Err, refl, sym, ap, subst, ◌∙◌, arith}
+use Rattle.std.specs.Prelude.{OnOk, OnErr}
 use Rattle.std.specs.List.{AllByRecursion}
 use Rattle.std.proofs.lemmas.List.{append-nil, length-append, length-drop, length-take-le, drop-drop, take_at, drop_at, take_more, take-append-drop}
 use Rattle.vsl_record.specs.declared.entry.Entry.{Entry}
@@ -50,55 +50,11 @@ record_pushed block payload entries e rec is same =
 pub block_pushed : (block : List ℕ) (entries : List Entry) (e : Entry) → IsBlock block entries → IsEntryOf block e → IsBlock block (entries ++ e ∷ [])
 block_pushed block entries e is one = all_append (IsEntryOf block) entries (e ∷ []) is (one, tt)
 
-pub block_take : (block : List ℕ) (n : ℕ) (entries : List Entry) → IsBlock block entries → IsBlock block (take n entries)
-block_take block zero entries is = tt
-block_take block (suc n) [] is = tt
-block_take block (suc n) (e ∷ entries) is = (is.0, block_take block n entries is.1)
-
-pub block_drop : (block : List ℕ) (n : ℕ) (entries : List Entry) → IsBlock block entries → IsBlock block (drop n entries)
-block_drop block zero entries is = is
-block_drop block (suc n) [] is = tt
-block_drop block (suc n) (e ∷ entries) is = block_drop block n entries is.1
-
-pub records_take : (block : List ℕ) (n : ℕ) (entries : List Entry) → block_records block (take n entries) ≡ take n (block_records block entries)
-records_take block zero entries = refl
-records_take block (suc n) [] = refl
-records_take block (suc n) (e ∷ entries) = ap (λ (rs : List Record). entry_record block e ∷ rs) (records_take block n entries)
-
-pub records_drop : (block : List ℕ) (n : ℕ) (entries : List Entry) → block_records block (drop n entries) ≡ drop n (block_records block entries)
-records_drop block zero entries = refl
-records_drop block (suc n) [] = refl
-records_drop block (suc n) (e ∷ entries) = records_drop block n entries
-
-pub length-records : (block : List ℕ) (entries : List Entry) → length (block_records block entries) ≡ length entries
-length-records block [] = refl
-length-records block (e ∷ entries) = ap suc (length-records block entries)
-
 -- the entry at a place is one of the block, and its record stands at that place
 pub entry_at : (block : List ℕ) (entries : List Entry) (i : ℕ) (e : Entry) → i < length entries → e ≡ get_or entries i e → IsBlock block entries → IsEntryOf block e
 entry_at block [] i e within is all = absurd (omega (arith, within))
 entry_at block (x ∷ xs) zero e within is all = subst (IsEntryOf block) (sym is) all.0
 entry_at block (x ∷ xs) (suc i) e within is all = entry_at block xs i e (omega (arith, within)) is all.1
-
-pub record_at : (block : List ℕ) (entries : List Entry) (i : ℕ) (e : Entry) (rec : Record) → i < length entries → e ≡ get_or entries i e → rec ≡ entry_record block e → rec ≡ get_or (block_records block entries) i rec
-record_at block [] i e rec within is same = absurd (omega (arith, within))
-record_at block (x ∷ xs) zero e rec within is same = same ∙ ap (entry_record block) is
-record_at block (x ∷ xs) (suc i) e rec within is same = record_at block xs i e rec (omega (arith, within)) is same
-
--- what is lent in one form is that form
-pub listed_alone : (listed : List Record) (block : List ℕ) (entries : List Entry) → (0 < length listed → length entries ≡ 0) → 0 < length listed → listed ++ block_records block entries ≡ listed
-listed_alone listed block [] form some = append-nil listed
-listed_alone listed block (e ∷ entries) form some = absurd (omega (arith, form some))
-
-pub packed_alone : (listed : List Record) (block : List ℕ) (entries : List Entry) → length listed ≡ 0 → listed ++ block_records block entries ≡ block_records block entries
-packed_alone [] block entries none = refl
-packed_alone (r ∷ listed) block entries none = absurd (omega (arith, none))
-
--- one record of a list, by itself
-pub one_only : (xs : List Record) (i : ℕ) (rec : Record) → slice_get xs i ≡ Some rec → take 1 (drop i xs) ≡ rec ∷ []
-one_only [] i rec e = absurd cc
-one_only (x ∷ xs) zero rec e = let same : x ≡ rec = cc in ap (λ (y : Record). y ∷ []) same
-one_only (x ∷ xs) (suc i) rec e = one_only xs i rec e
 
 -- ---- one record more
 
@@ -144,14 +100,6 @@ within_more from from' until until' i entries e within is low at high end so_far
     let more : take (i + 1) entries ≡ take i entries ++ e ∷ [] = take_more entries i e within ∙ ap (λ (x : Entry). take i entries ++ x ∷ []) (sym is) in
     rw more (all_append (IsWithin from' until') (take i entries) (e ∷ []) (within_wider from from' until until' (take i entries) low high so_far) (record { begins = at; ends = end }, tt))
 
--- the first of the entries that were to be added
-pub block_prefix : (block : List ℕ) (old entries : List Entry) (f : Entry → Entry) (i : ℕ) → IsBlock block (old ++ map f entries) → IsBlock block (old ++ map f (take i entries))
-block_prefix block [] [] f zero is = tt
-block_prefix block [] [] f (suc i) is = tt
-block_prefix block [] (e ∷ entries) f zero is = tt
-block_prefix block [] (e ∷ entries) f (suc i) is = (is.0, block_prefix block [] entries f i is.1)
-block_prefix block (x ∷ old) entries f i is = (is.0, block_prefix block old entries f i is.1)
-
 -- the bytes of a block from one place to another
 abbrev pub span : ℕ → ℕ → List ℕ → List ℕ
 span from until block = take (until - from) (drop from block)
@@ -196,14 +144,6 @@ pub appended_records : (from until base : ℕ) (block old block' : List ℕ) (ke
 appended_records from until base block old block' kept kept' entries records had within end b size es r =
     rw (b, es, size, r) (records_append (old ++ span from until block) kept (map (moved from (length old)) entries) ∙ ap (λ (rs : List Record). rs ++ block_records (old ++ span from until block) (map (moved from (length old)) entries)) (records_stay old (span from until block) kept had)
     ∙ ap (λ (rs : List Record). block_records old kept ++ rs) (moved_records from until block old entries within end))
-
-pub within_begins : (from until : ℕ) (entries : List Entry) → AllByRecursion (IsWithin from until) entries → AllByRecursion (λ (e : Entry). from ≤ e.at) entries
-within_begins from until [] is = tt
-within_begins from until (e ∷ entries) is = (is.0.begins, within_begins from until entries is.1)
-
-pub within_fits : (from until base : ℕ) (entries : List Entry) → AllByRecursion (IsWithin from until) entries → base + (until - from) < 2 ^ 32 → AllByRecursion (λ (e : Entry). e.at - from + base < 2 ^ 32) entries
-within_fits from until base [] is few = tt
-within_fits from until base (e ∷ entries) is few = (omega (arith, is.0.begins, is.0.ends, few), within_fits from until base entries is.1 few)
 
 -- what follows where there is no error
 pub ok_when : {T E : Type 0} {P Q : Type 0} (r : Result T E) → OnOk r P → (P → Q) → OnOk r Q

@@ -72,25 +72,18 @@ fn keep_words(bytes: &[u8], count: usize) -> &[u8]
     kept
 }
 
-/// Whether all bytes are zero.
-fn are_zero(bytes: &[u8]) -> bool
-    ensures { result ≡ list_all (λ b. b == 0) bytes.now }
-{
-    for b in bytes {
-        if *b != 0 {
-            return false;
-        }
-    }
-    true
-}
-
 /// Whether the bytes from the place on are zero.
 fn is_padded(bytes: &[u8], from: usize) -> bool
     requires { from ≤ length bytes.now }
     ensures { result ≡ list_all (λ b. b == 0) (drop from bytes.now) }
 {
     let (_, padding) = bytes.split_at(from);
-    are_zero(padding)
+    for b in padding {
+        if *b != 0 {
+            return false;
+        }
+    }
+    true
 }
 
 /// The payload of so many bytes of the record that begins the bytes, and the bytes behind the record, which begins at

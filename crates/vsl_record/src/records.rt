@@ -11,6 +11,12 @@ use log_model::NoMemory;
 use std::alloc::{AllocError, Global};
 use std::marker::Model;
 
+/// For so many records room is made at once at most.
+const FIRST_RECORDS: usize = 64;
+
+/// For so many bytes of payloads room is made at once at most.
+const FIRST_BYTES: usize = 4096;
+
 /// Records in order, kept as a block of bytes and eight bytes a record. Contracts see the list.
 #[derive(Drop)]
 pub struct Records {
@@ -49,11 +55,16 @@ impl Records {
         Records { block, entries }
     }
 
-    /// Makes room for so many more records. The list stays as it is, also where there is no memory.
-    pub fn reserve(&mut self, more: usize) -> Result<(), AllocError>
+    /// Makes room for records that are to be added, or for the first of them: at most 64, and 4,096 bytes. The list stays
+    /// as it is, also where there is no memory.
+    pub fn reserve(&mut self, more: &RecordsView<'_>) -> Result<(), AllocError>
         ensures { self.new ≡ self.old }
     {
-        self.entries.reserve(more)
+        self.entries.reserve(more.len().min(FIRST_RECORDS))?;
+        if let Some((block, _)) = more.in_block() {
+            self.block.reserve(block.len().min(FIRST_BYTES))?;
+        }
+        Ok(())
     }
 
     /// Adds a copy of a record. 2^32 bytes of payloads count as want of memory.
@@ -142,12 +153,24 @@ fn append_moved(
     ensures ok { OnOk result (into.new.items ≡ into.old.items ++ map (moved from base) entries.now) }
     ensures block { (block : List ℕ) → IsBlock block (into.old.items ++ map (moved from base) entries.now) → IsBlock block into.new.items }
 {
-    into.reserve(entries.len())?;
-    for entry in entries {
-        into.push(Entry {
-            at: (entry.at as usize - from + base) as u32,
-            ..*entry
-        })?;
-    }
+    let kept = into.len();
+    into.extend_from_slice(entries)?;
+    let (_, added) = into.as_mut_slice().split_at_mut(kept);
+    move_entries(added, from, base);
     Ok(())
+}
+
+/// Tells entries that their bytes stand from another place of a block on.
+fn move_entries(entries: &mut [Entry], from: usize, base: usize)
+    requires behind { AllByRecursion (λ e. from ≤ e.at) entries.old }
+    requires fits { AllByRecursion (λ e. e.at - from + base < 2 ^ 32) entries.old }
+    ensures { entries.new ≡ map (moved from base) entries.old }
+{
+    for i in 0..entries.len() {
+        let entry = entries[i];
+        entries[i] = Entry {
+            at: (entry.at as usize - from + base) as u32,
+            ..entry
+        };
+    }
 }
