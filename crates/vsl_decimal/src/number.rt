@@ -98,6 +98,7 @@ fn read_all_digits(text: &[u8]) -> Option<u64>
 }
 
 /// Reads the digits at the beginning of the text: all that stand there, 1 to 18.
+#[inline(always)]
 #[tactic(auto, using(crate::proofs::DecimalLemmas::are_read_below))]
 fn read_digits(text: &[u8]) -> Option<Digits<'_>>
     ensures read { IfSome result (λ found. BeginsWithDigits text.now found.value found.count found.rest.now) }
