@@ -1,10 +1,13 @@
 -- Writing a unit: the bytes of a record and of its words.
-use Rattle.std.proofs.Common.{◌≡◌, ℕ, suc, ◌+◌, ◌-◌, ◌*◌, ◌/◌, ◌%◌, ◌^◌, ◌<◌, List, [], ◌∷◌, ◌++◌, length, refl, sym, ap, ◌∙◌, arith}
+use Rattle.std.proofs.Common.{◌≡◌, ℕ, suc, ◌+◌, ◌-◌, ◌*◌, ◌/◌, ◌%◌, ◌^◌, ◌<◌, List, [], ◌∷◌, ◌++◌, length, length-append, take, refl, sym, ap, ◌∙◌, append_assoc, arith}
 use Rattle.std.specs.Prelude.{Result, Ok, Err, OnOk}
 use Rattle.std.specs.Int.{w32, w64, to_le_bytes}
 use Rattle.std.specs.List.{flat_map}
+use Rattle.std.proofs.lemmas.List.{append-nil}
 use Rattle.std.proofs.lemmas.List.Concat.{flat_map-append, flat_map-cons}
 use Rattle.std.proofs.lemmas.Nat.{le_bytes_4}
+use Rattle.std.proofs.Math.Seq.{take-append-add}
+use Rattle.vsl_record.specs.declared.mark.Mark.{Mark}
 use Rattle.vsl_record.specs.declared.record_type.Record.{Record}
 use Rattle.vsl_record.specs.Unit.{LogUnit}
 use Rattle.vsl_record.specs.Words.{packed, header_mark, mark_bits, word_of, word_bytes, record_words, body_words}
@@ -50,6 +53,13 @@ packed_bytes (a ∷ b ∷ c ∷ d ∷ p) all =
     let same : (4 - length (a ∷ b ∷ c ∷ d ∷ p) % 4) % 4 ≡ (4 - length p % 4) % 4 = omega arith in
     rw same (ap (λ (x : List ℕ). x ++ word_bytes (packed p)) (word_again a b c d (all 0) (all 1) (all 2) (all 3)) ∙ ap (λ (x : List ℕ). a ∷ b ∷ c ∷ d ∷ x) (packed_bytes p (λ i. all (suc (suc (suc (suc i)))))))
 
+-- of three zero bytes behind a payload, those that are not cut off fill its last word
+pub filled_cut : (old payload all : List ℕ) (size : ℕ) → all ≡ (old ++ payload) ++ 0 ∷ 0 ∷ 0 ∷ [] → size ≡ length all - (length payload % 4 + 3) % 4 → take size all ≡ old ++ filled payload
+filled_cut old payload all size all_is size_is =
+    let kept : ℕ = (4 - length payload % 4) % 4 in
+    let size_at : size ≡ length (old ++ payload) + kept = omega (arith, size_is, ap length all_is, length-append (old ++ payload) (0 ∷ 0 ∷ 0 ∷ [])) in
+    rw (all_is, size_at) (take-append-add (old ++ payload) (0 ∷ 0 ∷ 0 ∷ []) kept) ∙ append_assoc old payload (take kept (0 ∷ 0 ∷ 0 ∷ []))
+
 -- a record's bytes are those of its two words and of its payload
 pub record_whole : (vxid head id : ℕ) (rec : Record) → IsBytes rec.payload → head < 2 ^ 32 → head ≡ 16777216 * rec.tag + length rec.payload → id ≡ (vxid + mark_bits rec.mark) % 2 ^ 32 → record_bytes vxid rec ≡ to_le_bytes w64 (head + 4294967296 * id) ++ filled rec.payload
 record_whole vxid head id rec all fits head_is id_is =
@@ -68,6 +78,14 @@ pub unit_whole : (count : ℕ) (u : LogUnit) → count ≡ 1 + length (body_word
 unit_whole count u count_is =
     ap (λ (x : List ℕ). to_le_bytes w32 (header_mark + (1 + length (body_words u))) ++ x) (body_bytes u.vxid u.records)
     ∙ ap (λ (n : ℕ). to_le_bytes w32 (header_mark + n) ++ flat_map (record_bytes u.vxid) u.records) (sym count_is)
+
+-- the bytes of the unit of one record are those of its header and of the record
+pub alone_whole : (vxid : ℕ) (mark : Mark) (rec put : Record) (words : ℕ) → words ≡ length (record_words vxid rec) → put ≡ rec
+    → unit_bytes (record { vxid = vxid; mark = mark; records = rec ∷ [] }) ≡ to_le_bytes w32 (header_mark + (1 + words)) ++ record_bytes vxid put
+alone_whole vxid mark rec put words words_are same =
+    let body : length (record_words vxid rec ++ []) ≡ words = omega (arith, words_are, length-append (record_words vxid rec) []) in
+    unit_whole (1 + words) (record { vxid = vxid; mark = mark; records = rec ∷ [] }) (ap (λ (n : ℕ). 1 + n) (sym body))
+    ∙ ap (λ (x : List ℕ). to_le_bytes w32 (header_mark + (1 + words)) ++ x) (append-nil (record_bytes vxid rec) ∙ ap (record_bytes vxid) (sym same))
 
 -- what is so of each, where a call did not fail
 pub on_ok_each : {A E X : Type 0} (P : X → Type 0) (r : Result A E) → ((x : X) → OnOk r (P x)) → OnOk r ((x : X) → P x)

@@ -1,6 +1,6 @@
 //! Writing a log file: its header and its units.
 
-ghost use Rattle.std.specs.Prelude.{◌≡◌, ◌+◌, ◌<◌, ◌≤◌, ◌++◌, ℕ, length, slice_index, OnOk, OnErr};
+ghost use Rattle.std.specs.Prelude.{◌≡◌, ◌+◌, ◌<◌, ◌≤◌, ◌++◌, ◌∷◌, [], ℕ, length, slice_index, OnOk, OnErr};
 ghost use Rattle.std.specs.Int.{w32, to_le_bytes};
 ghost use Rattle.std.specs.List.{flat_map};
 ghost use Rattle.log_model.specs.Adding.{Puts};
@@ -15,7 +15,7 @@ use crate::header::HEADER;
 use crate::steps::WORD;
 use log_model::or_cut_back;
 use vio::NoMemory;
-use vsl_record::{HEADER_MARK, Mark, RecordsView, TOP_BYTE, Unit, Vxid, count_words};
+use vsl_record::{HEADER_MARK, Mark, RecordView, RecordsView, TOP_BYTE, Unit, Vxid, count_words};
 use vsl_tags::Tag;
 
 /// One more than the highest word.
@@ -38,14 +38,15 @@ fn are_bytes(bytes: &[u8])
     ensures { (i : ℕ) → slice_index bytes.now i < 256 }
 {}
 
-/// Adds a payload, and zero bytes up to a whole word.
+/// Adds a payload, and zero bytes up to a whole word. Three are added always, since a copy of a fixed size is no call, and
+/// those too many are cut off.
 #[tactic(auto, using(log_model::proofs::PrefixLemmas::adding))]
 fn put_payload(payload: &[u8], out: &mut Vec<u8>) -> Result<(), NoMemory>
     ensures { Puts result out.old.items out.new.items (filled payload.now) }
 {
-    let (filling, _) = FILLING.split_at((WORD - payload.len() % WORD) % WORD);
     out.extend_from_slice(payload)?;
-    out.extend_from_slice(filling)?;
+    out.extend_from_slice(&FILLING)?;
+    out.truncate(out.len() - (payload.len() % WORD + FILLING.len()) % WORD);
     Ok(())
 }
 
@@ -110,7 +111,7 @@ fn put_words(vxid: Vxid, records: &RecordsView<'_>, out: &mut Vec<u8>) -> Result
     ensures { (mark : LogMark) → Puts result out.old.items out.new.items (unit_bytes (record { vxid = vxid; mark = mark; records = records.now })) }
 {
     let words = count_words(records) as usize;
-    out.reserve(WORD * words)?;
+    out.reserve(WORD * words + FILLING.len())?;
     put_head(words, out)?;
     put_body(vxid, records, out)
 }
@@ -124,6 +125,25 @@ pub fn put_records(vxid: Vxid, records: &RecordsView<'_>, out: &mut Vec<u8>) -> 
 {
     let before = out.len();
     let put = put_words(vxid, records, out);
+    or_cut_back(put, before, out)
+}
+
+/// Adds the header and the record of a unit of one record, or a part of them.
+#[tactic(auto, using(log_model::proofs::PrefixLemmas::adding))]
+fn put_one(vxid: Vxid, rec: &RecordView<'_>, out: &mut Vec<u8>) -> Result<(), NoMemory>
+    ensures { (mark : LogMark) → Puts result out.old.items out.new.items (unit_bytes (record { vxid = vxid; mark = mark; records = rec.now ∷ [] })) }
+{
+    put_head(1 + rec.words(), out)?;
+    put_record(vxid, rec.mark(), rec.tag(), rec.payload(), out)
+}
+
+/// Adds the bytes of the unit of one record, as `put_records` adds those of more.
+pub fn put_alone(vxid: Vxid, rec: &RecordView<'_>, out: &mut Vec<u8>) -> Result<(), NoMemory>
+    ensures ok { OnOk result ((mark : LogMark) → out.new.items ≡ out.old.items ++ unit_bytes (record { vxid = vxid; mark = mark; records = rec.now ∷ [] })) }
+    ensures err { OnErr result (out.new.items ≡ out.old.items) }
+{
+    let before = out.len();
+    let put = put_one(vxid, rec, out);
     or_cut_back(put, before, out)
 }
 

@@ -16,5 +16,8 @@ returns c = λ mark.
 pub overflow_mul-words : goal.overflow_mul-words
 overflow_mul-words c = omega (arith, c.count_words-words.ensures.words c.args.vxid, c.requires Plain)
 
+pub overflow_add-words : goal.overflow_add-words
+overflow_add-words c = omega (arith, c.count_words-words.ensures.words c.args.vxid, c.requires Plain)
+
 pub put_head-requires : goal.put_head-requires
 put_head-requires c = omega (arith, c.count_words-words.ensures.words c.args.vxid, c.requires Plain)
