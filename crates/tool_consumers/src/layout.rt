@@ -10,7 +10,7 @@ ghost use Rattle.tool_consumers.specs.inside.Consumer.{alone_bytes, raw_written}
 
 use txn_rows::{Group, Member};
 use vio::NoMemory;
-use vsl_file::put_records;
+use vsl_file::{put_alone, put_records};
 use vsl_record::{RecordsView, Unit, Vxid};
 use vsl_select::{Selection, first_unit, group_text, raw_lines};
 
@@ -87,11 +87,8 @@ pub fn put_group(out: &mut Vec<u8>, look: &Look, group: &Group) -> Result<(), No
 fn put_each_alone(out: &mut Vec<u8>, vxid: Vxid, records: &RecordsView<'_>) -> Result<(), NoMemory>
     ensures { OnOk result (out.new.items ≡ out.old.items ++ flat_map (alone_bytes vxid) records.now) }
 {
-    let (_, mut rest) = records.split_at(0);
-    while !rest.is_empty() {
-        let (first, others) = rest.split_at(1);
-        put_units(out, vxid, &first)?;
-        rest = others;
+    for i in 0..records.len() {
+        put_alone(vxid, &records.get(i), out)?;
     }
     Ok(())
 }
