@@ -1,10 +1,10 @@
 -- What the rules of a selection say.
-use Rattle.std.proofs.Common.{◌≡◌, ◌+◌, ◌<◌, ℕ, Bool, true, false, cond, List, [], ◌∷◌, ◌++◌, length, map, reverse, take, drop, get_or, Option, Some, None, unwrap_or, Bor, refl, sym, ap, ◌∙◌, subst}
+use Rattle.std.proofs.Common.{◌≡◌, ◌+◌, ◌<◌, ◌&&◌, ◌||◌, ℕ, Bool, true, false, cond, List, [], ◌∷◌, ◌++◌, length, map, reverse, take, drop, get_or, Option, Some, None, unwrap_or, Bor, refl, sym, ap, ◌∙◌, subst}
 use Rattle.std.specs.List.{All, find, list_any}
 use Rattle.std.specs.Option.{option_map, option_or}
 use Rattle.std.proofs.Math.Bool.{Bool-set}
 use Rattle.std.proofs.Math.Logic.{∥∥₁_elim}
-use Rattle.std.proofs.lemmas.Bool.{or_right}
+use Rattle.std.proofs.lemmas.Bool.{or_parts, or_right}
 use Rattle.std.proofs.lemmas.List.{append_assoc, drop_more, map-append, reverse-append, take-append-drop, take_more}
 use Rattle.std.proofs.lemmas.List.Elements.{All-push}
 use Rattle.std.proofs.lemmas.List.Folds.{find-append, list_any-append}
@@ -78,6 +78,17 @@ module _ (is_so : RuleText → Bool) where
       behind : (o : Option (Bor Rule)) → elim o [ None ↦ false | Some r ↦ r.now.text.include ] ≡ unwrap_or (option_map (λ r. r.text.include) (option_map (λ r. r.now) o)) false
       behind None = refl
       behind (Some r) = refl
+
+  -- where no rule is so, none that is more than so says anything
+  pub none_without : (is_more : RuleText → Bool) (texts : List RuleText) → list_any is_so texts ≡ false → first_says (λ r. is_so r && is_more r) texts ≡ None
+  none_without is_more [] none = refl
+  none_without is_more (text ∷ texts) none =
+      let parts = or_parts (is_so text) (list_any is_so texts) none in rw parts.0 (none_without is_more texts parts.1)
+
+  -- the test of a rule's text, of the rules and of their texts
+  pub any_of_texts : (rules : List Rule) → list_any (λ r. is_so r.text) rules ≡ list_any is_so (texts_of rules)
+  any_of_texts [] = refl
+  any_of_texts (rule ∷ rules) = ap (λ (b : Bool). is_so rule.text || b) (any_of_texts rules)
 
   module _ (rules : List Rule) (i : ℕ) (rule : Rule) (lt : i < length rules) (is : rule ≡ get_or rules i rule) where
     with_it : texts_of (take (i + 1) rules) ≡ texts_of (take i rules) ++ rule.text ∷ []

@@ -26,16 +26,25 @@ pub struct Selection {
     sides: Sides,
     caseless: bool,
     rules: Vec<Rule>,
+    /// Whether a rule is `-I` or `-X`.
+    patterns: bool,
+    /// Whether a record for which no rule decides is shown.
+    others: bool,
     ghost read: { ∥ All (IsRead caseless) rules.items ∥₁ },
 }
 
 impl Model for Selection {
-    ghost use Rattle.std.specs.Prelude.{map};
+    ghost use Rattle.std.specs.Prelude.{◌≡◌, map};
+    ghost use Rattle.std.specs.List.{list_any};
     ghost use Rattle.vsl_select.specs.Showing.{Showing};
+    ghost use Rattle.vsl_select.specs.Shown.{shows_others};
 
     ghost Value = { Showing };
 
     ghost view = { λ s. record { sides = s.sides; rules = map (λ r. r.text) s.rules.items; caseless = s.caseless } };
+
+    ghost invariant = { λ s. (s.patterns ≡ list_any (λ r. r.regex) (map (λ r. r.text) s.rules.items))
+        × (s.others ≡ shows_others (map (λ r. r.text) s.rules.items)) };
 }
 
 /// Whether what is a client's is shown.
@@ -104,6 +113,20 @@ fn first_list_includes(rules: &[Rule]) -> bool
     }
 }
 
+/// Whether a record for which no rule decides is shown.
+fn shows_others(rules: &[Rule]) -> bool
+    ensures { result ≡ shows_others (map (λ r. r.text) rules.now) }
+{
+    !first_list_includes(rules) && !first_pattern_includes(rules)
+}
+
+/// Whether a rule is `-I` or `-X`.
+fn has_pattern(rules: &[Rule]) -> bool
+    ensures { result ≡ list_any (λ r. r.regex) (map (λ r. r.text) rules.now) }
+{
+    rules.iter().any(|rule| rule.text.regex)
+}
+
 impl Selection {
     /// What these sides and rules show. The rules are read in order, and the first that is refused is the answer: for its taglist,
     /// or else for its pattern. Where no side is set, all transactions are shown, and where there is no rule, all records.
@@ -120,11 +143,15 @@ impl Selection {
         ensures refused { IfErr result (λ fault. fault ≢ SelectFault.NoMemory → rules_fault caseless rules.items ≡ Some fault) }
     {
         let rules = read_rules(alloc, rules, caseless)?;
+        let patterns = has_pattern(&rules);
+        let others = shows_others(&rules);
         Ok(Selection {
             alloc,
             sides,
             caseless,
             rules,
+            patterns,
+            others,
         })
     }
 
@@ -167,7 +194,8 @@ impl Selection {
         }
     }
 
-    /// What the first of `-I` and `-X` that matches the record says.
+    /// What the first of `-I` and `-X` that matches the record says. It is kept out of line, since what asks a pattern takes much of the stack.
+    #[inline(never)]
     fn first_match(&self, rec: &RecordView<'_>) -> Result<Option<bool>, NoMemory>
         ensures said { IfOk result (λ said. said ≡ first_says (λ r. r.regex && is_matched self.now.caseless rec.now r) self.now.rules) }
         ensures answered { list_any (λ r. r.regex) self.now.rules ≡ false → IsOk result }
@@ -193,19 +221,15 @@ impl Selection {
         said
     }
 
-    /// Whether a record for which no rule decides is shown.
-    fn shows_others(&self) -> bool
-        ensures { result ≡ shows_others self.now.rules }
-    {
-        !first_list_includes(&self.rules) && !first_pattern_includes(&self.rules)
-    }
-
     /// What the rules say of the record, where one of them decides.
     fn said_of(&self, rec: &RecordView<'_>) -> Result<Option<bool>, NoMemory>
         ensures said { IfOk result (λ said. said ≡ option_or (first_says (λ r. r.regex && is_matched self.now.caseless rec.now r) self.now.rules)
             (first_says (λ r. not r.regex && names_tag r rec.now.tag) (reverse self.now.rules))) }
         ensures answered { list_any (λ r. r.regex) self.now.rules ≡ false → IsOk result }
     {
+        if !self.patterns {
+            return Ok(self.last_named(rec.tag()));
+        }
         match self.first_match(rec)? {
             Some(said) => Ok(Some(said)),
             None => Ok(self.last_named(rec.tag())),
@@ -213,13 +237,14 @@ impl Selection {
     }
 
     /// Whether the record is shown, in a transaction that is. Without `-I` and `-X` this takes no memory.
+    #[inline]
     pub fn shows(&self, rec: &RecordView<'_>) -> Result<bool, NoMemory>
         ensures shown { IfOk result (λ b. b ≡ is_shown_record self.now rec.now) }
         ensures answered { list_any (λ r. r.regex) self.now.rules ≡ false → IsOk result }
     {
         match self.said_of(rec)? {
             Some(said) => Ok(said),
-            None => Ok(self.shows_others()),
+            None => Ok(self.others),
         }
     }
 
