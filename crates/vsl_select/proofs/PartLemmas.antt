@@ -1,5 +1,6 @@
 -- The parts of a line.
 use Rattle.std.proofs.Common.{ℕ, suc, ◌-◌, ◌<◌, ◌≤◌, ◌≡◌, Bool, true, false, List, [], ◌∷◌, ◌++◌, length, take, drop, get_or, replicate, ◌+◌, refl, sym, ap, ◌∙◌, append_assoc, arith}
+use Rattle.std.proofs.lemmas.Bool.{or_from, or_left, or_parts, or_right}
 use Rattle.std.proofs.lemmas.List.{append-nil, take-append-drop, take_all, take-replicate, drop-replicate}
 use Rattle.std.proofs.lemmas.List.Concat.{flat_map-append}
 use Rattle.std.proofs.lemmas.List.Folds.{list_any-append}
@@ -7,15 +8,6 @@ use Rattle.std.proofs.Math.Seq.{take-add}
 use Rattle.std.specs.Prelude.{◌==◌, ◌||◌, nat_lt}
 use Rattle.std.specs.List.{list_any}
 use Rattle.vsl_select.specs.RawLine.{at_right, escaped, escaped_byte}
-
--- the parts of a test that is false
-or_left : (a b : Bool) → (a || b) ≡ false → a ≡ false
-or_left true b e = e
-or_left false b e = refl
-
-or_right : (a b : Bool) → (a || b) ≡ false → b ≡ false
-or_right true b e = absurd (cc)
-or_right false b e = e
 
 -- whether a byte is printed as an escape
 abbrev pub is_control : ℕ → Bool
@@ -28,15 +20,24 @@ escaped_head b rest e = rw e refl
 -- a payload without such a byte is printed as it is
 pub escaped_plain : (payload : List ℕ) → list_any is_control payload ≡ false → escaped payload ≡ payload
 escaped_plain [] e = refl
-escaped_plain (b ∷ rest) e = escaped_head b (escaped rest) (or_left (is_control b) (list_any is_control rest) e) ∙ ap (λ (x : List ℕ). b ∷ x) (escaped_plain rest (or_right (is_control b) (list_any is_control rest) e))
+escaped_plain (b ∷ rest) e = escaped_head b (escaped rest) (or_parts (is_control b) (list_any is_control rest) e).0 ∙ ap (λ (x : List ℕ). b ∷ x) (escaped_plain rest (or_parts (is_control b) (list_any is_control rest) e).1)
 
 -- whether a byte of the first bytes, or of those behind them, passes a test
 any_parts : (p : ℕ → Bool) (n : ℕ) (bytes : List ℕ) → (list_any p (take n bytes) || list_any p (drop n bytes)) ≡ list_any p bytes
 any_parts p n bytes = sym (list_any-append p (take n bytes) (drop n bytes)) ∙ ap (list_any p) (take-append-drop n bytes)
 
 -- the run behind the first bytes is looked at, too
-pub any_run : (p : ℕ → Bool) (n m : ℕ) (bytes : List ℕ) → list_any p (take (n + m) bytes) ≡ (list_any p (take n bytes) || list_any p (take m (drop n bytes)))
+any_run : (p : ℕ → Bool) (n m : ℕ) (bytes : List ℕ) → list_any p (take (n + m) bytes) ≡ (list_any p (take n bytes) || list_any p (take m (drop n bytes)))
 any_run p n m bytes = ap (list_any p) (take-add n m bytes) ∙ list_any-append p (take n bytes) (take m (drop n bytes))
+
+-- a run behind the first bytes in which one passes, and one in which none does
+pub any_found : (p : ℕ → Bool) (n m : ℕ) (bytes : List ℕ) → list_any p (take m (drop n bytes)) ≡ true → list_any p bytes ≡ true
+any_found p n m bytes some =
+    let first : list_any p (take (n + m) bytes) ≡ true = any_run p n m bytes ∙ or_right (list_any p (take n bytes)) _ some in
+    sym (any_parts p (n + m) bytes) ∙ or_left _ (list_any p (drop (n + m) bytes)) first
+
+pub any_none : (p : ℕ → Bool) (n m : ℕ) (bytes : List ℕ) → list_any p (take n bytes) ≡ false → list_any p (take m (drop n bytes)) ≡ false → list_any p (take (n + m) bytes) ≡ false
+any_none p n m bytes before here = any_run p n m bytes ∙ or_from _ _ before here
 
 -- what is looked at twice counts once
 looked_twice : (a b c : Bool) → ((a || b) || (b || c)) ≡ (a || (b || c))

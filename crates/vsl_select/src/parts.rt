@@ -3,7 +3,7 @@
 //! Each writer adds its text, or a part of it where it answers want of memory.
 #![tactic(auto, using(log_model::proofs::PrefixLemmas::adding))]
 
-ghost use Rattle.std.specs.Prelude.{◌≡◌, ◌≤◌, ◌<◌, ◌==◌, ◌||◌, ◌∷◌, [], false, length, take, nat_lt, replicate, decimal};
+ghost use Rattle.std.specs.Prelude.{◌≡◌, ◌≤◌, ◌<◌, ◌+◌, ◌==◌, ◌||◌, ◌∷◌, [], false, length, take, nat_lt, replicate, decimal};
 ghost use Rattle.std.specs.List.{list_any};
 ghost use Rattle.vsl_select.specs.RawLine.{at_left, escaped_byte, escaped, hex_digit, mark_letter};
 ghost use Rattle.log_model.specs.Adding.{Puts};
@@ -141,18 +141,32 @@ fn any_has_escape(bytes: &[u8]) -> bool
     found
 }
 
-/// Whether any byte of a short payload is printed as an escape: at 8 bytes or more of the first 8 and the last 8, which may overlap.
+/// Whether any byte is printed as an escape, of at most twice so many: it looks at the first so many and at the last, which may overlap.
+#[inline(always)]
+#[tactic(auto, using(crate::proofs::PartLemmas::any_ends))]
+fn either_end_has_escape(bytes: &[u8], count: usize) -> bool
+    requires least { count ≤ length bytes.now }
+    requires most { length bytes.now ≤ count + count }
+    ensures { result ≡ list_any (λ b. nat_lt b 32 || (b == 127)) bytes.now }
+{
+    let (first, _) = bytes.split_at(count);
+    let (_, last) = bytes.split_at(bytes.len() - count);
+    any_has_escape(first) | any_has_escape(last)
+}
+
+/// Whether any byte of a short payload is printed as an escape.
 #[inline(always)]
 fn short_has_escape(payload: &[u8]) -> bool
     requires { length payload.now < 16 }
     ensures { result ≡ list_any (λ b. nat_lt b 32 || (b == 127)) payload.now }
 {
-    if payload.len() < 8 {
-        return any_has_escape(payload);
+    if payload.len() < 4 {
+        any_has_escape(payload)
+    } else if payload.len() < 8 {
+        either_end_has_escape(payload, 4)
+    } else {
+        either_end_has_escape(payload, 8)
     }
-    let (first, _) = payload.split_at(8);
-    let (_, last) = payload.split_at(payload.len() - 8);
-    any_has_escape(first) | any_has_escape(last)
 }
 
 /// Whether any byte of a payload is printed as an escape. It looks at runs of 16 bytes, for which the compiler has vectors, and then at the last 16, of
@@ -163,16 +177,17 @@ fn has_any_escape(payload: &[u8]) -> bool
     if payload.len() < 16 {
         return short_has_escape(payload);
     }
-    let mut found = false;
     let mut at = 0;
     while at + 16 <= payload.len() {
         let (_, rest) = payload.split_at(at);
         let (run, _) = rest.split_at(16);
-        found |= any_has_escape(run);
+        if any_has_escape(run) {
+            return true;
+        }
         at += 16;
     }
     let (_, last) = payload.split_at(payload.len() - 16);
-    found | any_has_escape(last)
+    any_has_escape(last)
 }
 
 /// Adds a payload; at once where no byte of it needs an escape, as in most.

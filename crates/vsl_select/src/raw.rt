@@ -1,17 +1,26 @@
 //! Raw lines: of one record, of a unit, and of records by themselves; and a tag with a text.
 #![tactic(auto, using(log_model::proofs::PrefixLemmas::adding))]
 
-ghost use Rattle.std.specs.Prelude.{◌++◌, codes};
+ghost use Rattle.std.specs.Prelude.{◌∷◌, ◌++◌, codes, decimal};
 ghost use Rattle.std.specs.List.{flat_map};
 ghost use Rattle.log_model.specs.Adding.{Puts, Adds};
 ghost use Rattle.vsl_tags.specs.Tags.{name_columns};
-ghost use Rattle.vsl_select.specs.RawLine.{escaped, tag_line, raw_line, raw_lines};
+ghost use Rattle.vsl_select.specs.RawLine.{at_right, escaped, mark_letter, tag_line, raw_line, raw_lines};
 
 use crate::parts::{letter_of, put_byte, put_escaped, put_text};
 use crate::vxid_columns::VxidColumns;
 use log_model::{NoMemory, or_cut_back};
-use vsl_record::{RecordView, RecordsView, Unit, Vxid};
+use vsl_record::{Mark, RecordView, RecordsView, Unit, Vxid};
 use vsl_tags::{Tag, name_columns};
+
+/// The bytes of a VXID's columns, and the space behind them.
+const VXID_BYTES: usize = 11;
+
+/// The bytes of a tag's columns, and the space behind them.
+const TAG_BYTES: usize = 15;
+
+/// The bytes before the payload of a raw line: the last two are of the mark and a space.
+const COLUMN_BYTES: usize = 28;
 
 /// Adds a tag's name in its columns, and a space.
 #[inline]
@@ -39,6 +48,25 @@ pub(crate) fn put_tag_line(out: &mut Vec<u8>, tag: Tag, text: &[u8]) -> Result<(
     Ok(())
 }
 
+/// Adds what stands before the payload in a raw line: the VXID, the tag and the mark, in their columns. It is put together
+/// first, so that the list grows once.
+fn put_raw_columns(
+    out: &mut Vec<u8>,
+    vxid: &VxidColumns,
+    tag: Tag,
+    mark: Mark,
+) -> Result<(), NoMemory>
+    ensures { Puts result out.old.items out.new.items (at_right 10 (decimal vxid.now) ++ codes " " ++ name_columns tag ++ mark_letter mark ∷ codes " ") }
+{
+    let mut columns = [b' '; COLUMN_BYTES];
+    let (vxid_columns, behind) = columns.split_at_mut(VXID_BYTES);
+    let (tag_columns, mark_columns) = behind.split_at_mut(TAG_BYTES);
+    vxid_columns.copy_from_slice(vxid.as_slice());
+    tag_columns.copy_from_slice(name_columns(tag));
+    mark_columns.copy_from_slice(&[letter_of(mark), b' ']);
+    put_text(out, &columns)
+}
+
 /// Adds the raw line of a record, or a part of it.
 pub(crate) fn put_raw_line(
     out: &mut Vec<u8>,
@@ -47,9 +75,7 @@ pub(crate) fn put_raw_line(
 ) -> Result<(), NoMemory>
     ensures { Puts result out.old.items out.new.items (raw_line vxid.now rec.now) }
 {
-    put_text(out, vxid.as_slice())?;
-    put_tag(out, rec.tag())?;
-    put_text(out, &[letter_of(rec.mark()), b' '])?;
+    put_raw_columns(out, vxid, rec.tag(), rec.mark())?;
     put_line_end(out, rec.payload())?;
     Ok(())
 }
