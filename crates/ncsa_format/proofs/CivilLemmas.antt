@@ -60,3 +60,10 @@ date_at date n below e =
 pub date_of : (dt : DateTime) (second : ℕ) → second ≤ last_second → civil_nanos dt ≡ pos second *ℤ pos 1_000_000_000
     → (dt.date.year ≡ pos (day_of second).year) × (dt.date.month ≡ (day_of second).month) × (dt.date.day ≡ (day_of second).day)
 date_of dt second below e = date_at dt.date (second / 86400) (omega arith) (omega (arith, signed_arith, e, civil_nanos-parts dt, time_nanos_bound dt.time))
+
+-- up to the last second that is printed years have four digits, and days two
+pub day_within : (second : ℕ) → second ≤ last_second → ((day_of second).year ≤ 9999) × ((day_of second).day ≤ 31)
+day_within second below =
+    let h = each_day (second / 86400) (omega arith) in
+    let d = day_at (second / 86400) in
+    (omega (arith, signed_arith, h.civil.0), omega (arith, h.civil.2, days_in_month_bounds (pos d.year) d.month))

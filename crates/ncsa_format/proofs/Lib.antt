@@ -1,6 +1,7 @@
 mod CivilExamples
 mod CivilLemmas
 mod CutLemmas
+mod DigitLemmas
 mod FieldLemmas
 mod FormatLemmas
 mod FormatterLemmas

@@ -20,9 +20,8 @@ pub(crate) fn first_of<'a>(member: &'a Member, tag: u8, wanted: Wanted) -> Optio
     for i in 0..records.len() {
         let rec = records.get(i);
         if rec.tag().number() == tag {
-            let part = wanted.of(rec.payload());
-            if part.is_some() {
-                return part;
+            if let Some(part) = wanted.of(rec.payload()) {
+                return Some(part);
             }
         }
     }
@@ -37,9 +36,8 @@ pub(crate) fn last_of<'a>(member: &'a Member, tag: u8, wanted: Wanted) -> Option
     for i in (0..records.len()).rev() {
         let rec = records.get(i);
         if rec.tag().number() == tag {
-            let part = wanted.of(rec.payload());
-            if part.is_some() {
-                return part;
+            if let Some(part) = wanted.of(rec.payload()) {
+                return Some(part);
             }
         }
     }

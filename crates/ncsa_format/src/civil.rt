@@ -1,17 +1,17 @@
 //! Days and clocks, in UTC.
 #![tactic(auto, using(log_model::proofs::PrefixLemmas::adding, crate::proofs::TextLemmas::puts_quoted))]
 
-ghost use Rattle.std.specs.Prelude.{◌≡◌, [], ◌∷◌, ◌++◌, ◌≤◌, ◌*◌, ◌-◌, length, replicate, decimal};
+ghost use Rattle.std.specs.Prelude.{◌≡◌, [], ◌++◌, ◌≤◌, ◌<◌, ◌+◌, ◌*◌, ◌-◌, ◌%◌, codes, length, replicate, decimal};
 ghost use Rattle.std.specs.List.{flat_map, slice_index_or};
 ghost use Rattle.log_model.specs.Adding.{Puts};
 ghost use Rattle.vsl_decimal.specs.Decimal.{scale};
-ghost use Rattle.ncsa_format.specs.Civil.{month_names, padded, part_text, time_text};
+ghost use Rattle.ncsa_format.specs.Civil.{clock_text, month_names, padded, part_text, time_text};
 ghost use Rattle.ncsa_format.specs.Value.{last_second};
 ghost use Rattle.ncsa_format.specs.Line.{quoted};
 ghost use Rattle.ncsa_format.specs.inside.Moment.{IsMoment};
 
 use crate::formatter::{TimeForm, TimePart};
-use crate::quoted::put_quoted;
+use crate::quoted::{put_byte, put_plain, put_quoted};
 use itoa::Buffer;
 use jiff::Timestamp;
 use jiff::tz::Offset;
@@ -80,23 +80,66 @@ fn put_padded(out: &mut Vec<u8>, fill: u8, columns: usize, n: u64) -> Result<(),
     put_quoted(out, digits)
 }
 
-/// Adds three numbers with a byte between them, the first in its columns and the others in two.
-fn put_three(
-    out: &mut Vec<u8>,
-    columns: usize,
-    first: u64,
-    between: u8,
-    second: u64,
-    third: u64,
-) -> Result<(), NoMemory>
-    requires { columns ≤ 6 }
-    ensures { Puts result out.old.items out.new.items (quoted (padded columns first ++ (between ∷ []) ++ padded 2 second ++ (between ∷ []) ++ padded 2 third)) }
+/// The last digit of a number.
+fn last_digit(n: u64) -> u8
+    ensures { result ≡ 48 + n % 10 }
 {
-    put_padded(out, b'0', columns, first)?;
-    put_quoted(out, &[between])?;
-    put_padded(out, b'0', 2, second)?;
-    put_quoted(out, &[between])?;
-    put_padded(out, b'0', 2, third)
+    b'0' + (n % 10) as u8
+}
+
+/// Adds a number in two digits.
+fn put_two(out: &mut Vec<u8>, n: u64) -> Result<(), NoMemory>
+    requires { n < 100 }
+    ensures { Puts result out.old.items out.new.items (quoted (padded 2 n)) }
+{
+    out.extend_from_slice(&[last_digit(n / 10), last_digit(n)])?;
+    Ok(())
+}
+
+/// Adds a number in four digits.
+fn put_four(out: &mut Vec<u8>, n: u64) -> Result<(), NoMemory>
+    requires { n < 10_000 }
+    ensures { Puts result out.old.items out.new.items (quoted (padded 4 n)) }
+{
+    out.extend_from_slice(&[
+        last_digit(n / 1_000),
+        last_digit(n / 100),
+        last_digit(n / 10),
+        last_digit(n),
+    ])?;
+    Ok(())
+}
+
+/// Adds a date, as `2023-01-02`.
+fn put_date(out: &mut Vec<u8>, year: u64, month: u64, day: u64) -> Result<(), NoMemory>
+    requires { (year < 10_000) × (month < 100) × (day < 100) }
+    ensures { Puts result out.old.items out.new.items (quoted (padded 4 year ++ codes "-" ++ padded 2 month ++ codes "-" ++ padded 2 day)) }
+{
+    put_four(out, year)?;
+    put_plain(out, b"-")?;
+    put_two(out, month)?;
+    put_plain(out, b"-")?;
+    put_two(out, day)
+}
+
+/// Adds the clock at a second, as `03:04:05`.
+fn put_clock(out: &mut Vec<u8>, second: u64) -> Result<(), NoMemory>
+    ensures { Puts result out.old.items out.new.items (quoted (clock_text second)) }
+{
+    let hour = second / 3600 % 24;
+    let minute = second / 60 % 60;
+    let second = second % 60;
+    out.extend_from_slice(&[
+        last_digit(hour / 10),
+        last_digit(hour),
+        b':',
+        last_digit(minute / 10),
+        last_digit(minute),
+        b':',
+        last_digit(second / 10),
+        last_digit(second),
+    ])?;
+    Ok(())
 }
 
 /// The name of a month, as `Jan`.
@@ -113,25 +156,18 @@ fn put_part(out: &mut Vec<u8>, moment: &Moment, part: TimePart) -> Result<(), No
     ensures { Puts result out.old.items out.new.items (quoted (part_text moment.now.second part)) }
 {
     match part {
-        TimePart::Byte(b) => put_quoted(out, &[b]),
-        TimePart::Year => put_padded(out, b'0', 4, moment.year),
-        TimePart::Month => put_padded(out, b'0', 2, moment.month),
-        TimePart::Day => put_padded(out, b'0', 2, moment.day),
+        TimePart::Byte(b) => put_byte(out, b),
+        TimePart::Year => put_four(out, moment.year),
+        TimePart::Month => put_two(out, moment.month),
+        TimePart::Day => put_two(out, moment.day),
         TimePart::SpacedDay => put_padded(out, b' ', 2, moment.day),
-        TimePart::Hour => put_padded(out, b'0', 2, moment.second / 3600 % 24),
-        TimePart::Minute => put_padded(out, b'0', 2, moment.second / 60 % 60),
-        TimePart::Second => put_padded(out, b'0', 2, moment.second % 60),
+        TimePart::Hour => put_two(out, moment.second / 3600 % 24),
+        TimePart::Minute => put_two(out, moment.second / 60 % 60),
+        TimePart::Second => put_two(out, moment.second % 60),
         TimePart::MonthName => put_quoted(out, month_name(moment.month)),
-        TimePart::Date => put_three(out, 4, moment.year, b'-', moment.month, moment.day),
-        TimePart::Clock => put_three(
-            out,
-            2,
-            moment.second / 3600 % 24,
-            b':',
-            moment.second / 60 % 60,
-            moment.second % 60,
-        ),
-        TimePart::Zone => put_quoted(out, b"+0000"),
+        TimePart::Date => put_date(out, moment.year, moment.month, moment.day),
+        TimePart::Clock => put_clock(out, moment.second),
+        TimePart::Zone => put_plain(out, b"+0000"),
     }
 }
 

@@ -25,7 +25,7 @@ fn is_plain(byte: u8) -> bool
 }
 
 /// Adds a byte of a value.
-fn put_byte(out: &mut Vec<u8>, byte: u8) -> Result<(), NoMemory>
+pub(crate) fn put_byte(out: &mut Vec<u8>, byte: u8) -> Result<(), NoMemory>
     ensures { Puts result out.old.items out.new.items (quoted_byte byte) }
 {
     match byte {
@@ -83,6 +83,15 @@ fn are_plain(bytes: &[u8]) -> bool
     plain
 }
 
+/// Adds a text of which no byte needs an escape.
+pub(crate) fn put_plain(out: &mut Vec<u8>, text: &[u8]) -> Result<(), NoMemory>
+    requires { quoted text.now ≡ text.now }
+    ensures { Puts result out.old.items out.new.items (quoted text.now) }
+{
+    out.extend_from_slice(text)?;
+    Ok(())
+}
+
 /// Adds a value, or a part of it; at once where no byte of it needs an escape, as in most.
 pub(crate) fn put_quoted(out: &mut Vec<u8>, value: &[u8]) -> Result<(), NoMemory>
     ensures { Puts result out.old.items out.new.items (quoted value.now) }
@@ -90,8 +99,7 @@ pub(crate) fn put_quoted(out: &mut Vec<u8>, value: &[u8]) -> Result<(), NoMemory
     if !are_plain(value) {
         return put_with_escapes(out, value);
     }
-    out.extend_from_slice(value)?;
-    Ok(())
+    put_plain(out, value)
 }
 
 /// Adds a value where there is one, and else `-`.
@@ -100,6 +108,6 @@ pub(crate) fn put_printed(out: &mut Vec<u8>, value: Option<&[u8]>) -> Result<(),
 {
     match value {
         Some(value) => put_quoted(out, value),
-        None => put_quoted(out, b"-"),
+        None => put_plain(out, b"-"),
     }
 }

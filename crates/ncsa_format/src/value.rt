@@ -21,7 +21,7 @@ use crate::member::{
     acct_field, address_of, handling_of, header_of, logged, method_of, protocol_of, record_part,
     start_of, time_taken, url_of,
 };
-use crate::quoted::{put_printed, put_quoted};
+use crate::quoted::{put_plain, put_printed, put_quoted};
 use base64::DecodeAllocError;
 use base64::engine::general_purpose::STANDARD;
 use itoa::Buffer;
@@ -205,12 +205,12 @@ fn put_host(out: &mut Vec<u8>, host: Option<&[u8]>) -> Result<(), NoMemory>
     ensures { Puts result out.old.items out.new.items (quoted (host_of (option_copied host.entry))) }
 {
     let Some(host) = host else {
-        return put_quoted(out, b"http://localhost");
+        return put_plain(out, b"http://localhost");
     };
     if host.starts_with(b"http://") {
         return put_quoted(out, host);
     }
-    put_quoted(out, b"http://")?;
+    put_plain(out, b"http://")?;
     put_quoted(out, host)
 }
 
@@ -219,10 +219,10 @@ fn put_request_line(out: &mut Vec<u8>, member: &Member) -> Result<(), NoMemory>
     ensures { Puts result out.old.items out.new.items (printed (value_of formatters.RequestLine member.now)) }
 {
     put_quoted(out, text_or(method_of(member), b"-"))?;
-    put_quoted(out, b" ")?;
+    put_plain(out, b" ")?;
     put_host(out, header_of(member, b"Host"))?;
     put_quoted(out, text_or(url_of(member), b""))?;
-    put_quoted(out, b" ")?;
+    put_plain(out, b" ")?;
     put_quoted(out, protocol_of(member))
 }
 

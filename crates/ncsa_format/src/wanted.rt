@@ -22,6 +22,7 @@ pub(crate) enum Wanted<'a> {
 }
 
 /// The word for how a request was handled, where a call tells it.
+#[inline(never)]
 fn handling_of(call: &[u8]) -> Option<&'static [u8]>
     ensures { option_copied result ≡ handling_of call.now }
 {
@@ -41,6 +42,7 @@ fn handling_of(call: &[u8]) -> Option<&'static [u8]>
 }
 
 /// What of a payload has this prefix and field, where they are named.
+#[inline(never)]
 fn part_with<'p>(payload: &'p [u8], prefix: &Option<Label>, number: Option<u32>) -> Option<&'p [u8]>
     ensures { option_copied result ≡ part_with prefix.now number payload.now }
 {
@@ -55,7 +57,9 @@ fn part_with<'p>(payload: &'p [u8], prefix: &Option<Label>, number: Option<u32>)
 }
 
 impl<'a> Wanted<'a> {
-    /// What of a payload it is, where that is there.
+    /// What of a payload it is, where that is there. It is asked of each record of a tag, and most have another prefix: so what refuses them stands in
+    /// the loops over records, and what is seldom asked does not.
+    #[inline(always)]
     pub(crate) fn of<'p>(self, payload: &'p [u8]) -> Option<&'p [u8]>
         ensures { option_copied result ≡ part_of self.entry payload.now }
     {

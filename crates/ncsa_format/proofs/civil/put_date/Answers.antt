@@ -4,7 +4,7 @@ use Rattle.log_model.specs.Adding.{Puts}
 use Rattle.ncsa_format.specs.Civil.{padded}
 use Rattle.ncsa_format.specs.Line.{quoted, quoted_byte}
 use Rattle.ncsa_format.proofs.TextLemmas.{puts_quoted}
-use Rattle.ncsa_format.proofs.civil.put_three.Goals as goal
+use Rattle.ncsa_format.proofs.civil.put_date.Goals as goal
 
 quoted_then : (x y z a b : List ℕ) → y ≡ x ++ quoted a → z ≡ y ++ quoted b → z ≡ x ++ quoted (a ++ b)
 quoted_then x y z a b first then = then ∙ ap (λ (l : List ℕ). l ++ quoted b) first ∙ append_assoc x (quoted a) (quoted b) ∙ ap (λ (l : List ℕ). x ++ l) (sym (flat_map-append quoted_byte a b))
@@ -17,5 +17,5 @@ puts_three r x y z v w new a s b d first second third fourth last =
 
 pub returns : goal.returns
 returns c =
-    puts_three _ _ _ _ _ _ _ (padded c.args.columns c.args.first) (c.args.between ∷ []) (padded 2 c.args.second) (padded 2 c.args.third) c.in_ok-put_padded.ensures.ok
-    c.in_ok-put_quoted.ensures.ok c.in_ok-put_padded-2.ensures.ok c.in_ok-put_quoted-2.ensures.ok c.put_padded-3.ensures
+    puts_three _ _ _ _ _ _ _ (padded 4 c.args.year) (45 ∷ []) (padded 2 c.args.month) (padded 2 c.args.day) c.in_ok-put_four.ensures.ok
+    c.in_ok-put_plain.ensures.ok c.in_ok-put_two.ensures.ok c.in_ok-put_plain-2.ensures.ok c.put_two-2.ensures
