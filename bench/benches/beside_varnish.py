@@ -25,19 +25,19 @@ NEEDED = ["varnishlog", "varnishncsa", "varnishtop", "varnishd", "wrk"]
 COPIES = (1, 2, 4)
 OUT = "OUT"  # stands for the file that is written
 MOST_MEBIBYTES = 16
-TEXT, WRITE, LINES, TOP = 0.4, 1.0, 0.6, 0.1  # the ratios of ours to theirs that are wanted
+# each command, behind the ratio of our time to theirs that is wanted
 COMMANDS = [
-    (TEXT, ["varnishlog", "-g", "raw"]),
-    (TEXT, ["varnishlog", "-g", "vxid"]),
-    (TEXT, ["varnishlog", "-g", "request"]),
-    (TEXT, ["varnishlog", "-g", "session", "-L", "100000"]),
-    (TEXT, ["varnishlog", "-g", "request", "-q", "RespStatus >= 500"]),
-    (TEXT, ["varnishlog", "-g", "vxid", "-i", "ReqURL"]),
-    (WRITE, ["varnishlog", "-g", "raw", "-w", OUT]),
-    (LINES, ["varnishncsa"]),
-    (LINES, ["varnishncsa", "-F", "%h %m %U %s %b %D"]),
-    (TOP, ["varnishtop", "-1"]),
-    (TOP, ["varnishtop", "-1", "-i", "ReqURL"]),
+    (0.12, ["varnishlog", "-g", "raw"]),
+    (0.18, ["varnishlog", "-g", "vxid"]),
+    (0.18, ["varnishlog", "-g", "request"]),
+    (0.30, ["varnishlog", "-g", "session", "-L", "100000"]),
+    (0.30, ["varnishlog", "-g", "request", "-q", "RespStatus >= 500"]),
+    (0.35, ["varnishlog", "-g", "vxid", "-i", "ReqURL"]),
+    (0.50, ["varnishlog", "-g", "raw", "-w", OUT]),
+    (0.35, ["varnishncsa"]),
+    (0.35, ["varnishncsa", "-F", "%h %m %U %s %b %D"]),
+    (0.20, ["varnishtop", "-1"]),
+    (0.35, ["varnishtop", "-1", "-i", "ReqURL"]),
 ]
 
 
@@ -130,7 +130,7 @@ def print_beside(program, ours, theirs, out):
     for wanted, words in COMMANDS:
         own, other = in_turn([[program, *words, "-r", ours], [*words, "-r", theirs]], out)
         ratio, peak = own.seconds / other.seconds, max(peak, own.peak)
-        print_row([f"`{shlex.join(words)}`", *cells_of(own), *cells_of(other), f"{ratio:.2f}", wanted])
+        print_row([f"`{shlex.join(words)}`", *cells_of(own), *cells_of(other), f"{ratio:.2f}", f"{wanted:.2f}"])
     print(f"\nOf the largest of our peaks, {peak:.1f} MiB, at most {MOST_MEBIBYTES} is wanted.")
 
 
