@@ -4,12 +4,11 @@ use Rattle.std.specs.Prelude.{count_by}
 use Rattle.std.specs.List.{list_any, list_all, filter}
 use Rattle.std.specs.Option.{option_map}
 use Rattle.std.proofs.lemmas.Bool.{or_parts, lt-ltb, le-ltb, ltb-false}
-use Rattle.std.proofs.lemmas.List.{length-map, get_or-map, get_or_default}
+use Rattle.std.proofs.lemmas.List.{get_or_default}
 use Rattle.std.proofs.lemmas.List.Filters.{sum_by-filter_both}
-use Rattle.std.proofs.lemmas.List.Sums.{sum_by-cons, get_or-le-sum_by, count_by-le-length}
-use Rattle.txn_rows.specs.declared.rows.Row.{Row}
-use Rattle.txn_rows.specs.declared.force.Which.{Which}
-use Rattle.txn_rows.specs.declared.force.Which.TheVariants.{Unfinished, Late}
+use Rattle.std.proofs.lemmas.List.Sums.{sum_by-cons, count_by-le-length}
+use Rattle.txn_rows.specs.declared.which.Which.{Which}
+use Rattle.txn_rows.specs.declared.which.Which.TheVariants.{Unfinished, Late}
 use Rattle.txn_rows.specs.declared.group.Group.{Group}
 use Rattle.txn_rows.specs.declared.group.Grouping.{Grouping}
 use Rattle.txn_rows.specs.declared.group.Cause.{Cause}
@@ -18,12 +17,15 @@ use Rattle.txn_rows.specs.Transaction.{Transaction, forced, oldest, with_oldest}
 use Rattle.txn_rows.specs.Time.{second}
 use Rattle.txn_rows.specs.Links.{root_of, tree_of}
 use Rattle.txn_rows.specs.Grouping.{State, Leaving, nothing_left, then_left, left_by, forced_one, forced_often, forced_down, is_behind, is_unfinished, is_late}
-use Rattle.txn_rows.specs.inside.Rows.{transaction_of, IsOldestRow, AreTrees}
-use Rattle.txn_rows.specs.inside.Steps.{state_with, RowsStep, AddsPart, GoesOn, test_of, ForcesOn}
-use Rattle.txn_rows.specs.inside.Times.{TimesRise, NoneKnown, RiseTo, times_of}
+use Rattle.txn_rows.specs.declared.rows.Row.{Row}
+use Rattle.txn_rows.specs.inside.Rows.{transaction_of, IsOldestRow}
+use Rattle.txn_rows.specs.Store.{WentBy}
+use Rattle.txn_rows.specs.inside.Steps.{AddsPart, IsOrdered, GoesOn, test_of, ForcesOn}
+use Rattle.txn_rows.specs.inside.Times.{TimesRise, NoneKnown, RiseTo, times_of, IsTimed}
 use Rattle.txn_rows.proofs.LineLemmas.{by_cases}
-use Rattle.txn_rows.proofs.ForceLemmas.{oldest_at}
 use Rattle.txn_rows.proofs.TakeLemmas.{nothing_step, goes_first, goes_then, part_none}
+use Rattle.txn_rows.proofs.TimeLemmas.{one_timed}
+use Rattle.txn_rows.proofs.ForceLemmas.{oldest_at}
 use Rattle.txn_rows.proofs.ChangeLemmas.{oldest_none_stays}
 
 -- where none passes, nothing happens
@@ -83,63 +85,73 @@ one_fewer which cause state =
     let now : State = record state { pending = with_oldest test (forced cause) state.pending } in
     omega (arith, left_fewer test (option_map (forced cause) (oldest test state.pending)) now, oldest_ends which cause state.pending)
 
--- the row that is meant is counted
-some_counted : (test : Transaction → Bool) (at : ℕ) (rows : List Row) → IsOldestRow test at rows → 0 < count_by test (map transaction_of rows)
-some_counted test at [] is = absurd (omega (arith, is.within))
-some_counted test at (row ∷ rows) is =
+-- the oldest that is meant is counted
+some_counted : (test : Transaction → Bool) (pending : List Transaction) → list_any test pending ≡ true → 0 < count_by test pending
+some_counted test [] some = absurd (cc)
+some_counted test (t ∷ pending) some =
     let p : Transaction → ℕ = λ u. cond (test u) 1 0 in
-    let within : at < length (map transaction_of (row ∷ rows)) = omega (arith, is.within, length-map (row ∷ rows) transaction_of) in
-    let read : get_or (map transaction_of (row ∷ rows)) at (transaction_of row) ≡ transaction_of (get_or (row ∷ rows) at row) = get_or-map transaction_of (row ∷ rows) at row (transaction_of row) is.within in
-    let one : p (get_or (map transaction_of (row ∷ rows)) at (transaction_of row)) ≡ 1 = ap p read ∙ ap (λ (b : Bool). cond b 1 0) (is.passes row) in
-    omega (arith, one, get_or-le-sum_by p (map transaction_of (row ∷ rows)) at (transaction_of row) within)
+    let whole = sum_by-cons p t pending in
+    by_cases (0 < count_by test (t ∷ pending)) (test t)
+    (λ e. let one : p t ≡ 1 = ap {B = ℕ} (λ (b : Bool). cond b 1 0) e in omega (arith, whole, one))
+    (λ e. let rest : list_any test pending ≡ true = sym (ap (λ (b : Bool). b || list_any test pending) e) ∙ some in
+    omega (arith, whole, some_counted test pending rest))
 
--- none was force-completed yet
-pub forces_first : (grouping : Grouping) (which : Which) (rest : ℕ → State → Leaving) (begun : ℕ) (time : Option ℕ) (rows : List Row) (out : List Group) → AreTrees begun rows →
-    ForcesOn grouping which rest (rest (count_by (test_of which) (map transaction_of rows)) (state_with begun time rows)) 0 (length rows) begun time rows out out
-forces_first grouping which rest begun time rows out trees =
-    let left : ℕ = count_by (test_of which) (map transaction_of rows) in
-    record {
-      trees = trees;
-      left = left;
-      enough = omega arith;
-      few = omega (arith, count_by-le-length (test_of which) (map transaction_of rows), length-map rows transaction_of);
-      on = goes_first grouping (rest left (state_with begun time rows)) out;
-    }
+-- what a store names: what is so of it while no call failed, the state that it keeps, and what it hands out for a group
+module _ {S L : Type 0} (holds : S → Type 0) (state_of : S → State) (hand : Group → L) where
+  -- none was force-completed yet
+  pub forces_first : (grouping : Grouping) (which : Which) (rest : ℕ → State → Leaving) (most : ℕ) (store : S) (out : List L) → IsOrdered holds state_of store → most ≡ length (state_of store).pending →
+      ForcesOn holds state_of hand grouping which rest (rest (count_by (test_of which) (state_of store).pending) (state_of store)) 0 most store out out
+  forces_first grouping which rest most store out ordered is =
+      let left : ℕ = count_by (test_of which) (state_of store).pending in
+      record {
+        ordered = ordered;
+        left = left;
+        enough = omega arith;
+        few = omega (arith, is, count_by-le-length (test_of which) (state_of store).pending);
+        on = goes_first holds state_of hand grouping (rest left (state_of store)) out;
+      }
 
--- where no more are, all were
-pub forces_done : {grouping : Grouping} {which : Which} {rest : ℕ → State → Leaving} {all : Leaving} {turns most begun : ℕ} {time : Option ℕ} {now : List Row} {out_before out_now : List Group} → (on : ForcesOn grouping which rest all turns most begun time now out_before out_now) →
-    rest on.left (state_with begun time now) ≡ nothing_left (state_with begun time now) → RowsStep grouping all begun time now out_before out_now
-forces_done {grouping} {which} {rest} {all} {turns} {most} {begun} {time} {now} {out_before} {out_now} on stops =
-    on.on.whole begun time now out_now (nothing_step grouping begun time now out_now (rest on.left (state_with begun time now)) on.trees stops)
+  -- where no more are, all were
+  pub forces_done : {grouping : Grouping} {which : Which} {rest : ℕ → State → Leaving} {all : Leaving} {turns most : ℕ} {store : S} {out_before out_now : List L} → (on : ForcesOn holds state_of hand grouping which rest all turns most store out_before out_now) →
+      rest on.left (state_of store) ≡ nothing_left (state_of store) → WentBy holds state_of hand grouping all store out_before out_now
+  forces_done {grouping} {which} {rest} {all} {turns} {most} {store} {out_before} {out_now} on stops =
+      on.on.whole store out_now (nothing_step holds state_of hand grouping store out_now (rest on.left (state_of store)) on.ordered.kept stops)
 
-pub forces_last : {grouping : Grouping} {which : Which} {rest : ℕ → State → Leaving} {all : Leaving} {turns most begun : ℕ} {time : Option ℕ} {now : List Row} {out_before out_now : List Group} → (on : ForcesOn grouping which rest all turns most begun time now out_before out_now) →
-    most ≤ turns → ((state : State) → rest 0 state ≡ nothing_left state) → RowsStep grouping all begun time now out_before out_now
-forces_last {rest = rest} {begun = begun} {time = time} {now = now} on last ends =
-    let none : on.left ≡ 0 = omega (arith, last, on.few) in
-    forces_done on (ap (λ (n : ℕ). rest n (state_with begun time now)) none ∙ ends (state_with begun time now))
+  pub forces_last : {grouping : Grouping} {which : Which} {rest : ℕ → State → Leaving} {all : Leaving} {turns most : ℕ} {store : S} {out_before out_now : List L} → (on : ForcesOn holds state_of hand grouping which rest all turns most store out_before out_now) →
+      most ≤ turns → ((state : State) → rest 0 state ≡ nothing_left state) → WentBy holds state_of hand grouping all store out_before out_now
+  forces_last {rest = rest} {store = store} on last ends =
+      let none : on.left ≡ 0 = omega (arith, last, on.few) in
+      forces_done on (ap (λ (n : ℕ). rest n (state_of store)) none ∙ ends (state_of store))
 
--- one more
-pub forces_more : {grouping : Grouping} {which : Which} {rest : ℕ → State → Leaving} {all : Leaving} {turns most begun : ℕ} {time : Option ℕ} {now : List Row} {out_before out_now : List Group} (cause : Cause) (at : ℕ) (next : List Row) (out_next : List Group) →
-    ForcesOn grouping which rest all turns most begun time now out_before out_now → IsOldestRow (test_of which) at now →
-    ((n : ℕ) → rest (suc n) (state_with begun time now) ≡ then_left (forced_one (test_of which) cause (state_with begun time now)) (rest n)) →
-    RowsStep grouping (forced_one (test_of which) cause (state_with begun time now)) begun time next out_now out_next → ForcesOn grouping which rest all (turns + 1) most begun time next out_before out_next
-forces_more {grouping} {which} {rest} {all} {turns} {most} {begun} {time} {now} {out_before} {out_now} cause at next out_next on is goes step =
-    let state : State = state_with begun time now in
-    let one : Leaving = forced_one (test_of which) cause state in
-    let left : ℕ = on.left - 1 in
-    let some : on.left ≡ suc left = omega (arith, on.enough, some_counted (test_of which) at now is) in
-    let rest_is : rest on.left state ≡ then_left one (rest left) = ap (λ (n : ℕ). rest n state) some ∙ goes left in
-    record {
-      trees = step.trees;
-      left = left;
-      enough = omega (arith, one_fewer which cause state, ap (λ (s : State). count_by (test_of which) s.pending) step.state, on.enough);
-      few = omega (arith, on.few, some);
-      on = goes_then grouping all one (rest left) (subst (λ (r : Leaving). GoesOn grouping all r out_before out_now) rest_is on.on) step;
-    }
+  -- where none is one of those, the last step is the whole rest
+  pub forces_end : {grouping : Grouping} {which : Which} {rest : ℕ → State → Leaving} {all : Leaving} {turns most : ℕ} {store : S} {out_before out_now : List L} (cause : Cause) (next : S) (out_next : List L) →
+      (on : ForcesOn holds state_of hand grouping which rest all turns most store out_before out_now) → rest on.left (state_of store) ≡ nothing_left (state_of store) → list_any (test_of which) (state_of store).pending ≡ false →
+      WentBy holds state_of hand grouping (forced_one (test_of which) cause (state_of store)) next out_now out_next → WentBy holds state_of hand grouping all next out_before out_next
+  forces_end {grouping} {which} {store = store} {out_now = out_now} cause next out_next on stops none step =
+      on.on.whole next out_next (subst (λ (r : Leaving). WentBy holds state_of hand grouping r next out_now out_next) (one_none (test_of which) cause (state_of store) none ∙ sym stops) step)
 
--- the groups so far are a prefix
-pub forces_part : {grouping : Grouping} {which : Which} {rest : ℕ → State → Leaving} {all : Leaving} {turns most begun : ℕ} {time : Option ℕ} {now : List Row} {out_before out_now : List Group} → ForcesOn grouping which rest all turns most begun time now out_before out_now → AddsPart grouping all out_before out_now
-forces_part {grouping} {which} {rest} {all} {turns} {most} {begun} {time} {now} {out_before} {out_now} on = on.on.part out_now (part_none grouping (rest on.left (state_with begun time now)) out_now)
+  -- one more
+  pub forces_more : {grouping : Grouping} {which : Which} {rest : ℕ → State → Leaving} {all : Leaving} {turns most : ℕ} {store : S} {out_before out_now : List L} (cause : Cause) (next : S) (out_next : List L) →
+      ForcesOn holds state_of hand grouping which rest all turns most store out_before out_now → list_any (test_of which) (state_of store).pending ≡ true →
+      ((n : ℕ) → rest (suc n) (state_of store) ≡ then_left (forced_one (test_of which) cause (state_of store)) (rest n)) →
+      WentBy holds state_of hand grouping (forced_one (test_of which) cause (state_of store)) next out_now out_next → ForcesOn holds state_of hand grouping which rest all (turns + 1) most next out_before out_next
+  forces_more {grouping} {which} {rest} {all} {turns} {most} {store} {out_before} {out_now} cause next out_next on some goes step =
+      let state : State = state_of store in
+      let one : Leaving = forced_one (test_of which) cause state in
+      let left : ℕ = on.left - 1 in
+      let is : on.left ≡ suc left = omega (arith, on.enough, some_counted (test_of which) state.pending some) in
+      let rest_is : rest on.left state ≡ then_left one (rest left) = ap (λ (n : ℕ). rest n state) is ∙ goes left in
+      record {
+        ordered = record { kept = step.kept; times = subst IsTimed (sym step.state) (one_timed (test_of which) cause state on.ordered.times) };
+        left = left;
+        enough = omega (arith, one_fewer which cause state, ap (λ (s : State). count_by (test_of which) s.pending) step.state, on.enough);
+        few = omega (arith, on.few, is);
+        on = goes_then holds state_of hand grouping all one (rest left) (subst (λ (r : Leaving). GoesOn holds state_of hand grouping all r out_before out_now) rest_is on.on) step;
+      }
+
+  -- the groups so far are a prefix
+  pub forces_part : {grouping : Grouping} {which : Which} {rest : ℕ → State → Leaving} {all : Leaving} {turns most : ℕ} {store : S} {out_before out_now : List L} → ForcesOn holds state_of hand grouping which rest all turns most store out_before out_now → AddsPart hand grouping all out_before out_now
+  forces_part {grouping} {which} {rest} {all} {turns} {most} {store} {out_before} {out_now} on = on.on.part out_now (part_none hand grouping (rest on.left (state_of store)) out_now)
 
 -- within the limit, nothing more is force-completed
 pub down_within : (limit n : ℕ) (state : State) → length state.pending ≤ limit → forced_down limit n state ≡ nothing_left state
@@ -166,13 +178,22 @@ none_meant (Late seconds now) (t ∷ pending) none =
     let parts = or_parts (not t.ended) (list_any is_unfinished pending) none in
     ap (λ (b : Bool). b && is_behind seconds t.time now || list_any (is_late seconds now) pending) parts.0 ∙ none_meant (Late seconds now) pending parts.1
 
+-- what has ended is none of those
+ended_unmeant : (which : Which) (t : Transaction) → not t.ended ≡ false → test_of which t ≡ false
+ended_unmeant Unfinished t e = e
+ended_unmeant (Late seconds now) t e = ap (λ (b : Bool). b && is_behind seconds t.time now) e
+
 -- the oldest that has not ended is the oldest of those, if it is one
-pub oldest_meant : (which : Which) (at : ℕ) (rows : List Row) (row : Row) → IsOldestRow is_unfinished at rows → row ≡ get_or rows at row → test_of which (transaction_of row) ≡ true → IsOldestRow (test_of which) at rows
-oldest_meant which at rows row is read passes = record {
-  within = is.within;
-  passes = λ d. ap (λ (r : Row). test_of which (transaction_of r)) (get_or_default rows at d row is.within ∙ sym read) ∙ passes;
-  none_before = none_meant which (map transaction_of (take at rows)) is.none_before;
-}
+pub oldest_meant : (which : Which) (t : Transaction) (pending : List Transaction) → oldest is_unfinished pending ≡ Some t → test_of which t ≡ true → oldest (test_of which) pending ≡ Some t
+oldest_meant which t [] first passes = absurd (cc)
+oldest_meant which t (u ∷ pending) first passes =
+    by_cases (oldest (test_of which) (u ∷ pending) ≡ Some t) (not u.ended)
+    (λ q. let same : Some u ≡ Some t = rw q at first in
+    let is : u ≡ t = (cc) in
+    let here : test_of which u ≡ true = ap (test_of which) is ∙ passes in
+    rw here same)
+    (λ q. let none : test_of which u ≡ false = ended_unmeant which u q in
+    rw none (oldest_meant which t pending (rw q at first) passes))
 
 -- what began later is no further behind
 behind_later : (seconds old time : ℕ) (now : Option ℕ) → old ≤ time → is_behind seconds (Some old) now ≡ false → is_behind seconds (Some time) now ≡ false
@@ -212,9 +233,43 @@ none_late : (seconds : ℕ) (now time : Option ℕ) (pending : List Transaction)
 none_late seconds now None pending t h first e = none_late_unknown seconds now pending h
 none_late seconds now (Some high) pending t h first e = none_late_known seconds 0 high now pending t h first e
 
+-- the oldest of those is one, and so some are
+pub oldest_passes : (test : Transaction → Bool) (t : Transaction) (pending : List Transaction) → oldest test pending ≡ Some t → test t ≡ true
+oldest_passes test t [] first = absurd (cc)
+oldest_passes test t (u ∷ pending) first =
+    by_cases (test t ≡ true) (test u)
+    (λ q. let same : Some u ≡ Some t = rw q at first in
+    let is : u ≡ t = (cc) in
+    ap test (sym is) ∙ q)
+    (λ q. oldest_passes test t pending (rw q at first))
+
+pub oldest_some : (test : Transaction → Bool) (t : Transaction) (pending : List Transaction) → oldest test pending ≡ Some t → list_any test pending ≡ true
+oldest_some test t [] first = absurd (cc)
+oldest_some test t (u ∷ pending) first =
+    by_cases (list_any test (u ∷ pending) ≡ true) (test u)
+    (λ q. rw q refl)
+    (λ q. rw q (oldest_some test t pending (rw q at first)))
+
 -- where the oldest that has not ended is none of those, none is
-pub first_not_meant : (which : Which) (time : Option ℕ) (at : ℕ) (rows : List Row) (row : Row) → RiseTo time (times_of (map transaction_of rows)) → IsOldestRow is_unfinished at rows → row ≡ get_or rows at row → test_of which (transaction_of row) ≡ false → list_any (test_of which) (map transaction_of rows) ≡ false
-first_not_meant Unfinished time at rows row h is read e =
-    let both : false ≡ true = sym e ∙ ap (λ (r : Row). is_unfinished (transaction_of r)) read ∙ is.passes row in
-    absurd (cc)
-first_not_meant (Late seconds now) time at rows row h is read e = none_late seconds now time (map transaction_of rows) (transaction_of row) h (oldest_at is_unfinished at rows row is read) e
+pub first_not_meant : (which : Which) (time : Option ℕ) (t : Transaction) (pending : List Transaction) → RiseTo time (times_of pending) → oldest is_unfinished pending ≡ Some t → test_of which t ≡ false → list_any (test_of which) pending ≡ false
+first_not_meant Unfinished time t pending h first e = absurd (let both : true ≡ false = sym (oldest_passes is_unfinished t pending first) ∙ e in cc)
+first_not_meant (Late seconds now) time t pending h first e = none_late seconds now time pending t h first e
+
+-- the same of rows
+pub row_meant : (which : Which) (at : ℕ) (rows : List Row) (row : Row) → IsOldestRow is_unfinished at rows → row ≡ get_or rows at row → test_of which (transaction_of row) ≡ true → IsOldestRow (test_of which) at rows
+row_meant which at rows row is read passes = record {
+  within = is.within;
+  passes = λ d. ap (λ (r : Row). test_of which (transaction_of r)) (get_or_default rows at d row is.within ∙ sym read) ∙ passes;
+  none_before = none_meant which (map transaction_of (take at rows)) is.none_before;
+}
+
+pub row_not_meant : (which : Which) (time : Option ℕ) (at : ℕ) (rows : List Row) (row : Row) → RiseTo time (times_of (map transaction_of rows)) → IsOldestRow is_unfinished at rows → row ≡ get_or rows at row → test_of which (transaction_of row) ≡ false → list_any (test_of which) (map transaction_of rows) ≡ false
+row_not_meant which time at rows row h is read e = first_not_meant which time (transaction_of row) (map transaction_of rows) h (oldest_at is_unfinished at rows row is read) e
+
+-- the oldest row that passes is there
+pub row_some : (test : Transaction → Bool) (at : ℕ) (rows : List Row) → IsOldestRow test at rows → list_any test (map transaction_of rows) ≡ true
+row_some test at [] is = absurd (omega (arith, is.within))
+row_some test at (first ∷ rest) is =
+    let rows : List Row = first ∷ rest in
+    let row : Row = get_or rows at first in
+    oldest_some test (transaction_of row) (map transaction_of rows) (oldest_at test at rows row is (sym (get_or_default rows at row first is.within)))

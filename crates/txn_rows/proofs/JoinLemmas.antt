@@ -1,10 +1,10 @@
 -- A tree that is joined to a parent: the rows stand in trees again, and the definitions see the link alone.
-use Rattle.std.proofs.Common.{◌≡◌, ◌+◌, ◌<◌, ◌≤◌, ◌⊎◌, ⊎_elim, inl, inr, ℕ, zero, suc, Bool, true, false, not, eqb, cond, ◌&&◌, Option, Some, None, List, [], ◌∷◌, ◌++◌, length, map, refl, ap, sym, ◌∙◌, subst, append_assoc, length-append, get_or, set, take, drop, arith}
+use Rattle.std.proofs.Common.{◌≡◌, ◌+◌, ◌<◌, ◌≤◌, ◌⊎◌, ⊎_elim, inl, inr, ℕ, Bool, true, false, not, eqb, cond, ◌&&◌, Option, Some, None, List, [], ◌∷◌, ◌++◌, length, map, refl, ap, sym, ◌∙◌, subst, append_assoc, length-append, get_or, set, take, drop, arith}
 use Rattle.std.specs.Prelude.{count_by, is_none}
 use Rattle.std.specs.List.{Contains}
 use Rattle.std.specs.Option.{option_map}
 use Rattle.std.proofs.lemmas.Bool.{eqb-true, eqb-false, eq-eqb, ne_eqb, and_parts, not-true}
-use Rattle.std.proofs.lemmas.List.{length-map, length-take-le, map-append, drop_more, set_at, map_more, get_or_at, get_or-map}
+use Rattle.std.proofs.lemmas.List.{length-map, length-take-le, map-append, drop_more, set_at, map_more, get_or_at}
 use Rattle.std.proofs.lemmas.List.Sums.{sum_by-append, sum_by-cons, get_or-le-sum_by}
 use Rattle.std.proofs.lemmas.List.Elements.{Contains-append_right}
 use Rattle.txn_rows.specs.declared.rows.Row.{Row}
@@ -12,9 +12,9 @@ use Rattle.txn_rows.specs.declared.group.ParentLink.{ParentLink}
 use Rattle.txn_rows.specs.declared.join.Join.{Join}
 use Rattle.txn_rows.specs.Transaction.{Transaction, newest, with_newest}
 use Rattle.txn_rows.specs.Links.{can_join, with_parent, with_link, children, leads_to}
-use Rattle.txn_rows.specs.inside.Rows.{transaction_of, row_of, Rising, IsTop, IsBelow, IsForest, AreTrees, Each, joined, joined_at, IsNewestRow, Rows}
-use Rattle.txn_rows.proofs.LineLemmas.{by_cases, row_of_serial, deeper}
-use Rattle.txn_rows.proofs.TreeLemmas.{line_whole, each_found, each_weaker, around, each_at, of_row, of_row_same, of_row_in, set_is_of_row, row_changed}
+use Rattle.txn_rows.specs.inside.Rows.{transaction_of, row_of, Rising, IsTop, IsBelow, IsForest, AreTrees, joined, IsNewestRow, Rows}
+use Rattle.txn_rows.proofs.LineLemmas.{by_cases, row_of_serial}
+use Rattle.txn_rows.proofs.TreeLemmas.{line_whole, each_found, around, each_at, of_row, of_row_in, row_changed}
 use Rattle.txn_rows.proofs.ChangeLemmas.{newest_in, newest_split, changed_in, OneChanged}
 
 -- a change that keeps serial numbers
@@ -37,7 +37,7 @@ joined_serial join row = refl
 pub joined_root : (join : Join) (row : Row) → (joined join row).root ≡ cond (eqb row.root join.child) join.root row.root
 joined_root join row = refl
 
-joined_parent : (join : Join) (row : Row) → (joined join row).parent ≡ cond (eqb row.serial join.child) (Some join.link) row.parent
+pub joined_parent : (join : Join) (row : Row) → (joined join row).parent ≡ cond (eqb row.serial join.child) (Some join.link) row.parent
 joined_parent join row = refl
 
 -- what has to hold of a join
@@ -52,7 +52,7 @@ pub record CanJoin (rows : List Row) (join : Join) : Type 0 where
   pub apart : eqb parent.root join.child ≡ false
 
 -- how many rows a tree has after a join
-count_other : (join : Join) (x : ℕ) → eqb join.child x ≡ false → (rows : List Row) → count_by (λ (r : Row). eqb r.root x) rows ≤ count_by (λ (r : Row). eqb r.root x) (map (joined join) rows)
+pub count_other : (join : Join) (x : ℕ) → eqb join.child x ≡ false → (rows : List Row) → count_by (λ (r : Row). eqb r.root x) rows ≤ count_by (λ (r : Row). eqb r.root x) (map (joined join) rows)
 count_other join x other [] = omega arith
 count_other join x other (row ∷ rows) =
     let ih = count_other join x other rows in
@@ -65,7 +65,7 @@ count_other join x other (row ∷ rows) =
     (λ t. rw (joined_root join row, t) (omega arith)) in
     omega (arith, ih, whole, now, one)
 
-count_both : (join : Join) → eqb join.root join.child ≡ false → (rows : List Row) → count_by (λ (r : Row). eqb r.root join.root) (map (joined join) rows) ≡ count_by (λ (r : Row). eqb r.root join.root) rows + count_by (λ (r : Row). eqb r.root join.child) rows
+pub count_both : (join : Join) → eqb join.root join.child ≡ false → (rows : List Row) → count_by (λ (r : Row). eqb r.root join.root) (map (joined join) rows) ≡ count_by (λ (r : Row). eqb r.root join.root) rows + count_by (λ (r : Row). eqb r.root join.child) rows
 count_both join apart [] = refl
 count_both join apart (row ∷ rows) =
     let ih = count_both join apart rows in
@@ -87,15 +87,15 @@ before_map f s rows None now e h = absurd (cc)
 before_map f s rows (Some row) now e h = (row, sym e, (cc))
 
 -- the row that joins is at the top of its tree
-child_root : (rows : List Row) (join : Join) (c : CanJoin rows join) → c.child.root ≡ join.child
+pub child_root : (rows : List Row) (join : Join) (c : CanJoin rows join) → c.child.root ≡ join.child
 child_root rows join c = c.top.root ∙ row_of_serial join.child rows c.child c.here
 
 -- where serial numbers are the same, the rows are
-same_row : (rows : List Row) (s : ℕ) (row other : Row) → row_of s rows ≡ Some row → row_of s rows ≡ Some other → row ≡ other
+pub same_row : (rows : List Row) (s : ℕ) (row other : Row) → row_of s rows ≡ Some row → row_of s rows ≡ Some other → row ≡ other
 same_row rows s row other here there = let e : Some row ≡ Some other = sym here ∙ there in cc
 
 -- a row outside of the tree that joins is not its first
-not_first : (rows : List Row) (join : Join) (c : CanJoin rows join) (s : ℕ) (row : Row) → row_of s rows ≡ Some row → eqb row.root join.child ≡ false → eqb row.serial join.child ≡ false
+pub not_first : (rows : List Row) (join : Join) (c : CanJoin rows join) (s : ℕ) (row : Row) → row_of s rows ≡ Some row → eqb row.root join.child ≡ false → eqb row.serial join.child ≡ false
 not_first rows join c s row here outside =
     ne_eqb row.serial join.child (λ e.
     let at : row_of join.child rows ≡ Some row = ap (λ (n : ℕ). row_of n rows) (sym e ∙ row_of_serial s rows row here) ∙ here in
@@ -103,21 +103,21 @@ not_first rows join c s row here outside =
     eqb-false row.root join.child outside (ap (λ (r : Row). r.root) same ∙ child_root rows join c))
 
 -- the root and the path of a row outside stay
-root_stays : (join : Join) (row : Row) → eqb row.root join.child ≡ false → (joined join row).root ≡ row.root
+pub root_stays : (join : Join) (row : Row) → eqb row.root join.child ≡ false → (joined join row).root ≡ row.root
 root_stays join row outside = joined_root join row ∙ ap (λ (b : Bool). cond b join.root row.root) outside
 
-path_stays : (join : Join) (row : Row) → eqb row.root join.child ≡ false → (joined join row).path ≡ row.path
+pub path_stays : (join : Join) (row : Row) → eqb row.root join.child ≡ false → (joined join row).path ≡ row.path
 path_stays join row outside = ap (λ (b : Bool). cond b (join.path ++ join.link.number ∷ row.path) row.path) outside
 
-parent_stays : (join : Join) (row : Row) → eqb row.serial join.child ≡ false → (joined join row).parent ≡ row.parent
+pub parent_stays : (join : Join) (row : Row) → eqb row.serial join.child ≡ false → (joined join row).parent ≡ row.parent
 parent_stays join row other = joined_parent join row ∙ ap (λ (b : Bool). cond b (Some join.link) row.parent) other
 
 -- what is found after the join
-found_joined : (rows : List Row) (join : Join) (s : ℕ) (row : Row) → row_of s rows ≡ Some row → row_of s (map (joined join) rows) ≡ Some (joined join row)
+pub found_joined : (rows : List Row) (join : Join) (s : ℕ) (row : Row) → row_of s rows ≡ Some row → row_of s (map (joined join) rows) ≡ Some (joined join row)
 found_joined rows join s row here = row_of_map (joined join) (joined_serial join) s rows ∙ ap (option_map (joined join)) here
 
 -- the row that joins is below the parent
-child_below : (rows : List Row) (join : Join) (c : CanJoin rows join) → IsBelow (map (joined join) rows) (joined join c.child)
+pub child_below : (rows : List Row) (join : Join) (c : CanJoin rows join) → IsBelow (map (joined join) rows) (joined join c.child)
 child_below rows join c =
     let is : c.child.serial ≡ join.child = row_of_serial join.child rows c.child c.here in
     let inside : eqb c.child.root join.child ≡ true = eq-eqb c.child.root join.child (child_root rows join c) in
@@ -132,7 +132,7 @@ child_below rows join c =
     }
 
 -- a row of the tree that joins, but for the first, is below the same as before
-inner_below : (rows : List Row) (join : Join) (c : CanJoin rows join) (row : Row) (below : IsBelow rows row) → eqb row.serial join.child ≡ false → eqb row.root join.child ≡ true → IsBelow (map (joined join) rows) (joined join row)
+pub inner_below : (rows : List Row) (join : Join) (c : CanJoin rows join) (row : Row) (below : IsBelow rows row) → eqb row.serial join.child ≡ false → eqb row.root join.child ≡ true → IsBelow (map (joined join) rows) (joined join row)
 inner_below rows join c row below other inside =
     let above_inside : eqb below.above.root join.child ≡ true = ap (λ (n : ℕ). eqb n join.child) (sym below.root) ∙ inside in
     record {
@@ -152,7 +152,7 @@ pub still_below : (rows now : List Row) (row : Row) (below : IsBelow rows row) �
 still_below rows now row below found = record { link = below.link; linked = below.linked; above = below.above; found = found; root = below.root; path = below.path }
 
 -- a row outside is where it was
-outer_below : (rows : List Row) (join : Join) (row : Row) (below : IsBelow rows row) → eqb row.serial join.child ≡ false → eqb row.root join.child ≡ false → IsBelow (map (joined join) rows) (joined join row)
+pub outer_below : (rows : List Row) (join : Join) (row : Row) (below : IsBelow rows row) → eqb row.serial join.child ≡ false → eqb row.root join.child ≡ false → IsBelow (map (joined join) rows) (joined join row)
 outer_below rows join row below other outside =
     let above_outside : eqb below.above.root join.child ≡ false = ap (λ (n : ℕ). eqb n join.child) (sym below.root) ∙ outside in
     record {
@@ -164,14 +164,14 @@ outer_below rows join row below other outside =
       path = path_stays join row outside ∙ below.path ∙ ap (λ (p : List ℕ). p ++ below.link.number ∷ []) (sym (path_stays join below.above above_outside));
     }
 
-outer_top : (join : Join) (row : Row) → IsTop row → eqb row.serial join.child ≡ false → eqb row.root join.child ≡ false → IsTop (joined join row)
+pub outer_top : (join : Join) (row : Row) → IsTop row → eqb row.serial join.child ≡ false → eqb row.root join.child ≡ false → IsTop (joined join row)
 outer_top join row top other outside = record {
   none = parent_stays join row other ∙ top.none;
   root = root_stays join row outside ∙ top.root ∙ sym (joined_serial join row);
   path = path_stays join row outside ∙ top.path;
 }
 
-joined_linked : (rows : List Row) → IsForest rows → (join : Join) (c : CanJoin rows join) (s : ℕ) (row : Row) → row_of s rows ≡ Some row → IsTop (joined join row) ⊎ IsBelow (map (joined join) rows) (joined join row)
+pub joined_linked : (rows : List Row) → IsForest rows → (join : Join) (c : CanJoin rows join) (s : ℕ) (row : Row) → row_of s rows ≡ Some row → IsTop (joined join row) ⊎ IsBelow (map (joined join) rows) (joined join row)
 joined_linked rows forest join c s row here =
     let Goal : Type 0 = IsTop (joined join row) ⊎ IsBelow (map (joined join) rows) (joined join row) in
     by_cases Goal (eqb row.root join.child)
@@ -190,7 +190,7 @@ joined_linked rows forest join c s row here =
     (λ (below : IsBelow rows row). inr (outer_below rows join row below other outside))
     (forest.linked s row here))
 
-joined_shallow : (rows : List Row) → IsForest rows → (join : Join) (c : CanJoin rows join) (s : ℕ) (row : Row) → row_of s rows ≡ Some row → length (joined join row).path < count_by (λ (r : Row). eqb r.root (joined join row).root) (map (joined join) rows)
+pub joined_shallow : (rows : List Row) → IsForest rows → (join : Join) (c : CanJoin rows join) (s : ℕ) (row : Row) → row_of s rows ≡ Some row → length (joined join row).path < count_by (λ (r : Row). eqb r.root (joined join row).root) (map (joined join) rows)
 joined_shallow rows forest join c s row here =
     let apart : eqb join.root join.child ≡ false = ap (λ (n : ℕ). eqb n join.child) c.root ∙ c.apart in
     let shallow : length row.path < count_by (λ (r : Row). eqb r.root row.root) rows = forest.shallow s row here in
@@ -230,7 +230,7 @@ told_linked join (row ∷ rows) =
     ∙ ap (λ (ts : List Transaction). transaction_of (of_row join.child linked row) ∷ ts) (told_linked join rows)
 
 -- the first of the tree that joins is one child more
-count_linked : (join : Join) (x begun : ℕ) (rows : List Row) (child : Row) → Rising 0 begun rows → row_of join.child rows ≡ Some child → child.parent ≡ None →
+pub count_linked : (join : Join) (x begun : ℕ) (rows : List Row) (child : Row) → Rising 0 begun rows → row_of join.child rows ≡ Some child → child.parent ≡ None →
     count_by (λ (r : Row). leads_to x r.parent) (map (joined join) rows) ≡ count_by (λ (r : Row). leads_to x r.parent) rows + cond (eqb join.link.serial x) 1 0
 count_linked join x begun rows child rising here none =
     let links : List Row → ℕ = λ rs. count_by (λ (r : Row). leads_to x r.parent) rs in
@@ -249,7 +249,7 @@ count_linked join x begun rows child rising here none =
     ∙ count_map (λ (t : Transaction). leads_to x t.parent) transaction_of (map (of_row join.child linked) rows) ∙ ap links now in
     omega (arith, same, ap links split, sum_by-append one front (child ∷ back), sum_by-cons one child back, sum_by-append one front (linked child ∷ back), sum_by-cons one (linked child) back, ap {B = ℕ} (λ (p : Option ParentLink). cond (leads_to x p) 1 0) none)
 
-joined_counted : (begun : ℕ) (rows : List Row) → AreTrees begun rows → (join : Join) (c : CanJoin rows join) (s : ℕ) (row : Row) → row_of s rows ≡ Some row → (joined join row).children ≡ count_by (λ (r : Row). leads_to (joined join row).serial r.parent) (map (joined join) rows)
+pub joined_counted : (begun : ℕ) (rows : List Row) → AreTrees begun rows → (join : Join) (c : CanJoin rows join) (s : ℕ) (row : Row) → row_of s rows ≡ Some row → (joined join row).children ≡ count_by (λ (r : Row). leads_to (joined join row).serial r.parent) (map (joined join) rows)
 joined_counted begun rows trees join c s row here =
     let was : row.children ≡ count_by (λ (r : Row). leads_to row.serial r.parent) rows = trees.forest.counted s row here in
     let more = count_linked join row.serial begun rows c.child trees.rising c.here c.top.none in
@@ -264,7 +264,7 @@ joined_counted begun rows trees join c s row here =
     now ∙ ap (λ (n : ℕ). count_by (λ (r : Row). leads_to n r.parent) (map (joined join) rows)) (sym (joined_serial join row))
 
 -- the rows stand in trees again
-joined_trees : (begun : ℕ) (rows : List Row) (join : Join) → AreTrees begun rows → CanJoin rows join → AreTrees begun (map (joined join) rows)
+pub joined_trees : (begun : ℕ) (rows : List Row) (join : Join) → AreTrees begun rows → CanJoin rows join → AreTrees begun (map (joined join) rows)
 joined_trees begun rows join trees c =
     record {
       rising = rising_map (joined join) (joined_serial join) 0 begun rows trees.rising;
@@ -282,7 +282,7 @@ joined_trees begun rows join trees c =
     }
 
 -- the newest of a VXID gets the link
-newest_joined : (vxid begun : ℕ) (rows : List Row) (join : Join) (child : Row) → Rising 0 begun rows → newest vxid (map transaction_of rows) ≡ Some (transaction_of child) → child.serial ≡ join.child →
+pub newest_joined : (vxid begun : ℕ) (rows : List Row) (join : Join) (child : Row) → Rising 0 begun rows → newest vxid (map transaction_of rows) ≡ Some (transaction_of child) → child.serial ≡ join.child →
     map transaction_of (map (joined join) rows) ≡ with_newest vxid (λ t. record t { parent = Some join.link }) (map transaction_of rows)
 newest_joined vxid begun rows join child rising e is =
     let pending : List Transaction = map transaction_of rows in
@@ -296,7 +296,7 @@ newest_joined vxid begun rows join child rising e is =
     ∙ (row_changed rows begun linked change t (with_newest vxid change pending) (λ row. refl) rising one).told
 
 -- rows of which the first few were changed
-changed_more : (f : Row → Row) (rows : List Row) (i : ℕ) (row : Row) → i < length rows → row ≡ get_or rows i row → set (map f (take i rows) ++ drop i rows) i (f row) ≡ map f (take (i + 1) rows) ++ drop (i + 1) rows
+pub changed_more : (f : Row → Row) (rows : List Row) (i : ℕ) (row : Row) → i < length rows → row ≡ get_or rows i row → set (map f (take i rows) ++ drop i rows) i (f row) ≡ map f (take (i + 1) rows) ++ drop (i + 1) rows
 changed_more f rows i row within read =
     let rest : drop i rows ≡ row ∷ drop (i + 1) rows = drop_more rows i row within ∙ ap (λ (r : Row). r ∷ drop (i + 1) rows) (sym read) in
     let long : length (map f (take i rows)) ≡ i = length-map (take i rows) f ∙ length-take-le i rows (omega (arith, within)) in
@@ -306,7 +306,7 @@ changed_more f rows i row within read =
     ∙ ap (λ (rs : List Row). rs ++ drop (i + 1) rows) (sym (map_more f rows i row within ∙ ap (λ (r : Row). map f (take i rows) ++ f r ∷ []) (sym read)))
 
 -- the element that comes next was not changed
-changed_read : (f : Row → Row) (rows : List Row) (i : ℕ) (row : Row) → i < length rows → row ≡ get_or (map f (take i rows) ++ drop i rows) i row → row ≡ get_or rows i row
+pub changed_read : (f : Row → Row) (rows : List Row) (i : ℕ) (row : Row) → i < length rows → row ≡ get_or (map f (take i rows) ++ drop i rows) i row → row ≡ get_or rows i row
 changed_read f rows i row within read =
     let long : length (map f (take i rows)) ≡ i = length-map (take i rows) f ∙ length-take-le i rows (omega (arith, within)) in
     read ∙ ap (λ (rs : List Row). get_or (map f (take i rows) ++ rs) i row) (drop_more rows i row within) ∙ get_or_at (map f (take i rows)) (get_or rows i row) (drop (i + 1) rows) row i long
@@ -333,7 +333,7 @@ none_from None e = refl
 none_from (Some link) e = absurd (cc)
 
 -- whether a row can join, by what rows tell
-can_join_rows : (begun : ℕ) (rows : List Row) → AreTrees begun rows → (child parent : Row) → row_of child.serial rows ≡ Some child → row_of parent.serial rows ≡ Some parent →
+pub can_join_rows : (begun : ℕ) (rows : List Row) → AreTrees begun rows → (child parent : Row) → row_of child.serial rows ≡ Some child → row_of parent.serial rows ≡ Some parent →
     can_join (map transaction_of rows) (transaction_of child) (transaction_of parent) ≡ (is_none child.parent && not child.ended && not (eqb parent.root child.serial))
 can_join_rows begun rows trees child parent here there =
     let pending : List Transaction = map transaction_of rows in
@@ -350,82 +350,7 @@ row_counted q s rows row here passes =
     let at = row_contained s rows row here in
     omega (arith, get_or-le-sum_by c rows at.0 row at.1, ap c at.2, ap {B = ℕ} (λ (b : Bool). cond b 1 0) passes)
 
--- a row whose tree nothing is below is the whole of it
-alone_in_tree : (rows : List Row) → IsForest rows → (child : Row) → row_of child.serial rows ≡ Some child → child.children ≡ 0 → (n s : ℕ) (row : Row) → row_of s rows ≡ Some row → row.root ≡ child.serial → length row.path < n → row.serial ≡ child.serial
-alone_in_tree rows forest child at none zero s row here inside short = absurd (omega arith)
-alone_in_tree rows forest child at none (suc n) s row here inside short = ⊎_elim
-    (λ (top : IsTop row). sym top.root ∙ inside)
-    (λ (below : IsBelow rows row).
-    let above : below.above.serial ≡ child.serial = alone_in_tree rows forest child at none n below.link.serial below.above below.found (sym below.root ∙ inside) (omega (arith, short, deeper rows row below)) in
-    let leads : leads_to child.serial row.parent ≡ true = ap (leads_to child.serial) below.linked ∙ eq-eqb below.link.serial child.serial (sym (row_of_serial below.link.serial rows below.above below.found) ∙ above) in
-    let some = row_counted (λ r. leads_to child.serial r.parent) s rows row here leads in
-    absurd (omega (arith, some, forest.counted child.serial child at, none)))
-    (forest.linked s row here)
-
--- a row that is written where it takes its part in a join
-pub joined_written : (join : Join) (at : ℕ) (rows : List Row) (row new : Row) → at < length rows → row ≡ get_or rows at row → new ≡ joined join row → set rows at new ≡ joined_at join at rows
-joined_written join at [] row new within read is = absurd (omega (arith, within))
-joined_written join zero (first ∷ rows) row new within read is = ap (λ (r : Row). r ∷ rows) (is ∙ ap (joined join) read)
-joined_written join (suc at) (first ∷ rows) row new within read is = ap (λ (rs : List Row). first ∷ rs) (joined_written join at rows row new (omega (arith, within)) read is)
-
--- the row at a place is that of its serial number
-joined_at_is : (join : Join) (low high at : ℕ) (rows : List Row) (row : Row) → Rising low high rows → at < length rows → row ≡ get_or rows at row → joined_at join at rows ≡ map (of_row row.serial (joined join)) rows
-joined_at_is join low high at rows row r within read =
-    sym (joined_written join at rows row (joined join row) within read refl) ∙ set_is_of_row (joined join) low high at rows row (joined join row) r within read refl
-
--- a row that is neither the first of the tree nor the parent stays, where that tree has no other row
-joined_neither : (join : Join) (row : Row) → eqb row.root join.child ≡ false → eqb row.serial join.child ≡ false → eqb row.serial join.link.serial ≡ false → joined join row ≡ row
-joined_neither join row outside first above = rw (outside, first, above) refl
-
--- what both rows do in turn is the join of all
-both_joined : (join : Join) (row : Row) → eqb join.child join.link.serial ≡ false → (eqb row.root join.child ≡ true → row.serial ≡ join.child) → of_row join.link.serial (joined join) (of_row join.child (joined join) row) ≡ joined join row
-both_joined join row apart alone =
-    let Goal : Type 0 = of_row join.link.serial (joined join) (of_row join.child (joined join) row) ≡ joined join row in
-    by_cases Goal (eqb row.serial join.child)
-    (λ t. let first : of_row join.child (joined join) row ≡ joined join row = ap (λ (b : Bool). cond b (joined join row) row) t in
-    let other : eqb (joined join row).serial join.link.serial ≡ false = ap (λ (n : ℕ). eqb n join.link.serial) (joined_serial join row ∙ eqb-true row.serial join.child t) ∙ apart in
-    ap (of_row join.link.serial (joined join)) first ∙ ap (λ (b : Bool). cond b (joined join (joined join row)) (joined join row)) other)
-    (λ other. let first : of_row join.child (joined join) row ≡ row = ap (λ (b : Bool). cond b (joined join row) row) other in
-    let outside : eqb row.root join.child ≡ false = ne_eqb row.root join.child (λ e. eqb-false row.serial join.child other (alone (eq-eqb row.root join.child e))) in
-    ap (of_row join.link.serial (joined join)) first
-    ∙ by_cases (of_row join.link.serial (joined join) row ≡ joined join row) (eqb row.serial join.link.serial)
-    (λ t. ap (λ (b : Bool). cond b (joined join row) row) t)
-    (λ t. ap (λ (b : Bool). cond b (joined join row) row) t ∙ sym (joined_neither join row outside other t)))
-
-both_map : (join : Join) (rows : List Row) → eqb join.child join.link.serial ≡ false → Each (λ row. eqb row.root join.child ≡ true → row.serial ≡ join.child) rows → map (of_row join.link.serial (joined join)) (map (of_row join.child (joined join)) rows) ≡ map (joined join) rows
-both_map join [] apart e = refl
-both_map join (row ∷ rows) apart e =
-    ap (λ (r : Row). r ∷ map (of_row join.link.serial (joined join)) (map (of_row join.child (joined join)) rows)) (both_joined join row apart e.0)
-    ∙ ap (λ (rs : List Row). joined join row ∷ rs) (both_map join rows apart e.1)
-
--- where the tree that joins is one row, that row and the parent alone change
-pub alone_joined : (begun below above : ℕ) (rows : List Row) (child parent : Row) (join : Join) → AreTrees begun rows → below < length rows → child ≡ get_or rows below child → above < length rows → parent ≡ get_or rows above parent →
-    join.child ≡ child.serial → join.link.serial ≡ parent.serial → child.children ≡ 0 → eqb child.serial parent.serial ≡ false → joined_at join above (joined_at join below rows) ≡ map (joined join) rows
-alone_joined begun below above rows child parent join trees below_within child_read above_within parent_read child_is parent_is none apart =
-    let f : Row → Row = of_row child.serial (joined join) in
-    let here : row_of child.serial rows ≡ Some child = each_at (λ r. row_of r.serial rows ≡ Some r) rows below child (each_found 0 begun rows trees.rising) below_within child_read in
-    let first : joined_at join below rows ≡ map f rows = joined_at_is join 0 begun below rows child trees.rising below_within child_read in
-    let now : Row = f parent in
-    let now_is : now.serial ≡ parent.serial = of_row_same (λ r. r.serial) child.serial (joined join) (joined_serial join) parent in
-    let read : now ≡ get_or (map f rows) above now = ap f parent_read ∙ sym (get_or-map f rows above parent now above_within) in
-    let second : joined_at join above (map f rows) ≡ map (of_row now.serial (joined join)) (map f rows) =
-    joined_at_is join 0 begun above (map f rows) now (rising_map f (of_row_same (λ r. r.serial) child.serial (joined join) (joined_serial join)) 0 begun rows trees.rising) (omega (arith, above_within, length-map rows f)) read in
-    let alone : Each (λ row. eqb row.root join.child ≡ true → row.serial ≡ join.child) rows =
-    each_weaker (λ r. row_of r.serial rows ≡ Some r) (λ r. eqb r.root join.child ≡ true → r.serial ≡ join.child)
-    (λ r found inside. alone_in_tree rows trees.forest child here none (length r.path + 1) r.serial r found (eqb-true r.root join.child inside ∙ child_is) (omega arith) ∙ sym child_is)
-    rows (each_found 0 begun rows trees.rising) in
-    let other : eqb join.child join.link.serial ≡ false = ap (λ (n : ℕ). eqb n join.link.serial) child_is ∙ ap (eqb child.serial) parent_is ∙ apart in
-    ap (joined_at join above) first ∙ second
-    ∙ ap (λ (n : ℕ). map (of_row n (joined join)) (map f rows)) (now_is ∙ sym parent_is)
-    ∙ ap (λ (n : ℕ). map (of_row join.link.serial (joined join)) (map (of_row n (joined join)) rows)) (sym child_is)
-    ∙ both_map join rows other alone
-
-pub joined_at_length : (join : Join) (at : ℕ) (rows : List Row) → length (joined_at join at rows) ≡ length rows
-joined_at_length join at [] = refl
-joined_at_length join zero (row ∷ rows) = refl
-joined_at_length join (suc at) (row ∷ rows) = ap suc (joined_at_length join at rows)
-
-top_from : (rows : List Row) (row : Row) → IsTop row ⊎ IsBelow rows row → row.parent ≡ None → IsTop row
+pub top_from : (rows : List Row) (row : Row) → IsTop row ⊎ IsBelow rows row → row.parent ≡ None → IsTop row
 top_from rows row linked none = ⊎_elim (λ (top : IsTop row). top) (λ (below : IsBelow rows row). absurd (let e : Some below.link ≡ None = sym below.linked ∙ none in cc)) linked
 
 -- two rows, each the newest of its VXID
@@ -450,7 +375,7 @@ pair_at begun cv pv rows trees below above child parent child_is child_read pare
 }
 
 -- what a link comes to, where both rows are there
-link_is : (cv pv : ℕ) (rows : List Row) (child parent : Row) → Pair cv pv rows child parent → with_link cv pv (map transaction_of rows) ≡ with_parent (Some (transaction_of child)) (Some (transaction_of parent)) (map transaction_of rows)
+pub link_is : (cv pv : ℕ) (rows : List Row) (child parent : Row) → Pair cv pv rows child parent → with_link cv pv (map transaction_of rows) ≡ with_parent (Some (transaction_of child)) (Some (transaction_of parent)) (map transaction_of rows)
 link_is cv pv rows child parent pair =
     let pending : List Transaction = map transaction_of rows in
     ap (λ (c : Option Transaction). with_parent c (newest pv pending) pending) pair.child_newest
@@ -502,7 +427,7 @@ link_joins begun cv pv rows child parent join trees pair yes_can is =
     }
 
 -- rows that can join are two
-apart_rows : (begun : ℕ) (rows : List Row) (child parent : Row) → AreTrees begun rows → row_of child.serial rows ≡ Some child → row_of parent.serial rows ≡ Some parent → (is_none child.parent && not child.ended && not (eqb parent.root child.serial)) ≡ true → eqb child.serial parent.serial ≡ false
+pub apart_rows : (begun : ℕ) (rows : List Row) (child parent : Row) → AreTrees begun rows → row_of child.serial rows ≡ Some child → row_of parent.serial rows ≡ Some parent → (is_none child.parent && not child.ended && not (eqb parent.root child.serial)) ≡ true → eqb child.serial parent.serial ≡ false
 apart_rows begun rows child parent trees here there can =
     let parts = and_parts (is_none child.parent && not child.ended) (not (eqb parent.root child.serial)) can in
     let first = and_parts (is_none child.parent) (not child.ended) parts.0 in
@@ -518,12 +443,3 @@ pub link_joins_rows : (begun cv pv : ℕ) (rows : List Row) (child parent : Row)
 link_joins_rows begun cv pv rows child parent join trees pair can is =
     link_joins begun cv pv rows child parent join trees pair can
     (is ∙ ap (λ (n : ℕ). record { child = child.serial; link = record { serial = parent.serial; vxid = parent.vxid; number = n }; root = parent.root; path = parent.path }) (trees.forest.counted parent.serial parent pair.parent_here))
-
--- the same, where the child has no children
-pub link_joins_alone : (begun cv pv below above : ℕ) (rows : List Row) (child parent : Row) (join : Join) → AreTrees begun rows → Pair cv pv rows child parent → (is_none child.parent && not child.ended && not (eqb parent.root child.serial)) ≡ true →
-    join ≡ record { child = child.serial; link = record { serial = parent.serial; vxid = parent.vxid; number = parent.children }; root = parent.root; path = parent.path } →
-    below < length rows → child ≡ get_or rows below child → above < length rows → parent ≡ get_or rows above parent → child.children ≡ 0 → Rows begun (with_link cv pv (map transaction_of rows)) (joined_at join above (joined_at join below rows))
-link_joins_alone begun cv pv below above rows child parent join trees pair can is below_within child_read above_within parent_read none =
-    subst (Rows begun (with_link cv pv (map transaction_of rows)))
-    (sym (alone_joined begun below above rows child parent join trees below_within child_read above_within parent_read (ap (λ (j : Join). j.child) is) (ap (λ (j : Join). j.link.serial) is) none (apart_rows begun rows child parent trees pair.child_here pair.parent_here can)))
-    (link_joins_rows begun cv pv rows child parent join trees pair can is)

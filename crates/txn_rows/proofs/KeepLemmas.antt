@@ -8,8 +8,8 @@ use Rattle.txn_rows.specs.declared.group.Grouping.{Grouping}
 use Rattle.txn_rows.specs.declared.group.GroupOptions.{GroupOptions}
 use Rattle.txn_rows.specs.declared.group.Cause.{Cause}
 use Rattle.txn_rows.specs.declared.group.Cause.TheVariants.{Overflow, Timeout, Flush}
-use Rattle.txn_rows.specs.declared.force.Which.{Which}
-use Rattle.txn_rows.specs.declared.force.Which.TheVariants.{Unfinished, Late}
+use Rattle.txn_rows.specs.declared.which.Which.{Which}
+use Rattle.txn_rows.specs.declared.which.Which.TheVariants.{Unfinished, Late}
 use Rattle.txn_rows.specs.declared.claim.Claim.{Claim}
 use Rattle.txn_rows.specs.Claim.{claim_of}
 use Rattle.txn_rows.specs.Time.{time_of}
@@ -41,11 +41,11 @@ both_kept P keeps grouping claim child parent state p =
     either P (gives_parent grouping claim) (record other { pending = with_link child parent other.pending }) state
     (keeps.link child parent other (either P (is_pending claim.vxid state.pending) state (with_new claim.vxid state) p (keeps.new claim.vxid state p))) p
 
-parent_kept : (P : State → Type 0) → Keeps P → (grouping : Grouping) (vxid : ℕ) (named : Option Claim) (state : State) → P state → P (with_parent_named grouping vxid named state)
+pub parent_kept : (P : State → Type 0) → Keeps P → (grouping : Grouping) (vxid : ℕ) (named : Option Claim) (state : State) → P state → P (with_parent_named grouping vxid named state)
 parent_kept P keeps grouping vxid None state p = p
 parent_kept P keeps grouping vxid (Some claim) state p = both_kept P keeps grouping claim vxid claim.vxid state p
 
-child_kept : (P : State → Type 0) → Keeps P → (grouping : Grouping) (vxid : ℕ) (named : Option Claim) (state : State) → P state → P (with_child_named grouping vxid named state)
+pub child_kept : (P : State → Type 0) → Keeps P → (grouping : Grouping) (vxid : ℕ) (named : Option Claim) (state : State) → P state → P (with_child_named grouping vxid named state)
 child_kept P keeps grouping vxid None state p = p
 child_kept P keeps grouping vxid (Some claim) state p = both_kept P keeps grouping claim claim.vxid vxid state p
 
@@ -121,7 +121,7 @@ steps_hold options Q over vxid (rec ∷ records) state =
     let first : Leaving = step options vxid rec state in
     over.on.after first (steps options vxid records) state (over.one vxid rec state) (steps_hold options Q over vxid records first.state)
 
-item_holds : (options : GroupOptions) (Q : State → Leaving → Type 0) → HoldsOver options Q → (item : Taken) (state : State) → Q state (taken_step options item state)
+pub item_holds : (options : GroupOptions) (Q : State → Leaving → Type 0) → HoldsOver options Q → (item : Taken) (state : State) → Q state (taken_step options item state)
 item_holds options Q over (TakenUnit u) state =
     either (Q state) (passes_over options.grouping u.vxid) (nothing_left state) (steps options u.vxid u.records state) (over.on.none state) (steps_hold options Q over u.vxid u.records state)
 item_holds options Q over Missed state = flush_holds Q over.on state

@@ -1,12 +1,10 @@
 -- Rows of a tree among others.
-use Rattle.std.proofs.Common.{◌≡◌, ◌+◌, ◌<◌, ℕ, false, not, eqb, List, [], ◌∷◌, ◌++◌, length, get_or, set, take, drop, refl, ap, sym, ◌∙◌, append-nil, length-append, arith}
-use Rattle.std.specs.List.{HoldsAt}
+use Rattle.std.proofs.Common.{◌≡◌, ◌+◌, ◌<◌, ℕ, false, not, eqb, List, [], ◌∷◌, ◌++◌, length, get_or, set, take, drop, refl, ap, sym, ◌∙◌, append-nil, arith}
 use Rattle.std.proofs.lemmas.Bool.{eq-eqb}
-use Rattle.std.proofs.lemmas.List.{drop_more, drop-set-lt, nil_from_length, length-set}
+use Rattle.std.proofs.lemmas.List.{drop_more, drop-set-lt, length-set}
 use Rattle.std.proofs.lemmas.List.Elements.{filter-append, filter_more}
 use Rattle.txn_rows.specs.declared.rows.Row.{Row}
 use Rattle.txn_rows.specs.inside.Rows.{rows_below, rows_beside}
-use Rattle.txn_rows.proofs.LineLemmas.{by_cases}
 use Rattle.txn_rows.proofs.TreeLemmas.{around, set_around}
 
 -- a row of the tree is none of the others
@@ -55,33 +53,4 @@ takes_none root at first now tree row t within read outside =
       others = t.others;
       rest = next.rest;
       long = t.long;
-    }
-
--- where none is of the tree, all are others
-all_beside : (root : ℕ) (rows : List Row) → length (rows_below root rows) ≡ 0 → rows_beside root rows ≡ rows
-all_beside root [] none = refl
-all_beside root (row ∷ rows) none =
-    by_cases (rows_beside root (row ∷ rows) ≡ row ∷ rows) (eqb row.root root)
-    (λ e. let some = rw e at none in absurd (omega (arith, some)))
-    (λ e. rw e (ap (λ (rs : List Row). row ∷ rs) (all_beside root rows (rw e at none))))
-
--- a row that is alone in its tree, and the others
-pub record IsAlone (root at : ℕ) (rows : List Row) (row : Row) : Type 0 where
-  pub tree : rows_below root rows ≡ row ∷ []
-  pub others : rows_beside root rows ≡ take at rows ++ drop (at + 1) rows
-
-pub alone_at : (root at : ℕ) (rows : List Row) (row : Row) → at < length rows → row ≡ get_or rows at row → HoldsAt (λ r. r.root ≡ root) rows at → length (rows_below root rows) ≡ 1 → IsAlone root at rows row
-alone_at root at rows row within read here one =
-    let inside : row.root ≡ root = ap (λ (r : Row). r.root) read ∙ here row in
-    let front : List Row = take at rows in
-    let back : List Row = drop (at + 1) rows in
-    let parts = around at rows row within read in
-    let tree : rows_below root rows ≡ rows_below root front ++ row ∷ rows_below root back =
-    ap (rows_below root) parts ∙ filter-append (λ (r : Row). eqb r.root root) front (row ∷ back) ∙ rw (eq-eqb row.root root inside) refl in
-    let lengths = ap length tree ∙ length-append (rows_below root front) (row ∷ rows_below root back) in
-    let no_front : length (rows_below root front) ≡ 0 = omega (arith, lengths, one) in
-    let no_back : length (rows_below root back) ≡ 0 = omega (arith, lengths, one) in
-    record {
-      tree = tree ∙ rw (nil_from_length _ no_front, nil_from_length _ no_back) refl;
-      others = ap (rows_beside root) parts ∙ beside_around root front back row inside ∙ rw (all_beside root front no_front, all_beside root back no_back) refl;
     }

@@ -1,24 +1,24 @@
 pub mod GroupingLemmas
-mod Examples
+pub mod Examples
 pub mod LineLemmas
-mod KeepLemmas
-mod TimeLemmas
+pub mod KeepLemmas
+pub mod TimeLemmas
 pub mod TreeLemmas
 pub mod ChangeLemmas
 pub mod JoinLemmas
-mod LeaveLemmas
-mod SortLemmas
+pub mod LeaveLemmas
+pub mod SortLemmas
 pub mod StandLemmas
 pub mod ForceLemmas
 pub mod RunLemmas
-mod ForceAllLemmas
-mod LimitLemmas
-mod EndLemmas
-mod PendingLemmas
-mod TakeLemmas
-mod PlainLemmas
-mod TakenLemmas
-mod TableLemmas
-mod OrderLemmas
-mod NumberLemmas
-mod WalkLemmas
+pub mod ForceAllLemmas
+pub mod LimitLemmas
+pub mod EndLemmas
+pub mod PendingLemmas
+pub mod TakeLemmas
+pub mod PlainLemmas
+pub mod TakenLemmas
+pub mod TableLemmas
+pub mod OrderLemmas
+pub mod NumberLemmas
+pub mod WalkLemmas

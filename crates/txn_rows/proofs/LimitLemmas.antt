@@ -10,7 +10,7 @@ use Rattle.vsl_record.specs.declared.record_type.Record.{Record}
 use Rattle.txn_rows.specs.declared.rows.Row.{Row}
 use Rattle.txn_rows.specs.declared.group.Group.{Group}
 use Rattle.txn_rows.specs.declared.group.GroupOptions.{GroupOptions}
-use Rattle.txn_rows.specs.declared.force.Which.TheVariants.{Unfinished}
+use Rattle.txn_rows.specs.declared.which.Which.TheVariants.{Unfinished}
 use Rattle.txn_rows.specs.declared.group.Cause.{Cause}
 use Rattle.txn_rows.specs.declared.group.Cause.TheVariants.{Overflow, Flush}
 use Rattle.txn_rows.specs.Transaction.{Transaction, forced, oldest, with_oldest}

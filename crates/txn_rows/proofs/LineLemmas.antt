@@ -28,7 +28,7 @@ row_of_serial s (r ∷ rows) row found =
     (λ e. row_of_serial s rows row (rw e at found))
 
 -- a transaction is found where its row is
-of_serial_rows : (s : ℕ) (rows : List Row) → of_serial s (map transaction_of rows) ≡ option_map transaction_of (row_of s rows)
+pub of_serial_rows : (s : ℕ) (rows : List Row) → of_serial s (map transaction_of rows) ≡ option_map transaction_of (row_of s rows)
 of_serial_rows s [] = refl
 of_serial_rows s (r ∷ rows) =
     by_cases (of_serial s (map transaction_of (r ∷ rows)) ≡ option_map transaction_of (row_of s (r ∷ rows))) (eqb r.serial s)

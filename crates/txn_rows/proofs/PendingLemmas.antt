@@ -84,7 +84,7 @@ newest_kept vxid at rows row other is = record {
 }
 
 -- a record that goes to its transaction and may tell its kind is one change of it
-one_told : (vxid : ℕ) (rec : Record) (pending : List Transaction) → with_kind vxid rec (with_record vxid rec pending) ≡ with_newest vxid (with_one rec) pending
+pub one_told : (vxid : ℕ) (rec : Record) (pending : List Transaction) → with_kind vxid rec (with_record vxid rec pending) ≡ with_newest vxid (with_one rec) pending
 one_told vxid rec pending =
     let claim : Option Claim = claim_of rec.payload in
     let added : List Transaction = with_newest vxid (longer rec) pending in

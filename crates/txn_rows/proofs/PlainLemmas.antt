@@ -8,12 +8,11 @@ use Rattle.vsl_tags.specs.Tags.{begin_tag, link_tag, timestamp_tag, end_tag}
 use Rattle.vsl_record.specs.declared.record_type.Record.{Record}
 use Rattle.txn_rows.specs.declared.group.Group.{Group}
 use Rattle.txn_rows.specs.declared.group.GroupOptions.{GroupOptions}
-use Rattle.txn_rows.specs.declared.pending.Pending.{Pending}
 use Rattle.txn_rows.specs.Transaction.{Transaction, is_pending, is_open, newest, with_newest, with_record}
 use Rattle.txn_rows.specs.Grouping.{State, Leaving, nothing_left, then_left, has_risen, unfinished, after_overflow, grouped, is_raw, step, steps}
 use Rattle.txn_rows.specs.inside.Rows.{longer_by}
 use Rattle.txn_rows.specs.inside.Told.{is_plain, is_plain_record}
-use Rattle.txn_rows.specs.inside.States.{state_of, Went, WentBy}
+use Rattle.txn_rows.specs.Store.{Went, WentBy}
 use Rattle.txn_rows.proofs.ChangeLemmas.{newest_same, newest_is_changed, newest_twice}
 use Rattle.txn_rows.proofs.LineLemmas.{by_cases}
 use Rattle.txn_rows.proofs.ForceAllLemmas.{down_within}
@@ -125,11 +124,11 @@ plain_steps options vxid (rec ∷ run) state grouped plain opened few =
     ∙ plain_steps options vxid run now grouped tests.1 (open_still vxid rec state.pending ∙ opened) (omega (arith, few, longer_length vxid rec state))
     ∙ ap nothing_left (run_more vxid rec run state)
 
--- their row takes them, and nothing leaves
-pub run_went : (options : GroupOptions) (vxid : ℕ) (run : List Record) (p now : Pending) (out : List Group) → is_raw options.grouping ≡ false → list_all is_plain_record run ≡ true → is_open vxid (state_of p).pending ≡ true → length (state_of p).pending ≤ options.limit →
-    Went (longer_run vxid run (state_of p)) now → WentBy options.grouping (steps options vxid run (state_of p)) now out out
-run_went options vxid run p now out grouped plain opened few went =
-    nothing_step options.grouping now.begun now.time now.rows.items out (steps options vxid run (state_of p)) went.trees (plain_steps options vxid run (state_of p) grouped plain opened few ∙ ap nothing_left (sym went.told))
+-- a store takes them, and nothing leaves
+pub run_went : {S L : Type 0} (holds : S → Type 0) (state_of : S → State) (hand : Group → L) (options : GroupOptions) (vxid : ℕ) (run : List Record) (store now : S) (out : List L) → is_raw options.grouping ≡ false → list_all is_plain_record run ≡ true → is_open vxid (state_of store).pending ≡ true → length (state_of store).pending ≤ options.limit →
+    Went holds state_of (longer_run vxid run (state_of store)) now → WentBy holds state_of hand options.grouping (steps options vxid run (state_of store)) now out out
+run_went holds state_of hand options vxid run store now out grouped plain opened few went =
+    nothing_step holds state_of hand options.grouping now out (steps options vxid run (state_of store)) went.kept (plain_steps options vxid run (state_of store) grouped plain opened few ∙ ap nothing_left (sym went.told))
 
 -- ---- records one after another
 

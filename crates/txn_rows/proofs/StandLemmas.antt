@@ -54,7 +54,7 @@ kept_filter q s (first ∷ rows) row here kept =
     (λ t. let later = kept_filter q s rows row (rw t at here) kept in
     by_cases Goal (q first) (λ u. rw (u, t) later) (λ u. rw u later))
 
-rising_weaker : (low lower high : ℕ) (rows : List Row) → lower ≤ low → Rising low high rows → Rising lower high rows
+pub rising_weaker : (low lower high : ℕ) (rows : List Row) → lower ≤ low → Rising low high rows → Rising lower high rows
 rising_weaker low lower high [] w r = omega (arith, w, r)
 rising_weaker low lower high (row ∷ rows) w r = (omega (arith, w, r.0), r.1)
 
@@ -85,7 +85,7 @@ filter_count p q b (row ∷ rows) e =
     rw same (cond_both (p row) (row ∷ filter p rows) (filter p rows) (λ rs. count_by q rs ≡ cond b (count_by q rows) 0) (λ u. omega (arith, kept, none, later)) (λ u. later)))
 
 -- rows that are all kept where they count
-count_filter : (p q : Row → Bool) (rows : List Row) → Each (λ r. p r ≡ true → q r ≡ true) rows → count_by p (filter q rows) ≡ count_by p rows
+pub count_filter : (p q : Row → Bool) (rows : List Row) → Each (λ r. p r ≡ true → q r ≡ true) rows → count_by p (filter q rows) ≡ count_by p rows
 count_filter p q rows e = filter_count q p true rows e
 
 -- other trees keep their rows
@@ -107,7 +107,7 @@ child_in_tree rows row child here linked leads = ⊎_elim
     linked
 
 -- rows of which none counts
-count_none : (p : Row → Bool) (rows : List Row) → Each (λ r. p r ≡ false) rows → count_by p rows ≡ 0
+pub count_none : (p : Row → Bool) (rows : List Row) → Each (λ r. p r ≡ false) rows → count_by p rows ≡ 0
 count_none p [] e = refl
 count_none p (row ∷ rows) e =
     let n : Row → ℕ = λ r. cond (p r) 1 0 in
@@ -115,7 +115,7 @@ count_none p (row ∷ rows) e =
     omega (arith, count_none p rows e.1, sum_by-cons n row rows, none)
 
 -- a child stays where its parent does
-children_beside : (begun root s : ℕ) (rows : List Row) (row : Row) → AreTrees begun rows → row_of s rows ≡ Some row → not (eqb row.root root) ≡ true → count_by (λ (r : Row). leads_to row.serial r.parent) (rows_beside root rows) ≡ count_by (λ (r : Row). leads_to row.serial r.parent) rows
+pub children_beside : (begun root s : ℕ) (rows : List Row) (row : Row) → AreTrees begun rows → row_of s rows ≡ Some row → not (eqb row.root root) ≡ true → count_by (λ (r : Row). leads_to row.serial r.parent) (rows_beside root rows) ≡ count_by (λ (r : Row). leads_to row.serial r.parent) rows
 children_beside begun root s rows row trees here beside =
     let own : row_of row.serial rows ≡ Some row = ap (λ (n : ℕ). row_of n rows) (row_of_serial s rows row here) ∙ here in
     count_filter (λ r. leads_to row.serial r.parent) (λ r. not (eqb r.root root)) rows
@@ -124,7 +124,7 @@ children_beside begun root s rows row trees here beside =
     rows (each_found 0 begun rows trees.rising))
 
 -- where a tree leaves, the others stand
-trees_left : (begun root : ℕ) (rows : List Row) → AreTrees begun rows → AreTrees begun (rows_beside root rows)
+pub trees_left : (begun root : ℕ) (rows : List Row) → AreTrees begun rows → AreTrees begun (rows_beside root rows)
 trees_left begun root rows trees =
     let q : Row → Bool = λ r. not (eqb r.root root) in
     record {
@@ -179,7 +179,7 @@ pub record KeepsPlaces (f : Row → Row) (rows : List Row) : Type 0 where
   pub path : (row : Row) → (f row).path ≡ row.path
   pub children : (row : Row) → (f row).children ≡ row.children
 
-count_same : (p : Row → Bool) (f : Row → Row) → ((row : Row) → p (f row) ≡ p row) → (rows : List Row) → count_by p (map f rows) ≡ count_by p rows
+pub count_same : (p : Row → Bool) (f : Row → Row) → ((row : Row) → p (f row) ≡ p row) → (rows : List Row) → count_by p (map f rows) ≡ count_by p rows
 count_same p f same [] = refl
 count_same p f same (row ∷ rows) =
     let n : Row → ℕ = λ r. cond (p r) 1 0 in
@@ -188,7 +188,7 @@ count_same p f same (row ∷ rows) =
 pub count_kept : (f : Row → Row) → ((row : Row) → (f row).root ≡ row.root) → (x : ℕ) (rows : List Row) → count_by (λ (r : Row). eqb r.root x) (map f rows) ≡ count_by (λ (r : Row). eqb r.root x) rows
 count_kept f keeps x rows = count_same (λ r. eqb r.root x) f (λ row. ap (λ (n : ℕ). eqb n x) (keeps row)) rows
 
-children_kept : (f : Row → Row) → ((row : Row) → (f row).parent ≡ row.parent) → (x : ℕ) (rows : List Row) → count_by (λ (r : Row). leads_to x r.parent) (map f rows) ≡ count_by (λ (r : Row). leads_to x r.parent) rows
+pub children_kept : (f : Row → Row) → ((row : Row) → (f row).parent ≡ row.parent) → (x : ℕ) (rows : List Row) → count_by (λ (r : Row). leads_to x r.parent) (map f rows) ≡ count_by (λ (r : Row). leads_to x r.parent) rows
 children_kept f keeps x rows = count_same (λ r. leads_to x r.parent) f (λ row. ap (leads_to x) (keeps row)) rows
 
 -- rows that keep their places stand in trees
@@ -275,7 +275,7 @@ pub record IsInPlaceOf (row new : Row) : Type 0 where
 pub told_in_place : (change : Transaction → Transaction) (row new : Row) → new ≡ row_told change row → IsInPlaceOf row new
 told_in_place change row new is = subst (IsInPlaceOf row) (sym is) (record { serial = refl; parent = refl; root = refl; path = refl; children = refl })
 
-retold_is : (row new : Row) → IsInPlaceOf row new → retold new row ≡ new
+pub retold_is : (row new : Row) → IsInPlaceOf row new → retold new row ≡ new
 retold_is row new same =
     ap (λ (n : ℕ). record (retold new row) { serial = n }) (sym same.serial)
     ∙ ap (λ (p : Option ParentLink). record (retold new row) { serial = new.serial; parent = p }) (sym same.parent)
@@ -293,7 +293,7 @@ pub trees_set : (begun at : ℕ) (rows : List Row) (row new : Row) → AreTrees 
 trees_set begun at rows row new trees within read same =
     subst (AreTrees begun) (sym (set_is_map 0 begun at rows row new trees.rising within read same)) (trees_kept begun (swapped new) rows (swapped_keeps new rows) trees)
 
-rising_push : (low high : ℕ) (rows : List Row) (row : Row) → Rising low high rows → row.serial ≡ high → Rising low (high + 1) (rows ++ row ∷ [])
+pub rising_push : (low high : ℕ) (rows : List Row) (row : Row) → Rising low high rows → row.serial ≡ high → Rising low (high + 1) (rows ++ row ∷ [])
 rising_push low high [] row r is = (omega (arith, r, is), omega (arith, r, is))
 rising_push low high (first ∷ rows) row r is = (r.0, rising_push (first.serial + 1) high rows row r.1 is)
 
@@ -311,12 +311,12 @@ found_push s rows new row None e here =
 pub found_still : (s : ℕ) (rows : List Row) (new row : Row) → row_of s rows ≡ Some row → row_of s (rows ++ new ∷ []) ≡ Some row
 found_still s rows new row here = find-append (λ (r : Row). eqb r.serial s) rows (new ∷ []) ∙ ap (λ (o : Option Row). option_or o (row_of s (new ∷ []))) here
 
-rising_ends : (low high : ℕ) (rows : List Row) → Rising low high rows → low ≤ high
+pub rising_ends : (low high : ℕ) (rows : List Row) → Rising low high rows → low ≤ high
 rising_ends low high [] r = r
 rising_ends low high (row ∷ rows) r = omega (arith, r.0, rising_ends (row.serial + 1) high rows r.1)
 
 -- a row that is found is older than the next
-found_under : (s low high : ℕ) (rows : List Row) (row : Row) → Rising low high rows → row_of s rows ≡ Some row → row.serial < high
+pub found_under : (s low high : ℕ) (rows : List Row) (row : Row) → Rising low high rows → row_of s rows ≡ Some row → row.serial < high
 found_under s low high [] row r here = absurd (cc)
 found_under s low high (first ∷ rows) row r here =
     by_cases (row.serial < high) (eqb first.serial s)
@@ -324,14 +324,14 @@ found_under s low high (first ∷ rows) row r here =
     (λ t. found_under s (first.serial + 1) high rows row r.1 (rw t at here))
 
 -- no link leads to the serial number that is next
-leads_to_none : (begun : ℕ) (rows : List Row) (row : Row) → AreTrees begun rows → row_of row.serial rows ≡ Some row → leads_to begun row.parent ≡ false
+pub leads_to_none : (begun : ℕ) (rows : List Row) (row : Row) → AreTrees begun rows → row_of row.serial rows ≡ Some row → leads_to begun row.parent ≡ false
 leads_to_none begun rows row trees here = ⊎_elim
     (λ (top : IsTop row). ap (leads_to begun) top.none)
     (λ (below : IsBelow rows row). ap (leads_to begun) below.linked ∙ ne_eqb below.link.serial begun (λ e.
     omega (arith, e, found_under below.link.serial 0 begun rows below.above trees.rising below.found, row_of_serial below.link.serial rows below.above below.found)))
     (trees.forest.linked row.serial row here)
 
-no_children : (begun : ℕ) (rows : List Row) → AreTrees begun rows → count_by (λ (r : Row). leads_to begun r.parent) rows ≡ 0
+pub no_children : (begun : ℕ) (rows : List Row) → AreTrees begun rows → count_by (λ (r : Row). leads_to begun r.parent) rows ≡ 0
 no_children begun rows trees = count_none (λ r. leads_to begun r.parent) rows
     (each_weaker (λ r. row_of r.serial rows ≡ Some r) (λ r. leads_to begun r.parent ≡ false) (λ r here. leads_to_none begun rows r trees here) rows (each_found 0 begun rows trees.rising))
 

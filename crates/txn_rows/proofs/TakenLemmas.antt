@@ -18,7 +18,7 @@ use Rattle.txn_rows.specs.declared.group.Cause.TheVariants.{Flush}
 use Rattle.txn_rows.specs.declared.group.Member.{Member}
 use Rattle.txn_rows.specs.declared.group.Group.{Group}
 use Rattle.txn_rows.specs.inside.Steps.{test_of}
-use Rattle.txn_rows.specs.declared.force.Which.TheVariants.{Unfinished}
+use Rattle.txn_rows.specs.declared.which.Which.TheVariants.{Unfinished}
 use Rattle.txn_rows.specs.Transaction.{Transaction, cause_text, empty_transaction, is_pending, is_open, newest, with_newest, with_record, claimed_kind, ended, forced, first_mark, oldest, with_oldest}
 use Rattle.txn_rows.specs.Links.{with_parent, can_join, children, root_of, tree_of, others, path_of, preorder, member_of, group_of}
 use Rattle.txn_rows.specs.Grouping.{Taken, TakenUnit, Missed, State, Leaving, no_state, nothing_left, then_left, with_new, with_transaction, raised, timed, left_by, forced_one, after_end, after_timeouts, after_overflow, flush, unfinished, with_all_told, grouped, is_raw, raw_group, step, steps, passes_over, unit_step, taken_step, taken_steps}

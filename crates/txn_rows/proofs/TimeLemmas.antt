@@ -6,21 +6,21 @@ use Rattle.std.proofs.lemmas.Bool.{cond_both, ltb-true}
 use Rattle.std.proofs.lemmas.List.{map-append}
 use Rattle.vsl_tags.specs.Tags.{begin_tag, end_tag}
 use Rattle.vsl_record.specs.declared.record_type.Record.{Record}
+use Rattle.vsl_record.specs.Unit.{LogUnit}
 use Rattle.txn_rows.specs.declared.group.Grouping.{Grouping}
 use Rattle.txn_rows.specs.declared.group.GroupOptions.{GroupOptions}
 use Rattle.txn_rows.specs.declared.group.Group.{Group}
 use Rattle.txn_rows.specs.declared.group.Cause.{Cause}
-use Rattle.txn_rows.specs.declared.pending.Pending.{Pending}
 use Rattle.txn_rows.specs.Claim.{claim_of}
 use Rattle.txn_rows.specs.Transaction.{Transaction, empty_transaction, newest, with_newest, with_record, with_kind, oldest, with_oldest, claimed_kind, ended, forced}
 use Rattle.txn_rows.specs.Links.{with_parent, can_join, children, root_of, tree_of, others, group_of}
-use Rattle.txn_rows.specs.Grouping.{State, Leaving, nothing_left, first_known, timed, raised, with_transaction, with_all_told, left_by, ended_one, forced_one, after_end, steps, flush}
-use Rattle.txn_rows.specs.inside.Steps.{test_of}
+use Rattle.txn_rows.specs.Grouping.{State, Leaving, nothing_left, first_known, timed, raised, with_transaction, with_all_told, left_by, ended_one, forced_one, after_end, after_timeouts, TakenUnit, steps, unit_step, flush}
+use Rattle.txn_rows.specs.Store.{Went, WentBy}
+use Rattle.txn_rows.specs.inside.Steps.{IsOrdered, test_of}
 use Rattle.txn_rows.specs.inside.Times.{TimesRise, NoneKnown, RiseTo, times_of, IsTimed}
-use Rattle.txn_rows.specs.inside.States.{state_of, AreOrdered, Went, WentBy}
 use Rattle.txn_rows.proofs.LineLemmas.{either}
 use Rattle.txn_rows.proofs.ChangeLemmas.{newest_same, oldest_same}
-use Rattle.txn_rows.proofs.KeepLemmas.{claimed_same, Keeps, begun_kept, told_kept, HoldsOn, HoldsOver, holds_over, flush_holds, steps_hold}
+use Rattle.txn_rows.proofs.KeepLemmas.{claimed_same, Keeps, begun_kept, told_kept, HoldsOn, HoldsOver, holds_over, timeouts_hold, flush_holds, steps_hold, item_holds}
 
 -- from an earlier time on
 rise_from : (low lower high : ℕ) (times : List (Option ℕ)) → lower ≤ low → TimesRise low high times → TimesRise lower high times
@@ -129,13 +129,6 @@ kind_timed vxid rec state h =
     either (λ ts. IsTimed (record state { pending = ts })) (eqb rec.tag begin_tag) (with_newest vxid (claimed_kind (claim_of rec.payload)) state.pending) state.pending
     (timed_keeps.kind vxid (claim_of rec.payload) state h) h
 
--- rows to which a record was added
-pub added_ordered : (vxid : ℕ) (rec : Record) (state : State) {b a : Pending} → IsTimed state → Went (with_transaction vxid state) b → Went (record (state_of b) { pending = with_kind vxid rec (with_record vxid rec (state_of b).pending) }) a →
-    AreOrdered a
-added_ordered vxid rec state {b} {a} h begun added =
-    let open_times : IsTimed (state_of b) = subst IsTimed (sym begun.told) (begun_timed vxid state h) in
-    record { trees = added.trees; times = subst IsTimed (sym added.told) (kind_timed vxid rec (record (state_of b) { pending = with_record vxid rec (state_of b).pending }) (added_timed vxid rec (state_of b) open_times)) }
-
 -- whatever leaves
 left_timed : (o : Option Transaction) (state : State) → IsTimed state → IsTimed (left_by o state).state
 left_timed None state h = h
@@ -150,13 +143,6 @@ end_timed vxid rec state h =
     let now : State = record state { pending = with_newest vxid ended state.pending } in
     either (λ r. IsTimed r.state) (eqb rec.tag end_tag) (ended_one vxid state) (nothing_left state)
     (left_timed (newest vxid now.pending) now (newest_timed vxid ended (λ t. refl) state h)) h
-
--- and so do those of the rows
-pub ended_ordered : (grouping : Grouping) (vxid : ℕ) (rec : Record) {p now : Pending} {out out_now : List Group} → AreOrdered p → WentBy grouping (after_end vxid rec (with_all_told grouping vxid rec (state_of p))) now out out_now → AreOrdered now
-ended_ordered grouping vxid rec {p} o went = record {
-  trees = went.trees;
-  times = subst IsTimed (sym went.state) (end_timed vxid rec (with_all_told grouping vxid rec (state_of p)) (told_timed grouping vxid rec (state_of p) o.times));
-}
 
 pub one_timed : (test : Transaction → Bool) (cause : Cause) (state : State) → IsTimed state → IsTimed (forced_one test cause state).state
 one_timed test cause state h =
@@ -177,9 +163,11 @@ timed_over options = holds_over options TimedOn timed_on (λ vxid rec state raw 
 pub steps_timed : (options : GroupOptions) (vxid : ℕ) (records : List Record) (state : State) → IsTimed state → IsTimed (steps options vxid records state).state
 steps_timed options vxid records state = steps_hold options TimedOn (timed_over options) vxid records state
 
--- and so do those of the rows
-pub some_ordered : (options : GroupOptions) (vxid : ℕ) (records : List Record) {p now : Pending} {out out_now : List Group} → AreOrdered p → WentBy options.grouping (steps options vxid records (state_of p)) now out out_now → AreOrdered now
-some_ordered options vxid records {p} o went = record { trees = went.trees; times = subst IsTimed (sym went.state) (steps_timed options vxid records (state_of p) o.times) }
+pub unit_timed : (options : GroupOptions) (u : LogUnit) (state : State) → IsTimed state → IsTimed (unit_step options u state).state
+unit_timed options u state = item_holds options TimedOn (timed_over options) (TakenUnit u) state
+
+late_timed : (seconds : ℕ) (before : Option ℕ) (state : State) → IsTimed state → IsTimed (after_timeouts seconds before state).state
+late_timed seconds before state = timeouts_hold TimedOn timed_on seconds before state
 
 pub flush_timed : (state : State) → IsTimed state → IsTimed (flush state).state
 flush_timed state = flush_holds TimedOn timed_on state
@@ -188,3 +176,27 @@ flush_timed state = flush_holds TimedOn timed_on state
 pub time_known : (told old : Option ℕ) (pending : List Transaction) → is_some old ≡ true → RiseTo old (times_of pending) → map (timed (raised told old)) pending ≡ pending
 time_known told None pending known h = absurd (cc)
 time_known told (Some old) pending known h = known_stay (raised told (Some old)) 0 old pending h
+
+-- what a store names: what is so of it while no call failed, the state that it keeps, and what it hands out for a group
+module _ {S L : Type 0} (holds : S → Type 0) (state_of : S → State) (hand : Group → L) where
+  -- times rise in a store that was told a record
+  pub added_ordered : (vxid : ℕ) (rec : Record) (state : State) {b a : S} → IsTimed state → Went holds state_of (with_transaction vxid state) b → Went holds state_of (record (state_of b) { pending = with_kind vxid rec (with_record vxid rec (state_of b).pending) }) a →
+      IsOrdered holds state_of a
+  added_ordered vxid rec state {b} {a} h begun added =
+      let open_times : IsTimed (state_of b) = subst IsTimed (sym begun.told) (begun_timed vxid state h) in
+      record { kept = added.kept; times = subst IsTimed (sym added.told) (kind_timed vxid rec (record (state_of b) { pending = with_record vxid rec (state_of b).pending }) (added_timed vxid rec (state_of b) open_times)) }
+
+  -- after an end
+  pub ended_ordered : (grouping : Grouping) (vxid : ℕ) (rec : Record) {store now : S} {out out_now : List L} → IsOrdered holds state_of store → WentBy holds state_of hand grouping (after_end vxid rec (with_all_told grouping vxid rec (state_of store))) now out out_now → IsOrdered holds state_of now
+  ended_ordered grouping vxid rec {store} o went = record {
+    kept = went.kept;
+    times = subst IsTimed (sym went.state) (end_timed vxid rec (with_all_told grouping vxid rec (state_of store)) (told_timed grouping vxid rec (state_of store) o.times));
+  }
+
+  -- after timeouts
+  pub late_ordered : (seconds : ℕ) (before : Option ℕ) (grouping : Grouping) {store now : S} {out out_now : List L} → IsOrdered holds state_of store → WentBy holds state_of hand grouping (after_timeouts seconds before (state_of store)) now out out_now → IsOrdered holds state_of now
+  late_ordered seconds before grouping {store} o went = record { kept = went.kept; times = subst IsTimed (sym went.state) (late_timed seconds before (state_of store) o.times) }
+
+  -- after records
+  pub some_ordered : (options : GroupOptions) (vxid : ℕ) (records : List Record) {store now : S} {out out_now : List L} → IsOrdered holds state_of store → WentBy holds state_of hand options.grouping (steps options vxid records (state_of store)) now out out_now → IsOrdered holds state_of now
+  some_ordered options vxid records {store} o went = record { kept = went.kept; times = subst IsTimed (sym went.state) (steps_timed options vxid records (state_of store) o.times) }

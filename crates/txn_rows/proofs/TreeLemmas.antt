@@ -69,7 +69,7 @@ other_rows high rows root rising forest =
     (each_weaker (λ row. Line rows row (line_of (map transaction_of rows) (transaction_of row))) (λ row. not (eqb (root_of (map transaction_of rows) (transaction_of row)).serial root.serial) ≡ not (eqb row.root root.serial))
     (λ row line. ap (λ (s : ℕ). not (eqb s root.serial)) (line.top (transaction_of row))) rows (each_line high rows rising forest))
 
-each_filter : (P : Row → Type 0) (q : Row → Bool) (rows : List Row) → Each P rows → Each P (filter q rows)
+pub each_filter : (P : Row → Type 0) (q : Row → Bool) (rows : List Row) → Each P rows → Each P (filter q rows)
 each_filter P q [] e = tt
 each_filter P q (row ∷ rows) e =
     by_cases (Each P (filter q (row ∷ rows))) (q row)
@@ -87,7 +87,7 @@ each_placed P row (r ∷ rows) p e =
     (λ t. rw t (p, e))
     (λ t. rw t (e.0, each_placed P row rows p e.1))
 
-each_preorder : (P : Row → Type 0) (rows : List Row) → Each P rows → Each P (rows_in_preorder rows)
+pub each_preorder : (P : Row → Type 0) (rows : List Row) → Each P rows → Each P (rows_in_preorder rows)
 each_preorder P [] e = tt
 each_preorder P (row ∷ rows) e = each_placed P row (rows_in_preorder rows) e.0 (each_preorder P rows e.1)
 

@@ -5,6 +5,7 @@ pub mod Links
 pub mod Grouping
 pub mod TableState
 pub mod Table
+pub mod Store
 pub mod Taken
 pub mod Walk
 pub mod Ends

@@ -1,32 +1,42 @@
 //! Force-completing rows.
 
-ghost use Rattle.std.specs.Prelude.{◌≡◌, ℕ, ◌≤◌, ◌<◌, Bool, length, map, false, count_by, Option, IfOk, IfSome, IfNone, OnOk, OnErr};
+ghost use Rattle.std.specs.Prelude.{◌≡◌, ℕ, ◌≤◌, ◌<◌, Bool, [], ◌∷◌, ◌++◌, length, map, false, count_by, codes, Option, IfOk, IfSome, IfNone, OnOk, OnErr};
 ghost use Rattle.std.specs.List.{list_any};
+ghost use Rattle.vsl_tags.specs.Tags.{end_tag, vsl_tag};
 ghost use Rattle.vsl_record.specs.Payload.{most_payload};
 ghost use Rattle.txn_rows.specs.Transaction.{Transaction, first_mark, cause_text, forced};
-ghost use Rattle.txn_rows.specs.Grouping.{forced_one, forced_all, after_overflow, is_behind, is_unfinished};
+ghost use Rattle.txn_rows.specs.Grouping.{forced_one, is_unfinished};
 ghost use Rattle.txn_rows.specs.inside.Rows.{transaction_of, row_told, AreTrees, IsOldestRow};
-ghost use Rattle.txn_rows.specs.inside.Times.{RiseTo, times_of, IsTimed};
-ghost use Rattle.txn_rows.specs.inside.Steps.{RowsStep, AddsPart, state_with, test_of};
+ghost use Rattle.txn_rows.specs.inside.Times.{RiseTo, times_of};
+ghost use Rattle.txn_rows.specs.inside.Steps.{RowsStep, state_with, test_of};
 
 use crate::group::{Cause, Group, Grouping};
 use crate::leave::leave;
 use crate::rows::Row;
+use crate::which::Which;
 use log_model::NoMemory;
 use std::alloc::Global;
-use vsl_record::{Mark, Payload, Record, RecordsView};
+use vsl_record::{Mark, Payload, Record, Records, RecordsView};
 use vsl_tags::Tag;
 
 /// Force-completes a row: it gets a VSL record with the cause and an End.
 fn force_row(alloc: Global, row: &mut Row, cause: Cause) -> Result<(), NoMemory>
     ensures { OnOk result (row.new ≡ row_told (forced cause) row.old) }
 {
-    let mark = mark_of(&row.records.view());
-    let told = synthesized(alloc, Tag::VSL, mark, text_of(cause))?;
-    row.records.push(&told.view())?;
-    let end = synthesized(alloc, Tag::END, mark, b"synth")?;
-    row.records.push(&end.view())?;
+    add_forced(alloc, &mut row.records, cause)?;
     row.ended = true;
+    Ok(())
+}
+
+/// Adds what a transaction gets that is force-completed: a VSL record with the cause and an End.
+pub fn add_forced(alloc: Global, records: &mut Records, cause: Cause) -> Result<(), NoMemory>
+    ensures { OnOk result (records.new ≡ records.old ++ record { tag = vsl_tag; mark = first_mark records.old; payload = cause_text cause } ∷ record { tag = end_tag; mark = first_mark records.old; payload = codes "synth" } ∷ []) }
+{
+    let mark = mark_of(&records.view());
+    let told = synthesized(alloc, Tag::VSL, mark, text_of(cause))?;
+    records.push(&told.view())?;
+    let end = synthesized(alloc, Tag::END, mark, b"synth")?;
+    records.push(&end.view())?;
     Ok(())
 }
 
@@ -61,40 +71,8 @@ fn synthesized(alloc: Global, tag: Tag, mark: Mark, payload: &[u8]) -> Result<Re
     Ok(Record { tag, mark, payload })
 }
 
-/// Which rows are force-completed.
-#[derive(Clone, Copy)]
-pub(crate) enum Which {
-    /// Those that have not ended.
-    Unfinished,
-    /// Of these, those that began more than so many seconds before a time.
-    Late { seconds: u32, now: Option<u128> },
-}
-
-/// So many units are a second.
-const SECOND: u128 = 1_000_000_000_000_000_000;
-
-/// Whether a time lies more than so many seconds behind another.
-fn is_behind(seconds: u32, time: Option<u128>, now: Option<u128>) -> bool
-    ensures { result ≡ is_behind seconds time now }
-{
-    match (time, now) {
-        (Some(time), Some(now)) => time < now && now - time > seconds as u128 * SECOND,
-        _ => false,
-    }
-}
-
-/// Whether a row is one of those.
-fn is_one(which: Which, row: &Row) -> bool
-    ensures { result ≡ test_of which (transaction_of row.now) }
-{
-    match which {
-        Which::Unfinished => !row.ended,
-        Which::Late { seconds, now } => !row.ended && is_behind(seconds, row.time, now),
-    }
-}
-
 /// The place of the oldest row that has not ended.
-pub(crate) fn oldest_unfinished(rows: &[Row]) -> Option<usize>
+fn oldest_unfinished(rows: &[Row]) -> Option<usize>
     ensures some { IfSome result (λ at. IsOldestRow is_unfinished at rows.now) }
     ensures none { IfNone result (list_any is_unfinished (map transaction_of rows.now) ≡ false) }
 {
@@ -107,14 +85,15 @@ pub(crate) fn oldest_unfinished(rows: &[Row]) -> Option<usize>
 }
 
 /// The place of the oldest of those rows. Times rise: where the oldest row that has not ended isn't late, none is.
-fn oldest_of(which: Which, rows: &[Row]) -> Option<usize>
+pub(crate) fn oldest_of(which: Which, rows: &[Row]) -> Option<usize>
     ensures some { IfSome result (λ at. IsOldestRow (test_of which) at rows.now) }
     ensures none { (time : Option ℕ) → RiseTo time (times_of (map transaction_of rows.now)) → IfNone result (list_any (test_of which) (map transaction_of rows.now) ≡ false) }
 {
     let Some(at) = oldest_unfinished(rows) else {
         return None;
     };
-    if is_one(which, &rows[at]) {
+    let row = &rows[at];
+    if which.is_met(row.ended, row.time) {
         return Some(at);
     }
     None
@@ -144,52 +123,4 @@ pub(crate) fn force_at(
     force_row(alloc, &mut rows[at], cause)?;
     let root = rows[at].root;
     leave(alloc, grouping, rows, root, out)
-}
-
-/// Force-completes those rows, the oldest first, and adds the groups that they complete.
-pub(crate) fn force_all(
-    alloc: Global,
-    grouping: Grouping,
-    rows: &mut Vec<Row>,
-    which: Which,
-    cause: Cause,
-    out: &mut Vec<Group>,
-) -> Result<(), NoMemory>
-    ensures ok { (begun : ℕ) (time : Option ℕ) → AreTrees begun rows.old.items → IsTimed (state_with begun time rows.old.items) →
-        OnOk result (RowsStep grouping (forced_all (test_of which) cause (state_with begun time rows.old.items)) begun time rows.new.items out.old.items out.new.items) }
-    ensures err { (begun : ℕ) (time : Option ℕ) → AreTrees begun rows.old.items → IsTimed (state_with begun time rows.old.items) →
-        OnErr result (AddsPart grouping (forced_all (test_of which) cause (state_with begun time rows.old.items)) out.old.items out.new.items) }
-{
-    for i in 0..rows.len() {
-        let Some(at) = oldest_of(which, rows) else {
-            return Ok(());
-        };
-        force_at(alloc, grouping, rows, at, cause, out)?;
-    }
-    Ok(())
-}
-
-/// While more rows than the limit stand, force-completes the oldest that has not ended.
-pub(crate) fn keep_within(
-    alloc: Global,
-    grouping: Grouping,
-    rows: &mut Vec<Row>,
-    limit: u32,
-    out: &mut Vec<Group>,
-) -> Result<(), NoMemory>
-    ensures ok { (begun : ℕ) (time : Option ℕ) → AreTrees begun rows.old.items →
-        OnOk result (RowsStep grouping (after_overflow limit (state_with begun time rows.old.items)) begun time rows.new.items out.old.items out.new.items) }
-    ensures err { (begun : ℕ) (time : Option ℕ) → AreTrees begun rows.old.items →
-        OnErr result (AddsPart grouping (after_overflow limit (state_with begun time rows.old.items)) out.old.items out.new.items) }
-{
-    for i in 0..rows.len() {
-        if rows.len() <= limit as usize {
-            return Ok(());
-        }
-        let Some(at) = oldest_unfinished(rows) else {
-            return Ok(());
-        };
-        force_at(alloc, grouping, rows, at, Cause::Overflow, out)?;
-    }
-    Ok(())
 }

@@ -1,9 +1,8 @@
 //! Joining trees of rows.
 
-ghost use Rattle.std.specs.Prelude.{◌≡◌, ℕ, ◌<◌, ◌≤◌, ◌==◌, ◌&&◌, ◌-◌, ◌^◌, min, not, is_none, length, map, IfOk, OnOk};
-ghost use Rattle.std.specs.List.{sum_by};
+ghost use Rattle.std.specs.Prelude.{◌≡◌, ℕ, ◌==◌, ◌&&◌, not, is_none, map, IfOk, OnOk};
 ghost use Rattle.txn_rows.specs.Links.{with_link};
-ghost use Rattle.txn_rows.specs.inside.Rows.{transaction_of, IsNewestRow, joined, joined_at, AreTrees, Rows};
+ghost use Rattle.txn_rows.specs.inside.Rows.{transaction_of, IsNewestRow, joined, AreTrees, Rows};
 
 use crate::group::ParentLink;
 use crate::path::Path;
@@ -12,22 +11,16 @@ use log_model::NoMemory;
 use std::alloc::Global;
 use vsl_record::Vxid;
 
-/// The most numbers that the paths of all rows have together: 128 MiB of them.
-const MOST_NUMBERS: usize = 1 << 24;
-
-/// A path of fewer numbers is short: below it a row alone is added without counting them.
-const SHORT_PATH: usize = 64;
-
 /// What joins a tree to a parent.
 #[derive(Drop)]
-pub(crate) struct Join {
+pub struct Join {
     /// The serial number at the top of the tree.
-    pub(crate) child: u64,
-    pub(crate) link: ParentLink,
+    pub child: u64,
+    pub link: ParentLink,
     /// The serial number at the top of the parent's tree.
-    pub(crate) root: u64,
+    pub root: u64,
     /// Where the parent stands.
-    pub(crate) path: Path,
+    pub path: Path,
 }
 
 /// Whether one row can get another as its parent.
@@ -83,64 +76,8 @@ fn join_of(alloc: Global, child: &Row, parent: &Row) -> Result<Join, NoMemory>
     })
 }
 
-/// How many numbers the path of a row has once the tree joined. More than a `usize` holds count as the most of it.
-fn numbers_of(row: &Row, join: &Join) -> usize
-    ensures { result ≡ min (length (joined join.now row.now).path) (2 ^ 64 - 1) }
-{
-    let own = row.path.as_slice().len();
-    if row.root != join.child {
-        return own;
-    }
-    own.saturating_add(join.path.as_slice().len())
-        .saturating_add(1)
-}
-
-/// The same of all rows together.
-fn numbers_of_all(rows: &[Row], join: &Join) -> usize
-    ensures { result ≡ min (sum_by (λ row. length (joined join.now row).path) rows.now) (2 ^ 64 - 1) }
-{
-    let mut numbers: usize = 0;
-    for row in rows {
-        numbers = numbers.saturating_add(numbers_of(row, join));
-    }
-    numbers
-}
-
-/// Whether paths would have too many numbers. For a row alone below a parent whose path is short they aren't counted.
-fn is_too_long(rows: &[Row], join: &Join, alone: bool) -> bool {
-    if alone && join.path.as_slice().len() < SHORT_PATH {
-        return false;
-    }
-    numbers_of_all(rows, join) > MOST_NUMBERS
-}
-
-/// Whether a row has no children.
-fn has_none(row: &Row) -> bool
-    ensures { result ≡ (row.now.children == 0) }
-{
-    row.children == 0
-}
-
-/// Joins a tree of one row to a parent: no other row changes.
-fn join_alone(
-    alloc: Global,
-    rows: &mut Vec<Row>,
-    below: usize,
-    above: usize,
-    join: &Join,
-) -> Result<(), NoMemory>
-    requires child { below < length rows.old.items }
-    requires parent { above < length rows.old.items }
-    ensures { OnOk result (rows.new.items ≡ joined_at join.now above (joined_at join.now below rows.old.items)) }
-{
-    join_row(alloc, &mut rows[below], join)?;
-    join_row(alloc, &mut rows[above], join)
-}
-
 /// The newest row of the first VXID, which stands at `below`, becomes a child of the newest of the second, at `above`,
-/// where it can. That paths would have more numbers than `MOST_NUMBERS` counts as want of memory: those of a chain grow
-/// with the square of its length. A child without children below a parent whose path is short is not counted. At the
-/// default limit no more than 500,500 come.
+/// where it can.
 pub(crate) fn link_rows(
     alloc: Global,
     rows: &mut Vec<Row>,
@@ -157,13 +94,6 @@ pub(crate) fn link_rows(
     if !can_join(child_row, parent_row) {
         return Ok(());
     }
-    let alone = has_none(child_row);
     let join = join_of(alloc, child_row, parent_row)?;
-    if is_too_long(rows, &join, alone) {
-        return Err(NoMemory);
-    }
-    if alone {
-        return join_alone(alloc, rows, below, above, &join);
-    }
     join_rows(alloc, rows, &join)
 }

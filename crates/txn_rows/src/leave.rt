@@ -1,12 +1,11 @@
 //! Trees that leave as groups.
 
 ghost use Rattle.std.specs.Prelude.{◌≡◌, ◌+◌, ◌<◌, length, false, true, map, [], ◌∷◌, IfOk, OnOk, OnErr, IfSome, IfNone};
-ghost use Rattle.std.specs.List.{HoldsAt, list_all};
+ghost use Rattle.std.specs.List.{list_all};
 ghost use Rattle.txn_rows.specs.Grouping.{is_reported};
 ghost use Rattle.txn_rows.specs.inside.Rows.{rows_below, rows_beside, rows_in_preorder, member_of_row, left_rows, LeftRows};
 
 use crate::group::{Group, Grouping, Kind, Member, Members};
-use crate::raw::group_alone;
 use crate::rows::{Row, empty_row};
 use log_model::NoMemory;
 use std::alloc::Global;
@@ -60,58 +59,24 @@ fn group_of(alloc: Global, rows: Vec<Row>) -> Result<Group, NoMemory>
     Ok(Group { members })
 }
 
-/// The rows of a tree, all of which have ended.
-#[derive(Drop)]
-struct Ended {
-    count: usize,
-    /// The place of the last, where there is one.
-    last: usize,
-}
-
-/// The rows of a tree, where all have ended.
-fn ended_rows(rows: &[Row], root: u64) -> Option<Ended>
-    ensures none { IfNone result (list_all (λ row. row.ended) (rows_below root rows.now) ≡ false) }
-    ensures all { IfSome result (λ ended. list_all (λ row. row.ended) (rows_below root rows.now) ≡ true) }
-    ensures count { IfSome result (λ ended. ended.count ≡ length (rows_below root rows.now)) }
-    ensures within { IfSome result (λ ended. 0 < ended.count → ended.last < length rows.now) }
-    ensures last { IfSome result (λ ended. 0 < ended.count → HoldsAt (λ row. row.root ≡ root) rows.now ended.last) }
+/// Whether all rows of a tree have ended.
+fn have_ended(rows: &[Row], root: u64) -> bool
+    ensures { result ≡ list_all (λ row. row.ended) (rows_below root rows.now) }
 {
-    let mut count = 0;
-    let mut last = 0;
     for i in 0..rows.len() {
-        if rows[i].root == root {
-            if !rows[i].ended {
-                return None;
-            }
-            count += 1;
-            last = i;
+        if rows[i].root == root && !rows[i].ended {
+            return false;
         }
     }
-    Some(Ended { count, last })
+    true
 }
 
-/// Takes out the one row of a tree.
-fn take_row(rows: &mut Vec<Row>, root: u64, at: usize) -> Row
-    requires alone { length (rows_below root rows.old.items) ≡ 1 }
-    requires within { at < length rows.old.items }
-    requires here { HoldsAt (λ row. row.root ≡ root) rows.old.items at }
-    ensures row { rows_below root rows.old.items ≡ result ∷ [] }
-    ensures others { rows.new.items ≡ rows_beside root rows.old.items }
-{
-    rows.remove(at)
-}
-
-/// Takes out the rows of a tree, so many. Each leaves an empty row in its place, so that the others move once.
-fn take_rows(
-    alloc: Global,
-    rows: &mut Vec<Row>,
-    root: u64,
-    count: usize,
-) -> Result<Vec<Row>, NoMemory>
+/// Takes out the rows of a tree. Each leaves an empty row in its place, so that the others move once.
+fn take_rows(alloc: Global, rows: &mut Vec<Row>, root: u64) -> Result<Vec<Row>, NoMemory>
     ensures tree { IfOk result (λ tree. tree.items ≡ rows_below root rows.old.items) }
     ensures others { OnOk result (rows.new.items ≡ rows_beside root rows.old.items) }
 {
-    let mut tree = Vec::with_capacity(alloc, count)?;
+    let mut tree = Vec::new(alloc);
     for i in 0..rows.len() {
         if rows[i].root == root {
             let gap = empty_row(alloc, root, 0, None);
@@ -123,29 +88,17 @@ fn take_rows(
 }
 
 /// Takes out a tree, all of whose rows have ended, as a group.
-fn take_group(
-    alloc: Global,
-    rows: &mut Vec<Row>,
-    root: u64,
-    ended: Ended,
-) -> Result<Group, NoMemory>
-    requires count { ended.count ≡ length (rows_below root rows.old.items) }
-    requires within { 0 < ended.count → ended.last < length rows.old.items }
-    requires last { 0 < ended.count → HoldsAt (λ row. row.root ≡ root) rows.old.items ended.last }
+fn take_group(alloc: Global, rows: &mut Vec<Row>, root: u64) -> Result<Group, NoMemory>
     ensures group { IfOk result (λ group. group ≡ record { members = map member_of_row (rows_in_preorder (rows_below root rows.old.items)) }) }
     ensures others { OnOk result (rows.new.items ≡ rows_beside root rows.old.items) }
 {
-    if ended.count == 1 {
-        let row = take_row(rows, root, ended.last);
-        return group_alone(alloc, member_of(row)?);
-    }
-    let mut tree = take_rows(alloc, rows, root, ended.count)?;
+    let mut tree = take_rows(alloc, rows, root)?;
     sort_rows(&mut tree)?;
     group_of(alloc, tree)
 }
 
 /// Whether a group that left is reported: request grouping does not report sessions.
-fn is_reported(grouping: Grouping, group: &Group) -> bool
+pub fn is_reported(grouping: Grouping, group: &Group) -> bool
     ensures { result ≡ is_reported grouping group.now }
 {
     match (grouping, group.members.as_slice()) {
@@ -165,10 +118,10 @@ pub(crate) fn leave(
     ensures ok { OnOk result (LeftRows grouping (left_rows root rows.old.items) rows.new.items out.old.items out.new.items) }
     ensures err { OnErr result (out.new.items ≡ out.old.items) }
 {
-    let Some(ended) = ended_rows(rows, root) else {
+    if !have_ended(rows, root) {
         return Ok(());
-    };
-    let group = take_group(alloc, rows, root, ended)?;
+    }
+    let group = take_group(alloc, rows, root)?;
     if is_reported(grouping, &group) {
         out.push(group)?;
     }

@@ -6,12 +6,16 @@
 //! before it is complete. Until it finds no memory, each record that it takes is in one group or pending, once;
 //! from then on it answers that alone. Request grouping does not report sessions.
 //!
+//! What records do is written once, over any store of pending transactions (`Store`). `Table` has the plainest: a
+//! list in which all is searched. The tools run over trees with an index, of `txn_groups`.
+//!
 //! Start with `specs/Transaction.antt`, `specs/Links.antt` and `specs/Grouping.antt`.
 //! Source: vsl(7), vsl-query(7) "Grouping", varnishlog(1); what is this project's choice is said there.
 #![tactic(auto)]
 
 mod claim;
 mod force;
+mod forcing;
 mod group;
 mod join;
 mod laws;
@@ -21,15 +25,27 @@ mod pending;
 mod raw;
 mod rows;
 mod steps;
+mod store;
 mod table;
 mod take;
 mod time;
+mod which;
 
 pub use claim::{Claim, read_claim, read_vxid};
+pub use force::add_forced;
+pub use forcing::{flush_all, force_oldest};
 pub use group::{Cause, Group, GroupOptions, Grouping, Kind, Member, Members, ParentLink, Reason};
+pub use join::Join;
 pub use laws::{
     each_member_ends, each_record_once, each_transaction_once, every_line_ends, groups_are_walks,
     limit_holds, overrun_leaves_none, siblings_stand_in_order,
 };
+pub use leave::is_reported;
+pub use path::Path;
+pub use pending::{Pending, raised};
+pub use raw::raw_group;
+pub use steps::take_unit;
+pub use store::Store;
 pub use table::Table;
 pub use time::read_time;
+pub use which::Which;

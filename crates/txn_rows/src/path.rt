@@ -7,7 +7,7 @@ use std::marker::Model;
 
 /// At each level which child it is, from the top down. Contracts see the list.
 #[derive(Drop)]
-pub(crate) struct Path {
+pub struct Path {
     numbers: Vec<u64>,
 }
 

@@ -1,23 +1,30 @@
-//! What stands between two records, and how a record begins, names and links transactions.
+//! Pending transactions in a list, in the order in which they began: each question is answered by a search.
 
-ghost use Rattle.std.specs.Prelude.{◌≡◌, ◌≢◌, ℕ, if◌then◌else◌, length, IfOk, OnOk, OnErr};
-ghost use Rattle.txn_rows.specs.Transaction.{with_newest, with_record, with_kind};
-ghost use Rattle.txn_rows.specs.Grouping.{with_new, with_transaction, with_other, gives_parent, with_parent_named, with_child_named, ended_one, raised, with_time};
-ghost use Rattle.txn_rows.specs.inside.Rows.{IsNewestRow, AreTrees, longer_by, own_claim};
-ghost use Rattle.txn_rows.specs.inside.States.{state_of, AreOrdered, Went, WentBy};
+ghost use Rattle.std.specs.Prelude.{◌≡◌, ◌≢◌, ℕ, ⊤, length, IfOk, OnOk};
+ghost use Rattle.txn_rows.specs.Grouping.{no_state, with_new, raised};
+ghost use Rattle.txn_rows.specs.Store.{Went};
+ghost use Rattle.txn_rows.specs.inside.Rows.{IsNewestRow};
+ghost use Rattle.txn_rows.specs.inside.States.{state_of, StandInTrees};
 
 use crate::claim::Claim;
-use crate::group::{Group, Grouping, Kind, Reason};
+use crate::force::{count_unfinished, force_at, oldest_of};
+use crate::group::{Cause, Group, Grouping};
 use crate::join::link_rows;
 use crate::leave::leave;
+use crate::raw::take_raw;
 use crate::rows::{Row, add_record, add_records, empty_row, newest_row, time_rows};
+use crate::store::Store;
+use crate::which::Which;
 use log_model::NoMemory;
 use std::alloc::Global;
 use vsl_record::{RecordView, RecordsView, Vxid};
 
+/// For how many transactions there is room at first.
+const FIRST_ROWS: usize = 16;
+
 /// The pending transactions, oldest first, and the log time.
 #[derive(Drop)]
-pub(crate) struct Pending {
+pub struct Pending {
     pub(crate) alloc: Global,
     pub(crate) rows: Vec<Row>,
     /// How many transactions began.
@@ -26,9 +33,23 @@ pub(crate) struct Pending {
     pub(crate) time: Option<u128>,
 }
 
+impl Pending {
+    /// Nothing is pending.
+    pub(crate) fn new(alloc: Global) -> Result<Pending, NoMemory>
+        ensures { IfOk result (λ p. Went StandInTrees state_of no_state p) }
+    {
+        Ok(Pending {
+            alloc,
+            rows: Vec::with_capacity(alloc, FIRST_ROWS)?,
+            begun: 0,
+            time: None,
+        })
+    }
+}
+
 /// A transaction begins, the newest of all. Where no serial number is left, that counts as want of memory.
 fn begin(pending: &mut Pending, vxid: Vxid) -> Result<(), NoMemory>
-    ensures went { AreTrees pending.old.begun pending.old.rows.items → OnOk result (Went (with_new vxid (state_of pending.old)) pending.new) }
+    ensures went { StandInTrees pending.old → OnOk result (Went StandInTrees state_of (with_new vxid (state_of pending.old)) pending.new) }
     ensures newest { OnOk result (IsNewestRow vxid (length pending.old.rows.items) pending.new.rows.items) }
     ensures keeps { OnOk result ((v at : ℕ) → v ≢ vxid → IsNewestRow v at pending.old.rows.items → IsNewestRow v at pending.new.rows.items) }
 {
@@ -41,144 +62,8 @@ fn begin(pending: &mut Pending, vxid: Vxid) -> Result<(), NoMemory>
     Ok(())
 }
 
-/// The place of the newest row of a VXID that has not ended; where there is none, one begins.
-pub(crate) fn open_row(pending: &mut Pending, vxid: Vxid) -> Result<usize, NoMemory>
-    ensures went { AreTrees pending.old.begun pending.old.rows.items → OnOk result (Went (with_transaction vxid (state_of pending.old)) pending.new) }
-    ensures newest { IfOk result (λ at. IsNewestRow vxid at pending.new.rows.items) }
-{
-    if let Some(at) = newest_row(&pending.rows, vxid) {
-        if !pending.rows[at].ended {
-            return Ok(at);
-        }
-    }
-    let at = pending.rows.len();
-    begin(pending, vxid)?;
-    Ok(at)
-}
-
-/// The place of the newest row of a VXID; where there is none, one begins.
-fn other_row(pending: &mut Pending, vxid: Vxid) -> Result<usize, NoMemory>
-    ensures went { AreTrees pending.old.begun pending.old.rows.items → OnOk result (Went (with_other vxid (state_of pending.old)) pending.new) }
-    ensures newest { IfOk result (λ at. IsNewestRow vxid at pending.new.rows.items) }
-    ensures keeps { OnOk result ((v at : ℕ) → IsNewestRow v at pending.old.rows.items → IsNewestRow v at pending.new.rows.items) }
-{
-    if let Some(at) = newest_row(&pending.rows, vxid) {
-        return Ok(at);
-    }
-    let at = pending.rows.len();
-    begin(pending, vxid)?;
-    Ok(at)
-}
-
-/// Whether a claim gives a parent.
-fn gives_parent(grouping: Grouping, claim: Claim) -> bool
-    ensures { result ≡ gives_parent grouping claim }
-{
-    if claim.vxid == 0 || claim.kind == Kind::Session {
-        return false;
-    }
-    match grouping {
-        Grouping::Raw | Grouping::Vxid => false,
-        Grouping::Request => !(claim.kind == Kind::Request && claim.reason == Reason::Rxreq),
-        Grouping::Session => true,
-    }
-}
-
-/// The claim of a Begin or a Link may link two transactions: a Begin names the parent of its transaction, a Link a
-/// child. The newest row of the VXID stands at `at`.
-pub(crate) fn take_claim(
-    grouping: Grouping,
-    pending: &mut Pending,
-    at: usize,
-    vxid: Vxid,
-    begins: bool,
-    claim: Option<Claim>,
-) -> Result<(), NoMemory>
-    requires { IsNewestRow vxid at pending.old.rows.items }
-    ensures { AreTrees pending.old.begun pending.old.rows.items →
-        OnOk result (Went (if begins then with_parent_named grouping vxid claim (state_of pending.old) else with_child_named grouping vxid claim (state_of pending.old)) pending.new) }
-{
-    let Some(claim) = claim else {
-        return Ok(());
-    };
-    if !gives_parent(grouping, claim) {
-        return Ok(());
-    }
-    let other = other_row(pending, claim.vxid)?;
-    if begins {
-        return link_rows(
-            pending.alloc,
-            &mut pending.rows,
-            at,
-            vxid,
-            other,
-            claim.vxid,
-        );
-    }
-    link_rows(
-        pending.alloc,
-        &mut pending.rows,
-        other,
-        claim.vxid,
-        at,
-        vxid,
-    )
-}
-
-/// Adds a record to the newest row of its VXID; a Begin may tell the row's kind. Where the row has
-/// no records, room is made for those at hand.
-pub(crate) fn add_to(
-    pending: &mut Pending,
-    at: usize,
-    vxid: Vxid,
-    rec: &RecordView<'_>,
-    claim: Option<Claim>,
-    at_hand: &RecordsView<'_>,
-) -> Result<(), NoMemory>
-    requires newest { IsNewestRow vxid at pending.old.rows.items }
-    requires claim { claim ≡ own_claim rec.now }
-    ensures went { AreTrees pending.old.begun pending.old.rows.items →
-        OnOk result (Went (record (state_of pending.old) { pending = with_kind vxid rec.now (with_record vxid rec.now (state_of pending.old).pending) }) pending.new) }
-    ensures newest { OnOk result (IsNewestRow vxid at pending.new.rows.items) }
-{
-    add_record(&mut pending.rows[at], rec, claim, at_hand)?;
-    Ok(())
-}
-
-/// Adds records that tell nothing but themselves to the newest row of their VXID.
-pub(crate) fn add_run(
-    pending: &mut Pending,
-    at: usize,
-    vxid: Vxid,
-    run: &RecordsView<'_>,
-) -> Result<(), NoMemory>
-    requires { IsNewestRow vxid at pending.old.rows.items }
-    ensures went { AreTrees pending.old.begun pending.old.rows.items →
-        OnOk result (Went (record (state_of pending.old) { pending = with_newest vxid (longer_by run.now) (state_of pending.old).pending }) pending.new) }
-    ensures newest { OnOk result (IsNewestRow vxid at pending.new.rows.items) }
-{
-    add_records(&mut pending.rows[at], run)
-}
-
-/// The newest row of a VXID ends, and may complete a group.
-pub(crate) fn end_row(
-    grouping: Grouping,
-    pending: &mut Pending,
-    at: usize,
-    vxid: Vxid,
-    out: &mut Vec<Group>,
-) -> Result<(), NoMemory>
-    requires { IsNewestRow vxid at pending.old.rows.items }
-    ensures ok { AreTrees pending.old.begun pending.old.rows.items → OnOk result (WentBy grouping (ended_one vxid (state_of pending.old)) pending.new out.old.items out.new.items) }
-    ensures err { OnErr result (out.new.items ≡ out.old.items) }
-{
-    pending.rows[at].ended = true;
-    let root = pending.rows[at].root;
-    leave(pending.alloc, grouping, &mut pending.rows, root, out)
-}
-
 /// The later of two times.
-fn raised(told: Option<u128>, old: Option<u128>) -> Option<u128>
+pub fn raised(told: Option<u128>, old: Option<u128>) -> Option<u128>
     ensures { result ≡ raised told old }
 {
     match (told, old) {
@@ -188,15 +73,131 @@ fn raised(told: Option<u128>, old: Option<u128>) -> Option<u128>
     }
 }
 
-/// A time that was told may raise the log time. Where one was known, each row has a time already.
-pub(crate) fn raise(pending: &mut Pending, told: Option<u128>)
-    ensures { AreOrdered pending.old → Went (with_time told (state_of pending.old)) pending.new }
-{
-    let now = raised(told, pending.time);
-    if pending.time.is_some() {
-        pending.time = now;
-        return;
+impl Store for Pending {
+    type Left = Group;
+
+    ghost Key = { ⊤ };
+
+    ghost holds = { λ key p. StandInTrees p };
+
+    ghost hand = { λ key group. group };
+
+    ghost state = { state_of };
+
+    ghost newest_at = { λ p vxid at. IsNewestRow vxid at p.rows.items };
+
+    fn time(&self) -> Option<u128> {
+        self.time
     }
-    time_rows(&mut pending.rows, now);
-    pending.time = now;
+
+    fn rows(&self) -> usize {
+        self.rows.len()
+    }
+
+    fn count(&self) -> usize {
+        self.rows.len()
+    }
+
+    fn unfinished(&self) -> usize {
+        count_unfinished(&self.rows)
+    }
+
+    fn newest(&self, vxid: Vxid) -> Option<usize> {
+        newest_row(&self.rows, vxid)
+    }
+
+    fn is_open(&self, at: usize, vxid: Vxid) -> bool {
+        !self.rows[at].ended
+    }
+
+    fn open_row(&mut self, vxid: Vxid) -> Result<usize, NoMemory> {
+        if let Some(at) = newest_row(&self.rows, vxid) {
+            if !self.rows[at].ended {
+                return Ok(at);
+            }
+        }
+        let at = self.rows.len();
+        begin(self, vxid)?;
+        Ok(at)
+    }
+
+    fn other_row(&mut self, vxid: Vxid) -> Result<usize, NoMemory> {
+        if let Some(at) = newest_row(&self.rows, vxid) {
+            return Ok(at);
+        }
+        let at = self.rows.len();
+        begin(self, vxid)?;
+        Ok(at)
+    }
+
+    fn link(
+        &mut self,
+        below: usize,
+        child: Vxid,
+        above: usize,
+        parent: Vxid,
+    ) -> Result<(), NoMemory> {
+        link_rows(self.alloc, &mut self.rows, below, child, above, parent)
+    }
+
+    fn add_to(
+        &mut self,
+        at: usize,
+        vxid: Vxid,
+        rec: &RecordView<'_>,
+        claim: Option<Claim>,
+        at_hand: &RecordsView<'_>,
+    ) -> Result<(), NoMemory> {
+        add_record(&mut self.rows[at], rec, claim, at_hand)?;
+        Ok(())
+    }
+
+    fn add_run(&mut self, at: usize, vxid: Vxid, run: &RecordsView<'_>) -> Result<(), NoMemory> {
+        add_records(&mut self.rows[at], run)
+    }
+
+    fn raise(&mut self, told: Option<u128>) {
+        let now = raised(told, self.time);
+        if self.time.is_some() {
+            self.time = now;
+            return;
+        }
+        time_rows(&mut self.rows, now);
+        self.time = now;
+    }
+
+    fn end_row(
+        &mut self,
+        grouping: Grouping,
+        at: usize,
+        vxid: Vxid,
+        out: &mut Vec<Group>,
+    ) -> Result<(), NoMemory> {
+        self.rows[at].ended = true;
+        let root = self.rows[at].root;
+        leave(self.alloc, grouping, &mut self.rows, root, out)
+    }
+
+    fn force_one(
+        &mut self,
+        grouping: Grouping,
+        which: Which,
+        cause: Cause,
+        out: &mut Vec<Group>,
+    ) -> Result<bool, NoMemory> {
+        let Some(at) = oldest_of(which, &self.rows) else {
+            return Ok(false);
+        };
+        force_at(self.alloc, grouping, &mut self.rows, at, cause, out)?;
+        Ok(true)
+    }
+
+    fn hand_alone(
+        &mut self,
+        vxid: Vxid,
+        rec: &RecordView<'_>,
+        out: &mut Vec<Group>,
+    ) -> Result<(), NoMemory> {
+        take_raw(self.alloc, vxid, rec, out)
+    }
 }

@@ -8,15 +8,9 @@ use log_model::NoMemory;
 use std::alloc::Global;
 use vsl_record::{RecordView, Records, Vxid};
 
-/// Adds a record as a group by itself.
-pub(crate) fn take_raw(
-    alloc: Global,
-    vxid: Vxid,
-    rec: &RecordView<'_>,
-    out: &mut Vec<Group>,
-) -> Result<(), NoMemory>
-    ensures ok { OnOk result (out.new.items ≡ out.old.items ++ raw_group vxid rec.now ∷ []) }
-    ensures err { OnErr result (out.new.items ≡ out.old.items) }
+/// A record as a group by itself.
+pub fn raw_group(alloc: Global, vxid: Vxid, rec: &RecordView<'_>) -> Result<Group, NoMemory>
+    ensures { IfOk result (λ group. group ≡ raw_group vxid rec.now) }
 {
     let mut records = Records::new(alloc);
     records.push(rec)?;
@@ -28,13 +22,26 @@ pub(crate) fn take_raw(
         parent: 0,
         records,
     };
-    let group = group_alone(alloc, member)?;
+    group_alone(alloc, member)
+}
+
+/// Adds a record as a group by itself.
+pub(crate) fn take_raw(
+    alloc: Global,
+    vxid: Vxid,
+    rec: &RecordView<'_>,
+    out: &mut Vec<Group>,
+) -> Result<(), NoMemory>
+    ensures ok { OnOk result (out.new.items ≡ out.old.items ++ raw_group vxid rec.now ∷ []) }
+    ensures err { OnErr result (out.new.items ≡ out.old.items) }
+{
+    let group = raw_group(alloc, vxid, rec)?;
     out.push(group)?;
     Ok(())
 }
 
 /// A group of one member.
-pub(crate) fn group_alone(alloc: Global, member: Member) -> Result<Group, NoMemory>
+fn group_alone(alloc: Global, member: Member) -> Result<Group, NoMemory>
     ensures { IfOk result (λ group. group ≡ record { members = member ∷ [] }) }
 {
     let mut members = Members::new(alloc);

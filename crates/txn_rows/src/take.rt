@@ -1,22 +1,21 @@
 //! Taking one record of a transaction.
 
-ghost use Rattle.std.specs.Prelude.{◌≡◌, ◌<◌, ◌≤◌, true, false, length, map, take, IfOk, IfSome, OnOk, OnErr};
+ghost use Rattle.std.specs.Prelude.{◌≡◌, ◌<◌, ◌≤◌, true, false, if◌then◌else◌, length, take, IfOk, IfSome, OnOk, OnErr};
 ghost use Rattle.std.specs.List.{list_all};
 ghost use Rattle.vsl_record.specs.declared.record_type.Record.{Record};
 ghost use Rattle.txn_rows.specs.Transaction.{is_open};
-ghost use Rattle.txn_rows.specs.Grouping.{with_log_time, with_claim, with_all_told, after_end, after_timeouts, has_risen, grouped, is_raw, step, steps};
-ghost use Rattle.txn_rows.specs.inside.Rows.{transaction_of, AreTrees, IsNewestRow, own_claim};
+ghost use Rattle.txn_rows.specs.Grouping.{gives_parent, with_parent_named, with_child_named, with_log_time, with_claim, with_all_told, after_end, after_timeouts, has_risen, grouped, is_raw, step, steps};
+ghost use Rattle.txn_rows.specs.Store.{Went, WentBy};
+ghost use Rattle.txn_rows.specs.inside.Rows.{own_claim};
 ghost use Rattle.txn_rows.specs.inside.Told.{Tells, is_plain, is_plain_record};
-ghost use Rattle.txn_rows.specs.inside.Steps.{AddsPart};
-ghost use Rattle.txn_rows.specs.inside.States.{state_of, AreOrdered, Went, WentBy};
+ghost use Rattle.txn_rows.specs.inside.Steps.{AddsPart, IsOrdered};
 
 use crate::claim::{Claim, read_claim};
-use crate::force::{Which, force_all, keep_within};
-use crate::group::{Cause, Group, GroupOptions, Grouping};
-use crate::pending::{Pending, add_run, add_to, end_row, open_row, raise, take_claim};
-use crate::raw::take_raw;
-use crate::rows::{Row, newest_row};
+use crate::forcing::{force_all, keep_within};
+use crate::group::{Cause, GroupOptions, Grouping, Kind, Reason};
+use crate::store::Store;
 use crate::time::time_told;
+use crate::which::Which;
 use log_model::NoMemory;
 use vsl_record::{RecordView, RecordsView, Vxid};
 use vsl_tags::Tag;
@@ -60,61 +59,102 @@ fn own_claim(told: Told) -> Option<Claim>
     }
 }
 
-/// What a record told may link its transaction, the newest row of which is at this place, or raise the log time.
-fn follow(
+/// Whether a claim gives a parent.
+fn gives_parent(grouping: Grouping, claim: Claim) -> bool
+    ensures { result ≡ gives_parent grouping claim }
+{
+    if claim.vxid == 0 || claim.kind == Kind::Session {
+        return false;
+    }
+    match grouping {
+        Grouping::Raw | Grouping::Vxid => false,
+        Grouping::Request => !(claim.kind == Kind::Request && claim.reason == Reason::Rxreq),
+        Grouping::Session => true,
+    }
+}
+
+/// The claim of a Begin or a Link may link two transactions: a Begin names the parent of its transaction, a Link a
+/// child. The newest transaction of the VXID is at `at`.
+fn take_claim<S: Store>(
     grouping: Grouping,
-    pending: &mut Pending,
+    store: &mut S,
+    at: usize,
+    vxid: Vxid,
+    begins: bool,
+    claim: Option<Claim>,
+) -> Result<(), NoMemory>
+    requires { S.newest_at store.old vxid at }
+    ensures { (key : S.Key) → S.holds key store.old →
+        OnOk result (Went (S.holds key) S.state (if begins then with_parent_named grouping vxid claim (S.state store.old) else with_child_named grouping vxid claim (S.state store.old)) store.new) }
+{
+    let Some(claim) = claim else {
+        return Ok(());
+    };
+    if !gives_parent(grouping, claim) {
+        return Ok(());
+    }
+    let other = store.other_row(claim.vxid)?;
+    if begins {
+        return store.link(at, vxid, other, claim.vxid);
+    }
+    store.link(other, claim.vxid, at, vxid)
+}
+
+/// What a record told may link its transaction, the newest transaction of which is at this place, or raise the log time.
+fn follow<S: Store>(
+    grouping: Grouping,
+    store: &mut S,
     at: usize,
     vxid: Vxid,
     told: Told,
 ) -> Result<(), NoMemory>
-    requires { IsNewestRow vxid at pending.old.rows.items }
-    ensures { (rec : Record) → Tells rec told → AreOrdered pending.old →
-        OnOk result (Went (with_log_time rec (with_claim grouping vxid rec (state_of pending.old))) pending.new) }
+    requires { S.newest_at store.old vxid at }
+    ensures { (rec : Record) → Tells rec told → (key : S.Key) → IsOrdered (S.holds key) S.state store.old →
+        OnOk result (Went (S.holds key) S.state (with_log_time rec (with_claim grouping vxid rec (S.state store.old))) store.new) }
 {
     match told {
-        Told::Begin(claim) => take_claim(grouping, pending, at, vxid, true, claim),
-        Told::Link(claim) => take_claim(grouping, pending, at, vxid, false, claim),
+        Told::Begin(claim) => take_claim(grouping, store, at, vxid, true, claim),
+        Told::Link(claim) => take_claim(grouping, store, at, vxid, false, claim),
         Told::Time(time) => {
-            raise(pending, time);
+            store.raise(time);
             Ok(())
         }
         Told::Nothing => Ok(()),
     }
 }
 
-/// A record goes to its row, and may tell the kind, a link and the time.
-fn tell(
+/// A record goes to its transaction, and may tell the kind, a link and the time.
+fn tell<S: Store>(
     grouping: Grouping,
-    pending: &mut Pending,
+    store: &mut S,
     vxid: Vxid,
     rec: &RecordView<'_>,
     at_hand: &RecordsView<'_>,
 ) -> Result<(), NoMemory>
-    ensures { AreOrdered pending.old → OnOk result (Went (with_all_told grouping vxid rec.now (state_of pending.old)) pending.new) }
+    ensures { (key : S.Key) → IsOrdered (S.holds key) S.state store.old → OnOk result (Went (S.holds key) S.state (with_all_told grouping vxid rec.now (S.state store.old)) store.new) }
 {
     let told = read_told(rec);
-    let at = open_row(pending, vxid)?;
-    add_to(pending, at, vxid, rec, own_claim(told), at_hand)?;
-    follow(grouping, pending, at, vxid, told)
+    let at = store.open_row(vxid)?;
+    store.add_to(at, vxid, rec, own_claim(told), at_hand)?;
+    follow(grouping, store, at, vxid, told)
 }
 
-/// An End ends its row.
-fn take_end(
+/// An End ends its transaction.
+fn take_end<S: Store>(
     grouping: Grouping,
-    pending: &mut Pending,
+    store: &mut S,
     vxid: Vxid,
     tag: Tag,
-    out: &mut Vec<Group>,
+    out: &mut Vec<S::Left>,
 ) -> Result<(), NoMemory>
-    ensures ok { (rec : Record) → rec.tag ≡ tag → AreTrees pending.old.begun pending.old.rows.items → OnOk result (WentBy grouping (after_end vxid rec (state_of pending.old)) pending.new out.old.items out.new.items) }
+    ensures ok { (rec : Record) → rec.tag ≡ tag → (key : S.Key) → S.holds key store.old → OnOk result (WentBy (S.holds key) S.state (S.hand key) grouping (after_end vxid rec (S.state store.old)) store.new out.old.items out.new.items) }
     ensures err { OnErr result (out.new.items ≡ out.old.items) }
 {
     if tag != Tag::END {
         return Ok(());
     }
-    match newest_row(&pending.rows, vxid) {
-        Some(at) => end_row(grouping, pending, at, vxid, out),
+    match store.newest(vxid) {
+        Some(at) => store.end_row(grouping, at, vxid, out),
         None => Ok(()),
     }
 }
@@ -130,57 +170,45 @@ fn has_risen(old: Option<u128>, now: Option<u128>) -> bool
     }
 }
 
-/// After a rise of the log time, force-completes the rows that are late.
-fn take_timeouts(
+/// After a rise of the log time, force-completes the transactions that are late.
+fn take_timeouts<S: Store>(
     options: GroupOptions,
-    pending: &mut Pending,
+    store: &mut S,
     before: Option<u128>,
-    out: &mut Vec<Group>,
+    out: &mut Vec<S::Left>,
 ) -> Result<(), NoMemory>
-    ensures ok { AreOrdered pending.old → OnOk result (WentBy options.grouping (after_timeouts options.timeout before (state_of pending.old)) pending.new out.old.items out.new.items) }
-    ensures err { AreOrdered pending.old → OnErr result (AddsPart options.grouping (after_timeouts options.timeout before (state_of pending.old)) out.old.items out.new.items) }
+    ensures ok { (key : S.Key) → IsOrdered (S.holds key) S.state store.old → OnOk result (WentBy (S.holds key) S.state (S.hand key) options.grouping (after_timeouts options.timeout before (S.state store.old)) store.new out.old.items out.new.items) }
+    ensures err { (key : S.Key) → IsOrdered (S.holds key) S.state store.old → OnErr result (AddsPart (S.hand key) options.grouping (after_timeouts options.timeout before (S.state store.old)) out.old.items out.new.items) }
 {
-    if !has_risen(before, pending.time) {
+    let now = store.time();
+    if !has_risen(before, now) {
         return Ok(());
     }
     let late = Which::Late {
         seconds: options.timeout,
-        now: pending.time,
+        now,
     };
-    force_all(
-        pending.alloc,
-        options.grouping,
-        &mut pending.rows,
-        late,
-        Cause::Timeout,
-        out,
-    )
+    force_all(store, options.grouping, late, Cause::Timeout, out)
 }
 
 /// Takes a record that may tell more than itself, and adds the groups that it completes.
-fn take_telling(
+fn take_telling<S: Store>(
     options: GroupOptions,
-    pending: &mut Pending,
+    store: &mut S,
     vxid: Vxid,
     rec: &RecordView<'_>,
     at_hand: &RecordsView<'_>,
-    out: &mut Vec<Group>,
+    out: &mut Vec<S::Left>,
 ) -> Result<(), NoMemory>
-    ensures ok { AreOrdered pending.old → OnOk result (WentBy options.grouping (grouped options vxid rec.now (state_of pending.old)) pending.new out.old.items out.new.items) }
-    ensures err { AreOrdered pending.old → OnErr result (AddsPart options.grouping (grouped options vxid rec.now (state_of pending.old)) out.old.items out.new.items) }
+    ensures ok { (key : S.Key) → IsOrdered (S.holds key) S.state store.old → OnOk result (WentBy (S.holds key) S.state (S.hand key) options.grouping (grouped options vxid rec.now (S.state store.old)) store.new out.old.items out.new.items) }
+    ensures err { (key : S.Key) → IsOrdered (S.holds key) S.state store.old → OnErr result (AddsPart (S.hand key) options.grouping (grouped options vxid rec.now (S.state store.old)) out.old.items out.new.items) }
 {
-    let before = pending.time;
+    let before = store.time();
     let tag = rec.tag();
-    tell(options.grouping, pending, vxid, rec, at_hand)?;
-    take_end(options.grouping, pending, vxid, tag, out)?;
-    take_timeouts(options, pending, before, out)?;
-    keep_within(
-        pending.alloc,
-        options.grouping,
-        &mut pending.rows,
-        options.limit,
-        out,
-    )
+    tell(options.grouping, store, vxid, rec, at_hand)?;
+    take_end(options.grouping, store, vxid, tag, out)?;
+    take_timeouts(options, store, before, out)?;
+    keep_within(store, options.grouping, options.limit, out)
 }
 
 /// Whether a record of this tag tells nothing but itself: it is no Begin, Link, Timestamp or End.
@@ -207,81 +235,81 @@ fn plain_run(grouping: Grouping, records: &RecordsView<'_>) -> usize
     records.len()
 }
 
-/// The place of the newest row of a VXID. It is searched where it isn't known.
-fn place_of(rows: &[Row], vxid: Vxid, known: Option<usize>) -> Option<usize>
-    requires { IfSome known (λ at. IsNewestRow vxid at rows.now) }
-    ensures { IfSome result (λ at. IsNewestRow vxid at rows.now) }
+/// The place of the newest transaction of a VXID. It is searched where it isn't known.
+fn place_of<S: Store>(store: &S, vxid: Vxid, known: Option<usize>) -> Option<usize>
+    requires { IfSome known (λ at. S.newest_at store.now vxid at) }
+    ensures { IfSome result (λ at. S.newest_at store.now vxid at) }
 {
     match known {
         Some(at) => Some(at),
-        None => newest_row(rows, vxid),
+        None => store.newest(vxid),
     }
 }
 
-/// The place of the newest row of a VXID, where one stands that has not ended, and no more rows than the limit.
-fn open_place(rows: &[Row], limit: u32, vxid: Vxid, known: Option<usize>) -> Option<usize>
-    requires { IfSome known (λ at. IsNewestRow vxid at rows.now) }
-    ensures newest { IfSome result (λ at. IsNewestRow vxid at rows.now) }
-    ensures open { IfSome result (λ _. is_open vxid (map transaction_of rows.now) ≡ true) }
-    ensures few { IfSome result (λ _. length rows.now ≤ limit) }
+/// The place of the newest transaction of a VXID, where it has not ended and no more than the limit are pending.
+fn open_place<S: Store>(store: &S, limit: u32, vxid: Vxid, known: Option<usize>) -> Option<usize>
+    requires { IfSome known (λ at. S.newest_at store.now vxid at) }
+    ensures newest { IfSome result (λ at. S.newest_at store.now vxid at) }
+    ensures open { (key : S.Key) → S.holds key store.now → IfSome result (λ _. is_open vxid (S.state store.now).pending ≡ true) }
+    ensures few { (key : S.Key) → S.holds key store.now → IfSome result (λ _. length (S.state store.now).pending ≤ limit) }
 {
-    if rows.len() > limit as usize {
+    if store.rows() > limit as usize {
         return None;
     }
-    let at = place_of(rows, vxid, known)?;
-    if rows[at].ended {
+    let at = place_of(store, vxid, known)?;
+    if !store.is_open(at, vxid) {
         return None;
     }
     Some(at)
 }
 
 /// Takes one record, and adds the groups that it completes.
-fn take_one(
+fn take_one<S: Store>(
     options: GroupOptions,
-    pending: &mut Pending,
+    store: &mut S,
     vxid: Vxid,
     rec: &RecordView<'_>,
     at_hand: &RecordsView<'_>,
-    out: &mut Vec<Group>,
+    out: &mut Vec<S::Left>,
 ) -> Result<(), NoMemory>
-    ensures ok { AreOrdered pending.old → OnOk result (WentBy options.grouping (step options vxid rec.now (state_of pending.old)) pending.new out.old.items out.new.items) }
-    ensures err { AreOrdered pending.old → OnErr result (AddsPart options.grouping (step options vxid rec.now (state_of pending.old)) out.old.items out.new.items) }
+    ensures ok { (key : S.Key) → IsOrdered (S.holds key) S.state store.old → OnOk result (WentBy (S.holds key) S.state (S.hand key) options.grouping (step options vxid rec.now (S.state store.old)) store.new out.old.items out.new.items) }
+    ensures err { (key : S.Key) → IsOrdered (S.holds key) S.state store.old → OnErr result (AddsPart (S.hand key) options.grouping (step options vxid rec.now (S.state store.old)) out.old.items out.new.items) }
 {
     if options.grouping == Grouping::Raw {
-        return take_raw(pending.alloc, vxid, rec, out);
+        return store.hand_alone(vxid, rec, out);
     }
-    take_telling(options, pending, vxid, rec, at_hand, out)
+    take_telling(options, store, vxid, rec, at_hand, out)
 }
 
-/// Takes some records of one VXID, from the first on, and adds the groups that they complete: where their row is open,
+/// Takes some records of one VXID, from the first on, and adds the groups that they complete: where it is open,
 /// all that tell nothing but themselves at once, and else one. It answers how many. It is told and tells the place of
-/// the newest row of the VXID, where that is known: most records go to the row of the one before. Room for all of them
+/// the newest transaction of the VXID, where that is known: most records go where the one before went. Room for all of them
 /// is made where they begin a unit, and so never for more than the units have.
-pub(crate) fn take_some(
+pub(crate) fn take_some<S: Store>(
     options: GroupOptions,
-    pending: &mut Pending,
+    store: &mut S,
     vxid: Vxid,
     known: Option<usize>,
     begin: bool,
     records: &RecordsView<'_>,
-    out: &mut Vec<Group>,
+    out: &mut Vec<S::Left>,
 ) -> Result<(usize, Option<usize>), NoMemory>
-    requires known { IfSome known (λ at. IsNewestRow vxid at pending.old.rows.items) }
+    requires known { IfSome known (λ at. S.newest_at store.old vxid at) }
     requires some { 0 < length records.now }
-    ensures ok { AreOrdered pending.old → IfOk result (λ x. WentBy options.grouping (steps options vxid (take x.0 records.now) (state_of pending.old)) pending.new out.old.items out.new.items) }
+    ensures ok { (key : S.Key) → IsOrdered (S.holds key) S.state store.old → IfOk result (λ x. WentBy (S.holds key) S.state (S.hand key) options.grouping (steps options vxid (take x.0 records.now) (S.state store.old)) store.new out.old.items out.new.items) }
     ensures count { IfOk result (λ x. (0 < x.0) × (x.0 ≤ length records.now)) }
-    ensures known { IfOk result (λ x. IfSome x.1 (λ at. IsNewestRow vxid at pending.new.rows.items)) }
-    ensures err { AreOrdered pending.old → OnErr result (AddsPart options.grouping (steps options vxid records.now (state_of pending.old)) out.old.items out.new.items) }
+    ensures known { IfOk result (λ x. IfSome x.1 (λ at. S.newest_at store.new vxid at)) }
+    ensures err { (key : S.Key) → IsOrdered (S.holds key) S.state store.old → OnErr result (AddsPart (S.hand key) options.grouping (steps options vxid records.now (S.state store.old)) out.old.items out.new.items) }
 {
     let count = plain_run(options.grouping, records);
     if count > 0 {
-        if let Some(at) = open_place(&pending.rows, options.limit, vxid, known) {
+        if let Some(at) = open_place(store, options.limit, vxid, known) {
             let (run, _) = records.split_at(count);
-            add_run(pending, at, vxid, &run)?;
+            store.add_run(at, vxid, &run)?;
             return Ok((count, Some(at)));
         }
     }
     let (at_hand, _) = records.split_at(if begin { records.len() } else { 0 });
-    take_one(options, pending, vxid, &records.get(0), &at_hand, out)?;
+    take_one(options, store, vxid, &records.get(0), &at_hand, out)?;
     Ok((1, None))
 }

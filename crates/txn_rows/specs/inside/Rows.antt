@@ -1,5 +1,5 @@
 -- The rows of a table as pending transactions.
-use Rattle.std.specs.Prelude.{◌≡◌, ℕ, zero, suc, ◌+◌, ◌<◌, ◌≤◌, ◌==◌, ◌⊎◌, if◌then◌else◌, Bool, true, false, List, [], ◌∷◌, ◌++◌, length, take, drop, map, not, ⊤, Option, Some, None, count_by}
+use Rattle.std.specs.Prelude.{◌≡◌, ℕ, ◌+◌, ◌<◌, ◌≤◌, ◌==◌, ◌⊎◌, if◌then◌else◌, Bool, true, false, List, [], ◌∷◌, ◌++◌, length, take, drop, map, not, ⊤, Option, Some, None, count_by}
 use Rattle.std.specs.List.{HoldsAt, find, filter, list_all, list_any}
 use Rattle.vsl_tags.specs.Tags.{begin_tag}
 use Rattle.vsl_record.specs.declared.record_type.Record.{Record}
@@ -107,12 +107,6 @@ joined join row = record row {
   parent = if row.serial == join.child then Some join.link else row.parent;
   children = if row.serial == join.link.serial then row.children + 1 else row.children;
 }
-
--- rows of which the one at a place takes its part in a join
-abbrev pub joined_at : Join → ℕ → List Row → List Row
-joined_at join at [] = []
-joined_at join zero (row ∷ rows) = joined join row ∷ rows
-joined_at join (suc at) (row ∷ rows) = row ∷ joined_at join at rows
 
 -- the rows are those of these transactions, and stand in trees
 pub record Rows (begun : ℕ) (pending : List Transaction) (rows : List Row) : Type 0 where

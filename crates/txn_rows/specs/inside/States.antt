@@ -2,30 +2,17 @@
 use Rattle.std.specs.Prelude.{◌≡◌, ℕ, ◌≤◌, false, List, length, map, Some}
 use Rattle.txn_rows.specs.declared.rows.Row.{Row}
 use Rattle.txn_rows.specs.declared.pending.Pending.{Pending}
-use Rattle.txn_rows.specs.declared.group.Grouping.{Grouping}
-use Rattle.txn_rows.specs.declared.group.Group.{Group}
-use Rattle.txn_rows.specs.Grouping.{State, Leaving}
+use Rattle.txn_rows.specs.Grouping.{State}
 use Rattle.txn_rows.specs.inside.Rows.{transaction_of, row_of, AreTrees}
-use Rattle.txn_rows.specs.inside.Times.{IsTimed}
-use Rattle.txn_rows.specs.inside.Steps.{state_with, RowsStep}
+use Rattle.txn_rows.specs.inside.Steps.{state_with, IsOrdered}
 
 -- what rows, their number and a time say
 abbrev pub state_of : Pending → State
 state_of p = state_with p.begun p.time p.rows.items
 
--- pending rows stand in trees, and their times rise up to the log time
-pub record AreOrdered (p : Pending) : Type 0 where
-  pub trees : AreTrees p.begun p.rows.items
-  pub times : IsTimed (state_of p)
-
--- the rows went to this state
-pub record Went (state : State) (p : Pending) : Type 0 where
-  pub trees : AreTrees p.begun p.rows.items
-  pub told : state_of p ≡ state
-
--- the rows went to the state that was reached, and of the groups that left on the way those that are reported were added to the list
-abbrev pub WentBy : Grouping → Leaving → Pending → List Group → List Group → Type 0
-WentBy grouping step p out_before out_now = RowsStep grouping step p.begun p.time p.rows.items out_before out_now
+-- pending rows stand in trees
+abbrev pub StandInTrees : Pending → Type 0
+StandInTrees p = AreTrees p.begun p.rows.items
 
 -- a row of a tree that has not ended
 pub record HasOpen (rows : List Row) (root : ℕ) : Type 0 where
@@ -45,8 +32,8 @@ pub record Standing (state : State) : Type 0 where
   pub told : map transaction_of rows ≡ state.pending
   pub unended : OpenTrees rows
 
--- pending rows stand in trees, of each of which one has not ended, their times rise, and they are no more than the limit
-pub record IsSound (limit : ℕ) (p : Pending) : Type 0 where
-  pub ordered : AreOrdered p
-  pub standing : Standing (state_of p)
-  pub within : length p.rows.items ≤ limit
+-- a store is in order, of each tree of what is pending one has not ended, and no more than the limit are
+pub record IsSound {S : Type 0} (holds : S → Type 0) (state_in : S → State) (limit : ℕ) (store : S) : Type 0 where
+  pub ordered : IsOrdered holds state_in store
+  pub standing : Standing (state_in store)
+  pub within : length (state_in store).pending ≤ limit
