@@ -1,4 +1,5 @@
 mod AskerLemmas
 mod Examples
-mod LevelLemmas
-mod StepLemmas
+mod JoinLemmas
+mod MarkLemmas
+mod TruthLemmas

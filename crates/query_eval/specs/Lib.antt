@@ -1,3 +1,4 @@
 pub mod Asker
+pub mod Marks
 pub mod Meaning
 pub mod inside

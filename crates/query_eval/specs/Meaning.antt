@@ -97,11 +97,14 @@ abbrev pub subject_satisfies : Check → Option (List ℕ) → Bool
 subject_satisfies check None = false
 subject_satisfies check (Some text) = satisfies check text
 
--- a record of a member of this level is selected, and satisfies what is asked. So `ne`, `!=` and `!~` want a record,
+-- a record is selected, its member's level left aside, and satisfies what is asked. So `ne`, `!=` and `!~` want a record,
 -- too: where `not` is wanted, it is written (this project's choice)
+abbrev pub record_marks : Test → Record → Bool
+record_marks test rec = has_tag test.criterion.tags rec.tag && subject_satisfies test.check (subject test.criterion rec.payload)
+
+-- a record of a member of this level is selected, and satisfies what is asked
 abbrev pub record_satisfies : Test → ℕ → Record → Bool
-record_satisfies test level rec =
-    meets_level test.criterion.level level && has_tag test.criterion.tags rec.tag && subject_satisfies test.check (subject test.criterion rec.payload)
+record_satisfies test level rec = meets_level test.criterion.level level && record_marks test rec
 
 -- some record of a member satisfies a test
 abbrev pub member_satisfies : Test → Member → Bool

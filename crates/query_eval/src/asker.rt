@@ -1,88 +1,137 @@
-//! Asking a query of one group after the other.
+//! Asking a query of one group, or one record, after the other.
 
-ghost use Rattle.std.specs.Prelude.{◌≡◌, [], map, IfOk, OnOk};
-ghost use Rattle.query_grammar.specs.Tree.{truths_after, truths_of};
-ghost use Rattle.query_eval.specs.Meaning.{group_satisfies};
-ghost use Rattle.txn_rows.specs.declared.group.Group.{Group};
+ghost use Rattle.std.specs.Prelude.{◌≡◌, ◌∷◌, ◌||◌, Bool, List, map, IfOk, OnOk};
+ghost use Rattle.query_parser.specs.declared.test.Test.{Test};
+ghost use Rattle.query_eval.specs.Meaning.{group_satisfies, record_marks};
+ghost use Rattle.query_eval.specs.Marks.{tests_in, tests_of};
 ghost use Rattle.query_eval.specs.inside.Asking.{IsKept};
+ghost use Rattle.query_eval.specs.inside.Truths.{joined};
 
-use crate::eval::take_step;
-use crate::truths::Truths;
+use crate::asking::{group_satisfies, record_marks};
+use crate::marks::Marks;
+use crate::tests::first_test;
+use crate::truths::{Steps, truth_of};
+use log_model::NoMemory;
 use query_grammar::StepOver;
 use query_parser::{Query, Test};
 use std::alloc::{AllocError, Global};
 use txn_rows::Group;
 use vsl_pattern::Matching;
+use vsl_record::{RecordView, RecordsView};
 
-/// A step of a query, and what asks the pattern of its test, once that was made.
+/// A test of a query, and what asks its pattern, once that was made.
 #[derive(Drop)]
 struct Asked<'q> {
-    step: &'q StepOver<Test>,
+    test: &'q Test,
     matching: Option<Matching<'q>>,
-    ghost ready: { IsKept step.now matching },
+    ghost ready: { IsKept test.now matching },
 }
 
 impl<'q> Asked<'q> {
-    /// A step of which nothing was made.
-    fn new(step: &'q StepOver<Test>) -> Asked<'q>
-        ensures { result.step.now ≡ step.now }
+    /// A test for which nothing was made.
+    fn new(test: &'q Test) -> Asked<'q>
+        ensures { result.test.now ≡ test.now }
     {
         Asked {
-            step,
+            test,
             matching: None,
         }
     }
 
-    /// Asks a test, or joins the truths of an operator's operands.
-    fn take(&mut self, alloc: Global, group: &Group, truths: &mut Truths) -> Result<(), AllocError>
-        ensures step { self.new.step.now ≡ self.old.step.now }
-        ensures truths { OnOk result (truths.new ≡ truths_after (group_satisfies group.now) self.old.step.now truths.old) }
+    /// Whether some record of the group satisfies the test.
+    fn ask(&mut self, alloc: Global, group: &Group) -> Result<bool, AllocError>
+        ensures test { self.new.test.now ≡ self.old.test.now }
+        ensures answer { IfOk result (λ b. b ≡ group_satisfies group.now self.old.test.now) }
     {
-        take_step(alloc, self.step, &mut self.matching, group, truths)
+        group_satisfies(alloc, self.test, &mut self.matching, group)
+    }
+
+    /// Makes a mark true that isn't yet, where the record satisfies the test, its level left aside.
+    fn mark(
+        &mut self,
+        alloc: Global,
+        mark: &mut bool,
+        rec: &RecordView<'_>,
+    ) -> Result<(), AllocError>
+        ensures test { self.new.test.now ≡ self.old.test.now }
+        ensures mark { OnOk result (mark.new ≡ (mark.old || record_marks self.old.test.now rec.now)) }
+    {
+        if *mark {
+            return Ok(());
+        }
+        *mark = record_marks(alloc, self.test, &mut self.matching, rec)?;
+        Ok(())
     }
 }
 
-/// The steps of a query, of which nothing was made.
+/// The tests among the steps of a query, for which nothing was made.
 fn asked_of<'q>(alloc: Global, steps: &'q [StepOver<Test>]) -> Result<Vec<Asked<'q>>, AllocError>
-    ensures { IfOk result (λ all. map (λ a. a.step.now) all.items ≡ steps.now) }
+    ensures { IfOk result (λ all. map (λ a. a.test.now) all.items ≡ tests_in steps.now) }
 {
     let mut all = Vec::new(alloc);
-    for step in steps {
-        all.push(Asked::new(step))?;
+    let mut left = steps;
+    'left: while let Some((test, more)) = first_test(left) {
+        all.push(Asked::new(test))?;
+        left = more;
     }
     Ok(all)
 }
 
-/// Takes all steps of a query.
-fn take_steps(
+/// Asks all tests of a group.
+fn ask_all(
     alloc: Global,
     all: &mut [Asked<'_>],
     group: &Group,
-    truths: &mut Truths,
+    truths: &mut Vec<bool>,
 ) -> Result<(), AllocError>
-    ensures steps { map (λ a. a.step.now) all.new ≡ map (λ a. a.step.now) all.old }
-    ensures truths { OnOk result (truths.new ≡ truths_of (group_satisfies group.now) (map (λ a. a.step.now) all.old) truths.old) }
+    ensures tests { map (λ a. a.test.now) all.new ≡ map (λ a. a.test.now) all.old }
+    ensures truths { OnOk result (truths.new.items ≡
+        map (group_satisfies group.now) (map (λ a. a.test.now) all.old)) }
 {
+    truths.clear();
     for asked in all.iter_mut() {
-        asked.take(alloc, group, truths)?;
+        truths.push(asked.ask(alloc, group)?)?;
     }
     Ok(())
 }
 
-/// A query that is asked of groups, one after the other. It borrows the query. What asks its patterns is made once and
-/// kept, and so is the memory for the truths of its tests.
+/// Asks a record the tests whose marks aren't true yet.
+fn mark_all(
+    alloc: Global,
+    all: &mut [Asked<'_>],
+    marks: &mut Vec<bool>,
+    rec: &RecordView<'_>,
+) -> Result<(), AllocError>
+    ensures tests { map (λ a. a.test.now) all.new ≡ map (λ a. a.test.now) all.old }
+    ensures marks { OnOk result (marks.new.items ≡
+        joined marks.old.items (map (λ test. record_marks test rec.now) (map (λ a. a.test.now) all.old))) }
+{
+    for i in 0..all.len() {
+        if marks.len() <= i {
+            return Ok(());
+        }
+        all[i].mark(alloc, &mut marks[i], rec)?;
+    }
+    Ok(())
+}
+
+/// A query that is asked of groups, or of records, one after the other. It borrows the query. What asks its patterns is
+/// made once and kept, and so is the memory for the truths of its tests.
 #[derive(Drop)]
 pub struct Asker<'q> {
     alloc: Global,
     query: &'q Query,
-    steps: Vec<Asked<'q>>,
-    truths: Truths,
-    ghost same: { (group : Group) → truths_of (group_satisfies group) (map (λ a. a.step.now) steps.items) [] ≡ truths_of (group_satisfies group) query.now.steps.items [] },
+    tests: Vec<Asked<'q>>,
+    truths: Vec<bool>,
+    ghost same: { (f : Test → Bool) → map f (map (λ a. a.test.now) tests.items) ≡ map f (tests_of query.now) },
 }
 
 impl<'q> Asker<'q> {
+    ghost use Rattle.std.specs.Prelude.{[], ◌++◌};
+    ghost use Rattle.vsl_record.specs.declared.record_type.Record.{Record};
     ghost use Rattle.query_eval.specs.Asker.{asker_query};
     ghost use Rattle.query_eval.specs.Meaning.{is_held};
+    ghost use Rattle.query_eval.specs.Marks.{marks_of};
 
     /// Nothing was asked yet.
     pub fn new(alloc: Global, query: &'q Query) -> Result<Asker<'q>, AllocError>
@@ -91,9 +140,16 @@ impl<'q> Asker<'q> {
         Ok(Asker {
             alloc,
             query,
-            steps: asked_of(alloc, &query.steps)?,
-            truths: Truths::new(alloc),
+            tests: asked_of(alloc, &query.steps)?,
+            truths: Vec::new(alloc),
         })
+    }
+
+    /// The query that is asked.
+    pub fn query(&self) -> &'q Query
+        ensures { result.now ≡ asker_query self.now }
+    {
+        self.query
     }
 
     /// Whether the query holds for every group, and has no steps.
@@ -114,8 +170,32 @@ impl<'q> Asker<'q> {
         if self.query.always {
             return Ok(true);
         }
-        self.truths.clear();
-        take_steps(self.alloc, &mut self.steps, group, &mut self.truths)?;
-        Ok(self.truths.last())
+        ask_all(self.alloc, &mut self.tests, group, &mut self.truths)?;
+        Ok(truth_of(Steps::new(&self.query.steps, &self.truths)))
+    }
+
+    /// Adds a record to marks of the query: asks it each test that isn't true yet. It takes memory for a pattern where a
+    /// record is asked, the first time.
+    pub fn add(&mut self, marks: &mut Marks, rec: &RecordView<'_>) -> Result<(), NoMemory>
+        ensures marks { (records : List Record) → marks.old ≡ marks_of (asker_query self.old) records →
+            OnOk result (marks.new ≡ marks_of (asker_query self.old) (records ++ rec.now ∷ [])) }
+        ensures same { asker_query self.new ≡ asker_query self.old }
+    {
+        mark_all(self.alloc, &mut self.tests, &mut marks.truths, rec)?;
+        Ok(())
+    }
+    /// Adds records to marks of the query, one after the other. Where each mark is true already, no record is looked at.
+    pub fn add_all(&mut self, marks: &mut Marks, run: &RecordsView<'_>) -> Result<(), NoMemory>
+        ensures marks { (records : List Record) → marks.old ≡ marks_of (asker_query self.old) records →
+            OnOk result (marks.new ≡ marks_of (asker_query self.old) (records ++ run.now)) }
+        ensures same { asker_query self.new ≡ asker_query self.old }
+    {
+        if marks.are_true() {
+            return Ok(());
+        }
+        for i in 0..run.len() {
+            self.add(marks, &run.get(i))?;
+        }
+        Ok(())
     }
 }

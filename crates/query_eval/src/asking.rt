@@ -1,7 +1,8 @@
 //! Asking a test of a group.
 
-ghost use Rattle.std.specs.Prelude.{◌≡◌, ℕ, true, IfOk};
-ghost use Rattle.query_eval.specs.Meaning.{group_satisfies, meets_level, member_satisfies, record_satisfies};
+ghost use Rattle.std.specs.Prelude.{◌≡◌, IfOk};
+ghost use Rattle.std.specs.List.{list_any};
+ghost use Rattle.query_eval.specs.Meaning.{group_satisfies, member_satisfies, record_marks};
 ghost use Rattle.query_eval.specs.inside.Asking.{IsReady};
 
 use crate::check::satisfies;
@@ -10,7 +11,7 @@ use query_parser::Test;
 use std::alloc::{AllocError, Global};
 use txn_rows::{Group, Member};
 use vsl_pattern::Matching;
-use vsl_record::RecordView;
+use vsl_record::{RecordView, RecordsView};
 
 /// Whether some record of some member of the group satisfies the test. Only a test with a pattern takes memory, once a
 /// record with what is asked is there, and where nothing that asks it was made before.
@@ -46,24 +47,37 @@ fn member_satisfies<'t>(
     if !meets_level(test.criterion.level, member.level) {
         return Ok(false);
     }
-    let records = member.records.view();
+    records_mark(alloc, test, matching, &member.records.view())
+}
+
+/// Whether some record satisfies the test, its level left aside.
+fn records_mark<'t>(
+    alloc: Global,
+    test: &'t Test,
+    matching: &mut Option<Matching<'t>>,
+    records: &RecordsView<'_>,
+) -> Result<bool, AllocError>
+    requires ready { IsReady test.now.check matching.old }
+    ensures answer { IfOk result (λ b. b ≡ list_any (record_marks test.now) records.now) }
+    ensures ready { IsReady test.now.check matching.new }
+{
     for i in 0..records.len() {
-        if record_satisfies(alloc, test, matching, &records.get(i))? {
+        if record_marks(alloc, test, matching, &records.get(i))? {
             return Ok(true);
         }
     }
     Ok(false)
 }
 
-/// Whether the record of a member whose level is met is selected, and satisfies what is asked.
-fn record_satisfies<'t>(
+/// Whether the record is selected, its member's level left aside, and satisfies what is asked.
+pub(crate) fn record_marks<'t>(
     alloc: Global,
     test: &'t Test,
     matching: &mut Option<Matching<'t>>,
     rec: &RecordView<'_>,
 ) -> Result<bool, AllocError>
     requires ready { IsReady test.now.check matching.old }
-    ensures answer { IfOk result (λ b. (level : ℕ) → meets_level test.now.criterion.level level ≡ true → b ≡ record_satisfies test.now level rec.now) }
+    ensures answer { IfOk result (λ b. b ≡ record_marks test.now rec.now) }
     ensures ready { IsReady test.now.check matching.new }
 {
     if !test.criterion.tags.has(rec.tag()) {

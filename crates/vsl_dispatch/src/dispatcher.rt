@@ -37,13 +37,14 @@ impl<C: Consumer> Dispatcher<C> {
     /// Gives a group to each consumer whose query holds for it. One that is done is ended and let go, and its text kept; the
     /// others go on.
     pub fn give(&mut self, chosen: &Chosen) -> Result<(), NoMemory>
-        requires each { length chosen.now.holds.items ≡ length (entries_of self.old) }
+        requires each { length chosen.now.holds ≡ length (entries_of self.old) }
         ensures length { length (entries_of self.new) ≡ length (entries_of self.old) }
-        ensures handed { OnOk result ((i : ℕ) (holds : Bool) (old new : Entry C) → slice_get chosen.now.holds.items i ≡ Some holds → slice_get (entries_of self.old) i ≡ Some old → slice_get (entries_of self.new) i ≡ Some new →
+        ensures handed { OnOk result ((i : ℕ) (holds : Bool) (old new : Entry C) → slice_get chosen.now.holds i ≡ Some holds → slice_get (entries_of self.old) i ≡ Some old → slice_get (entries_of self.new) i ≡ Some new →
             Handed C.keep C.output C.represents chosen.now.group holds old new) }
     {
+        let holds = chosen.holds.as_slice();
         for i in 0..self.entries.len() {
-            if chosen.holds[i] {
+            if holds[i] {
                 self.entries[i].give(&chosen.group)?;
             }
         }

@@ -5,8 +5,6 @@ use Rattle.vsl_pattern.specs.declared.pattern.Pattern.{Pattern}
 use Rattle.vsl_pattern.specs.declared.pattern.Matching.{Matching}
 use Rattle.query_parser.specs.declared.test.Check.{Check}
 use Rattle.query_parser.specs.declared.test.Check.TheVariants as checks
-use Rattle.query_grammar.specs.declared.step.StepOver.{StepOver}
-use Rattle.query_grammar.specs.declared.step.StepOver.TheVariants as kinds
 use Rattle.query_parser.specs.declared.test.Test.{Test}
 use Rattle.vsl_pattern.specs.Patterns.{pattern_text, pattern_caseless, matching_text, matching_caseless}
 
@@ -22,20 +20,10 @@ IsReady (checks.Number comparison operand whole) matching = matching ≡ None
 IsReady (checks.Text equal caseless operand) matching = matching ≡ None
 IsReady (checks.Pattern matches pattern) matching = IfSome matching (IsMatchingOf pattern)
 
--- what asks the pattern of a step's test, where it was made, is ready for it
-abbrev pub IsStepReady : StepOver Test → Option Matching → Type 0
-IsStepReady (kinds.Test test) matching = IsReady test.check matching
-IsStepReady kinds.Not matching = matching ≡ None
-IsStepReady kinds.And matching = matching ≡ None
-IsStepReady kinds.Or matching = matching ≡ None
+-- the pattern that a test asks, and whether without regard to case
+abbrev pub test_pattern : Test → Option (Bool × List ℕ)
+test_pattern test = elim test.check [ checks.Selected ↦ None | checks.Number comparison operand whole ↦ None | checks.Text equal caseless operand ↦ None | checks.Pattern matches pattern ↦ Some (pattern_caseless pattern, pattern_text pattern) ]
 
--- the pattern that a step asks, and whether without regard to case
-abbrev pub step_pattern : StepOver Test → Option (Bool × List ℕ)
-step_pattern (kinds.Test test) = elim test.check [ checks.Selected ↦ None | checks.Number comparison operand whole ↦ None | checks.Text equal caseless operand ↦ None | checks.Pattern matches pattern ↦ Some (pattern_caseless pattern, pattern_text pattern) ]
-step_pattern kinds.Not = None
-step_pattern kinds.And = None
-step_pattern kinds.Or = None
-
--- what was made for a step asks its pattern
-abbrev pub IsKept : StepOver Test → Option Matching → Type 0
-IsKept step matching = ForSome matching (λ m. step_pattern step ≡ Some (matching_caseless m, matching_text m))
+-- what was made for a test asks its pattern
+abbrev pub IsKept : Test → Option Matching → Type 0
+IsKept test matching = ForSome matching (λ m. test_pattern test ≡ Some (matching_caseless m, matching_text m))

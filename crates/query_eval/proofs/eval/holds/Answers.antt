@@ -1,15 +1,7 @@
-use Rattle.std.proofs.Common.{rules, ◌≡◌, Bool, subst}
+use Rattle.std.proofs.Common.{◌≡◌, Bool, subst}
 use Rattle.std.specs.Result.{IfOk}
-use Rattle.query_eval.proofs.StepLemmas.{one_step, no_step, one_test}
+use Rattle.query_eval.proofs.MarkLemmas.{one_test}
 use Rattle.query_eval.proofs.eval.holds.Goals as goal
-
--- a step leaves what its definition says, before the steps behind it
-pub loop-step-preserved : goal.loop-step-preserved
-loop-step-preserved c = search (rules, one_step)
-
--- no step is left, and the truths are those of all steps
-pub returns : goal.returns
-returns c = search (rules, no_step)
 
 -- the query is one test
 pub returns-in-Some : goal.returns-in-Some
