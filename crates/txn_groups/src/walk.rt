@@ -1,0 +1,53 @@
+//! A walk over a tree, with a stack and no recursion.
+
+ghost use Rattle.std.specs.Prelude.{◌≡◌, ◌+◌, ◌++◌, ℕ, List, IfOk, OnOk};
+ghost use Rattle.txn_rows.specs.declared.rows.Row.{Row};
+ghost use Rattle.txn_groups.specs.declared.order.Entry.{Entry};
+ghost use Rattle.txn_groups.specs.inside.Nodes.{AreNodes};
+ghost use Rattle.txn_groups.specs.inside.Walked.{IsTopAt, AreVisits, visit_of};
+
+use crate::node::Node;
+use log_model::NoMemory;
+use std::alloc::Global;
+
+/// A node that a walk comes to, and its level, from 1 at the top.
+#[derive(Clone, Copy, Drop)]
+pub struct Visit {
+    pub at: usize,
+    pub level: usize,
+}
+
+/// Puts a node on the stack, where there is one.
+fn put_off(later: &mut Vec<Visit>, at: Option<usize>, level: usize) -> Result<(), NoMemory>
+    ensures { OnOk result (later.new.items ≡ later.old.items ++ visit_of at level) }
+{
+    if let Some(at) = at {
+        later.push(Visit { at, level })?;
+    }
+    Ok(())
+}
+
+/// The nodes of a tree in preorder, from its top on: each node, then its first child, then the child that its parent
+/// got next. A level that no `usize` holds counts as want of memory.
+pub fn walk(alloc: Global, nodes: &[Node], top: usize, size: usize) -> Result<Vec<Visit>, NoMemory>
+    ensures { (begun root : ℕ) (order : List Entry) (rows : List Row) → AreNodes begun nodes.now order rows → IsTopAt nodes.now rows root size top → IfOk result (λ visits. AreVisits nodes.now rows root visits.items) }
+{
+    let mut visits = Vec::with_capacity(alloc, size)?;
+    let mut later = Vec::new(alloc);
+    later.push(Visit { at: top, level: 1 })?;
+    for i in 0..size {
+        let Some(visit) = later.pop() else {
+            return Ok(visits);
+        };
+        let Some(node) = nodes.get(visit.at) else {
+            return Ok(visits);
+        };
+        if visit.level == usize::MAX {
+            return Err(NoMemory);
+        }
+        put_off(&mut later, node.next, visit.level)?;
+        put_off(&mut later, node.first, visit.level + 1)?;
+        visits.push(visit)?;
+    }
+    Ok(visits)
+}
