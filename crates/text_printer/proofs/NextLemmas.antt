@@ -1,7 +1,8 @@
 -- How what comes next changes a printer, step by step.
-use Rattle.std.proofs.Common.{◌≡◌, ℕ, ◌<◌, ◌+◌, ◌||◌, Bool, false, true, not, cond, List, [], ◌∷◌, ◌++◌, length, take, get_or, Option, refl, sym, ap, subst, ◌∙◌, append_assoc}
-use Rattle.std.proofs.lemmas.List.{append-nil, take_more}
+use Rattle.std.proofs.Common.{◌≡◌, ℕ, ◌<◌, ◌+◌, ◌||◌, Bool, false, true, not, cond, List, [], ◌∷◌, ◌++◌, length, map, take, get_or, Option, refl, sym, ap, subst, ◌∙◌, append_assoc}
+use Rattle.std.proofs.lemmas.List.{append-nil, map-append, take_more}
 use Rattle.std.proofs.lemmas.List.Elements.{filter-append}
+use Rattle.std.specs.List.{filter}
 use Rattle.log_model.specs.Prefix.{IsPrefix}
 use Rattle.log_model.proofs.PrefixLemmas.{prefix_after, proper_after}
 use Rattle.vio.specs.World.{Seen}
@@ -11,12 +12,14 @@ use Rattle.vsl_record.specs.Unit.{LogUnit}
 use Rattle.txn_rows.specs.declared.group.Group.{Group}
 use Rattle.txn_rows.specs.declared.group.Grouping.{Grouping}
 use Rattle.txn_rows.specs.declared.group.Grouping.TheVariants.{Raw}
-use Rattle.txn_rows.specs.Grouping.{Taken, TakenUnit, unit_step, no_state, nothing_left, passes_over, reported, steps, taken_step, taken_steps}
+use Rattle.txn_rows.specs.Grouping.{Taken, TakenUnit, flush, unit_step, no_state, nothing_left, passes_over, reported, steps, taken_step, taken_steps}
 use Rattle.txn_rows.specs.Grouping as taken_items
 use Rattle.txn_rows.specs.TableState.{TableState}
 use Rattle.txn_rows.proofs.GroupingLemmas.{steps_append}
 use Rattle.query_parser.specs.declared.query.Query.{Query}
 use Rattle.query_eval.specs.Meaning.{is_held}
+use Rattle.query_eval.specs.declared.chosen.Chosen.{Chosen}
+use Rattle.txn_groups.specs.Groups.{GroupsState, GroupsStepped, chosen}
 use Rattle.vsl_select.proofs.RawLemmas.{raw_groups_left}
 use Rattle.vsl_dispatch.specs.Groups.{raw_groups, kept, is_filled}
 use Rattle.vsl_dispatch.specs.Entries.{Stands, TextTaken, is_live}
@@ -29,13 +32,30 @@ use Rattle.text_printer.specs.declared.printer.PrintFault.{PrintFault}
 use Rattle.text_printer.specs.declared.printer.PrintFault.TheVariants.{WriteFault, NoMemory}
 use Rattle.text_printer.specs.Held.{held_groups}
 use Rattle.text_printer.specs.Printer.{Plan, PrinterState, IsOutput, IsSameSink, IsLeft, Represents, asked_groups, due}
-use Rattle.text_printer.specs.inside.Next.{Advanced, Completed, Gave, StandsOr, due_with, is_end, item_of}
+use Rattle.text_printer.specs.inside.Next.{Advanced, Completed, Gave, StandsOr, due_with, first_held, first_holds, is_end, item_of}
 use Rattle.text_printer.proofs.DueLemmas.{due_prefix, due_flag, tested_more, tested_end}
 
 -- a query that holds always holds for each group
 always_holds : (query : Query) → query.always ≡ true → (groups : List Group) → held_groups query groups ≡ groups
 always_holds query always [] = refl
 always_holds query always (group ∷ groups) = rw always (ap (λ (gs : List Group). group ∷ gs) (always_holds query always groups))
+
+-- ---- groups for which the first query holds
+
+first_more : (holds : Bool) (one : Chosen) (all : List Chosen) (groups : List Group) → map (λ (c : Chosen). c.group) all ≡ groups
+    → map (λ (c : Chosen). c.group) (cond holds (one ∷ all) all) ≡ cond holds (one.group ∷ groups) groups
+first_more true one all groups is = ap (λ (gs : List Group). one.group ∷ gs) is
+first_more false one all groups is = is
+
+-- where one query is asked, they are those for which it holds
+first_is : (query : Query) (groups : List Group) → first_held (map (chosen (query ∷ [])) groups) ≡ held_groups query groups
+first_is query [] = refl
+first_is query (group ∷ groups) = first_more (is_held query group) (chosen (query ∷ []) group) (filter first_holds (map (chosen (query ∷ [])) groups)) (held_groups query groups) (first_is query groups)
+
+first_append : (xs ys : List Chosen) → first_held (xs ++ ys) ≡ first_held xs ++ first_held ys
+first_append xs ys = rw (filter-append, map-append) refl
+
+-- ---- what is due
 
 -- what is due with what comes next, by the groups
 due_is : (plan : Plan) (taken : List Taken) (next : Next) → let all = asked_groups plan (taken ++ item_of next ∷ []) false in due_with plan taken next ≡ plan.writes (kept plan.keep all) (is_end next || is_filled plan.keep all)
@@ -59,15 +79,34 @@ module _ {C : Type 0} (keep : C → Option ℕ) (output : C → List Group → B
         (next.each most writes (before ++ gs) taken (first.each most writes before taken stands));
   }
 
-  -- a group more was given, where the query holds for it
-  pub gave_next : (query : Query) (groups : List Group) (i : ℕ) (group : Group) (old middle new : Entry C) → i < length groups → group ≡ get_or groups i group → Gave keep output represents (held_groups query (take i groups)) false old middle
-      → Gave keep output represents (held_groups query (group ∷ [])) false middle new → Gave keep output represents (held_groups query (take (i + 1) groups)) false old new
-  gave_next query groups i group old middle new within is first next =
-      let more : held_groups query (take (i + 1) groups) ≡ held_groups query (take i groups) ++ held_groups query (group ∷ []) =
-      rw (take_more groups i group within, sym is, filter-append) refl in
-      rw more (gave_then (held_groups query (take i groups)) (held_groups query (group ∷ [])) false old middle new first next)
+  -- a group more was given, where the first query holds for it
+  pub gave_next : (all : List Chosen) (i : ℕ) (one : Chosen) (old middle new : Entry C) → i < length all → one ≡ get_or all i one → Gave keep output represents (first_held (take i all)) false old middle
+      → Gave keep output represents (first_held (one ∷ [])) false middle new → Gave keep output represents (first_held (take (i + 1) all)) false old new
+  gave_next all i one old middle new within is first next =
+      let more : first_held (take (i + 1) all) ≡ first_held (take i all) ++ first_held (one ∷ []) =
+      rw (take_more all i one within, sym is) (first_append (take i all) (one ∷ [])) in
+      rw more (gave_then (first_held (take i all)) (first_held (one ∷ [])) false old middle new first next)
 
   -- ---- what comes next, in a table
+
+  -- the table took it, and the groups that it completed are left
+  pub completed_all : (query : Query) (next : Next) (old new : GroupsState) (left : List Chosen) (entry_old entry_new : Entry C) → old.queries ≡ query ∷ [] → GroupsStepped (taken_step old.table.options (item_of next) old.table.state) old new [] left
+      → Gave keep output represents [] false entry_old entry_new → Completed keep output represents query next old.table new.table entry_old entry_new left
+  completed_all query next old new left entry_old entry_new only stepped gave =
+      let now = stepped.table.state in
+      let groups = reported old.table.options.grouping (taken_step old.table.options (item_of next) old.table.state).groups in record {
+        options = ap (λ (t : TableState). t.options) now;
+        state = ap (λ (t : TableState). t.state) now;
+        sound = λ sound. ap (λ (t : TableState). t.failed) now;
+        given = [];
+        groups = sym (ap first_held stepped.table.groups ∙ ap (λ (queries : List Query). first_held (map (chosen queries) groups)) only ∙ first_is query groups);
+        gave = gave;
+      }
+
+  -- the same where it completes all that is pending
+  pub completed_flush : (query : Query) (next : Next) (old new : GroupsState) (left : List Chosen) (entry : Entry C) → item_of next ≡ taken_items.Missed → old.queries ≡ query ∷ [] → GroupsStepped (flush old.table.state) old new [] left
+      → Completed keep output represents query next old.table new.table entry entry left
+  completed_flush query next old new left entry is only stepped = completed_all query next old new left entry entry only (rw is stepped) (record { each = λ most writes before taken stands. rw append-nil stands })
 
   -- the records of a unit were taken, each as a group by itself
   pub completed_raw : (query : Query) (u : LogUnit) (table : TableState) (old new : Entry C) → (table.options.grouping ≡ Raw) × (query.always ≡ true) → Gave keep output represents (raw_groups u) false old new
@@ -101,13 +140,13 @@ module _ {C : Type 0} (keep : C → Option ℕ) (output : C → List Group → B
       ((ended_text keep output represents most writes text old (Gone bytes) groups taken took stands).1, refl, λ live. absurd (cc live))
 
   -- what comes next was taken, its groups were given, and the text was taken
-  pub advanced : (plan : Plan) (next : Next) (taken : List Taken) (p q : PrinterState C) (middle given : Entry C) (left : List Group) (text : List ℕ) → Represents keep output represents plan p taken → q.query ≡ p.query → IsSameSink p q
-      → Completed keep output represents p.query next p.table q.table p.entry middle left → Gave keep output represents (held_groups p.query left) (is_end next) middle given → TextTaken keep output represents text given q.entry
+  pub advanced : (plan : Plan) (next : Next) (taken : List Taken) (p q : PrinterState C) (middle given : Entry C) (left : List Chosen) (text : List ℕ) → Represents keep output represents plan p taken → q.query ≡ p.query → IsSameSink p q
+      → Completed keep output represents p.query next p.table q.table p.entry middle left → Gave keep output represents (first_held left) (is_end next) middle given → TextTaken keep output represents text given q.entry
       → Advanced keep output represents plan next q taken text
   advanced plan next taken p q middle given left text old query same step gave took =
       let all = asked_groups plan (taken ++ item_of next ∷ []) false in
-      let whole : asked_groups plan taken false ++ (step.given ++ held_groups p.query left) ≡ all = rw (sym step.groups, old.query, old.options, old.state) (sym (tested_more (is_held plan.query) plan.options taken (item_of next))) in
-      let stands = (gave_then step.given (held_groups p.query left) (is_end next) p.entry middle given step.gave gave).each plan.keep plan.writes (asked_groups plan taken false) (due plan taken false) (rw old.live old.stands) in
+      let whole : asked_groups plan taken false ++ (step.given ++ first_held left) ≡ all = rw (sym step.groups, old.query, old.options, old.state) (sym (tested_more (is_held plan.query) plan.options taken (item_of next))) in
+      let stands = (gave_then step.given (first_held left) (is_end next) p.entry middle given step.gave gave).each plan.keep plan.writes (asked_groups plan taken false) (due plan taken false) (rw old.live old.stands) in
       let out = text_out (is_end next) plan.keep plan.writes text given q.entry all (due plan taken false) took (rw whole at stands) in record {
         text_due = due_is plan taken next ∙ sym out.0;
         done = out.1;

@@ -8,7 +8,7 @@ use Rattle.txn_rows.specs.declared.group.GroupOptions.{GroupOptions}
 use Rattle.txn_rows.specs.Grouping.{Taken, no_state, taken_steps, groups_of}
 use Rattle.txn_rows.specs.TableState.{TableState}
 use Rattle.query_parser.specs.declared.query.Query.{Query}
-use Rattle.query_eval.specs.Asker.{asker_query}
+use Rattle.txn_groups.specs.Groups.{groups_state}
 use Rattle.text_printer.specs.Held.{held_groups}
 use Rattle.vsl_dispatch.specs.Groups.{kept, is_filled}
 use Rattle.vsl_dispatch.specs.Entries.{Stands}
@@ -45,7 +45,7 @@ pub record PrinterState (C : Type 0) : Type 0 where
 
 -- what a printer tells
 abbrev pub printer_state : {C : Type 0} → Printer C → PrinterState C
-printer_state p = record { table = p.table; query = asker_query p.asker; entry = p.entry; sink = p.sink.handle; name = p.sink.name }
+printer_state p = record { table = (groups_state p.groups).table; query = p.query.now; entry = p.entry; sink = p.sink.handle; name = p.sink.name }
 
 -- the groups of what was taken that are asked for, where that has ended or not
 abbrev pub asked_groups : Plan → List Taken → Bool → List Group

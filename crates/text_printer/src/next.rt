@@ -1,15 +1,16 @@
-//! What comes next is taken by a table, and the groups that it completes are given to a consumer.
+//! What comes next is grouped, and the groups that it completes and for which the query holds are given to a consumer.
 
 ghost use Rattle.std.specs.Prelude.{◌≡◌, [], ◌∷◌, false, true, if◌then◌else◌, Ok, IfOk, OnOk};
 ghost use Rattle.txn_rows.specs.declared.group.Grouping.TheVariants.{Raw};
-ghost use Rattle.query_eval.specs.Asker.{asker_query};
+ghost use Rattle.txn_groups.specs.Groups.{groups_state};
 ghost use Rattle.vsl_dispatch.specs.Groups.{raw_groups};
-ghost use Rattle.text_printer.specs.Held.{held_groups};
-ghost use Rattle.text_printer.specs.inside.Next.{Completed, Gave, is_end};
+ghost use Rattle.text_printer.specs.inside.Next.{Completed, Gave, first_held, is_end};
 
-use query_eval::Asker;
+use query_eval::Chosen;
+use query_parser::Query;
 use std::alloc::Global;
-use txn_rows::{Group, Grouping, Table};
+use txn_groups::Groups;
+use txn_rows::Grouping;
 use vio::NoMemory;
 use vsl_dispatch::{Consumer, Entry};
 use vsl_record::Unit;
@@ -40,80 +41,73 @@ impl Next {
 /// Offers an entry the records of a unit, each as a group by itself, where they are so grouped and the query holds for all;
 /// whether it took them.
 fn offer<C: Consumer>(
-    table: &Table,
-    asker: &Asker<'_>,
+    groups: &Groups<'_>,
+    query: &Query,
     entry: &mut Entry<C>,
     unit: &Unit,
 ) -> Result<bool, NoMemory>
-    ensures raw { result ≡ Ok true → (table.now.options.grouping ≡ Raw) × ((asker_query asker.now).always ≡ true) }
+    ensures raw { result ≡ Ok true → ((groups_state groups.now).table.options.grouping ≡ Raw) × (query.now.always ≡ true) }
     ensures gave { IfOk result (λ took. Gave C.keep C.output C.represents (if took then raw_groups unit.now else []) false entry.old entry.new) }
 {
-    if !asker.always() {
+    if !query.always {
         return Ok(false);
     }
-    match table.grouping() {
+    match groups.grouping() {
         Grouping::Raw => entry.records(unit),
         _ => Ok(false),
     }
 }
 
-/// Has a table take what comes next; the groups that it completed, but for those that an entry has already.
+/// Has what comes next grouped; the groups that it completed, but for those that an entry has already. The groups are asked the
+/// query alone.
 pub(crate) fn complete<C: Consumer>(
     alloc: Global,
-    table: &mut Table,
-    asker: &Asker<'_>,
+    groups: &mut Groups<'_>,
+    query: &Query,
     entry: &mut Entry<C>,
     next: Next,
-) -> Result<Vec<Group>, NoMemory>
-    ensures { IfOk result (λ left. Completed C.keep C.output C.represents (asker_query asker.now) next table.old table.new entry.old entry.new left.items) }
+) -> Result<Vec<Chosen>, NoMemory>
+    requires asked { (groups_state groups.old).queries ≡ query.now ∷ [] }
+    ensures completed { IfOk result (λ left. Completed C.keep C.output C.represents query.now next (groups_state groups.old).table (groups_state groups.new).table entry.old entry.new left.items) }
+    ensures asked { (groups_state groups.new).queries ≡ query.now ∷ [] }
 {
-    let mut groups = Vec::new(alloc);
+    let mut left = Vec::new(alloc);
     match next {
         Next::Unit(unit) => {
-            if offer(table, asker, entry, &unit)? {
-                return Ok(groups);
+            if offer(groups, query, entry, &unit)? {
+                return Ok(left);
             }
-            table.step(&unit, &mut groups)?;
-            Ok(groups)
+            groups.step(&unit, &mut left)?;
+            Ok(left)
         }
         Next::Missed | Next::End => {
-            table.flush(&mut groups)?;
-            Ok(groups)
+            groups.flush(&mut left)?;
+            Ok(left)
         }
     }
 }
 
-/// Gives an entry a group, where it takes more and the query holds for the group.
-fn give_group<C: Consumer>(
-    asker: &mut Asker<'_>,
-    entry: &mut Entry<C>,
-    group: &Group,
-) -> Result<(), NoMemory>
-    ensures query { asker_query asker.new ≡ asker_query asker.old }
-    ensures gave { OnOk result (Gave C.keep C.output C.represents (held_groups (asker_query asker.old) (group.now ∷ [])) false entry.old entry.new) }
+/// Gives an entry a group, where the first query holds for it.
+fn give_group<C: Consumer>(entry: &mut Entry<C>, chosen: &Chosen) -> Result<(), NoMemory>
+    ensures { OnOk result (Gave C.keep C.output C.represents (first_held (chosen.now ∷ [])) false entry.old entry.new) }
 {
-    if !entry.is_live() {
+    let [true, ..] = chosen.holds.as_slice() else {
         return Ok(());
-    }
-    if !asker.holds(group)? {
-        return Ok(());
-    }
-    entry.give(group)
+    };
+    entry.give(&chosen.group)
 }
 
-/// Gives an entry the groups for which the query holds, and ends it where no more will follow.
+/// Gives an entry the groups for which the first query holds, and ends it where no more will follow.
 #[tactic(auto, using(crate::proofs::NextLemmas::gave_next))]
 pub(crate) fn give_all<C: Consumer>(
-    asker: &mut Asker<'_>,
     entry: &mut Entry<C>,
-    groups: &[Group],
+    all: &[Chosen],
     ended: bool,
 ) -> Result<(), NoMemory>
-    ensures query { asker_query asker.new ≡ asker_query asker.old }
-    ensures gave { OnOk result (Gave C.keep C.output C.represents (held_groups (asker_query asker.old) groups.now) ended entry.old entry.new) }
+    ensures { OnOk result (Gave C.keep C.output C.represents (first_held all.now) ended entry.old entry.new) }
 {
-    for group in groups {
-        give_group(asker, entry, group)?;
+    for chosen in all {
+        give_group(entry, chosen)?;
     }
     if !ended {
         return Ok(());

@@ -5,18 +5,17 @@ ghost use Rattle.std.specs.Prelude.{◌≡◌, ◌||◌, not, List, [], ◌∷�
 ghost use Rattle.vio.specs.World.{Writing, Wrote};
 ghost use Rattle.vio.specs.Writes.{WroteOn};
 ghost use Rattle.txn_rows.specs.Grouping.{Missed, Taken, TakenUnit, no_state};
+ghost use Rattle.txn_groups.specs.Groups.{groups_state};
 ghost use Rattle.vsl_dispatch.specs.Entries.{is_live};
 ghost use Rattle.vsl_dispatch.specs.declared.entry.Entry.TheVariants.{Live};
-ghost use Rattle.text_printer.specs.Printer.{Plan, printer_state, Represents, IsSameSink, HasPrintCause, IsLeft, due, has_all, is_done};
-ghost use Rattle.text_printer.specs.Ends.{taken};
-ghost use Rattle.text_printer.specs.inside.Next.{Advanced, due_with, is_end, item_of};
 
 use crate::next::{Next, complete, give_all};
-use query_eval::Asker;
 use query_parser::Query;
 use ring_layout::Item;
 use std::alloc::Global;
-use txn_rows::{GroupOptions, Table};
+use std::slice::from_ref;
+use txn_groups::Groups;
+use txn_rows::GroupOptions;
 use vio::{NoMemory, World, WorldFault, write_all};
 use vsl_dispatch::{Consumer, Entry, Go};
 use vsl_record::Unit;
@@ -42,20 +41,24 @@ struct Sink {
     name: Text,
 }
 
-/// Writes a text.
-fn print_text<W: World>(world: &mut W, sink: &Sink, text: &[u8]) -> Result<(), PrintFault>
-    requires named { IsTrue ((W.seen world.old).names Writing sink.now.handle sink.now.name) }
-    ensures ok { OnOk result (Wrote sink.now.handle text.now (W.seen world.old) (W.seen world.new)) }
-    ensures refused { IfErr result (λ f. WroteOn sink.now.handle [] (IsLeft f text.now) (W.seen world.old) (W.seen world.new)) }
-    ensures cause { IfErr result (λ f. HasPrintCause f sink.now.name (W.seen world.old) (W.seen world.new)) }
-{
-    match write_all(world, sink.handle, text) {
-        Ok(()) => Ok(()),
-        Err(WorldFault::Failed) => match Text::new(sink.alloc, sink.name.as_str()) {
-            Ok(name) => Err(PrintFault::WriteFault { name }),
-            Err(_) => Err(PrintFault::NoMemory),
-        },
-        Err(WorldFault::NoMemory) => Err(PrintFault::NoMemory),
+impl Sink {
+    ghost use Rattle.text_printer.specs.Printer.{HasPrintCause, IsLeft};
+
+    /// Writes a text.
+    fn print<W: World>(&self, world: &mut W, text: &[u8]) -> Result<(), PrintFault>
+        requires named { IsTrue ((W.seen world.old).names Writing self.now.handle self.now.name) }
+        ensures ok { OnOk result (Wrote self.now.handle text.now (W.seen world.old) (W.seen world.new)) }
+        ensures refused { IfErr result (λ f. WroteOn self.now.handle [] (IsLeft f text.now) (W.seen world.old) (W.seen world.new)) }
+        ensures cause { IfErr result (λ f. HasPrintCause f self.now.name (W.seen world.old) (W.seen world.new)) }
+    {
+        match write_all(world, self.handle, text) {
+            Ok(()) => Ok(()),
+            Err(WorldFault::Failed) => match Text::new(self.alloc, self.name.as_str()) {
+                Ok(name) => Err(PrintFault::WriteFault { name }),
+                Err(_) => Err(PrintFault::NoMemory),
+            },
+            Err(WorldFault::NoMemory) => Err(PrintFault::NoMemory),
+        }
     }
 }
 
@@ -65,13 +68,18 @@ fn print_text<W: World>(world: &mut W, sink: &Sink, text: &[u8]) -> Result<(), P
 #[derive(Drop)]
 pub struct Printer<'q, C> {
     alloc: Global,
-    table: Table,
-    asker: Asker<'q>,
+    query: &'q Query,
+    groups: Groups<'q>,
     entry: Entry<C>,
     sink: Sink,
+    ghost asked: { (groups_state groups).queries ≡ query.now ∷ [] },
 }
 
 impl<'q, C: Consumer> Printer<'q, C> {
+    ghost use Rattle.text_printer.specs.Printer.{Plan, printer_state, Represents, IsSameSink, HasPrintCause, IsLeft, due, has_all, is_done};
+    ghost use Rattle.text_printer.specs.Ends.{taken};
+    ghost use Rattle.text_printer.specs.inside.Next.{Advanced, due_with, is_end, item_of};
+
     /// A printer that was given nothing, and its consumer. It writes to the handle `sink`, whose name is `name`.
     pub fn new(
         alloc: Global,
@@ -85,8 +93,8 @@ impl<'q, C: Consumer> Printer<'q, C> {
     {
         Ok(Printer {
             alloc,
-            table: Table::new(alloc, options)?,
-            asker: Asker::new(alloc, query)?,
+            query,
+            groups: Groups::new(alloc, options, from_ref(query))?,
             entry: Entry::Live(consumer),
             sink: Sink {
                 alloc,
@@ -102,14 +110,14 @@ impl<'q, C: Consumer> Printer<'q, C> {
         ensures advanced { IfOk result (λ text. (plan : Plan) (taken : List Taken) → Represents C.keep C.output C.represents plan (printer_state self.old) taken → Advanced C.keep C.output C.represents plan next (printer_state self.new) taken text.items) }
     {
         let ended = next.is_end();
-        let groups = complete(
+        let left = complete(
             self.alloc,
-            &mut self.table,
-            &self.asker,
+            &mut self.groups,
+            self.query,
             &mut self.entry,
             next,
         )?;
-        give_all(&mut self.asker, &mut self.entry, &groups, ended)?;
+        give_all(&mut self.entry, &left, ended)?;
         Ok(self.entry.text(self.alloc))
     }
 
@@ -140,7 +148,7 @@ impl<'q, C: Consumer> Printer<'q, C> {
         let Ok(text) = self.advance(next) else {
             return Err(PrintFault::NoMemory);
         };
-        print_text(world, &self.sink, &text)?;
+        self.sink.print(world, &text)?;
         Ok(self.go())
     }
 
@@ -151,7 +159,7 @@ impl<'q, C: Consumer> Printer<'q, C> {
         ensures refused { IfErr result (λ f. WroteOn (printer_state self.now).sink [] (IsLeft f text.now) (W.seen world.old) (W.seen world.new)) }
         ensures cause { IfErr result (λ f. HasPrintCause f (printer_state self.now).name (W.seen world.old) (W.seen world.new)) }
     {
-        print_text(world, &self.sink, text)
+        self.sink.print(world, text)
     }
 
     /// Takes an item: a unit, or an overrun, which completes what is pending. It writes what the consumer hands out of the groups that the

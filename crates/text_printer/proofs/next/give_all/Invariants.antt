@@ -1,12 +1,7 @@
--- the groups before the index for which the query holds were given, and the query is the same
-use Rattle.std.proofs.Common.{◌≡◌, false, take}
-use Rattle.query_eval.specs.Asker.{asker_query}
-use Rattle.text_printer.specs.Held.{held_groups}
-use Rattle.text_printer.specs.inside.Next.{Gave}
+-- the groups before the index for which the first query holds were given
+use Rattle.std.proofs.Common.{false, take}
+use Rattle.text_printer.specs.inside.Next.{Gave, first_held}
 use Rattle.text_printer.proofs.next.give_all.Given as goal
 
-abbrev pub invariant-loop-group : goal.invariant-loop-group
-invariant-loop-group g l = record {
-  query : asker_query l.asker ≡ asker_query l.initial.asker;
-  gave : Gave g.C.Consumer.keep g.C.Consumer.output g.C.Consumer.represents (held_groups (asker_query l.initial.asker) (take l.group-index l.groups)) false l.initial.entry l.entry;
-}
+abbrev pub invariant-loop-chosen : goal.invariant-loop-chosen
+invariant-loop-chosen g l = Gave g.C.Consumer.keep g.C.Consumer.output g.C.Consumer.represents (first_held (take l.chosen-index l.all)) false l.initial.entry l.entry
