@@ -11,6 +11,9 @@ import vslog
 
 REAL = pathlib.Path(__file__).resolve().parent.parent / "examples/real-1.vslog"
 MEBIBYTE = 1 << 20
+SESSION = 1  # the VXID of the session of requests that are made
+FIRST_SECOND, STEP = 1796000000, 0.001  # when they begin, and how long behind one another
+PARTS = 5  # units of a request that is made
 
 
 def real_units():
@@ -50,3 +53,51 @@ def our_units(path):
     records = varnish_log.read_binary(log, collections.Counter())
     for (vxid, mark), group in itertools.groupby(records, lambda record: record[:2]):
         yield vslog.unit(vxid, mark, [record[2:] for record in group])
+
+
+def request(vxid, seconds):
+    """The records of a request that is made, as a server writes them, in parts, a second from one to the next."""
+    times = [b"%.6f" % (seconds + part) for part in range(PARTS)]
+    status = 503 if vxid % 100 == 0 else 200
+    return [
+        [
+            ("Begin", b"req %d rxreq" % SESSION), ("Timestamp", b"Start: %s 0.000000 0.000000" % times[0]),
+            ("ReqStart", b"192.0.2.7 43994 a0"), ("ReqMethod", b"GET"), ("ReqURL", b"/item/%d" % (vxid % 300)),
+            ("ReqProtocol", b"HTTP/1.1"), ("ReqHeader", b"Host: www.example.com"),
+        ],
+        [("VCL_call", b"RECV"), ("VCL_return", b"hash"), ("VCL_call", b"HASH"), ("VCL_return", b"lookup")],
+        [("Hit", b"3 1.5 10.0 0.0"), ("VCL_call", b"HIT"), ("VCL_return", b"deliver")],
+        [
+            ("RespProtocol", b"HTTP/1.1"), ("RespStatus", b"%d" % status), ("RespReason", b"OK"),
+            ("Timestamp", b"Process: %s 3.000000 3.000000" % times[3]),
+        ],
+        [
+            ("RespHeader", b"Accept-Ranges: bytes"), ("Timestamp", b"Resp: %s 4.000000 1.000000" % times[4]),
+            ("ReqAcct", b"89 0 89 250 442 692"), ("End", b""),
+        ],
+    ]
+
+
+def open_at_once(count, wide):
+    """The units of requests of which so many are open at once: in turn each of these has a unit, until it ends."""
+    behind, parts = wide // (PARTS - 1), {}
+    for step in range(count + wide):
+        for part in range(PARTS):
+            at = step - part * behind
+            if 0 <= at < count:
+                vxid = SESSION + 1 + at
+                left = parts.pop(at, None) or request(vxid, FIRST_SECOND + STEP * at)
+                yield vslog.unit(vxid, "c", left[0])
+                if part < PARTS - 1:
+                    parts[at] = left[1:]
+
+
+def one_session(count):
+    """The units of a session of so many requests, one after another, each in a unit of its own."""
+    opened = [("Begin", b"sess 0 HTTP/1"), ("SessOpen", b"192.0.2.7 43994 a0 192.0.2.1 80 %d.000000 22" % FIRST_SECOND)]
+    for at in range(count):
+        vxid = SESSION + 1 + at
+        yield vslog.unit(SESSION, "c", [*opened, ("Link", b"req %d rxreq" % vxid)])
+        yield vslog.unit(vxid, "c", list(itertools.chain(*request(vxid, FIRST_SECOND + STEP * at))))
+        opened = []
+    yield vslog.unit(SESSION, "c", [("SessClose", b"REM_CLOSE %.3f" % (STEP * count)), ("End", b"")])

@@ -1,6 +1,7 @@
 """Times vtools beside Varnish's own tools on one log, which varnishd writes while wrk sends it requests, and then alone
-on that log two and four times as long, with the peaks of memory. It installs nothing, and works on 127.0.0.1 alone. It
-tests nothing but that both print the same raw lines.
+on that log two and four times as long, with the peaks of memory; and beside them on two logs that are made, of many
+requests that are open at once, and of one long session. It installs nothing, and works on 127.0.0.1 alone. It tests
+nothing but that both print the same raw lines.
 """
 
 import contextlib
@@ -18,8 +19,9 @@ import tempfile
 from vslog import HEADER
 
 from benches.varnish_traffic import make_log
-from logs import our_units, repeat
+from logs import one_session, open_at_once, our_units, repeat, varnish_records
 from timing import RUNS, best, run
+from varnish_log import FILE_MARK
 
 NEEDED = ["varnishlog", "varnishncsa", "varnishtop", "varnishd", "wrk"]
 COPIES = (1, 2, 4)
@@ -38,6 +40,18 @@ COMMANDS = [
     (0.35, ["varnishncsa", "-F", "%h %m %U %s %b %D"]),
     (0.20, ["varnishtop", "-1"]),
     (0.35, ["varnishtop", "-1", "-i", "ReqURL"]),
+]
+# logs that are made: what they have, the name that their files begin with, their units, and commands as above
+MADE = [
+    ("100,000 requests, of which 4,000 are open at once", "open", lambda: open_at_once(100_000, 4_000), [
+        (0.40, ["varnishlog", "-g", "vxid", "-L", "5000"]),
+        (0.40, ["varnishlog", "-g", "request", "-L", "5000"]),
+        (0.40, ["varnishlog", "-g", "request", "-L", "5000", "-q", "RespStatus >= 500"]),
+    ]),
+    ("One session of 50,000 requests", "session", lambda: one_session(50_000), [
+        (0.40, ["varnishlog", "-g", "session", "-L", "100000"]),
+        (0.40, ["varnishlog", "-g", "session", "-L", "100000", "-q", "RespStatus >= 500"]),
+    ]),
 ]
 
 
@@ -77,6 +91,18 @@ def logs_in(folder):
     return ours, theirs
 
 
+def made_logs_in(folder, name, units):
+    """The logs of a folder whose units are made, ours and theirs, which are made where they are missing."""
+    ours, theirs = (os.path.join(folder, f"{name}-{whose}") for whose in ("ours.vslog", "theirs.vslog"))
+    if not (os.path.exists(ours) and os.path.exists(theirs)):
+        log = HEADER + b"".join(units())
+        for path, content in ((ours, log), (theirs, FILE_MARK + varnish_records(log))):
+            with open(path + ".part", "wb") as file:
+                file.write(content)
+            os.replace(path + ".part", path)
+    return ours, theirs
+
+
 def compare_raw(program, ours, theirs):
     """Compares the raw lines of both logs, and answers the number of records and of clients' requests."""
     raw, records, requests = ["varnishlog", "-g", "raw", "-r"], 0, 0
@@ -107,14 +133,14 @@ def print_facts(program, ours, theirs, counts):
 
 def print_row(cells):
     """Prints a row of a table, whose first column is wide."""
-    print(f"| {cells[0]:48} |" + "".join(f" {cell:>9} |" for cell in cells[1:]), flush=True)
+    print(f"| {cells[0]:58} |" + "".join(f" {cell:>9} |" for cell in cells[1:]), flush=True)
 
 
 def print_head(cells):
     """Prints the head of a table, whose columns but the first have their text at the right."""
     print()
     print_row(cells)
-    print(f"|{'-' * 50}|" + f"{'-' * 10}:|" * (len(cells) - 1))
+    print(f"|{'-' * 60}|" + f"{'-' * 10}:|" * (len(cells) - 1))
 
 
 def cells_of(taken):
@@ -122,16 +148,16 @@ def cells_of(taken):
     return f"{taken.seconds:.3f}", f"{taken.user:.3f}", f"{taken.peak:.1f}"
 
 
-def print_beside(program, ours, theirs, out):
-    """Prints each command's times beside those of Varnish's own tool."""
+def print_beside(program, ours, theirs, out, commands):
+    """Prints each command's times beside those of Varnish's own tool, and answers the largest of our peaks."""
     columns = [f"{whose} {what}" for whose in ("our", "their") for what in ("s", "user", "MiB")]
     print_head(["Command", *columns, "ratio", "wanted"])
     peak = 0
-    for wanted, words in COMMANDS:
+    for wanted, words in commands:
         own, other = in_turn([[program, *words, "-r", ours], [*words, "-r", theirs]], out)
         ratio, peak = own.seconds / other.seconds, max(peak, own.peak)
         print_row([f"`{shlex.join(words)}`", *cells_of(own), *cells_of(other), f"{ratio:.2f}", f"{wanted:.2f}"])
-    print(f"\nOf the largest of our peaks, {peak:.1f} MiB, at most {MOST_MEBIBYTES} is wanted.")
+    return peak
 
 
 def print_growth(program, ours, folder, out):
@@ -168,5 +194,10 @@ def bench(program, given):
         print_facts(program, ours, theirs, compare_raw(program, ours, theirs))
         with tempfile.TemporaryDirectory(dir=folder_for(8 * os.path.getsize(ours))) as written:
             out = os.path.join(written, "out")
-            print_beside(program, ours, theirs, out)
+            peak = print_beside(program, ours, theirs, out, COMMANDS)
+            print(f"\nOf the largest of our peaks, {peak:.1f} MiB, at most {MOST_MEBIBYTES} is wanted.")
             print_growth(program, ours, folder, out)
+            for what, name, units, commands in MADE:
+                pair = made_logs_in(given.logs or folder, name, units)
+                print(f"\n{what}: {compare_raw(program, *pair)[0]} records, of which both print the same raw lines")
+                print_beside(program, *pair, out, commands)

@@ -7,13 +7,15 @@ import os
 import re
 from concurrent.futures import ThreadPoolExecutor
 
-from checks.running import TOP, Failed, Run, check_program, run, same_run, same_tree, temporary_folder, tree, write_tree
+from checks.running import (
+    TOP, Failed, Run, check_program, made_by, run, same_run, same_tree, temporary_folder, tree, write_tree,
+)
 
 CASES = TOP / "cases"
 PROGRAM = "program"  # the file of a subject that names the program of its cases
 FIRST_PROGRAM = "vtools"  # without that file
 WORDS = {"args", "args.nul", "rows"}
-OF_ALL = WORDS | {"links", "hex", "data", "also_on_threads"}
+OF_ALL = WORDS | {"links", "made", "hex", "data", "also_on_threads"}
 OF_NO_ROWS = {"stdout", "stderr", "status", "stdin", "files"}
 DEFAULTS = {"stdout": None, "stderr": b"", "status": b"0\n"}
 # The words of a row, its status and its message; the words may be none.
@@ -52,6 +54,15 @@ class Case:
             self.tell(f"hex/{name} is not hexadecimal")
             return b""
         return bytes.fromhex(digits)
+
+    def make(self):
+        """Adds the files that scripts print."""
+        for line in self.files.get("made", b"").decode().splitlines():
+            name, script, *words = line.split(" ")
+            try:
+                self.data[name] = made_by(script, *words)
+            except Failed as failed:
+                self.tell(failed)
 
     def check_form(self):
         """Tells what a case lacks, and what it has that no case of its kind has."""
@@ -105,6 +116,7 @@ class Case:
     def run(self, program):
         """Runs the case, if it has the form of one."""
         self.check_form()
+        self.make()
         if self.wrong:
             return
         if "rows" in self.kinds:

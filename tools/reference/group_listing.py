@@ -1,20 +1,24 @@
 #!/usr/bin/env python3
-"""Prints what `vtools varnishlog -g GROUPING [-L N] [-T N] -r FILE` must print.
+"""Prints what `vtools varnishlog -g GROUPING [OPTION ..] -r FILE` must print, or with --top what varnishtop must.
 
-    tools/reference/group_listing.py [-L N] [-T N] GROUPING FILE      GROUPING is raw, vxid, request or session
+    tools/reference/group_listing.py [OPTION ..] GROUPING FILE        GROUPING is raw, vxid, request or session
 
-It follows the rules of the format alone, and uses no output of the program. It is made to be read, not to be fast. A
-log that isn't whole is printed up to the damage and not flushed, and a message tells the place, with status 1.
+Options are --top, -v, and -L, -T, -k and -q with their values. It follows the rules of docs/formats alone, and uses no
+output of the program. It is made to be read, not to be fast. A log that isn't whole is printed up to the damage and not
+flushed, of varnishtop not at all, and a message tells the place, with status 1.
 """
 
+import collections
 import getopt
+import itertools
 import re
 import sys
 
 sys.dont_write_bytecode = True
+from queries import PART, asked_by, parts_of
 from vslog import MOST_VXID, NotRead, escaped, raw_line, read_units
 
-SECOND = 10**18  # times are whole numbers of units of 10^-18 seconds
+LIMIT, TIMEOUT = 1000, 120  # without -L and -T
 sys.setrecursionlimit(100000)  # trees may be deep
 KINDS = {b"sess": "Session", b"req": "Request", b"bereq": "BeReq"}
 
@@ -29,11 +33,15 @@ def read_claim(payload):
 def read_time(payload):
     """The absolute time of a Timestamp; None where it isn't well formed."""
     label, text = (payload.split() + [b""] * 2)[:2]
-    number = re.fullmatch(rb"(-?)([0-9]{1,18})(?:\.([0-9]{1,18}))?", text)
-    if number is None or not label.endswith(b":"):
-        return None
-    time = int(number[2]) * SECOND + int((number[3] or b"").ljust(18, b"0"))
-    return None if number[1] and time > 0 else time
+    time = parts_of(text)
+    return None if time is None or time < 0 or not label.endswith(b":") else time
+
+
+class Single:
+    """A record by itself."""
+
+    def __init__(self, vxid, record):
+        self.vxid, self.records = vxid, [record]
 
 
 class Row:
@@ -50,11 +58,30 @@ class Row:
 
 
 class Table:
-    """The rows that stand, in the order of their making, the log time or None, and the groups that were handed out."""
+    """The rows that stand, in the order of their making, the log time or None, and the groups that are complete."""
 
     def __init__(self, grouping, limit, timeout):
-        self.grouping, self.limit, self.timeout = grouping, limit, timeout * SECOND
+        self.grouping, self.limit, self.timeout = grouping, limit, timeout * PART
         self.rows, self.time, self.groups = [], None, []
+
+    def take_unit(self, vxid, mark, records):
+        """Takes a unit of the log: the groups that it completes. Each is a list of levels and members."""
+        for tag, payload in records:
+            if self.grouping == "raw":
+                self.groups.append([(0, Single(vxid, (mark, tag, payload)))])
+            elif vxid != 0:
+                self.take(vxid, mark, tag, payload)
+        return self.leave()
+
+    def flush(self):
+        """Ends all rows: the groups that are complete then."""
+        for row in self.unfinished():
+            self.force(row, b"flush")
+        return self.leave()
+
+    def leave(self):
+        groups, self.groups = self.groups, []
+        return groups
 
     def take(self, vxid, mark, tag, payload):
         """Takes the next record of the log."""
@@ -125,41 +152,67 @@ def preorder(row, level):
         yield from preorder(child, level + 1)
 
 
-def print_line(start, payload):
-    sys.stdout.buffer.write(start.encode() + escaped(payload) + b"\n")
+def groups_of(table, units):
+    """The groups of a whole log, in the order in which they are complete."""
+    for unit in units:
+        yield from table.take_unit(*unit)
+    yield from table.flush()
 
 
-def print_groups(table):
-    while table.groups:
-        for level, row in table.groups.pop(0):
-            stars, dashes = (f"{sign * level:3} " if level <= 3 else f"{sign}{level}{sign} " for sign in "*-")
-            print_line(f"{stars}<< {row.kind:8} >> {row.vxid:<10}", b"")
-            for _, tag, payload in row.records:
-                print_line(f"{dashes}{tag:14} ", payload)
-        print_line("", b"")
+def taken(groups, queries, most):
+    """The groups for which a query holds, if there are any, and of these the first."""
+    asked = [asked_by(text) for text in queries]
+    return itertools.islice((group for group in groups if not asked or any(holds(group) for holds in asked)), most)
+
+
+def lines_of(group, verbose):
+    """The text of a group."""
+    lines = []
+    for level, row in group:
+        stars, dashes = (f"{sign * level:3} " if level <= 3 else f"{sign}{level}{sign} " for sign in "*-")
+        if level > 0:
+            lines.append(f"{stars}<< {row.kind:8} >> {row.vxid:<10}\n".encode())
+        for mark, tag, payload in row.records:
+            if level == 0:
+                lines.append(raw_line(row.vxid, mark, tag, payload))
+            elif verbose:
+                lines.append(dashes.encode() + raw_line(row.vxid, mark, tag, payload))
+            else:
+                lines.append(f"{dashes}{tag:14} ".encode() + escaped(payload) + b"\n")
+    return b"".join(lines) + (b"\n" if group[0][0] > 0 else b"")
+
+
+def report(groups):
+    """The lines of varnishtop: each different tag and payload once, the highest count first."""
+    records = ((tag.encode(), payload) for group in groups for _, row in group for _, tag, payload in row.records)
+    counts = collections.Counter(records).items()
+    ordered = sorted(counts, key=lambda counted: (-counted[1], counted[0]))
+    return b"".join(b"%10d %-14s %s\n" % (count, tag, escaped(payload)) for (tag, payload), count in ordered)
+
+
+def printed(units, grouping, limit=LIMIT, timeout=TIMEOUT, most=None, queries=(), verbose=False, top=False):
+    """What is printed of the units of a log, in parts."""
+    groups = taken(groups_of(Table(grouping, limit, timeout), units), queries, most)
+    if top:
+        yield report(groups)
+    else:
+        yield from (lines_of(group, verbose) for group in groups)
 
 
 def main():
-    options, (grouping, name) = getopt.getopt(sys.argv[1:], "L:T:")
-    numbers = {"-L": 1000, "-T": 120} | {option: int(value) for option, value in options}
+    given, (grouping, name) = getopt.getopt(sys.argv[1:], "vL:T:k:q:", ["top"])
+    options = dict(given)
     if grouping not in ("raw", "vxid", "request", "session"):
         sys.exit(__doc__)
-    table = Table(grouping, numbers["-L"], numbers["-T"])
+    limit, timeout = int(options.get("-L", LIMIT)), int(options.get("-T", TIMEOUT))
+    most, queries = int(options["-k"]) if "-k" in options else None, [text for option, text in given if option == "-q"]
     with open(name, "rb") as log:
         units = read_units(log.read())
     try:
-        for vxid, mark, records in units:
-            for tag, payload in records:
-                if grouping == "raw":
-                    sys.stdout.buffer.write(raw_line(vxid, mark, tag, payload))
-                elif vxid != 0:
-                    table.take(vxid, mark, tag, payload)
-            print_groups(table)
+        for part in printed(units, grouping, limit, timeout, most, queries, "-v" in options, "--top" in options):
+            sys.stdout.buffer.write(part)
     except NotRead as damage:
         sys.exit(f"vtools: {name}: {damage}")
-    for row in table.unfinished():
-        table.force(row, b"flush")
-    print_groups(table)
 
 
 if __name__ == "__main__":

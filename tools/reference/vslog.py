@@ -53,7 +53,7 @@ def read_units(data):
             raise NotRead("not a log", at)
     at = len(HEADER)
     while at < len(data):
-        found = read_unit(data[at : at + 4 * MOST_WORDS])
+        found = read_unit(data[at : at + 4 * int.from_bytes(data[at : at + 3], "little")])
         if found is None:
             raise NotRead("damaged", at)
         yield found[1:]

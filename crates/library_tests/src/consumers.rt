@@ -4,7 +4,7 @@ ghost use Rattle.std.specs.Prelude.{◌≡◌, ◌<◌, length};
 ghost use Rattle.vsl_dispatch.specs.Entries.{entries_of};
 
 use crate::support::{all_shown, record_of, same};
-use query_eval::Chosen;
+use query_eval::{Chosen, Truths};
 use std::alloc::Global;
 use std::process::Abort;
 use std::test::Fail;
@@ -46,7 +46,7 @@ fn give(
     ensures two { length (entries_of dispatch.new) ≡ 2 }
 {
     let group = group_of(alloc, payload)?;
-    let holds = Vec::from_array(alloc, holds)?;
+    let holds = Truths::new(Vec::from_array(alloc, holds)?);
     dispatch.give(&Chosen { group, holds })?;
     Ok(())
 }

@@ -1,0 +1,39 @@
+#!/usr/bin/env python3
+"""Prints a log file of many transactions, for cases and benches: too large to be kept.
+
+    tools/reference/made_logs.py NAME COUNT
+
+Of begun_then_ended COUNT requests begin, and then each ends, in the order in which they began. Of chain each of COUNT
+requests is below the one before: its Begin names that one, and its Link the next, before that one begins.
+"""
+
+import sys
+
+sys.dont_write_bytecode = True
+from vslog import HEADER, unit
+
+
+def begun_then_ended(count):
+    for records in ([("Begin", b"req 0 rxreq")], [("End", b"")]):
+        yield from (unit(vxid, "c", records) for vxid in range(1, count + 1))
+
+
+def chain(count):
+    for vxid in range(1, count + 1):
+        begin = ("Begin", b"req %d %s" % (vxid - 1, b"esi" if vxid > 1 else b"rxreq"))
+        links = [("Link", b"req %d esi" % (vxid + 1))] if vxid < count else []
+        yield unit(vxid, "c", [begin, *links, ("End", b"")])
+
+
+LOGS = {"begun_then_ended": begun_then_ended, "chain": chain}
+
+
+def main():
+    if len(sys.argv) != 3 or sys.argv[1] not in LOGS or not sys.argv[2].isdigit():
+        sys.exit(__doc__)
+    sys.stdout.buffer.write(HEADER)
+    sys.stdout.buffer.writelines(LOGS[sys.argv[1]](int(sys.argv[2])))
+
+
+if __name__ == "__main__":
+    main()
