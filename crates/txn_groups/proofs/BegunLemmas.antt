@@ -5,7 +5,8 @@ use Rattle.std.proofs.lemmas.Bool.{eq-eqb, ne_eqb}
 use Rattle.std.proofs.lemmas.List.Sums.{sum_by-cons, sum_by_push}
 use Rattle.txn_rows.specs.declared.rows.Row.{Row}
 use Rattle.txn_rows.specs.declared.group.ParentLink.{ParentLink}
-use Rattle.txn_rows.specs.inside.Rows.{row_of, Rising, Each, AreTrees, IsTop, IsBelow}
+use Rattle.txn_rows.specs.Trees.{row_of, Rising, AreTrees, IsTop, IsBelow}
+use Rattle.txn_rows.specs.inside.Rows.{Each}
 use Rattle.txn_rows.proofs.LineLemmas.{row_of_serial}
 use Rattle.txn_rows.proofs.TreeLemmas.{each_weaker, each_found}
 use Rattle.txn_rows.proofs.StandLemmas.{found_push, found_still, found_under, rising_ends, trees_push}

@@ -5,7 +5,8 @@ use Rattle.std.proofs.lemmas.Bool.{eqb-true, eqb-false, eq-eqb, ne_eqb, and_part
 use Rattle.txn_rows.specs.declared.rows.Row.{Row}
 use Rattle.txn_rows.specs.declared.join.Join.{Join}
 use Rattle.txn_rows.specs.declared.group.ParentLink.{ParentLink}
-use Rattle.txn_rows.specs.inside.Rows.{row_of, joined}
+use Rattle.txn_rows.specs.Trees.{row_of}
+use Rattle.txn_rows.specs.inside.Rows.{joined}
 use Rattle.txn_rows.proofs.LineLemmas.{by_cases, row_of_serial}
 use Rattle.txn_rows.proofs.JoinLemmas.{CanJoin, joined_parent, same_row}
 use Rattle.txn_groups.specs.declared.link.Linking.{Linking}

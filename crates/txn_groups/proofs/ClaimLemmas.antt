@@ -3,7 +3,7 @@ use Rattle.std.proofs.Common.{◌≡◌, ◌+◌, ◌≤◌, ⊎_elim, inl, inr,
 use Rattle.std.specs.Prelude.{slice_get, is_none}
 use Rattle.txn_rows.specs.declared.rows.Row.{Row}
 use Rattle.txn_rows.specs.declared.group.ParentLink.{ParentLink}
-use Rattle.txn_rows.specs.inside.Rows.{row_of, IsTop, IsBelow}
+use Rattle.txn_rows.specs.Trees.{row_of, IsTop, IsBelow}
 use Rattle.txn_rows.proofs.LineLemmas.{by_cases}
 use Rattle.txn_groups.specs.declared.link.Linking.{Linking}
 use Rattle.txn_groups.specs.declared.node.Node.{Node}

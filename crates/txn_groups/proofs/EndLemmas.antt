@@ -6,7 +6,8 @@ use Rattle.std.proofs.lemmas.List.Sums.{sum_by-cons}
 use Rattle.txn_rows.specs.declared.rows.Row.{Row}
 use Rattle.txn_rows.specs.Transaction.{Transaction, ended, forced}
 use Rattle.txn_rows.specs.declared.group.Cause.{Cause}
-use Rattle.txn_rows.specs.inside.Rows.{row_of, row_told, transaction_of, Rising}
+use Rattle.txn_rows.specs.Trees.{row_of, transaction_of, Rising}
+use Rattle.txn_rows.specs.inside.Rows.{row_told}
 use Rattle.txn_rows.proofs.LineLemmas.{by_cases}
 use Rattle.txn_rows.proofs.TreeLemmas.{of_row, of_row_later}
 use Rattle.txn_rows.proofs.StandLemmas.{of_row_keeps, told_keeps}

@@ -10,7 +10,8 @@ use Rattle.txn_rows.specs.declared.group.Group.{Group}
 use Rattle.txn_rows.specs.declared.group.Grouping.{Grouping}
 use Rattle.txn_rows.specs.Transaction.{Transaction, ended}
 use Rattle.txn_rows.specs.Grouping.{Leaving, ended_one, reported}
-use Rattle.txn_rows.specs.inside.Rows.{row_of, row_told, transaction_of, left_rows, LeftRows}
+use Rattle.txn_rows.specs.Trees.{row_of, transaction_of}
+use Rattle.txn_rows.specs.inside.Rows.{row_told, left_rows, LeftRows}
 use Rattle.txn_rows.specs.inside.Steps.{RowsStep}
 use Rattle.txn_rows.proofs.TreeLemmas.{of_row, set_is_of_row}
 use Rattle.txn_rows.proofs.StandLemmas.{of_row_keeps, told_keeps}

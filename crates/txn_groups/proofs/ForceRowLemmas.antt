@@ -10,7 +10,8 @@ use Rattle.txn_rows.specs.declared.group.Group.{Group}
 use Rattle.txn_rows.specs.declared.group.Grouping.{Grouping}
 use Rattle.txn_rows.specs.Transaction.{Transaction, forced, oldest}
 use Rattle.txn_rows.specs.Grouping.{forced_one}
-use Rattle.txn_rows.specs.inside.Rows.{row_of, row_told, transaction_of, IsOldestRow}
+use Rattle.txn_rows.specs.Trees.{row_of, transaction_of}
+use Rattle.txn_rows.specs.inside.Rows.{row_told, IsOldestRow}
 use Rattle.txn_rows.specs.inside.Steps.{RowsStep}
 use Rattle.txn_rows.proofs.LineLemmas.{by_cases}
 use Rattle.txn_rows.proofs.ForceLemmas.{forced_step}

@@ -3,7 +3,7 @@ use Rattle.std.proofs.Common.{◌≡◌, ◌≢◌, ◌+◌, ◌<◌, ◌≤◌,
 use Rattle.std.specs.Prelude.{slice_get}
 use Rattle.std.proofs.lemmas.List.Sums.{count_by-le-length}
 use Rattle.txn_rows.specs.declared.rows.Row.{Row}
-use Rattle.txn_rows.specs.inside.Rows.{row_of}
+use Rattle.txn_rows.specs.Trees.{row_of}
 use Rattle.txn_groups.specs.declared.node.Node.{Node}
 use Rattle.txn_groups.specs.declared.order.Entry.{Entry}
 use Rattle.txn_groups.specs.inside.Nodes.{StandsAt, AreNodes, HasRow}

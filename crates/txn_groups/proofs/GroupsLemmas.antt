@@ -8,12 +8,11 @@ use Rattle.std.proofs.Math.Seq.{take-append_seam}
 use Rattle.std.proofs.lemmas.List.{take-append-drop, length-append}
 use Rattle.txn_rows.specs.declared.group.GroupOptions.{GroupOptions}
 use Rattle.txn_rows.specs.Grouping.{State, Leaving, no_state, reported}
-use Rattle.txn_rows.specs.Store.{Went, WentBy}
+use Rattle.txn_rows.specs.Store.{Went, WentBy, AddsPart, IsOrdered}
 use Rattle.txn_rows.specs.TableState.{TableState}
 use Rattle.txn_rows.specs.Table.{GainsPrefix, TableStepped}
-use Rattle.txn_rows.specs.inside.States.{Standing, IsSound}
-use Rattle.txn_rows.specs.inside.Steps.{AddsPart, IsOrdered}
-use Rattle.txn_rows.specs.inside.Times.{IsTimed}
+use Rattle.txn_rows.specs.States.{Standing, IsSound}
+use Rattle.txn_rows.specs.Times.{IsTimed}
 use Rattle.txn_rows.proofs.TableLemmas.{stepped}
 use Rattle.query_parser.specs.declared.query.Query.{Query}
 use Rattle.query_eval.specs.declared.chosen.Chosen.{Chosen}

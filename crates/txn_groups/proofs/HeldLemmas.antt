@@ -6,7 +6,7 @@ use Rattle.std.proofs.lemmas.List.{length-map}
 use Rattle.txn_rows.specs.declared.rows.Row.{Row}
 use Rattle.txn_rows.specs.Transaction.{Transaction}
 use Rattle.txn_rows.specs.Grouping.{State}
-use Rattle.txn_rows.specs.inside.Rows.{transaction_of}
+use Rattle.txn_rows.specs.Trees.{transaction_of}
 use Rattle.txn_groups.specs.declared.node.Node.{Node}
 use Rattle.txn_groups.specs.declared.order.Entry.{Entry}
 use Rattle.txn_groups.specs.declared.index.Index.{Index}

@@ -4,7 +4,8 @@ use Rattle.std.specs.Prelude.{count_by}
 use Rattle.std.proofs.lemmas.Bool.{eqb-true, eqb-false, ne_eqb, not-true}
 use Rattle.std.proofs.lemmas.List.Sums.{sum_by-cons}
 use Rattle.txn_rows.specs.declared.rows.Row.{Row}
-use Rattle.txn_rows.specs.inside.Rows.{row_of, AreTrees, IsTop, IsBelow, IsForest, rows_beside}
+use Rattle.txn_rows.specs.Trees.{row_of, AreTrees, IsTop, IsBelow, IsForest}
+use Rattle.txn_rows.specs.inside.Rows.{rows_beside}
 use Rattle.txn_rows.proofs.LineLemmas.{by_cases, row_of_serial, deeper}
 use Rattle.txn_rows.proofs.StandLemmas.{found_filter, kept_filter, count_beside, trees_left}
 use Rattle.txn_groups.specs.declared.node.Node.{Node}

@@ -6,7 +6,8 @@ use Rattle.std.proofs.lemmas.Bool.{eqb-true, eqb-false, eq-eqb, ne_eqb}
 use Rattle.txn_rows.specs.declared.rows.Row.{Row}
 use Rattle.txn_rows.specs.declared.join.Join.{Join}
 use Rattle.txn_rows.specs.declared.group.ParentLink.{ParentLink}
-use Rattle.txn_rows.specs.inside.Rows.{row_of, IsTop, IsBelow, joined}
+use Rattle.txn_rows.specs.Trees.{row_of, IsTop, IsBelow}
+use Rattle.txn_rows.specs.inside.Rows.{joined}
 use Rattle.txn_rows.proofs.LineLemmas.{by_cases}
 use Rattle.txn_rows.proofs.JoinLemmas.{CanJoin, row_of_map, joined_serial, before_map}
 use Rattle.txn_groups.specs.declared.link.Linking.{Linking}

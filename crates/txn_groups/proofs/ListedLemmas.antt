@@ -4,7 +4,8 @@ use Rattle.std.specs.Prelude.{slice_get}
 use Rattle.std.proofs.lemmas.Bool.{eqb-true, eq-eqb, and_parts}
 use Rattle.txn_rows.specs.declared.rows.Row.{Row}
 use Rattle.txn_rows.specs.Transaction.{Transaction}
-use Rattle.txn_rows.specs.inside.Rows.{transaction_of, row_of, Rising, Each}
+use Rattle.txn_rows.specs.Trees.{transaction_of, row_of, Rising}
+use Rattle.txn_rows.specs.inside.Rows.{Each}
 use Rattle.txn_rows.proofs.LineLemmas.{by_cases}
 use Rattle.txn_rows.proofs.TreeLemmas.{rising_above, each_found, each_weaker}
 use Rattle.txn_groups.specs.declared.node.Node.{Node}

@@ -10,7 +10,7 @@ use Rattle.std.proofs.lemmas.Result.{on_ok_weaker}
 use Rattle.vsl_record.specs.declared.record_type.Record.{Record}
 use Rattle.txn_rows.specs.declared.rows.Row.{Row}
 use Rattle.txn_rows.specs.Transaction.{Transaction}
-use Rattle.txn_rows.specs.inside.Rows.{transaction_of}
+use Rattle.txn_rows.specs.Trees.{transaction_of}
 use Rattle.txn_rows.proofs.LineLemmas.{by_cases, either}
 use Rattle.txn_rows.proofs.StandLemmas.{KeepsPlaces}
 use Rattle.query_parser.specs.declared.query.Query.{Query}

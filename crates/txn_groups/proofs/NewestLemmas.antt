@@ -3,7 +3,7 @@ use Rattle.std.proofs.Common.{◌≡◌, ◌+◌, ◌≤◌, ◌<◌, inr, ℕ, 
 use Rattle.std.proofs.lemmas.Bool.{eqb-true}
 use Rattle.txn_rows.specs.declared.rows.Row.{Row}
 use Rattle.txn_rows.specs.Transaction.{Transaction, is_pending}
-use Rattle.txn_rows.specs.inside.Rows.{row_of, transaction_of, Rising, IsNewestRow}
+use Rattle.txn_rows.specs.Trees.{row_of, transaction_of, Rising, IsNewestRow}
 use Rattle.txn_rows.proofs.LineLemmas.{by_cases}
 use Rattle.txn_groups.specs.declared.node.Node.{Node}
 use Rattle.txn_groups.specs.declared.pending.Pending.{Pending}

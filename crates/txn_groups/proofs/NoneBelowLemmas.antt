@@ -11,10 +11,10 @@ use Rattle.txn_rows.specs.declared.group.Cause.{Cause}
 use Rattle.txn_rows.specs.declared.group.Grouping.{Grouping}
 use Rattle.txn_rows.specs.declared.group.Group.{Group}
 use Rattle.txn_rows.specs.Claim.{claim_of}
-use Rattle.txn_rows.specs.Transaction.{Transaction, empty_transaction, is_pending, is_open, newest, with_newest, longer, with_record, claimed_kind, with_kind, ended, forced, oldest, with_oldest}
+use Rattle.txn_rows.specs.Transaction.{Transaction, empty_transaction, is_pending, is_open, newest, with_newest, longer, with_record, claimed_kind, with_kind, ended, forced, oldest, with_oldest, longer_by}
 use Rattle.txn_rows.specs.Links.{root_of, tree_of, others, group_of, children, can_join, with_parent, with_link}
 use Rattle.txn_rows.specs.Grouping.{State, Leaving, nothing_left, with_new, with_other, with_transaction, timed, at_time, left_by, forced_one, ended_one, is_unfinished}
-use Rattle.txn_rows.specs.inside.Rows.{transaction_of, longer_by, Rising}
+use Rattle.txn_rows.specs.Trees.{transaction_of, Rising}
 use Rattle.txn_rows.proofs.LineLemmas.{by_cases, either}
 use Rattle.txn_rows.proofs.KeepLemmas.{claimed_same}
 use Rattle.txn_groups.specs.inside.Nodes.{transaction_of_node}

@@ -4,7 +4,7 @@ use Rattle.std.proofs.lemmas.Bool.{eq-eqb, ne_eqb, ltb-true}
 use Rattle.std.proofs.lemmas.List.{same_from_push, length_push}
 use Rattle.txn_rows.specs.declared.rows.Row.{Row}
 use Rattle.txn_rows.specs.Links.{is_path_before}
-use Rattle.txn_rows.specs.inside.Rows.{row_of, IsTop, IsBelow, IsForest}
+use Rattle.txn_rows.specs.Trees.{row_of, IsTop, IsBelow, IsForest}
 use Rattle.txn_rows.proofs.LineLemmas.{by_cases, row_of_serial, deeper}
 use Rattle.txn_rows.proofs.JoinLemmas.{same_row}
 use Rattle.txn_rows.proofs.OrderLemmas.{path_total, path_then, path_longer}

@@ -4,7 +4,8 @@ use Rattle.std.proofs.lemmas.Bool.{eqb-true, eq-eqb}
 use Rattle.std.proofs.lemmas.List.{length_push}
 use Rattle.txn_rows.specs.declared.rows.Row.{Row}
 use Rattle.txn_rows.specs.Links.{is_path_before}
-use Rattle.txn_rows.specs.inside.Rows.{row_of, Rising, Each, AreTrees, IsForest, rows_below, rows_in_preorder}
+use Rattle.txn_rows.specs.Trees.{row_of, Rising, AreTrees, IsForest}
+use Rattle.txn_rows.specs.inside.Rows.{Each, rows_below, rows_in_preorder}
 use Rattle.txn_rows.proofs.LineLemmas.{by_cases}
 use Rattle.txn_rows.proofs.TreeLemmas.{rising_above, each_found, row_placed}
 use Rattle.txn_rows.proofs.StandLemmas.{rising_filter}

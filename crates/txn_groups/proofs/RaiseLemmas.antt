@@ -4,8 +4,9 @@ use Rattle.std.specs.Option.{is_some}
 use Rattle.txn_rows.specs.declared.rows.Row.{Row}
 use Rattle.txn_rows.specs.Transaction.{Transaction}
 use Rattle.txn_rows.specs.Grouping.{State, first_known, timed, raised, with_time, at_time}
-use Rattle.txn_rows.specs.inside.Rows.{row_told, transaction_of}
-use Rattle.txn_rows.specs.inside.Times.{NoneKnown, RiseTo, times_of, IsTimed}
+use Rattle.txn_rows.specs.Trees.{transaction_of}
+use Rattle.txn_rows.specs.inside.Rows.{row_told}
+use Rattle.txn_rows.specs.Times.{NoneKnown, RiseTo, times_of, IsTimed}
 use Rattle.txn_rows.proofs.StandLemmas.{rows_told}
 use Rattle.txn_rows.proofs.TimeLemmas.{time_known}
 use Rattle.txn_groups.specs.declared.pending.Pending.{Pending}

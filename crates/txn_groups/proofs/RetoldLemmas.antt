@@ -3,7 +3,7 @@ use Rattle.std.proofs.Common.{◌≡◌, ◌+◌, ℕ, true, not, eqb, ◌&&◌,
 use Rattle.std.specs.Prelude.{slice_get, count_by}
 use Rattle.std.specs.Option.{option_map}
 use Rattle.txn_rows.specs.declared.rows.Row.{Row}
-use Rattle.txn_rows.specs.inside.Rows.{row_of}
+use Rattle.txn_rows.specs.Trees.{row_of}
 use Rattle.txn_rows.proofs.LineLemmas.{row_of_serial}
 use Rattle.txn_rows.proofs.JoinLemmas.{row_of_map, before_map}
 use Rattle.txn_rows.proofs.StandLemmas.{KeepsPlaces, trees_kept, count_kept}

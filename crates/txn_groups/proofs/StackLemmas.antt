@@ -4,7 +4,7 @@ use Rattle.std.specs.Prelude.{⊤}
 use Rattle.std.proofs.lemmas.List.{same_from_push, length_push}
 use Rattle.txn_rows.specs.declared.rows.Row.{Row}
 use Rattle.txn_rows.specs.declared.group.ParentLink.{ParentLink}
-use Rattle.txn_rows.specs.inside.Rows.{row_of, IsTop, IsBelow, IsForest}
+use Rattle.txn_rows.specs.Trees.{row_of, IsTop, IsBelow, IsForest}
 use Rattle.std.proofs.lemmas.Bool.{eqb-true, eqb-false}
 use Rattle.txn_rows.proofs.LineLemmas.{by_cases, row_of_serial}
 use Rattle.txn_rows.proofs.JoinLemmas.{same_row}

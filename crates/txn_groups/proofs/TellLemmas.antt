@@ -5,7 +5,8 @@ use Rattle.txn_rows.specs.declared.rows.Row.{Row}
 use Rattle.txn_rows.specs.declared.join.Join.{Join}
 use Rattle.txn_rows.specs.Transaction.{newest}
 use Rattle.txn_rows.specs.Links.{with_link}
-use Rattle.txn_rows.specs.inside.Rows.{transaction_of, row_of, joined}
+use Rattle.txn_rows.specs.Trees.{transaction_of, row_of}
+use Rattle.txn_rows.specs.inside.Rows.{joined}
 use Rattle.txn_rows.proofs.JoinLemmas.{Pair, link_refused, link_joins_rows}
 use Rattle.txn_groups.specs.declared.link.Linking.{Linking}
 use Rattle.txn_groups.specs.declared.node.Node.{Node}

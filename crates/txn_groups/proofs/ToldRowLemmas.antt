@@ -3,7 +3,8 @@ use Rattle.std.proofs.Common.{◌≡◌, ℕ, Bool, not, eqb, cond, ◌&&◌, So
 use Rattle.std.specs.Prelude.{count_by}
 use Rattle.txn_rows.specs.declared.rows.Row.{Row}
 use Rattle.txn_rows.specs.Transaction.{Transaction}
-use Rattle.txn_rows.specs.inside.Rows.{row_of, row_told, transaction_of}
+use Rattle.txn_rows.specs.Trees.{row_of, transaction_of}
+use Rattle.txn_rows.specs.inside.Rows.{row_told}
 use Rattle.txn_rows.proofs.LineLemmas.{by_cases, either}
 use Rattle.txn_rows.proofs.StandLemmas.{KeepsPlaces, count_same}
 use Rattle.txn_groups.specs.declared.node.Node.{Node}

@@ -5,8 +5,10 @@ use Rattle.std.specs.Result.{OnOk}
 use Rattle.std.proofs.lemmas.Result.{on_ok_weaker}
 use Rattle.vsl_record.specs.declared.record_type.Record.{Record}
 use Rattle.txn_rows.specs.declared.rows.Row.{Row}
-use Rattle.txn_rows.specs.Transaction.{Transaction, with_newest, with_record, with_kind, longer}
-use Rattle.txn_rows.specs.inside.Rows.{row_told, transaction_of, own_claim, with_one, longer_by}
+use Rattle.txn_rows.specs.Transaction.{Transaction, with_newest, with_record, with_kind, longer, longer_by}
+use Rattle.txn_rows.specs.Claim.{own_claim}
+use Rattle.txn_rows.specs.Trees.{transaction_of}
+use Rattle.txn_rows.specs.inside.Rows.{row_told, with_one}
 use Rattle.txn_rows.proofs.KeepLemmas.{claimed_same}
 use Rattle.txn_rows.proofs.TreeLemmas.{set_is_of_row}
 use Rattle.txn_rows.proofs.PendingLemmas.{changed_rows, one_told}

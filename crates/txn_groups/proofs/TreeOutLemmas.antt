@@ -12,7 +12,8 @@ use Rattle.txn_rows.specs.declared.group.Member.{Member}
 use Rattle.txn_rows.specs.declared.group.Group.{Group}
 use Rattle.txn_rows.specs.declared.group.Grouping.{Grouping}
 use Rattle.txn_rows.specs.Grouping.{is_session, is_led_by_session, is_reported, reported}
-use Rattle.txn_rows.specs.inside.Rows.{row_of, rows_below, rows_beside, rows_in_preorder, RowsLeft}
+use Rattle.txn_rows.specs.Trees.{row_of}
+use Rattle.txn_rows.specs.inside.Rows.{rows_below, rows_beside, rows_in_preorder, RowsLeft}
 use Rattle.txn_rows.proofs.LineLemmas.{by_cases, row_of_serial}
 use Rattle.query_parser.specs.declared.query.Query.{Query}
 use Rattle.query_eval.specs.declared.chosen.Chosen.{Chosen}

@@ -14,8 +14,8 @@ use Rattle.txn_rows.specs.declared.which.Which.{Which}
 use Rattle.txn_rows.specs.Transaction.{Transaction, newest, is_pending, forced}
 use Rattle.txn_rows.specs.Grouping.{State, Leaving, no_state}
 use Rattle.txn_rows.specs.Store as stores
-use Rattle.txn_rows.specs.inside.Rows.{transaction_of, AreTrees}
-use Rattle.txn_rows.specs.inside.Steps.{test_of}
+use Rattle.txn_rows.specs.Trees.{transaction_of, AreTrees}
+use Rattle.txn_rows.specs.Store.{test_of}
 use Rattle.query_parser.specs.declared.query.Query.{Query}
 use Rattle.query_eval.specs.declared.chosen.Chosen.{Chosen}
 use Rattle.query_eval.specs.Meaning.{is_held}

@@ -6,7 +6,8 @@ use Rattle.std.proofs.lemmas.List.Sums.{sum_by-cons}
 use Rattle.txn_rows.specs.declared.rows.Row.{Row}
 use Rattle.txn_rows.specs.declared.join.Join.{Join}
 use Rattle.txn_rows.specs.declared.group.ParentLink.{ParentLink}
-use Rattle.txn_rows.specs.inside.Rows.{row_of, joined}
+use Rattle.txn_rows.specs.Trees.{row_of}
+use Rattle.txn_rows.specs.inside.Rows.{joined}
 use Rattle.txn_rows.proofs.LineLemmas.{by_cases}
 use Rattle.txn_rows.proofs.JoinLemmas.{joined_root, root_stays, joined_trees}
 use Rattle.txn_groups.specs.declared.link.Linking.{Linking}

@@ -5,7 +5,8 @@ use Rattle.std.proofs.lemmas.Bool.{eq-eqb}
 use Rattle.std.proofs.lemmas.List.{same_from_push, length_push}
 use Rattle.txn_rows.specs.declared.rows.Row.{Row}
 use Rattle.txn_rows.specs.Links.{leads_to}
-use Rattle.txn_rows.specs.inside.Rows.{row_of, rows_below}
+use Rattle.txn_rows.specs.Trees.{row_of}
+use Rattle.txn_rows.specs.inside.Rows.{rows_below}
 use Rattle.txn_rows.proofs.LineLemmas.{row_of_serial}
 use Rattle.txn_rows.proofs.StandLemmas.{child_in_tree}
 use Rattle.txn_groups.specs.declared.node.Node.{Node}

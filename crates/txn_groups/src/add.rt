@@ -1,8 +1,9 @@
 //! Records of pending transactions.
 
 ghost use Rattle.std.specs.Prelude.{◌≡◌, OnOk};
-ghost use Rattle.txn_rows.specs.Transaction.{claimed_kind};
-ghost use Rattle.txn_rows.specs.inside.Rows.{own_claim, with_one, longer_by};
+ghost use Rattle.txn_rows.specs.Transaction.{claimed_kind, longer_by};
+ghost use Rattle.txn_rows.specs.Claim.{own_claim};
+ghost use Rattle.txn_rows.specs.inside.Rows.{with_one};
 ghost use Rattle.txn_groups.specs.inside.Told.{node_told, told_at};
 ghost use Rattle.txn_groups.specs.inside.Retold.{AreChanged};
 

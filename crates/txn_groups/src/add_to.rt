@@ -1,8 +1,9 @@
 //! Records go to a pending transaction.
 
 ghost use Rattle.std.specs.Prelude.{◌≡◌, ℕ, Some, OnOk};
-ghost use Rattle.txn_rows.specs.Transaction.{with_newest, with_record, with_kind};
-ghost use Rattle.txn_rows.specs.inside.Rows.{own_claim, with_one, longer_by};
+ghost use Rattle.txn_rows.specs.Transaction.{with_newest, with_record, with_kind, longer_by};
+ghost use Rattle.txn_rows.specs.Claim.{own_claim};
+ghost use Rattle.txn_rows.specs.inside.Rows.{with_one};
 ghost use Rattle.txn_groups.specs.inside.Told.{told_at};
 ghost use Rattle.txn_groups.specs.inside.Retold.{AreChanged};
 ghost use Rattle.txn_groups.specs.inside.Indexed.{newest_in};

@@ -6,7 +6,7 @@ ghost use Rattle.txn_rows.specs.Transaction.{is_pending, newest};
 ghost use Rattle.txn_rows.specs.Grouping.{no_state, unit_step, unfinished, force, flush};
 ghost use Rattle.query_parser.specs.declared.query.Query.{Query as AsQuery};
 ghost use Rattle.query_eval.specs.Marks.{marks_of};
-ghost use Rattle.txn_rows.specs.inside.States.{IsSound};
+ghost use Rattle.txn_rows.specs.States.{IsSound};
 ghost use Rattle.txn_groups.specs.inside.Trees.{IsTrees, state_of_trees};
 
 use crate::trees::Trees;

@@ -2,7 +2,7 @@
 
 ghost use Rattle.std.specs.Prelude.{◌≡◌};
 ghost use Rattle.txn_rows.specs.Grouping.{timed, raised, with_time};
-ghost use Rattle.txn_rows.specs.inside.Times.{IsTimed};
+ghost use Rattle.txn_rows.specs.Times.{IsTimed};
 ghost use Rattle.txn_groups.specs.inside.Told.{node_told, told_at};
 ghost use Rattle.txn_groups.specs.inside.Retold.{AreChanged};
 ghost use Rattle.txn_groups.specs.inside.Held.{state_of, IsHeld, Went};

@@ -18,10 +18,11 @@ use Rattle.txn_rows.specs.Time.{second}
 use Rattle.txn_rows.specs.Links.{root_of, tree_of}
 use Rattle.txn_rows.specs.Grouping.{State, Leaving, nothing_left, then_left, left_by, forced_one, forced_often, forced_down, is_behind, is_unfinished, is_late}
 use Rattle.txn_rows.specs.declared.rows.Row.{Row}
-use Rattle.txn_rows.specs.inside.Rows.{transaction_of, IsOldestRow}
-use Rattle.txn_rows.specs.Store.{WentBy}
-use Rattle.txn_rows.specs.inside.Steps.{AddsPart, IsOrdered, GoesOn, test_of, ForcesOn}
-use Rattle.txn_rows.specs.inside.Times.{TimesRise, NoneKnown, RiseTo, times_of, IsTimed}
+use Rattle.txn_rows.specs.Trees.{transaction_of}
+use Rattle.txn_rows.specs.inside.Rows.{IsOldestRow}
+use Rattle.txn_rows.specs.Store.{WentBy, AddsPart, IsOrdered, test_of}
+use Rattle.txn_rows.specs.inside.Steps.{GoesOn, ForcesOn}
+use Rattle.txn_rows.specs.Times.{TimesRise, NoneKnown, RiseTo, times_of, IsTimed}
 use Rattle.txn_rows.proofs.LineLemmas.{by_cases}
 use Rattle.txn_rows.proofs.TakeLemmas.{nothing_step, goes_first, goes_then, part_none}
 use Rattle.txn_rows.proofs.TimeLemmas.{one_timed}

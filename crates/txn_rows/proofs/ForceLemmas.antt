@@ -8,8 +8,10 @@ use Rattle.txn_rows.specs.declared.group.Grouping.{Grouping}
 use Rattle.txn_rows.specs.declared.group.Cause.{Cause}
 use Rattle.txn_rows.specs.Transaction.{Transaction, forced, oldest, with_oldest}
 use Rattle.txn_rows.specs.Grouping.{Leaving, left_by, forced_one, reported}
-use Rattle.txn_rows.specs.inside.Rows.{transaction_of, row_of, row_told, IsOldestRow, AreTrees, left_rows, LeftRows}
-use Rattle.txn_rows.specs.inside.Steps.{state_with, RowsStep}
+use Rattle.txn_rows.specs.Trees.{transaction_of, row_of, AreTrees}
+use Rattle.txn_rows.specs.inside.Rows.{row_told, IsOldestRow, left_rows, LeftRows}
+use Rattle.txn_rows.specs.States.{state_with}
+use Rattle.txn_rows.specs.inside.Steps.{RowsStep}
 use Rattle.txn_rows.proofs.TreeLemmas.{set_around}
 use Rattle.txn_rows.proofs.ChangeLemmas.{KeepsLinks, oldest_in, oldest_changed_in}
 use Rattle.txn_rows.proofs.JoinLemmas.{split_at_row, found_at}

@@ -12,7 +12,8 @@ use Rattle.txn_rows.specs.declared.group.ParentLink.{ParentLink}
 use Rattle.txn_rows.specs.declared.join.Join.{Join}
 use Rattle.txn_rows.specs.Transaction.{Transaction, newest, with_newest}
 use Rattle.txn_rows.specs.Links.{can_join, with_parent, with_link, children, leads_to}
-use Rattle.txn_rows.specs.inside.Rows.{transaction_of, row_of, Rising, IsTop, IsBelow, IsForest, AreTrees, joined, IsNewestRow, Rows}
+use Rattle.txn_rows.specs.Trees.{transaction_of, row_of, Rising, IsTop, IsBelow, IsForest, AreTrees, IsNewestRow}
+use Rattle.txn_rows.specs.inside.Rows.{joined, Rows}
 use Rattle.txn_rows.proofs.LineLemmas.{by_cases, row_of_serial}
 use Rattle.txn_rows.proofs.TreeLemmas.{line_whole, each_found, around, each_at, of_row, of_row_in, row_changed}
 use Rattle.txn_rows.proofs.ChangeLemmas.{newest_in, newest_split, changed_in, OneChanged}

@@ -16,7 +16,7 @@ use Rattle.txn_rows.specs.Time.{time_of}
 use Rattle.txn_rows.specs.Transaction.{Transaction, is_pending, is_open, is_unknown, with_newest, with_record, claimed_kind}
 use Rattle.txn_rows.specs.Links.{with_link}
 use Rattle.txn_rows.specs.Grouping.{Taken, TakenUnit, Missed, State, Leaving, nothing_left, then_left, forced_one, forced_often, forced_down, forced_all, after_end, after_timeouts, after_overflow, has_risen, is_late, is_unfinished, unfinished, with_new, with_transaction, with_other, gives_parent, with_parent_named, with_child_named, with_claim, with_time, with_all_told, grouped, is_raw, raw_group, step, steps, passes_over, flush, taken_step, taken_steps}
-use Rattle.txn_rows.specs.inside.Steps.{test_of}
+use Rattle.txn_rows.specs.Store.{test_of}
 use Rattle.txn_rows.proofs.LineLemmas.{either}
 
 -- what a claim keeps

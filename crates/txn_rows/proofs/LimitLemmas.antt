@@ -16,9 +16,9 @@ use Rattle.txn_rows.specs.declared.group.Cause.TheVariants.{Overflow, Flush}
 use Rattle.txn_rows.specs.Transaction.{Transaction, forced, oldest, with_oldest}
 use Rattle.txn_rows.specs.Links.{root_of, tree_of}
 use Rattle.txn_rows.specs.Grouping.{Taken, Missed, State, Leaving, left_by, forced_one, forced_often, forced_down, flush, is_unfinished, unfinished, grouped, after_end, after_timeouts, with_all_told, no_state, is_raw, raw_group, steps, taken_steps, left_of}
-use Rattle.txn_rows.specs.inside.Rows.{transaction_of, row_of}
-use Rattle.txn_rows.specs.inside.Steps.{test_of}
-use Rattle.txn_rows.specs.inside.States.{HasOpen, Standing}
+use Rattle.txn_rows.specs.Trees.{transaction_of, row_of}
+use Rattle.txn_rows.specs.Store.{test_of}
+use Rattle.txn_rows.specs.States.{HasOpen, Standing}
 use Rattle.txn_rows.proofs.GroupingLemmas.{steps_append}
 use Rattle.txn_rows.proofs.LineLemmas.{by_cases, either}
 use Rattle.txn_rows.proofs.JoinLemmas.{count_map, row_counted}

@@ -9,7 +9,7 @@ use Rattle.txn_rows.specs.declared.rows.Row.{Row}
 use Rattle.txn_rows.specs.declared.group.ParentLink.{ParentLink}
 use Rattle.txn_rows.specs.Transaction.{Transaction}
 use Rattle.txn_rows.specs.Links.{of_serial, linked, line, last_of, link_number, number_of}
-use Rattle.txn_rows.specs.inside.Rows.{transaction_of, row_of, IsTop, IsBelow, IsForest}
+use Rattle.txn_rows.specs.Trees.{transaction_of, row_of, IsTop, IsBelow, IsForest}
 
 pub by_cases : (P : Type 0) (b : Bool) → (b ≡ true → P) → (b ≡ false → P) → P
 by_cases P true yes_case no_case = yes_case refl

@@ -13,7 +13,8 @@ use Rattle.txn_rows.specs.declared.group.Grouping.{Grouping}
 use Rattle.txn_rows.specs.Transaction.{Transaction, empty_transaction, newest, with_newest, with_oldest, claimed_kind}
 use Rattle.txn_rows.specs.Links.{with_parent, can_join, is_in_line, children, leads_to}
 use Rattle.txn_rows.specs.Grouping.{State, with_new, with_transaction, raised, timed, with_all_told}
-use Rattle.txn_rows.specs.inside.Rows.{transaction_of, row_of, IsTop, IsBelow, AreTrees, Each, rows_beside}
+use Rattle.txn_rows.specs.Trees.{transaction_of, row_of, IsTop, IsBelow, AreTrees}
+use Rattle.txn_rows.specs.inside.Rows.{Each, rows_beside}
 use Rattle.txn_rows.proofs.LineLemmas.{by_cases}
 use Rattle.txn_rows.proofs.KeepLemmas.{claimed_same, Keeps, begun_kept, told_kept}
 use Rattle.txn_rows.proofs.ChangeLemmas.{newest_split, changed_in, newest_same, oldest_same}

@@ -12,10 +12,12 @@ use Rattle.txn_rows.specs.declared.claim.Claim.{Claim}
 use Rattle.txn_rows.specs.declared.group.Group.{Group}
 use Rattle.txn_rows.specs.declared.group.Grouping.{Grouping}
 use Rattle.vsl_record.specs.declared.record_type.Record.{Record}
-use Rattle.txn_rows.specs.Claim.{claim_of}
+use Rattle.txn_rows.specs.Claim.{claim_of, own_claim}
 use Rattle.txn_rows.specs.Grouping.{with_new, ended_one}
-use Rattle.txn_rows.specs.inside.Rows.{transaction_of, row_told, IsNewestRow, AreTrees, own_claim, with_one, Rows, left_rows, LeftRows}
-use Rattle.txn_rows.specs.inside.Steps.{state_with, RowsStep}
+use Rattle.txn_rows.specs.Trees.{transaction_of, IsNewestRow, AreTrees}
+use Rattle.txn_rows.specs.inside.Rows.{row_told, with_one, Rows, left_rows, LeftRows}
+use Rattle.txn_rows.specs.States.{state_with}
+use Rattle.txn_rows.specs.inside.Steps.{RowsStep}
 use Rattle.txn_rows.proofs.LineLemmas.{by_cases}
 use Rattle.txn_rows.proofs.KeepLemmas.{claimed_same}
 use Rattle.txn_rows.proofs.ChangeLemmas.{KeepsLinks, pending_in, open_in, changed_in, newest_is_changed, newest_twice}

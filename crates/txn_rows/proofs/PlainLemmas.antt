@@ -8,9 +8,8 @@ use Rattle.vsl_tags.specs.Tags.{begin_tag, link_tag, timestamp_tag, end_tag}
 use Rattle.vsl_record.specs.declared.record_type.Record.{Record}
 use Rattle.txn_rows.specs.declared.group.Group.{Group}
 use Rattle.txn_rows.specs.declared.group.GroupOptions.{GroupOptions}
-use Rattle.txn_rows.specs.Transaction.{Transaction, is_pending, is_open, newest, with_newest, with_record}
+use Rattle.txn_rows.specs.Transaction.{Transaction, is_pending, is_open, newest, with_newest, with_record, longer_by}
 use Rattle.txn_rows.specs.Grouping.{State, Leaving, nothing_left, then_left, has_risen, unfinished, after_overflow, grouped, is_raw, step, steps}
-use Rattle.txn_rows.specs.inside.Rows.{longer_by}
 use Rattle.txn_rows.specs.inside.Told.{is_plain, is_plain_record}
 use Rattle.txn_rows.specs.Store.{Went, WentBy}
 use Rattle.txn_rows.proofs.ChangeLemmas.{newest_same, newest_is_changed, newest_twice}

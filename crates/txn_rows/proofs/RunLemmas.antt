@@ -16,9 +16,10 @@ use Rattle.txn_rows.specs.declared.group.Cause.{Cause}
 use Rattle.txn_rows.specs.Transaction.{Transaction, empty_transaction, newest, with_newest, claimed_kind, ended, forced, oldest, with_oldest}
 use Rattle.txn_rows.specs.Links.{with_parent, with_link, leads_to, line_of, root_of}
 use Rattle.txn_rows.specs.Grouping.{Taken, State, Leaving, no_state, nothing_left, with_new, with_transaction, raised, timed, left_by, ended_one, forced_one, after_end, with_all_told, taken_steps}
-use Rattle.txn_rows.specs.inside.Rows.{transaction_of, row_told, row_of, AreTrees, Each, joined, Rows, left_rows, rows_below, rows_beside}
-use Rattle.txn_rows.specs.inside.Steps.{state_with, test_of}
-use Rattle.txn_rows.specs.inside.States.{HasOpen, OpenTrees, Standing}
+use Rattle.txn_rows.specs.Trees.{transaction_of, row_of, AreTrees}
+use Rattle.txn_rows.specs.inside.Rows.{row_told, Each, joined, Rows, left_rows, rows_below, rows_beside}
+use Rattle.txn_rows.specs.Store.{test_of}
+use Rattle.txn_rows.specs.States.{state_with, HasOpen, OpenTrees, Standing}
 use Rattle.txn_rows.proofs.LineLemmas.{by_cases, row_of_serial, Line}
 use Rattle.txn_rows.proofs.KeepLemmas.{HoldsOn, HoldsOver, holds_over, items_hold, claimed_same, Keeps, begun_kept, told_kept}
 use Rattle.txn_rows.proofs.ChangeLemmas.{KeepsLinks, EndsNone, newest_split, OneChanged, ChangesOne, newest_one, oldest_one, newest_is_changed}

@@ -12,8 +12,9 @@ use Rattle.txn_rows.specs.declared.group.Group.{Group}
 use Rattle.txn_rows.specs.Transaction.{Transaction}
 use Rattle.txn_rows.specs.Links.{leads_to, root_of, tree_of, others, group_of}
 use Rattle.txn_rows.specs.Grouping.{Leaving, left_by, nothing_left}
-use Rattle.txn_rows.specs.inside.Rows.{transaction_of, row_told, row_of, Rising, IsTop, IsBelow, AreTrees, Each, rows_below, rows_beside, left_rows}
-use Rattle.txn_rows.specs.inside.Steps.{state_with}
+use Rattle.txn_rows.specs.Trees.{transaction_of, row_of, Rising, IsTop, IsBelow, AreTrees}
+use Rattle.txn_rows.specs.inside.Rows.{row_told, Each, rows_below, rows_beside, left_rows}
+use Rattle.txn_rows.specs.States.{state_with}
 use Rattle.txn_rows.proofs.LineLemmas.{by_cases, row_of_serial}
 use Rattle.txn_rows.proofs.TreeLemmas.{line_whole, tree_rows, other_rows, group_rows, each_of_all, each_weaker, each_found, of_row, of_row_same, set_is_of_row}
 use Rattle.txn_rows.proofs.ChangeLemmas.{KeepsLinks}

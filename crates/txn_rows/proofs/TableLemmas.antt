@@ -8,12 +8,11 @@ use Rattle.txn_rows.specs.declared.group.Grouping.{Grouping}
 use Rattle.txn_rows.specs.declared.group.Group.{Group}
 use Rattle.txn_rows.specs.declared.group.Cause.{Cause}
 use Rattle.txn_rows.specs.Grouping.{TakenUnit, State, Leaving, is_unfinished, nothing_left, passes_over, steps, unit_step, force, flush}
-use Rattle.txn_rows.specs.inside.Times.{IsTimed}
+use Rattle.txn_rows.specs.Times.{IsTimed}
 use Rattle.txn_rows.specs.TableState.{TableState}
 use Rattle.txn_rows.specs.Table.{TableStepped, TableFailed}
-use Rattle.txn_rows.specs.Store.{WentBy}
-use Rattle.txn_rows.specs.inside.Steps.{AddsPart}
-use Rattle.txn_rows.specs.inside.States.{Standing, IsSound}
+use Rattle.txn_rows.specs.Store.{WentBy, AddsPart}
+use Rattle.txn_rows.specs.States.{Standing, IsSound}
 use Rattle.txn_rows.proofs.KeepLemmas.{item_holds, flush_holds}
 use Rattle.txn_rows.proofs.RunLemmas.{StandsOn, stands_on, stands_over, one_stands}
 use Rattle.txn_rows.proofs.TimeLemmas.{one_timed, unit_timed, flush_timed}

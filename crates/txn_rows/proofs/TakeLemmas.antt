@@ -11,8 +11,8 @@ use Rattle.txn_rows.specs.declared.group.Cause.TheVariants.{Timeout}
 use Rattle.txn_rows.specs.Transaction.{Transaction, is_pending, newest, ended}
 use Rattle.txn_rows.specs.Grouping.{State, Leaving, nothing_left, then_left, left_by, ended_one, after_end, after_timeouts, has_risen, forced_all, is_late, with_all_told, is_reported, reported}
 use Rattle.txn_rows.specs.Table.{itself}
-use Rattle.txn_rows.specs.Store.{Went, WentBy}
-use Rattle.txn_rows.specs.inside.Steps.{AddsPart, GoesOn}
+use Rattle.txn_rows.specs.Store.{Went, WentBy, AddsPart}
+use Rattle.txn_rows.specs.inside.Steps.{GoesOn}
 use Rattle.txn_rows.proofs.ChangeLemmas.{newest_none, newest_none_stays}
 
 -- where no transaction of the VXID is pending, none ends

@@ -17,7 +17,7 @@ use Rattle.txn_rows.specs.declared.group.Cause.{Cause}
 use Rattle.txn_rows.specs.declared.group.Cause.TheVariants.{Flush}
 use Rattle.txn_rows.specs.declared.group.Member.{Member}
 use Rattle.txn_rows.specs.declared.group.Group.{Group}
-use Rattle.txn_rows.specs.inside.Steps.{test_of}
+use Rattle.txn_rows.specs.Store.{test_of}
 use Rattle.txn_rows.specs.declared.which.Which.TheVariants.{Unfinished}
 use Rattle.txn_rows.specs.Transaction.{Transaction, cause_text, empty_transaction, is_pending, is_open, newest, with_newest, with_record, claimed_kind, ended, forced, first_mark, oldest, with_oldest}
 use Rattle.txn_rows.specs.Links.{with_parent, can_join, children, root_of, tree_of, others, path_of, preorder, member_of, group_of}

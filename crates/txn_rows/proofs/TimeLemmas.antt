@@ -15,9 +15,8 @@ use Rattle.txn_rows.specs.Claim.{claim_of}
 use Rattle.txn_rows.specs.Transaction.{Transaction, empty_transaction, newest, with_newest, with_record, with_kind, oldest, with_oldest, claimed_kind, ended, forced}
 use Rattle.txn_rows.specs.Links.{with_parent, can_join, children, root_of, tree_of, others, group_of}
 use Rattle.txn_rows.specs.Grouping.{State, Leaving, nothing_left, first_known, timed, raised, with_transaction, with_all_told, left_by, ended_one, forced_one, after_end, after_timeouts, TakenUnit, steps, unit_step, flush}
-use Rattle.txn_rows.specs.Store.{Went, WentBy}
-use Rattle.txn_rows.specs.inside.Steps.{IsOrdered, test_of}
-use Rattle.txn_rows.specs.inside.Times.{TimesRise, NoneKnown, RiseTo, times_of, IsTimed}
+use Rattle.txn_rows.specs.Store.{Went, WentBy, IsOrdered, test_of}
+use Rattle.txn_rows.specs.Times.{TimesRise, NoneKnown, RiseTo, times_of, IsTimed}
 use Rattle.txn_rows.proofs.LineLemmas.{either}
 use Rattle.txn_rows.proofs.ChangeLemmas.{newest_same, oldest_same}
 use Rattle.txn_rows.proofs.KeepLemmas.{claimed_same, Keeps, begun_kept, told_kept, HoldsOn, HoldsOver, holds_over, timeouts_hold, flush_holds, steps_hold, item_holds}

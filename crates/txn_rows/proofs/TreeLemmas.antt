@@ -8,7 +8,8 @@ use Rattle.txn_rows.specs.declared.rows.Row.{Row}
 use Rattle.txn_rows.specs.declared.group.Member.{Member}
 use Rattle.txn_rows.specs.Transaction.{Transaction}
 use Rattle.txn_rows.specs.Links.{line_of, root_of, tree_of, others, path_of, placed, preorder, member_of, group_of, is_path_before}
-use Rattle.txn_rows.specs.inside.Rows.{transaction_of, row_of, Rising, IsForest, Each, rows_below, rows_beside, rows_in_preorder, member_of_row}
+use Rattle.txn_rows.specs.Trees.{transaction_of, row_of, Rising, IsForest}
+use Rattle.txn_rows.specs.inside.Rows.{Each, rows_below, rows_beside, rows_in_preorder, member_of_row}
 use Rattle.txn_rows.proofs.LineLemmas.{by_cases, either, Line, line_tells}
 use Rattle.txn_rows.proofs.ChangeLemmas.{OneChanged}
 

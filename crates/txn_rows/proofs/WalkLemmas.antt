@@ -18,9 +18,10 @@ use Rattle.txn_rows.specs.Transaction.{Transaction, newest, with_newest, with_ol
 use Rattle.txn_rows.specs.Links.{line_of, root_of, tree_of, path_of, is_path_before, preorder, parent_vxid, member_of, group_of}
 use Rattle.txn_rows.specs.Grouping.{Taken, State, Leaving, no_state, nothing_left, then_left, left_by, forced_one, after_end, with_all_told, is_raw, taken_steps, flush}
 use Rattle.txn_rows.specs.Walk.{FollowsParent, FollowParents, IsWalk}
-use Rattle.txn_rows.specs.inside.Rows.{transaction_of, row_of, Rising, IsTop, IsBelow, IsForest, AreTrees, Each, rows_below}
-use Rattle.txn_rows.specs.inside.Steps.{state_with, test_of}
-use Rattle.txn_rows.specs.inside.States.{Standing}
+use Rattle.txn_rows.specs.Trees.{transaction_of, row_of, Rising, IsTop, IsBelow, IsForest, AreTrees}
+use Rattle.txn_rows.specs.inside.Rows.{Each, rows_below}
+use Rattle.txn_rows.specs.Store.{test_of}
+use Rattle.txn_rows.specs.States.{state_with, Standing}
 use Rattle.txn_rows.proofs.LineLemmas.{by_cases, row_of_serial, deeper}
 use Rattle.txn_rows.proofs.KeepLemmas.{HoldsOn, HoldsOver, holds_over, flush_holds, items_hold}
 use Rattle.txn_rows.proofs.TreeLemmas.{line_whole, each_weaker, each_found, tree_rows, other_rows, around}

@@ -5,7 +5,10 @@ pub mod Links
 pub mod Grouping
 pub mod TableState
 pub mod Table
+pub mod Times
 pub mod Store
+pub mod Trees
+pub mod States
 pub mod Taken
 pub mod Walk
 pub mod Ends

@@ -60,6 +60,10 @@ with_newest vxid change (t ∷ pending) =
 abbrev pub longer : Record → Transaction → Transaction
 longer rec t = record t { records = t.records ++ rec ∷ [] }
 
+-- a transaction with records at its end
+abbrev pub longer_by : List Record → Transaction → Transaction
+longer_by records t = record t { records = t.records ++ records }
+
 -- a record goes to the newest transaction of its VXID
 abbrev pub with_record : ℕ → Record → List Transaction → List Transaction
 with_record vxid rec pending = with_newest vxid (longer rec) pending

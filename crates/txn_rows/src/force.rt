@@ -6,9 +6,12 @@ ghost use Rattle.vsl_tags.specs.Tags.{end_tag, vsl_tag};
 ghost use Rattle.vsl_record.specs.Payload.{most_payload};
 ghost use Rattle.txn_rows.specs.Transaction.{Transaction, first_mark, cause_text, forced};
 ghost use Rattle.txn_rows.specs.Grouping.{forced_one, is_unfinished};
-ghost use Rattle.txn_rows.specs.inside.Rows.{transaction_of, row_told, AreTrees, IsOldestRow};
-ghost use Rattle.txn_rows.specs.inside.Times.{RiseTo, times_of};
-ghost use Rattle.txn_rows.specs.inside.Steps.{RowsStep, state_with, test_of};
+ghost use Rattle.txn_rows.specs.Trees.{transaction_of, AreTrees};
+ghost use Rattle.txn_rows.specs.inside.Rows.{row_told, IsOldestRow};
+ghost use Rattle.txn_rows.specs.Times.{RiseTo, times_of};
+ghost use Rattle.txn_rows.specs.Store.{test_of};
+ghost use Rattle.txn_rows.specs.States.{state_with};
+ghost use Rattle.txn_rows.specs.inside.Steps.{RowsStep};
 
 use crate::group::{Cause, Group, Grouping};
 use crate::leave::leave;

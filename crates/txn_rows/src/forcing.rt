@@ -2,8 +2,7 @@
 
 ghost use Rattle.std.specs.Prelude.{◌≡◌, OnOk, OnErr};
 ghost use Rattle.txn_rows.specs.Grouping.{forced_all, after_overflow, force, flush};
-ghost use Rattle.txn_rows.specs.Store.{WentBy};
-ghost use Rattle.txn_rows.specs.inside.Steps.{AddsPart, IsOrdered, test_of};
+ghost use Rattle.txn_rows.specs.Store.{WentBy, AddsPart, IsOrdered, test_of};
 
 use crate::group::{Cause, Grouping};
 use crate::store::Store;

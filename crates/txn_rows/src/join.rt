@@ -2,7 +2,8 @@
 
 ghost use Rattle.std.specs.Prelude.{◌≡◌, ℕ, ◌==◌, ◌&&◌, not, is_none, map, IfOk, OnOk};
 ghost use Rattle.txn_rows.specs.Links.{with_link};
-ghost use Rattle.txn_rows.specs.inside.Rows.{transaction_of, IsNewestRow, joined, AreTrees, Rows};
+ghost use Rattle.txn_rows.specs.Trees.{transaction_of, IsNewestRow, AreTrees};
+ghost use Rattle.txn_rows.specs.inside.Rows.{joined, Rows};
 
 use crate::group::ParentLink;
 use crate::path::Path;

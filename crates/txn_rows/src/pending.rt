@@ -3,8 +3,8 @@
 ghost use Rattle.std.specs.Prelude.{◌≡◌, ◌≢◌, ℕ, ⊤, length, IfOk, OnOk};
 ghost use Rattle.txn_rows.specs.Grouping.{no_state, with_new, raised};
 ghost use Rattle.txn_rows.specs.Store.{Went};
-ghost use Rattle.txn_rows.specs.inside.Rows.{IsNewestRow};
-ghost use Rattle.txn_rows.specs.inside.States.{state_of, StandInTrees};
+ghost use Rattle.txn_rows.specs.Trees.{IsNewestRow};
+ghost use Rattle.txn_rows.specs.States.{state_of, StandInTrees};
 
 use crate::claim::Claim;
 use crate::force::{count_unfinished, force_at, oldest_of};

@@ -1,9 +1,11 @@
 //! Rows: the pending transactions of a table, in the order in which they began.
 
 ghost use Rattle.std.specs.Prelude.{◌≡◌, ◌<◌, length, false, true, map, [], ◌∷◌, IfOk, OnOk, IfSome, IfNone, None};
-ghost use Rattle.txn_rows.specs.Transaction.{is_pending, claimed_kind};
+ghost use Rattle.txn_rows.specs.Transaction.{is_pending, claimed_kind, longer_by};
 ghost use Rattle.txn_rows.specs.Grouping.{timed};
-ghost use Rattle.txn_rows.specs.inside.Rows.{transaction_of, row_told, IsNewestRow, with_one, longer_by, own_claim};
+ghost use Rattle.txn_rows.specs.Claim.{own_claim};
+ghost use Rattle.txn_rows.specs.Trees.{transaction_of, IsNewestRow};
+ghost use Rattle.txn_rows.specs.inside.Rows.{row_told, with_one};
 
 use crate::claim::Claim;
 use crate::group::{Kind, ParentLink, Reason};

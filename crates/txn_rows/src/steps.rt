@@ -2,8 +2,7 @@
 
 ghost use Rattle.std.specs.Prelude.{◌≡◌, OnOk, OnErr};
 ghost use Rattle.txn_rows.specs.Grouping.{passes_over, steps, unit_step};
-ghost use Rattle.txn_rows.specs.Store.{WentBy};
-ghost use Rattle.txn_rows.specs.inside.Steps.{AddsPart, IsOrdered};
+ghost use Rattle.txn_rows.specs.Store.{WentBy, AddsPart, IsOrdered};
 
 use crate::group::{GroupOptions, Grouping};
 use crate::store::Store;

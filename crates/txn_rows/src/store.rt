@@ -3,13 +3,12 @@
 ghost use Rattle.std.specs.Prelude.{◌≡◌, ℕ, false, [], ◌∷◌, length, IfOk, IfSome, IfNone, OnOk, OnErr};
 ghost use Rattle.std.specs.List.{list_any};
 ghost use Rattle.txn_rows.specs.declared.group.Group.{Group};
-ghost use Rattle.txn_rows.specs.Transaction.{is_pending, is_open, with_newest, with_record, with_kind};
+ghost use Rattle.txn_rows.specs.Transaction.{is_pending, is_open, with_newest, with_record, with_kind, longer_by};
 ghost use Rattle.txn_rows.specs.Links.{with_link};
 ghost use Rattle.txn_rows.specs.Grouping.{State, with_transaction, with_other, with_time, ended_one, forced_one, raw_group, unfinished};
-ghost use Rattle.txn_rows.specs.Store.{Went, WentBy};
-ghost use Rattle.txn_rows.specs.inside.Rows.{own_claim, longer_by};
-ghost use Rattle.txn_rows.specs.inside.Times.{IsTimed};
-ghost use Rattle.txn_rows.specs.inside.Steps.{test_of};
+ghost use Rattle.txn_rows.specs.Store.{Went, WentBy, test_of};
+ghost use Rattle.txn_rows.specs.Claim.{own_claim};
+ghost use Rattle.txn_rows.specs.Times.{IsTimed};
 
 use crate::claim::Claim;
 use crate::group::{Cause, Grouping};

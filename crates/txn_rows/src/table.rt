@@ -29,7 +29,7 @@ pub struct Table {
 impl Model for Table {
     ghost use Rattle.std.specs.Prelude.{◌≡◌, false};
     ghost use Rattle.txn_rows.specs.TableState.{TableState};
-    ghost use Rattle.txn_rows.specs.inside.States.{state_of, StandInTrees, IsSound};
+    ghost use Rattle.txn_rows.specs.States.{state_of, StandInTrees, IsSound};
 
     ghost Value = { TableState };
 

@@ -5,10 +5,9 @@ ghost use Rattle.std.specs.List.{list_all};
 ghost use Rattle.vsl_record.specs.declared.record_type.Record.{Record};
 ghost use Rattle.txn_rows.specs.Transaction.{is_open};
 ghost use Rattle.txn_rows.specs.Grouping.{gives_parent, with_parent_named, with_child_named, with_log_time, with_claim, with_all_told, after_end, after_timeouts, has_risen, grouped, is_raw, step, steps};
-ghost use Rattle.txn_rows.specs.Store.{Went, WentBy};
-ghost use Rattle.txn_rows.specs.inside.Rows.{own_claim};
+ghost use Rattle.txn_rows.specs.Store.{Went, WentBy, AddsPart, IsOrdered};
+ghost use Rattle.txn_rows.specs.Claim.{own_claim};
 ghost use Rattle.txn_rows.specs.inside.Told.{Tells, is_plain, is_plain_record};
-ghost use Rattle.txn_rows.specs.inside.Steps.{AddsPart, IsOrdered};
 
 use crate::claim::{Claim, read_claim};
 use crate::forcing::{force_all, keep_within};

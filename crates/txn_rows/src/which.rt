@@ -3,7 +3,7 @@
 ghost use Rattle.std.specs.Prelude.{◌≡◌};
 ghost use Rattle.txn_rows.specs.Transaction.{Transaction};
 ghost use Rattle.txn_rows.specs.Grouping.{is_behind};
-ghost use Rattle.txn_rows.specs.inside.Steps.{test_of};
+ghost use Rattle.txn_rows.specs.Store.{test_of};
 
 /// Which transactions are force-completed.
 #[derive(Clone, Copy)]

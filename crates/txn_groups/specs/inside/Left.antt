@@ -1,7 +1,7 @@
 -- A tree of nodes that leaves.
 use Rattle.std.specs.Prelude.{◌≡◌, ◌≢◌, ℕ, List, Some}
 use Rattle.txn_rows.specs.declared.rows.Row.{Row}
-use Rattle.txn_rows.specs.inside.Rows.{row_of}
+use Rattle.txn_rows.specs.Trees.{row_of}
 use Rattle.txn_groups.specs.declared.node.Node.{Node}
 use Rattle.txn_groups.specs.inside.Nodes.{StandsAt, HasKin}
 

@@ -3,7 +3,7 @@ use Rattle.std.specs.Prelude.{◌≡◌, ℕ, ◌+◌, ◌≤◌, ◌==◌, ◌&
 use Rattle.std.specs.Option.{option_map}
 use Rattle.txn_rows.specs.declared.rows.Row.{Row}
 use Rattle.txn_rows.specs.declared.join.Join.{Join}
-use Rattle.txn_rows.specs.inside.Rows.{row_of}
+use Rattle.txn_rows.specs.Trees.{row_of}
 use Rattle.txn_groups.specs.declared.link.Linking.{Linking}
 use Rattle.txn_groups.specs.declared.node.Node.{Node}
 use Rattle.txn_groups.specs.inside.Nodes.{StandsAt}

@@ -2,7 +2,7 @@
 use Rattle.std.specs.Prelude.{◌≡◌, ℕ, ◌==◌, ◌&&◌, not, List, map, Some, count_by, slice_get}
 use Rattle.std.specs.Option.{option_map}
 use Rattle.txn_rows.specs.declared.rows.Row.{Row}
-use Rattle.txn_rows.specs.inside.Rows.{row_of}
+use Rattle.txn_rows.specs.Trees.{row_of}
 use Rattle.txn_groups.specs.declared.node.Node.{Node}
 use Rattle.txn_groups.specs.inside.Nodes.{StandsAt, row_of_node}
 

@@ -4,7 +4,8 @@ use Rattle.txn_rows.specs.declared.group.Member.{Member}
 use Rattle.txn_rows.specs.declared.group.Group.{Group}
 use Rattle.txn_rows.specs.declared.rows.Row.{Row}
 use Rattle.txn_rows.specs.Links.{parent_vxid}
-use Rattle.txn_rows.specs.inside.Rows.{row_of, rows_below, rows_in_preorder, IsTop}
+use Rattle.txn_rows.specs.Trees.{row_of, IsTop}
+use Rattle.txn_rows.specs.inside.Rows.{rows_below, rows_in_preorder}
 use Rattle.txn_groups.specs.declared.node.Node.{Node}
 use Rattle.txn_groups.specs.declared.walk.Visit.{Visit}
 use Rattle.txn_groups.specs.inside.Nodes.{StandsAt}

@@ -1,23 +1,17 @@
 -- The rows of a table as pending transactions.
-use Rattle.std.specs.Prelude.{◌≡◌, ℕ, ◌+◌, ◌<◌, ◌≤◌, ◌==◌, ◌⊎◌, if◌then◌else◌, Bool, true, false, List, [], ◌∷◌, ◌++◌, length, take, drop, map, not, ⊤, Option, Some, None, count_by}
-use Rattle.std.specs.List.{HoldsAt, find, filter, list_all, list_any}
-use Rattle.vsl_tags.specs.Tags.{begin_tag}
+use Rattle.std.specs.Prelude.{◌≡◌, ℕ, ◌+◌, ◌<◌, ◌==◌, if◌then◌else◌, Bool, true, false, List, [], ◌∷◌, ◌++◌, length, take, map, not, ⊤, Some}
+use Rattle.std.specs.List.{HoldsAt, filter, list_all, list_any}
 use Rattle.vsl_record.specs.declared.record_type.Record.{Record}
 use Rattle.txn_rows.specs.declared.rows.Row.{Row}
-use Rattle.txn_rows.specs.declared.group.ParentLink.{ParentLink}
 use Rattle.txn_rows.specs.declared.join.Join.{Join}
 use Rattle.txn_rows.specs.declared.group.Member.{Member}
 use Rattle.txn_rows.specs.declared.group.Group.{Group}
-use Rattle.txn_rows.specs.Claim.{claim_of}
-use Rattle.txn_rows.specs.declared.claim.Claim.{Claim}
-use Rattle.txn_rows.specs.Transaction.{Transaction, is_pending, longer, claimed_kind}
-use Rattle.txn_rows.specs.Links.{leads_to, preorder, member_at}
+use Rattle.txn_rows.specs.Claim.{own_claim}
+use Rattle.txn_rows.specs.Transaction.{Transaction, longer, claimed_kind}
+use Rattle.txn_rows.specs.Links.{preorder, member_at}
 use Rattle.txn_rows.specs.declared.group.Grouping.{Grouping}
 use Rattle.txn_rows.specs.Grouping.{reported}
-
--- a row is a transaction, with the serial number at the top of its tree and its path beside it
-abbrev pub transaction_of : Row → Transaction
-transaction_of row = record { serial = row.serial; vxid = row.vxid; kind = row.kind; reason = row.reason; records = row.records; parent = row.parent; ended = row.ended; time = row.time }
+use Rattle.txn_rows.specs.Trees.{transaction_of, AreTrees}
 
 -- a row tells its transaction, changed, in its own place
 abbrev pub row_told : (Transaction → Transaction) → Row → Row
@@ -25,53 +19,9 @@ row_told change row =
     let t : Transaction = change (transaction_of row) in
     record row { vxid = t.vxid; kind = t.kind; reason = t.reason; records = t.records; ended = t.ended; time = t.time }
 
--- the newest row of a VXID is at this place
-pub record IsNewestRow (vxid at : ℕ) (rows : List Row) : Type 0 where
-  pub within : at < length rows
-  pub is : HoldsAt (λ row. row.vxid ≡ vxid) rows at
-  pub none_after : is_pending vxid (map transaction_of (drop (at + 1) rows)) ≡ false
-
--- what a Begin claims
-abbrev pub own_claim : Record → Option Claim
-own_claim rec = if rec.tag == begin_tag then claim_of rec.payload else None
-
 -- a transaction with a record at its end, of which it takes the claim if that is a Begin
 abbrev pub with_one : Record → Transaction → Transaction
 with_one rec t = claimed_kind (own_claim rec) (longer rec t)
-
--- a transaction with records at its end
-abbrev pub longer_by : List Record → Transaction → Transaction
-longer_by records t = record t { records = t.records ++ records }
-
--- the row of a serial number
-abbrev pub row_of : ℕ → List Row → Option Row
-row_of serial rows = find (λ row. row.serial == serial) rows
-
--- serial numbers rise, from one on, and stay below another
-abbrev pub Rising : ℕ → ℕ → List Row → Type 0
-Rising low high [] = low ≤ high
-Rising low high (row ∷ rows) = (low ≤ row.serial) × Rising (row.serial + 1) high rows
-
--- a row at the top leads to itself
-pub record IsTop (row : Row) : Type 0 where
-  pub none : row.parent ≡ None
-  pub root : row.root ≡ row.serial
-  pub path : row.path ≡ []
-
--- a row below another is in its tree
-pub record IsBelow (rows : List Row) (row : Row) : Type 0 where
-  pub link : ParentLink
-  pub linked : row.parent ≡ Some link
-  pub above : Row
-  pub found : row_of link.serial rows ≡ Some above
-  pub root : row.root ≡ above.root
-  pub path : row.path ≡ above.path ++ link.number ∷ []
-
--- rows stand in trees: each is at the top of one or below another row, no deeper than its tree has rows, and tells how many children it has
-pub record IsForest (rows : List Row) : Type 0 where
-  pub linked : (serial : ℕ) (row : Row) → row_of serial rows ≡ Some row → IsTop row ⊎ IsBelow rows row
-  pub shallow : (serial : ℕ) (row : Row) → row_of serial rows ≡ Some row → length row.path < count_by (λ r. r.root == row.root) rows
-  pub counted : (serial : ℕ) (row : Row) → row_of serial rows ≡ Some row → row.children ≡ count_by (λ r. leads_to row.serial r.parent) rows
 
 -- the fact holds of each row
 abbrev pub Each : (Row → Type 0) → List Row → Type 0
@@ -93,11 +43,6 @@ rows_in_preorder rows = preorder (λ (row : Row). row.path) rows
 -- a row as a member of its group
 abbrev pub member_of_row : Row → Member
 member_of_row row = member_at (length row.path + 1) (transaction_of row)
-
--- rows are in the order of their serial numbers, all below the next one, and stand in trees
-pub record AreTrees (begun : ℕ) (rows : List Row) : Type 0 where
-  pub rising : Rising 0 begun rows
-  pub forest : IsForest rows
 
 -- a row after a tree was joined to a parent: the rows of the tree move below the parent, the first gets the link, and the parent has one child more
 abbrev pub joined : Join → Row → Row

@@ -1,40 +1,19 @@
 -- What the steps of a table do with its rows.
-use Rattle.std.specs.Prelude.{◌≡◌, ℕ, ◌+◌, ◌≤◌, Bool, List, ◌++◌, map, Option, count_by}
+use Rattle.std.specs.Prelude.{◌≡◌, ℕ, ◌+◌, ◌≤◌, List, ◌++◌, Option, count_by}
 use Rattle.txn_rows.specs.declared.rows.Row.{Row}
 use Rattle.txn_rows.specs.declared.group.Group.{Group}
 use Rattle.txn_rows.specs.declared.group.Grouping.{Grouping}
 use Rattle.txn_rows.specs.declared.which.Which.{Which}
-use Rattle.txn_rows.specs.declared.which.Which.TheVariants.{Unfinished, Late}
-use Rattle.txn_rows.specs.Transaction.{Transaction}
-use Rattle.txn_rows.specs.Grouping.{State, Leaving, is_unfinished, is_late, reported}
-use Rattle.txn_rows.specs.Table.{GainsPrefix}
-use Rattle.txn_rows.specs.Store.{WentBy}
-use Rattle.txn_rows.specs.inside.Times.{IsTimed}
-use Rattle.txn_rows.specs.inside.Rows.{transaction_of, AreTrees}
-
--- the state that rows hold
-abbrev pub state_with : ℕ → Option ℕ → List Row → State
-state_with begun time rows = record { pending = map transaction_of rows; begun = begun; time = time }
+use Rattle.txn_rows.specs.Grouping.{State, Leaving, reported}
+use Rattle.txn_rows.specs.Store.{WentBy, AddsPart, IsOrdered, test_of}
+use Rattle.txn_rows.specs.States.{state_with}
+use Rattle.txn_rows.specs.Trees.{AreTrees}
 
 -- the rows went to the state that was reached, and of the groups that left on the way those that are reported were added to the list
 pub record RowsStep (grouping : Grouping) (step : Leaving) (begun : ℕ) (time : Option ℕ) (now : List Row) (out_before out_now : List Group) : Type 0 where
   pub trees : AreTrees begun now
   pub state : state_with begun time now ≡ step.state
   pub groups : out_now ≡ out_before ++ reported grouping step.groups
-
--- of the groups that left on the way and are reported a prefix was handed out
-abbrev pub AddsPart : {L : Type 0} → (Group → L) → Grouping → Leaving → List L → List L → Type 0
-AddsPart hand grouping step out_before out_now = GainsPrefix (map hand (reported grouping step.groups)) out_before out_now
-
--- which transactions are force-completed
-abbrev pub test_of : Which → Transaction → Bool
-test_of Unfinished = is_unfinished
-test_of (Late seconds now) = is_late seconds now
-
--- a store is in order: the times of what is pending rise up to the log time
-pub record IsOrdered {S : Type 0} (holds : S → Type 0) (state_of : S → State) (store : S) : Type 0 where
-  pub kept : holds store
-  pub times : IsTimed (state_of store)
 
 -- what a store names: what is so of it while no call failed, the state that it keeps, and what it hands out for a group
 module _ {S L : Type 0} (holds : S → Type 0) (state_of : S → State) (hand : Group → L) where

@@ -1,5 +1,5 @@
 use Rattle.std.proofs.Common.{arith}
-use Rattle.txn_rows.specs.inside.Rows.{longer_by}
+use Rattle.txn_rows.specs.Transaction.{longer_by}
 use Rattle.txn_groups.proofs.ToldLemmas.{told_set, told_past}
 use Rattle.txn_groups.proofs.add.add_run_at.Goals as goal
 

@@ -1,5 +1,5 @@
 use Rattle.std.proofs.Common.{refl, sym, ◌∙◌}
-use Rattle.txn_rows.specs.inside.Rows.{transaction_of}
+use Rattle.txn_rows.specs.Trees.{transaction_of}
 use Rattle.txn_rows.proofs.ForceAllLemmas.{none_meant, row_meant, row_not_meant}
 use Rattle.txn_rows.proofs.force.oldest_of.Goals as goal
 

@@ -2,7 +2,7 @@
 use Rattle.std.proofs.Common.{◌≡◌, false, map, take}
 use Rattle.std.specs.List.{list_any}
 use Rattle.txn_rows.specs.Grouping.{is_unfinished}
-use Rattle.txn_rows.specs.inside.Rows.{transaction_of}
+use Rattle.txn_rows.specs.Trees.{transaction_of}
 use Rattle.txn_rows.proofs.force.oldest_unfinished.Given as goal
 
 abbrev pub invariant-loop-i : goal.invariant-loop-i

@@ -1,7 +1,7 @@
 use Rattle.std.proofs.Common.{◌≤◌, refl, sym, ◌∙◌, arith}
 use Rattle.std.proofs.lemmas.Result.{err_from_is_err_and}
 use Rattle.txn_rows.specs.Grouping.{forced_often}
-use Rattle.txn_rows.specs.inside.Steps.{test_of}
+use Rattle.txn_rows.specs.Store.{test_of}
 use Rattle.txn_rows.proofs.ForceAllLemmas.{often_none, forces_first, forces_end, forces_last, forces_more, forces_part}
 use Rattle.txn_rows.proofs.forcing.force_all.Goals as goal
 

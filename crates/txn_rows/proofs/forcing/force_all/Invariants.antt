@@ -1,6 +1,7 @@
 -- the oldest were force-completed, and times rise
 use Rattle.txn_rows.specs.Grouping.{forced_often, forced_all}
-use Rattle.txn_rows.specs.inside.Steps.{IsOrdered, test_of, ForcesOn}
+use Rattle.txn_rows.specs.Store.{IsOrdered, test_of}
+use Rattle.txn_rows.specs.inside.Steps.{ForcesOn}
 use Rattle.txn_rows.proofs.forcing.force_all.Given as goal
 
 abbrev pub invariant-loop-i : goal.invariant-loop-i

@@ -1,7 +1,8 @@
 -- the oldest were force-completed, and times rise
 use Rattle.txn_rows.specs.declared.which.Which.TheVariants.{Unfinished}
 use Rattle.txn_rows.specs.Grouping.{forced_down, after_overflow}
-use Rattle.txn_rows.specs.inside.Steps.{IsOrdered, ForcesOn}
+use Rattle.txn_rows.specs.Store.{IsOrdered}
+use Rattle.txn_rows.specs.inside.Steps.{ForcesOn}
 use Rattle.txn_rows.proofs.forcing.keep_within.Given as goal
 
 abbrev pub invariant-loop-i : goal.invariant-loop-i

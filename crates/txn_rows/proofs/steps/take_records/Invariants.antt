@@ -1,7 +1,8 @@
 -- the records that are left are still to be taken, and where the newest transaction of the VXID is known, it is there
 use Rattle.std.proofs.Common.{length, IfSome}
 use Rattle.txn_rows.specs.Grouping.{steps}
-use Rattle.txn_rows.specs.inside.Steps.{IsOrdered, GoesOn}
+use Rattle.txn_rows.specs.Store.{IsOrdered}
+use Rattle.txn_rows.specs.inside.Steps.{GoesOn}
 use Rattle.txn_rows.proofs.steps.take_records.Given as goal
 
 abbrev pub invariant-loop-rest : goal.invariant-loop-rest

@@ -2,8 +2,7 @@ use Rattle.std.proofs.Common.{◌≡◌, List, sym, ◌∙◌, ap, subst, drop, 
 use Rattle.std.proofs.lemmas.Result.{err_from_is_err_and}
 use Rattle.vsl_record.specs.declared.record_type.Record.{Record}
 use Rattle.txn_rows.specs.Grouping.{Leaving, step, steps}
-use Rattle.txn_rows.specs.Store.{WentBy}
-use Rattle.txn_rows.specs.inside.Steps.{AddsPart}
+use Rattle.txn_rows.specs.Store.{WentBy, AddsPart}
 use Rattle.txn_rows.proofs.TakeLemmas.{part_first}
 use Rattle.txn_rows.proofs.PlainLemmas.{run_went, one_step, first_of, first_and_more}
 use Rattle.txn_rows.proofs.take.take_some.Goals as goal

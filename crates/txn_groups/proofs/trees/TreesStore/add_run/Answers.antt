@@ -1,7 +1,6 @@
 use Rattle.std.proofs.Common.{refl, ◌∙◌}
 use Rattle.txn_rows.specs.Grouping.{State}
-use Rattle.txn_rows.specs.Transaction.{with_newest}
-use Rattle.txn_rows.specs.inside.Rows.{longer_by}
+use Rattle.txn_rows.specs.Transaction.{with_newest, longer_by}
 use Rattle.txn_groups.specs.declared.trees.Trees.{Trees}
 use Rattle.txn_groups.specs.declared.pending.Pending.{Pending}
 use Rattle.txn_groups.specs.inside.Trees.{state_of_trees}

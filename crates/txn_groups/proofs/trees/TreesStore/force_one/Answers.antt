@@ -2,7 +2,7 @@ use Rattle.std.proofs.Common.{◌≡◌, Some, refl, sym, ap, ◌∙◌, subst}
 use Rattle.txn_groups.specs.inside.Held.{state_of}
 use Rattle.txn_rows.specs.Transaction.{Transaction, oldest}
 use Rattle.txn_rows.specs.Grouping.{State, forced_one}
-use Rattle.txn_rows.specs.inside.Steps.{test_of}
+use Rattle.txn_rows.specs.Store.{test_of}
 use Rattle.txn_rows.proofs.ForceAllLemmas.{none_meant, first_not_meant, oldest_meant, oldest_some, one_none}
 use Rattle.txn_rows.proofs.TakeLemmas.{nothing_step}
 use Rattle.txn_groups.specs.declared.trees.Trees.{Trees}

@@ -1,7 +1,6 @@
 use Rattle.std.proofs.Common.{List, ap, refl}
 use Rattle.std.proofs.lemmas.Result.{on_ok_weaker}
-use Rattle.txn_rows.specs.Transaction.{Transaction}
-use Rattle.txn_rows.specs.inside.Rows.{longer_by}
+use Rattle.txn_rows.specs.Transaction.{Transaction, longer_by}
 use Rattle.txn_rows.proofs.PendingLemmas.{changed_rows, newest_stays}
 use Rattle.txn_rows.proofs.pending.PendingStore.add_run.Goals as goal
 

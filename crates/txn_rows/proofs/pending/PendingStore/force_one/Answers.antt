@@ -1,9 +1,9 @@
 use Rattle.std.proofs.Common.{List, ◌++◌, map, ap, sym, ◌∙◌, ◌≡◌, false}
 use Rattle.std.specs.List.{list_any}
 use Rattle.txn_rows.specs.declared.group.Group.{Group}
-use Rattle.txn_rows.specs.inside.Rows.{transaction_of}
-use Rattle.txn_rows.specs.inside.Steps.{test_of}
-use Rattle.txn_rows.specs.inside.States.{state_of, StandInTrees}
+use Rattle.txn_rows.specs.Trees.{transaction_of}
+use Rattle.txn_rows.specs.Store.{test_of}
+use Rattle.txn_rows.specs.States.{state_of, StandInTrees}
 use Rattle.txn_rows.proofs.ForceAllLemmas.{one_none, row_some}
 use Rattle.txn_rows.proofs.TakeLemmas.{nothing_step}
 use Rattle.txn_rows.proofs.TakeLemmas.{itself_is}

@@ -1,8 +1,8 @@
 use Rattle.std.proofs.Common.{◌≡◌, Bool, false, true, not, cond, map, ap, sym, ◌∙◌}
 use Rattle.txn_rows.specs.Transaction.{is_open}
 use Rattle.txn_rows.specs.Grouping.{with_new}
-use Rattle.txn_rows.specs.inside.Rows.{transaction_of}
-use Rattle.txn_rows.specs.inside.States.{state_of}
+use Rattle.txn_rows.specs.Trees.{transaction_of}
+use Rattle.txn_rows.specs.States.{state_of}
 use Rattle.txn_rows.proofs.PendingLemmas.{open_at, open_none}
 use Rattle.txn_rows.proofs.pending.PendingStore.open_row.Goals as goal
 use Rattle.txn_rows.proofs.pending.PendingStore.open_row.Goals.{in-Some+else-not-index, in_default}

@@ -1,8 +1,8 @@
 use Rattle.std.proofs.Common.{◌≡◌, ℕ, Bool, false, true, cond, map, ap, sym, ◌∙◌}
 use Rattle.txn_rows.specs.Transaction.{is_pending}
 use Rattle.txn_rows.specs.Grouping.{with_new}
-use Rattle.txn_rows.specs.inside.Rows.{transaction_of}
-use Rattle.txn_rows.specs.inside.States.{state_of}
+use Rattle.txn_rows.specs.Trees.{transaction_of}
+use Rattle.txn_rows.specs.States.{state_of}
 use Rattle.txn_rows.proofs.PendingLemmas.{pending_at}
 use Rattle.txn_rows.proofs.pending.PendingStore.other_row.Goals as goal
 

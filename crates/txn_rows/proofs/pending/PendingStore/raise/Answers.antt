@@ -1,9 +1,9 @@
 use Rattle.std.proofs.Common.{List, map, refl, sym, ap, ◌∙◌, subst}
 use Rattle.txn_rows.specs.Transaction.{Transaction}
 use Rattle.txn_rows.specs.Grouping.{raised, timed, at_time}
-use Rattle.txn_rows.specs.inside.Rows.{transaction_of, AreTrees, row_told}
-use Rattle.txn_rows.specs.inside.States.{state_of}
-use Rattle.txn_rows.specs.inside.Steps.{state_with}
+use Rattle.txn_rows.specs.Trees.{transaction_of, AreTrees}
+use Rattle.txn_rows.specs.inside.Rows.{row_told}
+use Rattle.txn_rows.specs.States.{state_of, state_with}
 use Rattle.txn_rows.proofs.StandLemmas.{trees_kept, told_keeps, rows_told}
 use Rattle.txn_rows.proofs.TimeLemmas.{time_known}
 use Rattle.txn_rows.proofs.pending.PendingStore.raise.Goals as goal

@@ -4,7 +4,7 @@ use Rattle.std.proofs.lemmas.Result.{on_ok_weaker}
 use Rattle.txn_rows.specs.Grouping.{flush}
 use Rattle.txn_rows.specs.TableState.{TableState}
 use Rattle.txn_rows.specs.Table.{TableStepped, TableFailed, itself}
-use Rattle.txn_rows.specs.inside.States.{state_of, StandInTrees}
+use Rattle.txn_rows.specs.States.{state_of, StandInTrees}
 use Rattle.txn_rows.proofs.TableLemmas.{stepped, failed_on, with_ok, flush_sound, flushed_none}
 use Rattle.txn_rows.proofs.table.Table.flush.Goals as goal
 

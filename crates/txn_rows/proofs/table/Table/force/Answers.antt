@@ -3,7 +3,7 @@ use Rattle.std.specs.Result.{OnOk}
 use Rattle.txn_rows.specs.Grouping.{force}
 use Rattle.txn_rows.specs.TableState.{TableState}
 use Rattle.txn_rows.specs.Table.{TableStepped, itself}
-use Rattle.txn_rows.specs.inside.States.{state_of, StandInTrees}
+use Rattle.txn_rows.specs.States.{state_of, StandInTrees}
 use Rattle.txn_rows.proofs.TableLemmas.{stepped, with_ok, force_sound}
 use Rattle.txn_rows.proofs.table.Table.force.Goals as goal
 

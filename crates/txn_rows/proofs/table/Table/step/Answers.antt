@@ -4,7 +4,7 @@ use Rattle.std.proofs.lemmas.Result.{on_ok_weaker}
 use Rattle.txn_rows.specs.Grouping.{unit_step}
 use Rattle.txn_rows.specs.TableState.{TableState}
 use Rattle.txn_rows.specs.Table.{TableStepped, TableFailed, itself}
-use Rattle.txn_rows.specs.inside.States.{state_of, StandInTrees}
+use Rattle.txn_rows.specs.States.{state_of, StandInTrees}
 use Rattle.txn_rows.proofs.TableLemmas.{stepped, failed_on, with_ok, unit_sound}
 use Rattle.txn_rows.proofs.table.Table.step.Goals as goal
 

@@ -1,4 +1,4 @@
--- The times of pending transactions, which rise in the order in which they began.
+-- The times of pending transactions, which rise in the order in which they began (this project's choice).
 use Rattle.std.specs.Prelude.{◌≡◌, ℕ, ◌≤◌, List, [], ◌∷◌, map, ⊤, Option, Some, None}
 use Rattle.txn_rows.specs.Transaction.{Transaction}
 use Rattle.txn_rows.specs.Grouping.{State}

@@ -1,10 +1,14 @@
--- The state that a table holds.
-use Rattle.std.specs.Prelude.{◌≡◌, ℕ, ◌≤◌, false, List, length, map, Some}
+-- The state that a table holds (this project's choice).
+use Rattle.std.specs.Prelude.{◌≡◌, ℕ, ◌≤◌, false, List, length, map, Option, Some}
 use Rattle.txn_rows.specs.declared.rows.Row.{Row}
 use Rattle.txn_rows.specs.declared.pending.Pending.{Pending}
 use Rattle.txn_rows.specs.Grouping.{State}
-use Rattle.txn_rows.specs.inside.Rows.{transaction_of, row_of, AreTrees}
-use Rattle.txn_rows.specs.inside.Steps.{state_with, IsOrdered}
+use Rattle.txn_rows.specs.Trees.{transaction_of, row_of, AreTrees}
+use Rattle.txn_rows.specs.Store.{IsOrdered}
+
+-- the state that rows hold
+abbrev pub state_with : ℕ → Option ℕ → List Row → State
+state_with begun time rows = record { pending = map transaction_of rows; begun = begun; time = time }
 
 -- what rows, their number and a time say
 abbrev pub state_of : Pending → State
