@@ -1,9 +1,8 @@
 -- Marks, of which levels are left aside, and the truths of tests by them.
 use Rattle.std.proofs.Common.{◌≡◌, ℕ, not, ◌&&◌, ◌||◌, Bool, true, false, List, [], ◌∷◌, ◌++◌, map, refl, sym, ap, ◌∙◌}
 use Rattle.std.proofs.lemmas.List.{append-nil}
-use Rattle.std.proofs.lemmas.Bool.{and_parts}
 use Rattle.std.proofs.lemmas.List.Folds.{list_any-append}
-use Rattle.std.specs.List.{list_any, list_all}
+use Rattle.std.specs.List.{list_any}
 use Rattle.vsl_record.specs.declared.record_type.Record.{Record}
 use Rattle.txn_rows.specs.declared.group.Group.{Group}
 use Rattle.txn_rows.specs.declared.group.Member.{Member}
@@ -43,11 +42,11 @@ joined_maps : {A : Type 0} (f g h : A → Bool) (xs : List A) → ((x : A) → (
 joined_maps f g h [] same = refl
 joined_maps f g h (x ∷ xs) same = rw (same x, joined_maps f g h xs same) refl
 
--- the marks of records, and of one more
-pub marked_more : (tests : List Test) (records : List Record) (rec : Record) →
-    joined (map (λ test. list_any (record_marks test) records) tests) (map (λ test. record_marks test rec) tests) ≡ map (λ test. list_any (record_marks test) (records ++ rec ∷ [])) tests
-marked_more tests records rec =
-    joined_maps (λ test. list_any (record_marks test) records) (λ test. record_marks test rec) (λ test. list_any (record_marks test) (records ++ rec ∷ [])) tests (λ test. any_more (record_marks test) records rec)
+-- the marks of records, and of more
+pub marked_more : (tests : List Test) (records more : List Record) →
+    joined (map (λ test. list_any (record_marks test) records) tests) (map (λ test. list_any (record_marks test) more) tests) ≡ map (λ test. list_any (record_marks test) (records ++ more)) tests
+marked_more tests records more =
+    joined_maps (λ test. list_any (record_marks test) records) (λ test. list_any (record_marks test) more) (λ test. list_any (record_marks test) (records ++ more)) tests (λ test. sym (list_any-append (record_marks test) records more))
 
 marked_map : (level : ℕ) (tests : List Test) (records : List Record) →
     marked_of level tests (map (λ test. list_any (record_marks test) records) tests) ≡ map (λ test. list_any (record_satisfies test level) records) tests
@@ -103,14 +102,3 @@ tests_append (kinds.Or ∷ steps) more = tests_append steps more
 pub tests_of_either : {A : Type 0} (s t : tree.Query A) → tests_in (tree_steps (Either s t)) ≡ tests_in (tree_steps s) ++ tests_in (tree_steps t)
 tests_of_either s t =
     tests_append (tree_steps s ++ tree_steps t) (kinds.Or ∷ []) ∙ append-nil (tests_in (tree_steps s ++ tree_steps t)) ∙ tests_append (tree_steps s) (tree_steps t)
-
-any_still : {A : Type 0} (p : A → Bool) (xs more : List A) → list_any p xs ≡ true → list_any p xs ≡ list_any p (xs ++ more)
-any_still p xs more found = found ∙ sym (list_any-append p xs more ∙ ap (λ (b : Bool). b || list_any p more) found)
-
--- where each test has its mark, no record changes them
-pub marked_still : (tests : List Test) (records more : List Record) → list_all (λ (mark : Bool). mark) (map (λ test. list_any (record_marks test) records) tests) ≡ true →
-    map (λ test. list_any (record_marks test) records) tests ≡ map (λ test. list_any (record_marks test) (records ++ more)) tests
-marked_still [] records more all = refl
-marked_still (test ∷ tests) records more all =
-    let both = and_parts (list_any (record_marks test) records) (list_all (λ (mark : Bool). mark) (map (λ test. list_any (record_marks test) records) tests)) all in
-    rw (any_still (record_marks test) records more both.0, marked_still tests records more both.1) refl

@@ -1,13 +1,15 @@
 //! Asking a query of one group, or one record, after the other.
 
-ghost use Rattle.std.specs.Prelude.{◌≡◌, ◌∷◌, ◌||◌, Bool, List, map, IfOk, OnOk};
+ghost use Rattle.std.specs.Prelude.{◌≡◌, ◌||◌, Bool, List, map, IfOk, OnOk};
+ghost use Rattle.std.specs.List.{list_any};
 ghost use Rattle.query_parser.specs.declared.test.Test.{Test};
 ghost use Rattle.query_eval.specs.Meaning.{group_satisfies, record_marks};
 ghost use Rattle.query_eval.specs.Marks.{tests_in, tests_of};
 ghost use Rattle.query_eval.specs.inside.Asking.{IsKept};
 ghost use Rattle.query_eval.specs.inside.Truths.{joined};
 
-use crate::asking::{group_satisfies, record_marks};
+use crate::asking::group_satisfies;
+use crate::marking::Marking;
 use crate::marks::Marks;
 use crate::tests::first_test;
 use crate::truths::{Steps, truth_of};
@@ -46,20 +48,20 @@ impl<'q> Asked<'q> {
         group_satisfies(alloc, self.test, &mut self.matching, group)
     }
 
-    /// Makes a mark true that isn't yet, where the record satisfies the test, its level left aside.
-    fn mark(
+    /// Makes a mark true that isn't yet, where one of the records satisfies the test, its level left aside.
+    fn mark<M: Marking>(
         &mut self,
         alloc: Global,
         mark: &mut bool,
-        rec: &RecordView<'_>,
+        marking: &M,
     ) -> Result<(), AllocError>
         ensures test { self.new.test.now ≡ self.old.test.now }
-        ensures mark { OnOk result (mark.new ≡ (mark.old || record_marks self.old.test.now rec.now)) }
+        ensures mark { OnOk result (mark.new ≡ (mark.old || list_any (record_marks self.old.test.now) (M.records marking.now))) }
     {
         if *mark {
             return Ok(());
         }
-        *mark = record_marks(alloc, self.test, &mut self.matching, rec)?;
+        *mark = marking.marks(alloc, self.test, &mut self.matching)?;
         Ok(())
     }
 }
@@ -95,22 +97,22 @@ fn ask_all(
     Ok(())
 }
 
-/// Asks a record the tests whose marks aren't true yet.
-fn mark_all(
+/// Asks the tests whose marks aren't true yet, one after the other.
+fn mark_all<M: Marking>(
     alloc: Global,
     all: &mut [Asked<'_>],
     marks: &mut Vec<bool>,
-    rec: &RecordView<'_>,
+    marking: &M,
 ) -> Result<(), AllocError>
     ensures tests { map (λ a. a.test.now) all.new ≡ map (λ a. a.test.now) all.old }
     ensures marks { OnOk result (marks.new.items ≡
-        joined marks.old.items (map (λ test. record_marks test rec.now) (map (λ a. a.test.now) all.old))) }
+        joined marks.old.items (map (λ test. list_any (record_marks test) (M.records marking.now)) (map (λ a. a.test.now) all.old))) }
 {
     for i in 0..all.len() {
         if marks.len() <= i {
             return Ok(());
         }
-        all[i].mark(alloc, &mut marks[i], rec)?;
+        all[i].mark(alloc, &mut marks[i], marking)?;
     }
     Ok(())
 }
@@ -127,7 +129,7 @@ pub struct Asker<'q> {
 }
 
 impl<'q> Asker<'q> {
-    ghost use Rattle.std.specs.Prelude.{[], ◌++◌};
+    ghost use Rattle.std.specs.Prelude.{[], ◌∷◌, ◌++◌};
     ghost use Rattle.vsl_record.specs.declared.record_type.Record.{Record};
     ghost use Rattle.query_eval.specs.Asker.{asker_query};
     ghost use Rattle.query_eval.specs.Meaning.{is_held};
@@ -181,21 +183,26 @@ impl<'q> Asker<'q> {
             OnOk result (marks.new ≡ marks_of (asker_query self.old) (records ++ rec.now ∷ [])) }
         ensures same { asker_query self.new ≡ asker_query self.old }
     {
-        mark_all(self.alloc, &mut self.tests, &mut marks.truths, rec)?;
-        Ok(())
+        self.take(marks, rec)
     }
-    /// Adds records to marks of the query, one after the other. Where each mark is true already, no record is looked at.
+
+    /// Adds records to marks of the query: goes over them for each test that isn't true yet, up to the first one that
+    /// satisfies it. Where each mark is true already, no record is looked at.
     pub fn add_all(&mut self, marks: &mut Marks, run: &RecordsView<'_>) -> Result<(), NoMemory>
         ensures marks { (records : List Record) → marks.old ≡ marks_of (asker_query self.old) records →
             OnOk result (marks.new ≡ marks_of (asker_query self.old) (records ++ run.now)) }
         ensures same { asker_query self.new ≡ asker_query self.old }
     {
-        if marks.are_true() {
-            return Ok(());
-        }
-        for i in 0..run.len() {
-            self.add(marks, &run.get(i))?;
-        }
+        self.take(marks, run)
+    }
+
+    /// Adds what is asked at once to marks of the query.
+    fn take<M: Marking>(&mut self, marks: &mut Marks, marking: &M) -> Result<(), NoMemory>
+        ensures marks { (records : List Record) → marks.old ≡ marks_of (asker_query self.old) records →
+            OnOk result (marks.new ≡ marks_of (asker_query self.old) (records ++ M.records marking.now)) }
+        ensures same { asker_query self.new ≡ asker_query self.old }
+    {
+        mark_all(self.alloc, &mut self.tests, &mut marks.truths, marking)?;
         Ok(())
     }
 }

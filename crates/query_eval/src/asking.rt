@@ -1,8 +1,8 @@
-//! Asking a test of a group.
+//! Asking a test of a group, of records, or of a record.
 
 ghost use Rattle.std.specs.Prelude.{◌≡◌, IfOk};
 ghost use Rattle.std.specs.List.{list_any};
-ghost use Rattle.query_eval.specs.Meaning.{group_satisfies, member_satisfies, record_marks};
+ghost use Rattle.query_eval.specs.Meaning.{group_satisfies, member_satisfies, record_marks, subject, subject_satisfies};
 ghost use Rattle.query_eval.specs.inside.Asking.{IsReady};
 
 use crate::check::satisfies;
@@ -51,7 +51,7 @@ fn member_satisfies<'t>(
 }
 
 /// Whether some record satisfies the test, its level left aside.
-fn records_mark<'t>(
+pub(crate) fn records_mark<'t>(
     alloc: Global,
     test: &'t Test,
     matching: &mut Option<Matching<'t>>,
@@ -83,7 +83,21 @@ pub(crate) fn record_marks<'t>(
     if !test.criterion.tags.has(rec.tag()) {
         return Ok(false);
     }
-    match subject(&test.criterion, rec.payload()) {
+    payload_marks(alloc, test, matching, rec.payload())
+}
+
+/// Whether what is asked of a payload is there, and satisfies the test.
+fn payload_marks<'t>(
+    alloc: Global,
+    test: &'t Test,
+    matching: &mut Option<Matching<'t>>,
+    payload: &[u8],
+) -> Result<bool, AllocError>
+    requires ready { IsReady test.now.check matching.old }
+    ensures answer { IfOk result (λ b. b ≡ subject_satisfies test.now.check (subject test.now.criterion payload.now)) }
+    ensures ready { IsReady test.now.check matching.new }
+{
+    match subject(&test.criterion, payload) {
         Some(text) => satisfies(alloc, &test.check, matching, text),
         None => Ok(false),
     }

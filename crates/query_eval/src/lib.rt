@@ -16,6 +16,7 @@ mod check;
 mod chosen;
 mod eval;
 mod laws;
+mod marking;
 mod marks;
 mod selection;
 mod tests;

@@ -1,7 +1,6 @@
 //! Which tests of a query the records of a transaction satisfy, taken up as the records arrive.
 
 ghost use Rattle.std.specs.Prelude.{◌≡◌, [], ◌∷◌, ◌++◌, List, IfOk, OnOk};
-ghost use Rattle.std.specs.List.{list_all};
 ghost use Rattle.vsl_record.specs.declared.record_type.Record.{Record};
 ghost use Rattle.query_eval.specs.Marks.{marks_of};
 
@@ -38,13 +37,6 @@ impl Marks {
             alloc,
             truths: none_true(alloc, &query.steps)?,
         })
-    }
-
-    /// Whether each is true.
-    pub(crate) fn are_true(&self) -> bool
-        ensures { result ≡ list_all (λ mark. mark) self.now }
-    {
-        self.truths.iter().all(|mark| *mark)
     }
 
     /// Adds a record: asks it each test that isn't true yet. It takes memory for the tests, and for a pattern where the
