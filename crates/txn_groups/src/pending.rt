@@ -93,13 +93,23 @@ fn begin(alloc: Global, pending: &mut Pending, vxid: Vxid) -> Result<usize, NoMe
     begin_node(alloc, pending, vxid)
 }
 
+/// The place of the newest node of a VXID, which the index keeps at hand.
+fn seek(pending: &mut Pending, vxid: Vxid) -> Option<usize>
+    ensures newest { result ≡ newest_in pending.old.index vxid }
+    ensures went { IsHeld pending.old → Went (state_of pending.old) pending.new }
+    ensures index { (v : ℕ) → newest_in pending.new.index v ≡ newest_in pending.old.index v }
+    ensures nodes { pending.new.nodes.items ≡ pending.old.nodes.items }
+{
+    pending.index.seek(vxid)
+}
+
 /// The place of the newest node of a VXID that has not ended; where there is none, one begins.
 pub fn open_row(alloc: Global, pending: &mut Pending, vxid: Vxid) -> Result<usize, NoMemory>
     ensures went { IsHeld pending.old → OnOk result (Went (with_transaction vxid (state_of pending.old)) pending.new) }
     ensures newest { IfOk result (λ at. newest_in pending.new.index vxid ≡ Some at) }
     ensures marks { IsHeld pending.old → OnOk result (KeepMarks pending.old.nodes.items pending.new.nodes.items) }
 {
-    if let Some(at) = pending.index.newest(vxid) {
+    if let Some(at) = seek(pending, vxid) {
         if !is_ended(&pending.nodes, at) {
             return Ok(at);
         }
@@ -114,7 +124,7 @@ pub fn other_row(alloc: Global, pending: &mut Pending, vxid: Vxid) -> Result<usi
     ensures marks { IsHeld pending.old → OnOk result (KeepMarks pending.old.nodes.items pending.new.nodes.items) }
     ensures keeps { OnOk result ((v at : ℕ) → newest_in pending.old.index v ≡ Some at → newest_in pending.new.index v ≡ Some at) }
 {
-    if let Some(at) = pending.index.newest(vxid) {
+    if let Some(at) = seek(pending, vxid) {
         return Ok(at);
     }
     begin(alloc, pending, vxid)
