@@ -1,16 +1,17 @@
 -- A node ends, and its tree may leave.
-use Rattle.std.proofs.Common.{◌≡◌, ◌<◌, ◌≤◌, ℕ, true, false, Option, Some, List, [], ◌++◌, length, map, set, get_or, refl, ap, sym, ◌∙◌, subst, arith}
+use Rattle.std.proofs.Common.{◌≡◌, ◌<◌, ◌≤◌, ℕ, Bool, true, false, Option, Some, List, [], ◌++◌, length, map, set, get_or, refl, ap, sym, ◌∙◌, subst, arith}
 use Rattle.std.specs.Prelude.{slice_get}
 use Rattle.std.specs.Option.{option_map_or}
 use Rattle.std.specs.declared.result.Result.{Result}
 use Rattle.std.specs.Result.{OnOk}
+use Rattle.std.proofs.lemmas.List.{set-get_or}
 use Rattle.std.proofs.lemmas.Result.{on_ok_weaker}
 use Rattle.txn_rows.specs.declared.rows.Row.{Row}
 use Rattle.txn_rows.specs.declared.group.Group.{Group}
 use Rattle.txn_rows.specs.declared.group.Grouping.{Grouping}
 use Rattle.txn_rows.specs.Transaction.{Transaction, ended}
 use Rattle.txn_rows.specs.Grouping.{Leaving, ended_one, reported}
-use Rattle.txn_rows.specs.Trees.{row_of, transaction_of}
+use Rattle.txn_rows.specs.Trees.{row_of, transaction_of, Rising}
 use Rattle.txn_rows.specs.inside.Rows.{row_told, left_rows, LeftRows}
 use Rattle.txn_rows.specs.inside.Steps.{RowsStep}
 use Rattle.txn_rows.proofs.TreeLemmas.{of_row, set_is_of_row}
@@ -34,7 +35,7 @@ use Rattle.txn_groups.proofs.EndLemmas.{Finishes, ended_finishes, finished_keeps
 use Rattle.txn_groups.proofs.RetoldLemmas.{found_before}
 use Rattle.txn_groups.proofs.TellLemmas.{tells}
 use Rattle.txn_groups.proofs.HeldLemmas.{KeepsNames, names_of, stands_still, hold_still, went_by}
-use Rattle.txn_groups.proofs.NewestLemmas.{NewestRow, newest_row}
+use Rattle.txn_groups.proofs.NewestLemmas.{RowPlace, NewestRow, newest_row}
 use Rattle.txn_groups.proofs.EndMarksLemmas.{still_marked}
 
 -- what an end comes to, before its tree may leave
@@ -155,3 +156,48 @@ ended_keeps r hand grouping queries v at last p m q before now held told opened 
     let w : NewestRow p held.stand v at = newest_held p v at held told in
     on_ok_weaker r (λ l. still_marked queries m.nodes.items q.nodes.items marked l.marks)
     (ended_left r hand grouping v at last p m q before now held w opened found changed order_is begun_is index_is free_is rows_is left)
+
+-- a row that has ended tells that it ends, and stays
+told_again : (row : Row) → row.ended ≡ true → row_told ended row ≡ row
+told_again row done = ap {B = Row} (λ (b : Bool). record row { ended = b }) (sym done)
+
+-- where it is the newest, all rows stay
+rows_again : (v begun : ℕ) (rows : List Row) (row : Row) → RowPlace v rows row → Rising 0 begun rows → row.ended ≡ true → rows ≡ map (of_row row.serial (row_told ended)) rows
+rows_again v begun rows row place rising done =
+    sym (set-get_or rows place.at row)
+    ∙ ap (set rows place.at) (sym place.read)
+    ∙ set_is_of_row (row_told ended) 0 begun place.at rows row row rising place.is.within place.read (sym (told_again row done))
+
+-- the newest has ended already, and its tree may leave
+again_left : {T E L : Type 0} (r : Result T E) (hand : Group → L) (grouping : Grouping) (v at last : ℕ) (p q : Pending) (before now : List L) → (held : IsHeld p) → (w : NewestRow p held.stand v at) → IsLastFrom p at last →
+    MayLeave r hand grouping last p q before now → OnOk r (LeavesAs hand grouping w.node.row.root held.stand p q before now)
+again_left r hand grouping v at last p q before now held w found left =
+    let rows : List Row = held.stand in
+    let is : IsLastOf p.nodes.items rows at last = found p.begun p.order.items rows w.node.node held.are (omega (arith, held.counted)) w.node.there in
+    let z : Node = is.tree.other_node in
+    let l : Last p.nodes.items rows w.node.row.root last z = last_read p.nodes.items rows at last w.node z is is.tree.other_there.here in
+    subst (λ (root : ℕ). OnOk r (LeavesAs hand grouping root rows p q before now)) l.tree
+    (left rows (record { node = z; there = l.there; row = l.row; found = l.found }) (record { are = held.are; index = held.index; free = held.free; counted = held.counted }) l.last)
+
+pub again_all : {T E L : Type 0} (r : Result T E) (hand : Group → L) (grouping : Grouping) (v at last : ℕ) (p q : Pending) (before now : List L) → (held : IsHeld p) → newest_in p.index v ≡ Some at → option_map_or (λ (x : Node). x.ended) (slice_get p.nodes.items at) true ≡ true → IsLastFrom p at last →
+    MayLeave r hand grouping last p q before now → OnOk r (WentBy hand grouping (ended_one v (state_of p)) q before now)
+again_all r hand grouping v at last p q before now held told closed found left =
+    let rows : List Row = held.stand in
+    let w : NewestRow p rows v at = newest_held p v at held told in
+    let row : Row = w.node.row in
+    let node_done : w.node.node.ended ≡ true = sym (ap (λ (o : Option Node). option_map_or (λ (x : Node). x.ended) o true) w.node.there.here) ∙ closed in
+    let has : HasRow rows w.node.node = held.are.stand.row at w.node.node w.node.there in
+    let one : Some has.row ≡ Some row = sym has.found ∙ w.node.found in
+    let same : has.row ≡ row = (cc) in
+    let done : row.ended ≡ true = ap (λ (r : Row). r.ended) (sym same) ∙ ap (λ (r : Row). r.ended) has.is ∙ node_done in
+    let all = rows_again v p.begun rows row w.place held.are.trees.rising done in
+    on_ok_weaker r (λ l. finished_went hand grouping ended (ended_one v (state_of p)) p p q rows row before now held.are (newest_steps grouping v at p held w) refl refl
+    (subst (λ (rs : List Row). LeavesAs hand grouping row.root rs p q before now) all l))
+    (again_left r hand grouping v at last p q before now held w found left)
+
+-- and its nodes keep their marks
+pub again_keeps : {T E L : Type 0} (r : Result T E) (hand : Group → L) (grouping : Grouping) (queries : List Query) (v at last : ℕ) (p q : Pending) (before now : List L) → (held : IsHeld p) → newest_in p.index v ≡ Some at → IsLastFrom p at last → AreMarked queries p.nodes.items →
+    MayLeave r hand grouping last p q before now → OnOk r (AreMarked queries q.nodes.items)
+again_keeps r hand grouping queries v at last p q before now held told found marked left =
+    on_ok_weaker r (λ l. still_marked queries p.nodes.items q.nodes.items marked l.marks)
+    (again_left r hand grouping v at last p q before now held (newest_held p v at held told) found left)

@@ -18,6 +18,10 @@ pub record FindsOn (nodes : List Node) (rows : List Row) (from at turns : ℕ) :
 pub same_node : (nodes : List Node) (at : ℕ) (x y : Node) → StandsAt nodes at x → slice_get nodes at ≡ Some y → x ≡ y
 same_node nodes at x y there read = let e : Some x ≡ Some y = sym there.here ∙ read in cc
 
+-- where a node stands, one is read
+pub none_there : (nodes : List Node) (at : ℕ) (x : Node) → StandsAt nodes at x → slice_get nodes at ≡ None → ⊥
+none_there nodes at x there read = let e : Some x ≡ None = sym there.here ∙ read in absurd (cc)
+
 pub finds_first : (begun : ℕ) (nodes : List Node) (order : List Entry) (rows : List Row) (at : ℕ) (x : Node) → AreNodes begun nodes order rows → StandsAt nodes at x → FindsOn nodes rows at at 0
 finds_first begun nodes order rows at x are there =
     let has : HasRow rows x = are.stand.row at x there in
@@ -27,7 +31,7 @@ finds_first begun nodes order rows at x are there =
     }
 
 pub finds_none : (nodes : List Node) (rows : List Row) (from at turns : ℕ) → FindsOn nodes rows from at turns → slice_get nodes at ≡ None → ⊥
-finds_none nodes rows from at turns f read = let e : Some f.tree.other_node ≡ None = sym f.tree.other_there.here ∙ read in absurd (cc)
+finds_none nodes rows from at turns f read = none_there nodes at f.tree.other_node f.tree.other_there read
 
 pub finds_last : (nodes : List Node) (rows : List Row) (from at turns : ℕ) (y : Node) → FindsOn nodes rows from at turns → slice_get nodes at ≡ Some y → y.up ≡ at → IsLastOf nodes rows from at
 finds_last nodes rows from at turns y f read ends = record { tree = f.tree; ends = ap (λ (n : Node). n.up) (same_node nodes at f.tree.other_node y f.tree.other_there read) ∙ ends }

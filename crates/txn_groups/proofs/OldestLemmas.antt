@@ -6,6 +6,7 @@ use Rattle.std.specs.Option.{option_or}
 use Rattle.std.proofs.lemmas.Bool.{eqb-true, eq-eqb, and_parts, not-true}
 use Rattle.std.proofs.lemmas.List.{take-append-drop}
 use Rattle.std.proofs.lemmas.List.Folds.{find-append}
+use Rattle.std.proofs.lemmas.Option.{slice_get_within}
 use Rattle.txn_rows.specs.Transaction.{Transaction}
 use Rattle.txn_rows.specs.Grouping.{is_unfinished}
 use Rattle.txn_rows.proofs.LineLemmas.{by_cases}
@@ -33,6 +34,10 @@ open_is (Some x) serial e =
     let first = and_parts (x.stands && (eqb x.serial serial)) (not x.ended) e in
     let parts = and_parts x.stands (eqb x.serial serial) first.0 in
     record { node = x; is = refl; stands = parts.0; serial_is = eqb-true x.serial serial parts.1; unended = not-true x.ended first.1 }
+
+-- and is at a place of the nodes
+pub open_within : (nodes : List Node) (e : Entry) → is_open_at nodes e ≡ true → e.at < length nodes
+open_within nodes e opened = let o = open_is (slice_get nodes e.at) e.serial opened in slice_get_within nodes e.at o.node o.is
 
 -- what an open entry tells
 open_tells : (o : Option Node) (serial : ℕ) → (x : IsOpen o serial) → told_of o serial ≡ transaction_of_node x.node ∷ []

@@ -119,7 +119,11 @@ sorted_tree begun root rows trees numbered =
       order = preorder_row tree (rising_differ rows root 0 begun tree trees.forest numbered (rising_filter (λ (r : Row). eqb r.root root) 0 begun rows trees.rising) ins);
     }
 
-before_one_way : (a b : Row) → Before a b → Before b a → ⊥
+-- the rows of a tree in preorder are in their strict order
+pub tree_in_row : (begun root : ℕ) (rows : List Row) → AreTrees begun rows → AreNumbered rows → InRow Before (rows_in_preorder (rows_below root rows))
+tree_in_row begun root rows trees numbered = (sorted_tree begun root rows trees numbered).order
+
+pub before_one_way : (a b : Row) → Before a b → Before b a → ⊥
 before_one_way a b e f = less_one_way a.path b.path e f
 
 -- what was visited are rows of the tree

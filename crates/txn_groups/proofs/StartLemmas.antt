@@ -1,9 +1,10 @@
 -- A transaction that begins: its node, its entry and the index.
-use Rattle.std.proofs.Common.{◌≡◌, ◌≢◌, ◌+◌, ◌<◌, ⊎_elim, inl, inr, ℕ, Bool, eqb, cond, Option, Some, List, [], ◌∷◌, ◌++◌, refl, ap, sym, ◌∙◌, subst, arith}
+use Rattle.std.proofs.Common.{◌≡◌, ◌≢◌, ◌+◌, ◌<◌, ◌≤◌, ⊎_elim, inl, inr, ℕ, Bool, eqb, cond, Option, Some, List, [], ◌∷◌, ◌++◌, length, refl, ap, sym, ◌∙◌, subst, arith}
 use Rattle.std.proofs.lemmas.Bool.{eqb-true, eqb-false}
 use Rattle.std.proofs.lemmas.List.{length_push}
 use Rattle.txn_rows.specs.declared.rows.Row.{Row}
 use Rattle.txn_rows.specs.Transaction.{Transaction}
+use Rattle.txn_rows.specs.Trees.{Rising}
 use Rattle.txn_rows.specs.Grouping.{State, with_new}
 use Rattle.txn_rows.proofs.LineLemmas.{by_cases, row_of_serial}
 use Rattle.txn_rows.proofs.StandLemmas.{found_under}
@@ -123,3 +124,11 @@ begin_went vxid at p q mid held place changed put order_is updated begun_is time
           ∙ told.told
           ∙ ap {B = State} (λ (ts : List Transaction). with_new vxid (record { pending = ts; begun = p.begun; time = p.time })) (sym (tells p.begun old p.order.items rows held.are));
     }
+
+rising_length : (low high : ℕ) (rows : List Row) → Rising low high rows → low + length rows ≤ high
+rising_length low high [] rising = omega (arith, rising)
+rising_length low high (row ∷ rows) rising = omega (arith, rising.0, rising_length (row.serial + 1) high rows rising.1)
+
+-- no more are pending than began
+pub rows_begun : (p : Pending) → IsHeld p → p.rows ≤ p.begun
+rows_begun p held = omega (arith, held.counted, rising_length 0 p.begun held.stand held.are.trees.rising)

@@ -1,16 +1,17 @@
 -- The nodes of visits are taken out one after the other.
 use Rattle.std.proofs.Common.{◌≡◌, ◌≢◌, ◌+◌, ◌<◌, ◌≤◌, ⊎_elim, inl, inr, ℕ, zero, suc, Option, Some, List, [], ◌∷◌, ◌++◌, length, take, get_or, refl, ap, sym, ◌∙◌, subst, arith}
 use Rattle.std.specs.Prelude.{slice_get}
-use Rattle.std.proofs.lemmas.List.{length_push, append-nil}
+use Rattle.std.proofs.lemmas.List.{length_push, length-take-le, append-nil}
 use Rattle.txn_rows.specs.declared.group.Member.{Member}
 use Rattle.txn_groups.specs.declared.node.Node.{Node}
 use Rattle.txn_groups.specs.declared.pending.Pending.{Pending}
 use Rattle.txn_groups.specs.declared.walk.Visit.{Visit}
+use Rattle.txn_groups.specs.inside.Nodes.{StandsAt}
 use Rattle.txn_groups.specs.inside.Kin.{unlinked, AreKin}
 use Rattle.txn_groups.specs.inside.Walked.{member_at, members_of}
 use Rattle.txn_groups.specs.inside.Indexed.{IsIndex}
 use Rattle.txn_groups.specs.inside.Places.{AreFree}
-use Rattle.txn_groups.specs.inside.Taken.{ComesTo, IsNodeTaken, AreTaken}
+use Rattle.txn_groups.specs.inside.Taken.{ComesTo, IsStanding, AreStanding, IsNodeTaken, AreTaken}
 use Rattle.txn_groups.proofs.KinLemmas.{taken_out}
 
 relinked_again : (x y z : Node) → y ≡ record x { older = y.older; newer = y.newer } → z ≡ record y { older = z.older; newer = z.newer } → z ≡ record x { older = z.older; newer = z.newer }
@@ -109,3 +110,37 @@ take_whole (v ∷ visits) (suc i) h = ap (λ (vs : List Visit). v ∷ vs) (take_
 
 pub taken_whole : (p q : Pending) (visits : List Visit) (i : ℕ) (group : List Member) → length visits ≤ i → AreTaken p q (take i visits) group → AreTaken p q visits group
 taken_whole p q visits i group all are = subst (λ (vs : List Visit). AreTaken p q vs group) (take_whole visits i all) are
+
+comes_at : (visits : List Visit) (i : ℕ) (v : Visit) → i < length visits → v ≡ get_or visits i v → ComesTo visits v.at
+comes_at [] i v within is = absurd (omega (arith, within))
+comes_at (w ∷ visits) zero v within is = inl (ap (λ (u : Visit). u.at) (sym is))
+comes_at (w ∷ visits) (suc i) v within is = inr (comes_at visits i v (omega (arith, within)) is)
+
+-- the node of a visit stands, and no visit before it comes to its place
+pub standing_at : (nodes : List Node) (visits : List Visit) (i : ℕ) (v : Visit) → i < length visits → v ≡ get_or visits i v → AreStanding nodes visits → IsStanding nodes (take i visits) v
+standing_at nodes [] i v within is all = absurd (omega (arith, within))
+standing_at nodes (w ∷ visits) zero v within is all = record { node = all.0.node; there = subst (λ (u : Visit). StandsAt nodes u.at all.0.node) (sym is) all.0.there; once = λ n. n }
+standing_at nodes (w ∷ visits) (suc i) v within is all =
+    let inside : i < length visits = omega (arith, within) in
+    let later = standing_at nodes visits i v inside is all.1 in
+    record {
+      node = later.node;
+      there = later.there;
+      once = λ comes. ⊎_elim
+          (λ (e : w.at ≡ v.at). all.0.once (subst (ComesTo visits) (sym e) (comes_at visits i v inside is)))
+          (λ (before : ComesTo (take i visits) v.at). later.once before)
+          comes;
+    }
+
+-- the node of a visit stands, and is counted
+pub record CanTake (p : Pending) (v : Visit) : Type 0 where
+  pub node : Node
+  pub there : StandsAt p.nodes.items v.at node
+  pub some : 0 < p.rows
+
+-- after those of the visits before it were taken out, it still does
+pub can_take : (p q : Pending) (visits : List Visit) (i : ℕ) (v : Visit) (group : List Member) → i < length visits → v ≡ get_or visits i v → AreStanding p.nodes.items visits → length visits ≤ p.rows → AreTaken p q (take i visits) group → CanTake q v
+can_take p q visits i v group within is all few taken =
+    let s = standing_at p.nodes.items visits i v within is all in
+    let now = taken.remain v.at s.node s.there s.once in
+    record { node = now.node; there = now.there; some = omega (arith, within, few, taken.rows, length-take-le i visits (omega (arith, within))) }

@@ -1,5 +1,5 @@
 -- Where the nodes of a walk over a tree were taken out, the tree has left.
-use Rattle.std.proofs.Common.{◌≡◌, ◌+◌, ◌<◌, ⊎_elim, inl, inr, ℕ, Bool, true, false, not, eqb, Option, Some, None, List, [], ◌∷◌, ◌++◌, length, map, refl, ap, sym, ◌∙◌, subst, arith}
+use Rattle.std.proofs.Common.{◌≡◌, ◌+◌, ◌<◌, ◌≤◌, ⊎_elim, inl, inr, ℕ, Bool, true, false, not, eqb, Option, Some, None, List, [], ◌∷◌, ◌++◌, length, map, refl, ap, sym, ◌∙◌, subst, arith}
 use Rattle.std.specs.Prelude.{slice_get}
 use Rattle.std.proofs.lemmas.Bool.{eqb-true, eq-eqb}
 use Rattle.std.proofs.lemmas.List.{append-nil}
@@ -27,15 +27,16 @@ use Rattle.txn_groups.specs.inside.Nodes.{IsIn, StandsAt, AreNodes}
 use Rattle.txn_groups.specs.inside.Linked.{NodeAt}
 use Rattle.txn_groups.specs.inside.Left.{AreLeft}
 use Rattle.txn_groups.specs.inside.Walked.{IsTopAt, IsVisit, Visits, AreVisits, member_at, members_of, visited_group}
-use Rattle.txn_groups.specs.inside.Taken.{ComesTo, AreTaken}
+use Rattle.txn_groups.specs.inside.Taken.{ComesTo, AreStanding, AreTaken}
 use Rattle.txn_groups.specs.inside.Held.{HoldsRows}
 use Rattle.txn_groups.specs.inside.Marked.{AreMarked}
 use Rattle.txn_groups.specs.inside.Leaves.{AreHanded, LeavesAs}
-use Rattle.txn_groups.proofs.SetLemmas.{AllOf, all_at}
-use Rattle.txn_groups.proofs.PreorderLemmas.{all_preorder, in_preorder, length_preorder}
+use Rattle.txn_groups.proofs.SetLemmas.{AllOf, InRow, all_at}
+use Rattle.txn_groups.proofs.PreorderLemmas.{all_preorder, in_preorder, length_preorder, tree_in_row, before_one_way}
+use Rattle.txn_groups.proofs.StackLemmas.{Before}
 use Rattle.txn_groups.proofs.LeftLemmas.{root_found, nodes_left}
 use Rattle.txn_groups.proofs.LeaveLemmas.{leaves_as, stays_as}
-use Rattle.txn_groups.proofs.FoundLemmas.{same_node}
+use Rattle.txn_groups.proofs.FoundLemmas.{same_node, none_there}
 use Rattle.txn_groups.proofs.EndMarksLemmas.{taken_keeps, same_keep}
 
 -- a row that is found is in the list
@@ -99,6 +100,36 @@ as_many nodes rows [] (v ∷ visits) all = absurd all
 as_many nodes rows (r ∷ tree) [] all = absurd all
 as_many nodes rows (r ∷ tree) (v ∷ visits) all = omega (arith, as_many nodes rows tree visits all.1)
 
+-- the nodes of rows in their strict order stand, each at another place
+stand_in_row : (nodes : List Node) (rows tree : List Row) (visits : List Visit) → InRow Before tree → Visits nodes rows tree visits → AreStanding nodes visits
+stand_in_row nodes rows [] [] o all = tt
+stand_in_row nodes rows [] (v ∷ visits) o all = absurd all
+stand_in_row nodes rows (r ∷ tree) [] o all = absurd all
+stand_in_row nodes rows (r ∷ tree) (v ∷ visits) o all = (
+  record {
+    node = all.0.node;
+    there = all.0.there;
+    once = λ comes.
+        let u = visit_of_row nodes rows tree visits v.at all.1 comes in
+        let same : u.is.node ≡ all.0.node = same_node nodes v.at u.is.node all.0.node (subst (λ (n : ℕ). StandsAt nodes n u.is.node) u.here u.is.there) all.0.there.here in
+        let one : Some u.row ≡ Some r = sym u.is.found ∙ ap (λ (n : Node). row_of n.serial rows) same ∙ all.0.found in
+        let is : u.row ≡ r = (cc) in
+        let self : Before r r = subst (Before r) is (all_at (Before r) tree u.row o.0 u.inside) in
+        before_one_way r r self self;
+  },
+  stand_in_row nodes rows tree visits o.1 all.1,
+)
+
+-- the nodes of the visits of a tree stand, each at another place
+pub visits_stand : (begun root : ℕ) (nodes : List Node) (order : List Entry) (rows : List Row) (visits : List Visit) → AreNodes begun nodes order rows → AreVisits nodes rows root visits → AreStanding nodes visits
+visits_stand begun root nodes order rows visits are all = stand_in_row nodes rows (rows_in_preorder (rows_below root rows)) visits (tree_in_row begun root rows are.trees are.numbered) all
+
+-- and are no more than all that are counted
+pub visits_few : (root : ℕ) (p : Pending) (rows : List Row) (visits : List Visit) → HoldsRows p rows → AreVisits p.nodes.items rows root visits → length visits ≤ p.rows
+visits_few root p rows visits hold all =
+    let parts = length-filter_both (λ (r : Row). eqb r.root root) (λ (r : Row). not (eqb r.root root)) (λ r. refl) rows in
+    omega (arith, as_many p.nodes.items rows (rows_in_preorder (rows_below root rows)) visits all, length_preorder (rows_below root rows), parts, hold.counted)
+
 -- the nodes of the tree stand no more
 tree_left : (begun root : ℕ) (p q : Pending) (order : List Entry) (rows : List Row) (visits : List Visit) (group : List Member) → AreNodes begun p.nodes.items order rows → AreVisits p.nodes.items rows root visits → AreTaken p q visits group → AreLeft p.nodes.items q.nodes.items rows root
 tree_left begun root p q order rows visits group are all taken =
@@ -132,6 +163,14 @@ rows_left root p q rows visits group hold all taken =
       free = taken.free;
       counted = omega (arith, count, length_preorder (rows_below root rows), parts, taken.rows, hold.counted);
     }
+
+-- the first visit comes to a node
+pub first_there : (nodes : List Node) (visits : List Visit) (v : Visit) → slice_get visits 0 ≡ Some v → AreStanding nodes visits → slice_get nodes v.at ≡ None → ⊥
+first_there nodes [] v first all past = absurd (let f : None ≡ Some v = first in cc)
+first_there nodes (w ∷ visits) v first all past =
+    let same : Some w ≡ Some v = first in
+    let is : w ≡ v = (cc) in
+    none_there nodes w.at all.0.node all.0.there (ap (λ (u : Visit). slice_get nodes u.at) is ∙ past)
 
 -- who leads the group of visits
 pub led_by : (nodes : List Node) (visits : List Visit) (v : Visit) (x : Node) → slice_get visits 0 ≡ Some v → slice_get nodes v.at ≡ Some x → is_session x.kind ≡ is_led_by_session (members_of nodes visits)

@@ -205,9 +205,8 @@ no_nodes_went p nodes order index free begun time rows = record {
 }
 
 -- whether the oldest transaction that has not ended is one of those, by what was read of its node
-pub oldest_met : (which : Which) (p : Pending) (at : ℕ) (x : Node) (met : Bool) (nodes : List Node) → (o : OldestAt p at) → nodes ≡ p.nodes.items → at < length nodes → x ≡ get_or nodes at x →
+pub oldest_met : (which : Which) (p : Pending) (at : ℕ) (x : Node) (met : Bool) → (o : OldestAt p at) → at < length p.nodes.items → x ≡ get_or p.nodes.items at x →
     ((t : Transaction) → t.ended ≡ x.ended → t.time ≡ x.time → met ≡ test_of which t) → met ≡ test_of which (transaction_of_node o.node)
-oldest_met which p at x met nodes o are within read is =
-    let here : slice_get nodes at ≡ Some x = slice_get_read nodes (length nodes) at x refl within read in
-    let same : o.node ≡ x = same_node p.nodes.items at o.node x o.there (ap (λ (xs : List Node). slice_get xs at) (sym are) ∙ here) in
+oldest_met which p at x met o within read is =
+    let same : o.node ≡ x = same_node p.nodes.items at o.node x o.there (slice_get_read p.nodes.items (length p.nodes.items) at x refl within read) in
     is (transaction_of_node o.node) (ap (λ (n : Node). n.ended) same) (ap (λ (n : Node). n.time) same)

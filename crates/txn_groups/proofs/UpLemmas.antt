@@ -1,8 +1,9 @@
 -- Where nodes lead up after a link, and the last node of each tree.
-use Rattle.std.proofs.Common.{◌≡◌, ◌≢◌, ◌+◌, ◌<◌, ◌≤◌, ◌⊎◌, ⊎_elim, inl, inr, ℕ, Bool, true, false, not, eqb, cond, ◌&&◌, Some, List, [], ◌∷◌, map, refl, ap, sym, ◌∙◌, subst, arith}
+use Rattle.std.proofs.Common.{◌≡◌, ◌≢◌, ◌+◌, ◌<◌, ◌≤◌, ◌⊎◌, ⊎_elim, inl, inr, ℕ, Bool, true, false, not, eqb, cond, ◌&&◌, Some, List, [], ◌∷◌, length, map, refl, ap, sym, ◌∙◌, subst, arith}
 use Rattle.std.specs.Prelude.{count_by}
 use Rattle.std.proofs.lemmas.Bool.{eqb-true, eqb-false, eq-eqb, ne_eqb}
-use Rattle.std.proofs.lemmas.List.Sums.{sum_by-cons}
+use Rattle.std.proofs.lemmas.List.{length-map}
+use Rattle.std.proofs.lemmas.List.Sums.{sum_by-cons, count_by-le-length}
 use Rattle.txn_rows.specs.declared.rows.Row.{Row}
 use Rattle.txn_rows.specs.declared.join.Join.{Join}
 use Rattle.txn_rows.specs.declared.group.ParentLink.{ParentLink}
@@ -75,6 +76,16 @@ all_kept join = (λ row b. refl, λ row. refl)
 
 unended_kept : (join : Join) → Kept join in_unended
 unended_kept join = (λ row b. ap (λ (e : Bool). b && not e) (joined_ended join row), λ row. refl)
+
+-- two trees have no more such rows than there are
+both_within : (join : Join) (g : Row → Bool → Bool) → Kept join g → eqb join.root join.child ≡ false → (rows : List Row) → count_by (λ (r : Row). g r (eqb r.root join.root)) rows + count_by (λ (r : Row). g r (eqb r.root join.child)) rows ≤ length rows
+both_within join g kept apart rows = omega (arith, count_two join g kept apart rows, count_by-le-length (λ (r : Row). g r (eqb r.root join.root)) (map (joined join) rows), length-map rows (joined join))
+
+pub sizes_within : (join : Join) → eqb join.root join.child ≡ false → (rows : List Row) → count_by (λ (r : Row). eqb r.root join.root) rows + count_by (λ (r : Row). eqb r.root join.child) rows ≤ length rows
+sizes_within join apart rows = both_within join in_all (all_kept join) apart rows
+
+pub unended_within : (join : Join) → eqb join.root join.child ≡ false → (rows : List Row) → count_by (λ (r : Row). (eqb r.root join.root) && not r.ended) rows + count_by (λ (r : Row). (eqb r.root join.child) && not r.ended) rows ≤ length rows
+unended_within join apart rows = both_within join in_unended (unended_kept join) apart rows
 
 -- no tree has fewer rows
 tree_grows : (join : Join) → eqb join.root join.child ≡ false → (row : Row) (rows : List Row) → count_by (λ (r : Row). eqb r.root row.root) rows ≤ count_by (λ (r : Row). eqb r.root (joined join row).root) (map (joined join) rows)

@@ -1,14 +1,16 @@
 //! What queries say of the group of a tree, by the marks that its nodes keep.
 
-ghost use Rattle.std.specs.Prelude.{◌≡◌, ◌++◌, Some, List, IfOk, OnOk, slice_get};
+ghost use Rattle.std.specs.Prelude.{◌≡◌, ◌++◌, Some, List, IfOk, slice_get};
 ghost use Rattle.txn_rows.specs.declared.group.Member.{Member};
 ghost use Rattle.query_eval.specs.Meaning.{is_held};
 ghost use Rattle.query_eval.specs.Marks.{answer_of};
+ghost use Rattle.txn_groups.specs.declared.node.Node.{Node as AsNode};
+ghost use Rattle.txn_groups.specs.inside.Nodes.{StandsAt};
 ghost use Rattle.txn_groups.specs.inside.Marked.{IsMarkedFor, AreMarkedFor};
+ghost use Rattle.txn_groups.specs.inside.Taken.{AreStanding};
 ghost use Rattle.txn_groups.specs.inside.Walked.{member_at, visited_group};
 
 use crate::node::Node;
-use crate::take_node::level_of;
 use crate::walk::Visit;
 use log_model::NoMemory;
 use query_eval::Answer;
@@ -26,27 +28,15 @@ fn add_member(answer: &mut Answer, query: &Query, place: usize, node: &Node, lev
     }
 }
 
-/// Adds the member of a visit. That no node stands there counts as want of memory; it does not come to pass where a tree
-/// is walked.
-fn add_visit(
-    answer: &mut Answer,
-    query: &Query,
-    place: usize,
-    nodes: &[Node],
-    visit: Visit,
-) -> Result<(), NoMemory>
-    ensures { (members : List Member) → AreMarkedFor query.now place nodes.now → answer.old ≡ answer_of query.now members →
-        OnOk result (answer.new ≡ answer_of query.now (members ++ member_at (slice_get nodes.now visit.at) visit.level)) }
+/// Adds the member of a visit, where a node stands there.
+fn add_visit(answer: &mut Answer, query: &Query, place: usize, nodes: &[Node], visit: Visit)
+    ensures { (x : AsNode) (members : List Member) → StandsAt nodes.now visit.at x → AreMarkedFor query.now place nodes.now → answer.old ≡ answer_of query.now members →
+        answer.new ≡ answer_of query.now (members ++ member_at (slice_get nodes.now visit.at) visit.level) }
 {
     let Some(node) = nodes.get(visit.at) else {
-        return Err(NoMemory);
+        return;
     };
-    if !node.stands {
-        return Err(NoMemory);
-    }
-    let level = level_of(visit.level)?;
-    add_member(answer, query, place, node, level);
-    Ok(())
+    add_member(answer, query, place, node, visit.level);
 }
 
 /// Whether the query at a place holds for the group of the nodes of visits.
@@ -57,11 +47,11 @@ pub fn answer_at(
     nodes: &[Node],
     visits: &[Visit],
 ) -> Result<bool, NoMemory>
-    ensures { AreMarkedFor query.now place nodes.now → IfOk result (λ b. b ≡ is_held query.now (visited_group nodes.now visits.now)) }
+    ensures { AreStanding nodes.now visits.now → AreMarkedFor query.now place nodes.now → IfOk result (λ b. b ≡ is_held query.now (visited_group nodes.now visits.now)) }
 {
     let mut answer = Answer::new(alloc, query)?;
     for i in 0..visits.len() {
-        add_visit(&mut answer, query, place, nodes, visits[i])?;
+        add_visit(&mut answer, query, place, nodes, visits[i]);
     }
     Ok(answer.value(query))
 }

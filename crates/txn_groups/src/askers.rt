@@ -6,6 +6,7 @@ ghost use Rattle.query_eval.specs.Asker.{asker_query};
 ghost use Rattle.query_eval.specs.Meaning.{is_held};
 ghost use Rattle.txn_groups.specs.inside.Marked.{queries_of, marks_for, AreMarked, AreMarksOf};
 ghost use Rattle.txn_groups.specs.inside.Walked.{visited_group};
+ghost use Rattle.txn_groups.specs.inside.Taken.{AreStanding};
 
 use crate::answers::answer_at;
 use crate::marks::RowMarks;
@@ -98,7 +99,7 @@ impl<'q> Askers<'q> {
 
     /// Whether each query holds for the group of the nodes of visits, by the marks that they keep.
     pub(crate) fn answers(&self, nodes: &[Node], visits: &[Visit]) -> Result<Truths, NoMemory>
-        ensures { AreMarked (queries_of self.now) nodes.now → IfOk result (λ truths. truths ≡ map (λ query. is_held query (visited_group nodes.now visits.now)) (queries_of self.now)) }
+        ensures { AreStanding nodes.now visits.now → AreMarked (queries_of self.now) nodes.now → IfOk result (λ truths. truths ≡ map (λ query. is_held query (visited_group nodes.now visits.now)) (queries_of self.now)) }
     {
         let mut truths = Vec::with_capacity(self.alloc, self.all.len())?;
         for i in 0..self.all.len() {

@@ -20,8 +20,7 @@ use query_eval::Chosen;
 use std::alloc::Global;
 use txn_rows::Grouping;
 
-/// The newest node of a VXID ends, and may complete a group. That it has ended already counts as want of memory; it does
-/// not come to pass, since a record goes to a transaction that has not ended.
+/// The newest node of a VXID ends, where it hasn't yet, and may complete a group.
 pub fn end_row(
     alloc: Global,
     grouping: Grouping,
@@ -36,10 +35,10 @@ pub fn end_row(
         OnOk result (AreMarked queries pending.new.nodes.items) }
     ensures err { OnErr result (out.new.items ≡ out.old.items) }
 {
-    if is_ended(&pending.nodes, at) {
-        return Err(NoMemory);
-    }
     let last = last_of(&pending.nodes, pending.rows, at);
+    if is_ended(&pending.nodes, at) {
+        return leave(alloc, grouping, pending, last, askers, out);
+    }
     end_node(&mut pending.nodes, at, last);
     leave(alloc, grouping, pending, last, askers, out)
 }

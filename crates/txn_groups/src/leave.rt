@@ -1,6 +1,6 @@
 //! Trees that leave as groups.
 
-ghost use Rattle.std.specs.Prelude.{◌≡◌, ℕ, List, IfOk, OnOk, OnErr};
+ghost use Rattle.std.specs.Prelude.{◌≡◌, ◌≤◌, ℕ, List, length, OnOk, OnErr};
 ghost use Rattle.txn_rows.specs.declared.rows.Row.{Row};
 ghost use Rattle.txn_rows.specs.Grouping.{is_session, is_led_by_session, is_reported};
 ghost use Rattle.query_parser.specs.declared.query.Query.{Query as AsQuery};
@@ -10,6 +10,7 @@ ghost use Rattle.txn_groups.specs.inside.Kin.{AreKin};
 ghost use Rattle.txn_groups.specs.inside.Indexed.{IsIndex};
 ghost use Rattle.txn_groups.specs.inside.Places.{AreFree};
 ghost use Rattle.txn_groups.specs.inside.Walked.{members_of, visited_group};
+ghost use Rattle.txn_groups.specs.inside.Taken.{AreStanding};
 ghost use Rattle.txn_groups.specs.inside.Held.{HoldsRows};
 ghost use Rattle.txn_groups.specs.inside.Marked.{queries_of, AreMarked};
 ghost use Rattle.txn_groups.specs.inside.Leaves.{AreHanded, LeavesAs};
@@ -31,27 +32,26 @@ fn is_session(kind: Kind) -> bool
     kind == Kind::Session
 }
 
-/// Whether the first of visits comes to a session. That no node is there counts as want of memory; it does not come to
-/// pass where a tree is walked.
-fn is_led_by_session(nodes: &[Node], visits: &[Visit]) -> Result<bool, NoMemory>
-    ensures { IfOk result (λ b. b ≡ is_led_by_session (members_of nodes.now visits.now)) }
+/// Whether the first of visits comes to a session.
+fn is_led_by_session(nodes: &[Node], visits: &[Visit]) -> bool
+    ensures { AreStanding nodes.now visits.now → result ≡ is_led_by_session (members_of nodes.now visits.now) }
 {
     let Some(root) = visits.first() else {
-        return Ok(false);
+        return false;
     };
     let Some(node) = nodes.get(root.at) else {
-        return Err(NoMemory);
+        return false;
     };
-    Ok(is_session(node.kind))
+    is_session(node.kind)
 }
 
 /// Whether the group of the nodes of visits is reported: request grouping does not report sessions.
-fn is_reported(grouping: Grouping, nodes: &[Node], visits: &[Visit]) -> Result<bool, NoMemory>
-    ensures { IfOk result (λ b. b ≡ is_reported grouping (visited_group nodes.now visits.now)) }
+fn is_reported(grouping: Grouping, nodes: &[Node], visits: &[Visit]) -> bool
+    ensures { AreStanding nodes.now visits.now → result ≡ is_reported grouping (visited_group nodes.now visits.now) }
 {
     match grouping {
-        Grouping::Request => Ok(!is_led_by_session(nodes, visits)?),
-        _ => Ok(true),
+        Grouping::Request => !is_led_by_session(nodes, visits),
+        _ => true,
     }
 }
 
@@ -64,11 +64,11 @@ fn hand_out(
     askers: &Askers<'_>,
     out: &mut Vec<Chosen>,
 ) -> Result<(), NoMemory>
-    ensures ok { AreMarked (queries_of askers.now) pending.old.nodes.items → AreKin pending.old.nodes.items → IsIndex pending.old.nodes.items pending.old.index → AreFree pending.old.nodes.items pending.old.free.items →
+    ensures ok { AreStanding pending.old.nodes.items visits.now → length visits.now ≤ pending.old.rows → AreMarked (queries_of askers.now) pending.old.nodes.items → AreKin pending.old.nodes.items → IsIndex pending.old.nodes.items pending.old.index → AreFree pending.old.nodes.items pending.old.free.items →
         OnOk result (AreHanded (chosen (queries_of askers.now)) grouping pending.old pending.new visits.now out.old.items out.new.items) }
     ensures err { OnErr result (out.new.items ≡ out.old.items) }
 {
-    if !is_reported(grouping, &pending.nodes, visits)? {
+    if !is_reported(grouping, &pending.nodes, visits) {
         let _ = take_visits(alloc, pending, visits)?;
         return Ok(());
     }
@@ -94,7 +94,7 @@ pub fn leave(
     ensures err { OnErr result (out.new.items ≡ out.old.items) }
 {
     let Some(node) = pending.nodes.get(last) else {
-        return Err(NoMemory);
+        return Ok(());
     };
     if node.unended > 0 {
         return Ok(());

@@ -1,11 +1,10 @@
 //! Linking a child to its parent.
 
-ghost use Rattle.std.specs.Prelude.{◌≡◌, ◌+◌, ◌==◌, ◌&&◌, if◌then◌else◌, is_none, Some, OnOk};
-ghost use Rattle.txn_groups.specs.inside.Linked.{AreLinked, is_place, linked_node};
+ghost use Rattle.std.specs.Prelude.{◌==◌, ◌&&◌, if◌then◌else◌, is_none, Some};
+ghost use Rattle.txn_groups.specs.inside.Linked.{AreJoined, is_place};
 ghost use Rattle.txn_groups.specs.inside.Retold.{AreChanged};
 
 use crate::node::Node;
-use log_model::NoMemory;
 use txn_rows::ParentLink;
 
 /// What joins the tree of a node to another: the child that has no parent yet, the parent, and the link.
@@ -14,6 +13,8 @@ pub struct Linking {
     pub below: usize,
     pub above: usize,
     pub link: ParentLink,
+    /// How many children the parent has from then on.
+    pub children: u64,
     /// The last child that the parent had.
     pub elder: Option<usize>,
     /// The last nodes of the two trees: that of fewer nodes, and that of more, with what it tells from then on.
@@ -34,21 +35,17 @@ fn set_link(nodes: &mut Vec<Node>, l: Linking)
 }
 
 /// The parent has one child more, which is its last.
-fn set_children(nodes: &mut Vec<Node>, l: Linking) -> Result<(), NoMemory>
-    ensures { OnOk result (AreChanged (λ at x. record x { children = if at == l.above then x.children + 1 else x.children; first = if (at == l.above) && is_none l.elder then Some l.below else x.first; last = if at == l.above then Some l.below else x.last }) nodes.old.items nodes.new.items) }
+fn set_children(nodes: &mut Vec<Node>, l: Linking)
+    ensures { AreChanged (λ at x. record x { children = if at == l.above then l.children else x.children; first = if (at == l.above) && is_none l.elder then Some l.below else x.first; last = if at == l.above then Some l.below else x.last }) nodes.old.items nodes.new.items }
 {
     if l.above < nodes.len() {
         let node = &mut nodes[l.above];
-        if node.children == u64::MAX {
-            return Err(NoMemory);
-        }
-        node.children += 1;
+        node.children = l.children;
         node.last = Some(l.below);
         if l.elder.is_none() {
             node.first = Some(l.below);
         }
     }
-    Ok(())
 }
 
 /// The child that the parent got last leads to the new one.
@@ -84,13 +81,12 @@ fn set_last(nodes: &mut Vec<Node>, l: Linking)
 }
 
 /// Links the child to its parent, and joins their trees.
-pub fn link_nodes(nodes: &mut Vec<Node>, l: Linking) -> Result<(), NoMemory>
-    ensures { OnOk result (AreLinked l nodes.old.items nodes.new.items) }
+pub fn link_nodes(nodes: &mut Vec<Node>, l: Linking)
+    ensures { AreJoined l nodes.old.items nodes.new.items }
 {
-    set_children(nodes, l)?;
+    set_children(nodes, l);
     set_link(nodes, l);
     set_next(nodes, l);
     set_up(nodes, l);
     set_last(nodes, l);
-    Ok(())
 }

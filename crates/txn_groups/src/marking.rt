@@ -1,6 +1,6 @@
 //! Records that are added to the marks of nodes.
 
-ghost use Rattle.std.specs.Prelude.{◌≡◌, ◌++◌, [], ◌∷◌, List, IfOk, OnOk};
+ghost use Rattle.std.specs.Prelude.{◌≡◌, ◌<◌, ◌++◌, [], ◌∷◌, List, length, IfOk, OnOk};
 ghost use Rattle.vsl_record.specs.declared.record_type.Record.{Record};
 ghost use Rattle.txn_rows.specs.Transaction.{Transaction, forced};
 ghost use Rattle.txn_groups.specs.declared.node.Node.{Node as AsNode};
@@ -69,8 +69,7 @@ fn forced_records(
     Ok(more)
 }
 
-/// Adds the records that a force-completion gives the node at a place to its marks. That no node is there counts as want
-/// of memory; it does not come to pass.
+/// Adds the records that a force-completion gives the node at a place to its marks.
 pub fn mark_forced(
     alloc: Global,
     nodes: &mut Vec<Node>,
@@ -78,12 +77,11 @@ pub fn mark_forced(
     place: usize,
     cause: Cause,
 ) -> Result<(), NoMemory>
+    requires { place < length nodes.old.items }
     ensures marks { (x : AsNode) → StandsAt nodes.old.items place x → AreMarksOf (queries_of askers.old) x.records x.marks → OnOk result (AreChanged (remarked place (marks_for (queries_of askers.old) (forced cause (transaction_of_node x)).records)) nodes.old.items nodes.new.items) }
     ensures same { queries_of askers.new ≡ queries_of askers.old }
 {
-    let Some(node) = nodes.get(place) else {
-        return Err(NoMemory);
-    };
+    let node = &nodes[place];
     let more = forced_records(alloc, &node.records.view(), cause)?;
     mark_at(nodes, askers, place, &more.view())
 }

@@ -1,6 +1,6 @@
 //! The oldest transaction that has not ended.
 
-ghost use Rattle.std.specs.Prelude.{◌≡◌, ◌≤◌, ℕ, false, length, take, Option, IfNone, IfSome};
+ghost use Rattle.std.specs.Prelude.{◌≡◌, ◌<◌, ◌≤◌, ℕ, false, length, take, Option, IfNone, IfSome};
 ghost use Rattle.std.specs.List.{find, list_any};
 ghost use Rattle.txn_rows.specs.Grouping.{is_unfinished};
 ghost use Rattle.txn_groups.specs.inside.Nodes.{EntriesRise};
@@ -22,7 +22,8 @@ fn count_below(order: &[Entry], low: u64) -> usize
 
 /// The first entry whose node still stands for it and has not ended.
 fn first_open(nodes: &[Node], order: &[Entry]) -> Option<Entry>
-    ensures { result ≡ find (is_open_at nodes.now) order.now }
+    ensures first { result ≡ find (is_open_at nodes.now) order.now }
+    ensures within { IfSome result (λ entry. entry.at < length nodes.now) }
 {
     for i in 0..order.len() {
         if is_open(nodes, order[i]) {
@@ -36,6 +37,7 @@ fn first_open(nodes: &[Node], order: &[Entry]) -> Option<Entry>
 pub fn oldest_unfinished(pending: &Pending, low: u64) -> Option<usize>
     ensures some { IsHeld pending.now → NoneBelow low (state_of pending.now) → IfSome result (λ at. OldestAt pending.now at) }
     ensures none { IsHeld pending.now → NoneBelow low (state_of pending.now) → IfNone result (list_any is_unfinished (state_of pending.now).pending ≡ false) }
+    ensures within { IfSome result (λ at. at < length pending.now.nodes.items) }
 {
     let below = count_below(&pending.order, low);
     let (_, order) = pending.order.split_at(below);
@@ -50,15 +52,14 @@ pub fn oldest_unfinished(pending: &Pending, low: u64) -> Option<usize>
 pub fn seek_oldest(pending: &Pending, low: &mut u64) -> Option<usize>
     ensures some { IsHeld pending.now → IsLow low.old (state_of pending.now) → IfSome result (λ at. OldestAt pending.now at) }
     ensures none { IsHeld pending.now → IsLow low.old (state_of pending.now) → IfNone result (list_any is_unfinished (state_of pending.now).pending ≡ false) }
+    ensures within { IfSome result (λ at. at < length pending.now.nodes.items) }
     ensures raised { IsHeld pending.now → IsLow low.old (state_of pending.now) → IsLow low.new (state_of pending.now) }
 {
     let Some(at) = oldest_unfinished(pending, *low) else {
         *low = pending.begun;
         return None;
     };
-    let Some(node) = pending.nodes.get(at) else {
-        return Some(at);
-    };
+    let node = &pending.nodes[at];
     *low = node.serial;
     Some(at)
 }

@@ -67,9 +67,7 @@ fn begin_node(alloc: Global, pending: &mut Pending, vxid: Vxid) -> Result<usize,
     if pending.begun == u64::MAX {
         return Err(NoMemory);
     }
-    let Some(rows) = pending.rows.checked_add(1) else {
-        return Err(NoMemory);
-    };
+    let rows = pending.rows.saturating_add(1);
     let serial = pending.begun;
     let at = take_place(&pending.nodes, &mut pending.free);
     let older = pending.index.newest(vxid);

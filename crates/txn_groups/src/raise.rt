@@ -1,7 +1,7 @@
 //! The log time, and the times at which pending transactions began.
 
 ghost use Rattle.std.specs.Prelude.{◌≡◌};
-ghost use Rattle.txn_rows.specs.Grouping.{timed, raised, with_time};
+ghost use Rattle.txn_rows.specs.Grouping.{timed, with_time};
 ghost use Rattle.txn_rows.specs.Times.{IsTimed};
 ghost use Rattle.txn_groups.specs.inside.Told.{node_told, told_at};
 ghost use Rattle.txn_groups.specs.inside.Retold.{AreChanged};
@@ -10,6 +10,7 @@ ghost use Rattle.txn_groups.specs.inside.Marked.{KeepMarks};
 
 use crate::node::Node;
 use crate::pending::Pending;
+use txn_rows::raised;
 
 /// Gives a node without a time one.
 fn time_node(node: &mut Node, now: Option<u128>)
@@ -35,17 +36,6 @@ fn time_nodes(nodes: &mut Vec<Node>, now: Option<u128>)
 {
     for i in 0..nodes.len() {
         time_at(nodes, i, now);
-    }
-}
-
-/// The later of two times.
-fn raised(told: Option<u128>, old: Option<u128>) -> Option<u128>
-    ensures { result ≡ raised told old }
-{
-    match (told, old) {
-        (Some(time), Some(old)) => { if old < time { Some(time) } else { Some(old) } }
-        (Some(time), None) => Some(time),
-        (None, old) => old,
     }
 }
 

@@ -1,13 +1,15 @@
 //! Taking nodes out of the pending ones.
 
-ghost use Rattle.std.specs.Prelude.{◌≡◌, if◌then◌else◌, IfOk, OnOk, slice_get};
+ghost use Rattle.std.specs.Prelude.{◌≡◌, ◌<◌, ◌≤◌, if◌then◌else◌, length, IfOk, OnOk, slice_get};
 ghost use Rattle.txn_rows.specs.Links.{parent_vxid};
+ghost use Rattle.txn_groups.specs.declared.node.Node.{Node as AsNode};
+ghost use Rattle.txn_groups.specs.inside.Nodes.{StandsAt};
 ghost use Rattle.txn_groups.specs.inside.Linked.{is_place};
 ghost use Rattle.txn_groups.specs.inside.Retold.{AreChanged};
 ghost use Rattle.txn_groups.specs.inside.Kin.{AreKin};
 ghost use Rattle.txn_groups.specs.inside.Indexed.{IsIndex, IsOutOfIndex};
 ghost use Rattle.txn_groups.specs.inside.Places.{AreFree};
-ghost use Rattle.txn_groups.specs.inside.Taken.{records_at, Frees, IsNodeTaken, AreTaken};
+ghost use Rattle.txn_groups.specs.inside.Taken.{records_at, Frees, TakesOut, AreStanding, AreTaken};
 
 use crate::index::Index;
 use crate::node::Node;
@@ -75,16 +77,6 @@ fn free_node(alloc: Global, nodes: &mut Vec<Node>, at: usize) -> Records
     Records::new(alloc)
 }
 
-/// A level as a group tells it. One that no `u32` holds counts as want of memory.
-pub fn level_of(level: usize) -> Result<u32, NoMemory>
-    ensures { IfOk result (λ l. l ≡ level) }
-{
-    if level > u32::MAX as usize {
-        return Err(NoMemory);
-    }
-    Ok(level as u32)
-}
-
 /// The VXID of a parent, or 0.
 fn parent_of(parent: Option<ParentLink>) -> u32
     ensures { result ≡ parent_vxid parent }
@@ -95,17 +87,20 @@ fn parent_of(parent: Option<ParentLink>) -> u32
     }
 }
 
-/// Takes the node of a visit out, as a member of its group. That none stands there counts as want of memory; it does
-/// not come to pass where a tree is walked.
-pub fn take_node(alloc: Global, pending: &mut Pending, visit: Visit) -> Result<Member, NoMemory>
-    ensures { AreKin pending.old.nodes.items → IsIndex pending.old.nodes.items pending.old.index → AreFree pending.old.nodes.items pending.old.free.items →
-        IfOk result (IsNodeTaken pending.old pending.new visit) }
+/// Takes the node of a visit out, as a member of its group, where one stands there.
+pub fn take_node(
+    alloc: Global,
+    pending: &mut Pending,
+    visit: Visit,
+) -> Result<Option<Member>, NoMemory>
+    ensures { (x : AsNode) → StandsAt pending.old.nodes.items visit.at x → 0 < pending.old.rows → AreKin pending.old.nodes.items → IsIndex pending.old.nodes.items pending.old.index → AreFree pending.old.nodes.items pending.old.free.items →
+        IfOk result (TakesOut pending.old pending.new visit) }
 {
     let Some(node) = pending.nodes.get(visit.at) else {
-        return Err(NoMemory);
+        return Ok(None);
     };
     if !node.stands {
-        return Err(NoMemory);
+        return Ok(None);
     }
     let vxid = node.vxid;
     let kind = node.kind;
@@ -113,24 +108,20 @@ pub fn take_node(alloc: Global, pending: &mut Pending, visit: Visit) -> Result<M
     let parent = parent_of(node.parent);
     let older = node.older;
     let newer = node.newer;
-    let level = level_of(visit.level)?;
-    let Some(rows) = pending.rows.checked_sub(1) else {
-        return Err(NoMemory);
-    };
     leave_index(&mut pending.index, vxid, older, newer)?;
     set_older_of(&mut pending.nodes, newer, older);
     set_newer_of(&mut pending.nodes, older, newer);
     let records = free_node(alloc, &mut pending.nodes, visit.at);
     pending.free.push(visit.at)?;
-    pending.rows = rows;
-    Ok(Member {
+    pending.rows = pending.rows.saturating_sub(1);
+    Ok(Some(Member {
         vxid,
         kind,
         reason,
-        level,
+        level: visit.level,
         parent,
         records,
-    })
+    }))
 }
 
 /// Takes the nodes of visits out, one after the other, as the members of a group.
@@ -139,12 +130,15 @@ pub fn take_visits(
     pending: &mut Pending,
     visits: &[Visit],
 ) -> Result<Members, NoMemory>
-    ensures { AreKin pending.old.nodes.items → IsIndex pending.old.nodes.items pending.old.index → AreFree pending.old.nodes.items pending.old.free.items →
+    ensures { AreStanding pending.old.nodes.items visits.now → length visits.now ≤ pending.old.rows → AreKin pending.old.nodes.items → IsIndex pending.old.nodes.items pending.old.index → AreFree pending.old.nodes.items pending.old.free.items →
         IfOk result (AreTaken pending.old pending.new visits.now) }
 {
     let mut members = Members::new(alloc);
     for i in 0..visits.len() {
-        let member = take_node(alloc, pending, visits[i])?;
+        let taken = take_node(alloc, pending, visits[i])?;
+        let Some(member) = taken else {
+            return Ok(members);
+        };
         members.push(member)?;
     }
     Ok(members)

@@ -128,7 +128,8 @@ impl<'q> Store for Trees<'q> {
         above: usize,
         parent: Vxid,
     ) -> Result<(), NoMemory> {
-        link_row(&mut self.pending, below, above)
+        link_row(&mut self.pending, below, above);
+        Ok(())
     }
 
     fn add_to(
@@ -169,7 +170,6 @@ impl<'q> Store for Trees<'q> {
         )
     }
 
-    /// That no node stands at the place that is told counts as want of memory; it does not come to pass.
     fn force_one(
         &mut self,
         grouping: Grouping,
@@ -180,9 +180,7 @@ impl<'q> Store for Trees<'q> {
         let Some(at) = seek_oldest(&self.pending, &mut self.low) else {
             return Ok(false);
         };
-        let Some(node) = self.pending.nodes.get(at) else {
-            return Err(NoMemory);
-        };
+        let node = &self.pending.nodes[at];
         if !which.is_met(node.ended, node.time) {
             return Ok(false);
         }

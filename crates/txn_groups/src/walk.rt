@@ -10,15 +10,15 @@ use crate::node::Node;
 use log_model::NoMemory;
 use std::alloc::Global;
 
-/// A node that a walk comes to, and its level, from 1 at the top.
+/// A node that a walk comes to, and its level, from 1 at the top, as a group tells it.
 #[derive(Clone, Copy, Drop)]
 pub struct Visit {
     pub at: usize,
-    pub level: usize,
+    pub level: u32,
 }
 
 /// Puts a node on the stack, where there is one.
-fn put_off(later: &mut Vec<Visit>, at: Option<usize>, level: usize) -> Result<(), NoMemory>
+fn put_off(later: &mut Vec<Visit>, at: Option<usize>, level: u32) -> Result<(), NoMemory>
     ensures { OnOk result (later.new.items ≡ later.old.items ++ visit_of at level) }
 {
     if let Some(at) = at {
@@ -27,8 +27,23 @@ fn put_off(later: &mut Vec<Visit>, at: Option<usize>, level: usize) -> Result<()
     Ok(())
 }
 
+/// Puts the first child of a node at a level on the stack, where there is one. That it is at a level that no `u32` holds
+/// counts as want of memory.
+fn put_below(later: &mut Vec<Visit>, first: Option<usize>, level: u32) -> Result<(), NoMemory>
+    ensures { OnOk result (later.new.items ≡ later.old.items ++ visit_of first (level + 1)) }
+{
+    let Some(at) = first else {
+        return Ok(());
+    };
+    let Some(below) = level.checked_add(1) else {
+        return Err(NoMemory);
+    };
+    later.push(Visit { at, level: below })?;
+    Ok(())
+}
+
 /// The nodes of a tree in preorder, from its top on: each node, then its first child, then the child that its parent
-/// got next. A level that no `usize` holds counts as want of memory.
+/// got next. A level that no `u32` holds counts as want of memory.
 pub fn walk(alloc: Global, nodes: &[Node], top: usize, size: usize) -> Result<Vec<Visit>, NoMemory>
     ensures { (begun root : ℕ) (order : List Entry) (rows : List Row) → AreNodes begun nodes.now order rows → IsTopAt nodes.now rows root size top → IfOk result (λ visits. AreVisits nodes.now rows root visits.items) }
 {
@@ -42,11 +57,8 @@ pub fn walk(alloc: Global, nodes: &[Node], top: usize, size: usize) -> Result<Ve
         let Some(node) = nodes.get(visit.at) else {
             return Ok(visits);
         };
-        if visit.level == usize::MAX {
-            return Err(NoMemory);
-        }
         put_off(&mut later, node.next, visit.level)?;
-        put_off(&mut later, node.first, visit.level + 1)?;
+        put_below(&mut later, node.first, visit.level)?;
         visits.push(visit)?;
     }
     Ok(visits)

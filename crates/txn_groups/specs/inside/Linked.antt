@@ -31,6 +31,14 @@ linked_node l at x = record x {
 abbrev pub AreLinked : Linking → List Node → List Node → Type 0
 AreLinked l old new = (at : ℕ) → slice_get new at ≡ option_map (linked_node l at) (slice_get old at)
 
+-- the same, where the join tells how many children the parent has from then on
+abbrev pub joined_node : Linking → ℕ → Node → Node
+joined_node l at x = record (linked_node l at x) { children = if at == l.above then l.children else x.children }
+
+-- the nodes are those after the join
+abbrev pub AreJoined : Linking → List Node → List Node → Type 0
+AreJoined l old new = (at : ℕ) → slice_get new at ≡ option_map (joined_node l at) (slice_get old at)
+
 -- a node and its row
 pub record NodeAt (nodes : List Node) (rows : List Row) (at : ℕ) : Type 0 where
   pub node : Node
@@ -56,6 +64,7 @@ pub record CanLink (nodes : List Node) (rows : List Row) (l : Linking) (join : J
   pub link : l.link ≡ join.link
   pub root_is : join.root ≡ parent.row.root
   pub path_is : join.path ≡ parent.row.path
+  pub children : l.children ≡ parent.node.children + 1
   pub elder : l.elder ≡ parent.node.last
   -- the trees differ, and their last nodes are these
   pub apart : (parent.row.root == child.node.serial) ≡ false

@@ -1,5 +1,5 @@
 -- A node that is taken out, and the place that it leaves.
-use Rattle.std.specs.Prelude.{◌≡◌, ◌≢◌, ℕ, ◌+◌, ◌⊎◌, List, [], ◌∷◌, length, Option, Some, None, slice_get}
+use Rattle.std.specs.Prelude.{◌≡◌, ◌≢◌, ℕ, ◌+◌, ◌⊎◌, List, [], ◌∷◌, length, ⊤, Option, Some, None, slice_get}
 use Rattle.vsl_record.specs.declared.record_type.Record.{Record}
 use Rattle.txn_rows.specs.declared.group.Member.{Member}
 use Rattle.txn_groups.specs.declared.node.Node.{Node}
@@ -38,10 +38,26 @@ pub record IsNodeTaken (old new : Pending) (visit : Visit) (member : Member) : T
   pub begun : new.begun ≡ old.begun
   pub time : new.time ≡ old.time
 
+-- the node of a visit was taken out as a member, and not none
+abbrev pub TakesOut : Pending → Pending → Visit → Option Member → Type 0
+TakesOut old new visit None = ⊥
+TakesOut old new visit (Some member) = IsNodeTaken old new visit member
+
 -- a visit of the list comes to this place
 abbrev pub ComesTo : List Visit → ℕ → Type 0
 ComesTo [] at = ⊥
 ComesTo (v ∷ visits) at = (v.at ≡ at) ⊎ ComesTo visits at
+
+-- the node of a visit stands, and no visit of the list comes to its place
+pub record IsStanding (nodes : List Node) (visits : List Visit) (v : Visit) : Type 0 where
+  pub node : Node
+  pub there : StandsAt nodes v.at node
+  pub once : ComesTo visits v.at → ⊥
+
+-- the nodes of visits stand, and no two visits come to one place
+abbrev pub AreStanding : List Node → List Visit → Type 0
+AreStanding nodes [] = ⊤
+AreStanding nodes (v ∷ visits) = IsStanding nodes visits v × AreStanding nodes visits
 
 -- the nodes of visits were taken out as members, and all others stand
 pub record AreTaken (old new : Pending) (visits : List Visit) (group : List Member) : Type 0 where

@@ -15,9 +15,8 @@ use Rattle.txn_groups.proofs.marking.mark_forced.Goals as goal
 pub returns-clause-marks : goal.returns-clause-marks
 returns-clause-marks c = λ x there are.
     let items = c.args.nodes.now.items in
-    let g : Node = c.in-Some.node.now in
-    let seen = slice_get_read c.deref.result.now (length c.deref.result.now) c.args.place g refl c.in-Some.ensures.lookup.3.0 c.in-Some.ensures.lookup.1 in
-    let read : slice_get items c.args.place ≡ Some g = rw c.deref.ensures.value at seen in
+    let g : Node = c.index-node.result.now in
+    let read : slice_get items c.args.place ≡ Some g = slice_get_read items (length items) c.args.place g refl c.requires c.index-node.ensures in
     let same : x ≡ g = same_node items c.args.place x g there read in
     let is : (forced c.args.cause (transaction_of_node x)).records ≡ x.records ++ c.view-2.result =
     c.in_ok-more.ensures (transaction_of_node x) (ap (λ (n : Node). n.records) same ∙ sym c.view.ensures) ∙ ap (λ (more : List Record). x.records ++ more) (sym c.view-2.ensures) in

@@ -13,7 +13,7 @@ returns-in-Some-clause-some c = λ held none.
     let below : EntriesBelow c.args.low (take n p.order.items) = (rw c.deref.ensures.value at c.count_below-below.ensures.below) p.begun held.are.stand.rising in
     let found : find (is_open_at p.nodes.items) (drop n p.order.items) ≡ Some c.in-Some.entry =
     ap (λ (nodes : List Node). find (is_open_at nodes) (drop n p.order.items)) (sym c.deref-3.ensures.value)
-    ∙ ap (find (is_open_at c.deref-3.result.now)) (sym (c.split_at.ensures.back ∙ ap (drop n) c.deref-2.ensures.value)) ∙ sym c.first_open.ensures ∙ c.in-Some.is in
+    ∙ ap (find (is_open_at c.deref-3.result.now)) (sym (c.split_at.ensures.back ∙ ap (drop n) c.deref-2.ensures.value)) ∙ sym c.first_open.ensures.first ∙ c.in-Some.is in
     oldest_found p c.args.low n c.in-Some.entry none below found
 
 pub returns-in-None-clause-none : goal.returns-in-None-clause-none
@@ -23,5 +23,5 @@ returns-in-None-clause-none c = λ held none.
     let below : EntriesBelow c.args.low (take n p.order.items) = (rw c.deref.ensures.value at c.count_below-below.ensures.below) p.begun held.are.stand.rising in
     let found : find (is_open_at p.nodes.items) (drop n p.order.items) ≡ None =
     ap (λ (nodes : List Node). find (is_open_at nodes) (drop n p.order.items)) (sym c.deref-3.ensures.value)
-    ∙ ap (find (is_open_at c.deref-3.result.now)) (sym (c.split_at.ensures.back ∙ ap (drop n) c.deref-2.ensures.value)) ∙ sym c.first_open.ensures ∙ c.in-None.is in
+    ∙ ap (find (is_open_at c.deref-3.result.now)) (sym (c.split_at.ensures.back ∙ ap (drop n) c.deref-2.ensures.value)) ∙ sym c.first_open.ensures.first ∙ c.in-None.is in
     oldest_none p c.args.low n none below found

@@ -1,4 +1,4 @@
-use Rattle.std.proofs.Common.{◌≡◌, Some, List, length, refl, subst}
+use Rattle.std.proofs.Common.{◌≡◌, Some, length, refl}
 use Rattle.std.specs.Prelude.{slice_get}
 use Rattle.std.proofs.lemmas.Option.{slice_get_read}
 use Rattle.txn_groups.specs.declared.node.Node.{Node}
@@ -11,7 +11,6 @@ returns-in_default-clause-raised c = λ held low. low_where_none _ (c.in_default
 pub returns-clause-raised : goal.returns-clause-raised
 returns-clause-raised c = λ held low.
     let p = c.args.pending.now in
-    let x : Node = c.in-Some-get.node.now in
-    let nodes = c.deref.result.now in
-    let read : slice_get nodes c.in-Some.at ≡ Some x = slice_get_read nodes (length nodes) c.in-Some.at x refl c.in-Some-get.ensures.lookup.3.0 c.in-Some-get.ensures.lookup.1 in
-    low_read p c.in-Some.at x held (c.in-Some.ensures.some held low.none) (subst (λ (xs : List Node). slice_get xs c.in-Some.at ≡ Some x) c.deref.ensures.value read)
+    let x : Node = c.index-node.result.now in
+    let read : slice_get p.nodes.items c.in-Some.at ≡ Some x = slice_get_read p.nodes.items (length p.nodes.items) c.in-Some.at x refl c.in-Some.ensures.within c.index-node.ensures in
+    low_read p c.in-Some.at x held (c.in-Some.ensures.some held low.none) read

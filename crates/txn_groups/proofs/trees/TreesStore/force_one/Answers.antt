@@ -28,7 +28,7 @@ pub returns-then-not-is_met-clause-ok : goal.returns-then-not-is_met-clause-ok
 returns-then-not-is_met-clause-ok c = λ queries trees times.
     let t : Trees = c.args.self.now in
     let o = c.in-Some.ensures.some trees.held trees.low in
-    let met = oldest_met c.args.which t.pending c.in-Some.at c.in-Some-get.node.now c.is_met.result c.deref.result.now o c.deref.ensures.value c.in-Some-get.ensures.lookup.3.0 c.in-Some-get.ensures.lookup.1 c.is_met.ensures in
+    let met = oldest_met c.args.which t.pending c.in-Some.at c.index-node.result.now c.is_met.result o c.in-Some.ensures.within c.index-node.ensures c.is_met.ensures in
     let none = first_not_meant c.args.which t.pending.time (transaction_of_node o.node) (state_of_trees t).pending times o.is (sym met ∙ c.if-not-is_met.true) in
     nothing_step (IsTrees queries) state_of_trees (chosen queries) c.args.grouping (record t { low = c.seek_oldest.new.low }) c.args.out.now.items _ (record { held = trees.held; low = c.in-Some.ensures.raised trees.held trees.low; asks = trees.asks; marked = trees.marked; unmarked = trees.unmarked }) (one_none _ c.args.cause (state_of_trees t) none)
 
@@ -36,7 +36,7 @@ pub returns-then-not-is_met-clause-found : goal.returns-then-not-is_met-clause-f
 returns-then-not-is_met-clause-found c = λ queries trees times.
     let t : Trees = c.args.self.now in
     let o = c.in-Some.ensures.some trees.held trees.low in
-    let met = oldest_met c.args.which t.pending c.in-Some.at c.in-Some-get.node.now c.is_met.result c.deref.result.now o c.deref.ensures.value c.in-Some-get.ensures.lookup.3.0 c.in-Some-get.ensures.lookup.1 c.is_met.ensures in
+    let met = oldest_met c.args.which t.pending c.in-Some.at c.index-node.result.now c.is_met.result o c.in-Some.ensures.within c.index-node.ensures c.is_met.ensures in
     let none = first_not_meant c.args.which t.pending.time (transaction_of_node o.node) (state_of_trees t).pending times o.is (sym met ∙ c.if-not-is_met.true) in
     sym none
 
@@ -48,7 +48,7 @@ returns-clause-ok c = λ queries trees times.
     let q : Pending = c.force_at.new.pending in
     let test = test_of c.args.which in
     let o = c.in-Some.ensures.some trees.held trees.low in
-    let met = oldest_met c.args.which p c.in-Some.at c.in-Some-get.node.now c.is_met.result c.deref.result.now o c.deref.ensures.value c.in-Some-get.ensures.lookup.3.0 c.in-Some-get.ensures.lookup.1 c.is_met.ensures in
+    let met = oldest_met c.args.which p c.in-Some.at c.index-node.result.now c.is_met.result o c.in-Some.ensures.within c.index-node.ensures c.is_met.ensures in
     let first = oldest_meant c.args.which (transaction_of_node o.node) (state_of_trees t).pending o.is (sym met ∙ c.if-not-is_met.false) in
     let low = low_forced c.seek_oldest.new.low test c.args.cause (state_of_trees t) (c.in-Some.ensures.raised trees.held trees.low) in
     let ready = ready_to_force queries _ c.args.cause c.in-Some.at p mid o.node trees.asks trees.held trees.marked o.there (c.in_ok-mark_forced.ensures.marks o.node o.there) refl refl refl refl refl refl in
@@ -64,6 +64,6 @@ pub returns-clause-found : goal.returns-clause-found
 returns-clause-found c = λ queries trees times.
     let t : Trees = c.args.self.now in
     let o = c.in-Some.ensures.some trees.held trees.low in
-    let met = oldest_met c.args.which t.pending c.in-Some.at c.in-Some-get.node.now c.is_met.result c.deref.result.now o c.deref.ensures.value c.in-Some-get.ensures.lookup.3.0 c.in-Some-get.ensures.lookup.1 c.is_met.ensures in
+    let met = oldest_met c.args.which t.pending c.in-Some.at c.index-node.result.now c.is_met.result o c.in-Some.ensures.within c.index-node.ensures c.is_met.ensures in
     let first = oldest_meant c.args.which (transaction_of_node o.node) (state_of_trees t).pending o.is (sym met ∙ c.if-not-is_met.false) in
     sym (oldest_some (test_of c.args.which) (transaction_of_node o.node) (state_of_trees t).pending first)
