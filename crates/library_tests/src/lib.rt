@@ -22,6 +22,8 @@ mod support;
 #[cfg(test)]
 mod tables;
 #[cfg(test)]
+mod trees;
+#[cfg(test)]
 mod units;
 #[cfg(test)]
 mod words;
