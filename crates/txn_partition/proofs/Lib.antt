@@ -1,0 +1,16 @@
+pub mod NamedLemmas
+pub mod LinkedLemmas
+pub mod MappedLemmas
+pub mod RegularLemmas
+pub mod ClassLemmas
+pub mod TimedLemmas
+pub mod ToldLemmas
+pub mod LinkToldLemmas
+pub mod LinkMadeLemmas
+pub mod AllToldLemmas
+pub mod ClassGroupLemmas
+pub mod ClassEndLemmas
+pub mod PartitionLemmas
+pub mod SiblingLemmas
+pub mod PartitionExamples
+pub mod ClassOnceLemmas

@@ -1,0 +1,3 @@
+pub mod LogFacts
+pub mod Partition
+pub mod inside

@@ -1,0 +1,24 @@
+//! Laws of the partition. These functions do nothing.
+
+ghost use Rattle.std.specs.Prelude.{◌≡◌, ℕ, Bool, false, true};
+ghost use Rattle.vsl_record.specs.Unit.{Log};
+ghost use Rattle.txn_rows.specs.declared.group.Grouping.{Grouping};
+ghost use Rattle.txn_rows.specs.declared.group.GroupOptions.{GroupOptions};
+ghost use Rattle.txn_rows.specs.Grouping.{all_taken, groups_of, is_raw, left_of};
+ghost use Rattle.txn_partition.specs.LogFacts.{entries_of, is_in, named};
+ghost use Rattle.txn_partition.specs.Partition.{Calm, Regular, classes, count_vxid, partition};
+
+/// The law that the groups of a regular and calm log, but for raw grouping, are the partition of its VXIDs by links: the classes that links join, in preorder, in the order of their last Ends. A flush at the end has nothing to do.
+#[tactic(auto, using(crate::proofs::PartitionLemmas::classes_left, crate::proofs::PartitionLemmas::groups_parted))]
+pub fn groups_are_the_partition()
+    ensures left { (options : GroupOptions) (log : Log) → is_raw options.grouping ≡ false → Regular log options.grouping → Calm log options → (flushed : Bool) →
+        left_of options (all_taken log) flushed ≡ classes log options.grouping }
+    ensures reported { (options : GroupOptions) (log : Log) → is_raw options.grouping ≡ false → Regular log options.grouping → Calm log options → (flushed : Bool) →
+        groups_of options (all_taken log) flushed ≡ partition log options.grouping }
+{}
+
+/// The law that each VXID that a regular log names is a member of one of its classes, once.
+#[tactic(auto, using(crate::proofs::ClassOnceLemmas::each_named_once))]
+pub fn each_vxid_once()
+    ensures { (log : Log) (grouping : Grouping) → Regular log grouping → (vxid : ℕ) → is_in vxid (named grouping (entries_of log)) ≡ true → count_vxid vxid (classes log grouping) ≡ 1 }
+{}
