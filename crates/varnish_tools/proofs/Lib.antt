@@ -5,3 +5,4 @@ mod SaidLemmas
 mod PartLemmas
 mod OutLemmas
 mod ToldLemmas
+mod PartedLemmas

@@ -7,6 +7,7 @@ use Rattle.vio.specs.declared.world.TheConstants.{ERRORS, INPUT, OUTPUT}
 use Rattle.vio.specs.World.{Seen, Gains, Writing, begins_with}
 use Rattle.vsl_record.specs.Unit.{Log}
 use Rattle.vsl_file.specs.File.{FileEnding, IsFile, is_whole}
+use Rattle.txn_partition.specs.Partition.{partition}
 use Rattle.tool_words.specs.declared.job.Job.{Job}
 use Rattle.tool_words.specs.declared.job.QueryText.{QueryText}
 use Rattle.run_sources.specs.Sources.{unit_items}
@@ -14,7 +15,9 @@ use Rattle.text_printer.specs.Ends.{whole}
 use Rattle.job_steps.specs.declared.fault.ToolFault.{ToolFault}
 use Rattle.job_steps.specs.Good.{TellsText}
 use Rattle.job_steps.specs.Jobs.{file_of, write_of}
-use Rattle.job_steps.specs.Queries.{Ask, AreAsked}
+use Rattle.job_steps.specs.Queries.{Ask, AreAsked, chosen}
+use Rattle.tool_consumers.specs.Output.{head_text, output_of}
+use Rattle.vsl_dispatch.specs.Groups.{kept}
 use Rattle.job_runs.specs.Rows.{job_due}
 
 -- the world tells that the log of a job has these units and ends so: its file holds them, or standard input has them left
@@ -56,3 +59,7 @@ pub record PrintsLog (job : Job) (fault : Option ToolFault) (units : Log) (endin
   pub part : IsPrefix text (whole (job_due job ask empty) (unit_items units) (is_whole ending))
   pub done : fault ≡ None → text ≡ whole (job_due job ask empty) (unit_items units) (is_whole ending)
   pub gains : Gains (before.written sink) (now.written sink) text
+
+-- what is written of the groups of a log's partition: behind the header, where one is due, of those that are asked for, at most as many as are kept
+abbrev pub parted_text : Job → Ask → Bool → Log → List ℕ
+parted_text job ask empty units = head_text job empty ++ output_of job (kept job.keep (chosen ask (partition units job.grouping))) true

@@ -1,22 +1,29 @@
 //! Laws: functions that do nothing, for what their clauses say.
 
-ghost use Rattle.std.specs.Prelude.{◌≡◌, ◌⊎◌, ℕ, true, false, is_some, List, None, Ok};
+ghost use Rattle.std.specs.Prelude.{◌≡◌, ◌⊎◌, ℕ, Bool, true, false, is_some, List, None, Ok};
 ghost use Rattle.vio.specs.World.{HasStreams, Seen};
 ghost use Rattle.vio.specs.Calls.{none_failed};
 ghost use Rattle.vsl_record.specs.Unit.{Log};
 ghost use Rattle.vsl_file.specs.File.{FileEnding, Whole};
+ghost use Rattle.txn_rows.specs.Grouping.{is_raw};
+ghost use Rattle.txn_partition.specs.Partition.{Regular, Calm};
 ghost use Rattle.tool_words.specs.declared.job.Job.{Job};
 ghost use Rattle.tool_words.specs.Job.{job_of};
 ghost use Rattle.job_steps.specs.Good.{AreGoodSteps};
-ghost use Rattle.job_steps.specs.Jobs.{is_counting};
+ghost use Rattle.run_sources.specs.Sources.{unit_items};
+ghost use Rattle.text_printer.specs.Ends.{whole};
+ghost use Rattle.job_steps.specs.Jobs.{is_counting, options_of};
+ghost use Rattle.job_steps.specs.Queries.{Ask};
 ghost use Rattle.job_steps.specs.Steps.{steps_of};
 ghost use Rattle.job_runs.specs.declared.record.RunRecord.TheVariants.{Nothing};
+ghost use Rattle.job_runs.specs.Rows.{job_due};
 ghost use Rattle.varnish_tools.specs.declared.outcome.Outcome.{Outcome};
 ghost use Rattle.varnish_tools.specs.Theorem.{IsFaithful};
-ghost use Rattle.varnish_tools.specs.Told.{PrintsLog, TellsInput};
+ghost use Rattle.varnish_tools.specs.Told.{PrintsLog, TellsInput, parted_text};
 
 use job_runs::{faults_have_failed_calls, told_logs_are_written};
 use job_steps::good_steps_pass;
+use txn_partition::groups_are_the_partition;
 
 /// Where the world told what the log of a job holds, OUT gained a part of what is due of that log, and without a fault all of it; or
 /// nothing was taken.
@@ -37,4 +44,14 @@ pub fn good_words_have_no_fault()
 {
     good_steps_pass();
     faults_have_failed_calls();
+}
+
+/// Of a log that is told whole, and that keeps within the limit and the timeout of a job that groups, what is due is what is
+/// written of its partition: of the transactions that Begins and Links join.
+pub fn regular_logs_are_parted()
+    ensures { (job : Job) (ask : Ask) (empty : Bool) (units : Log) →
+        is_raw job.grouping ≡ false → Regular units job.grouping → Calm units (options_of job) →
+        whole (job_due job ask empty) (unit_items units) true ≡ parted_text job ask empty units }
+{
+    groups_are_the_partition();
 }
