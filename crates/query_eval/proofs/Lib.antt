@@ -1,5 +1,5 @@
 mod AskerLemmas
 mod Examples
 mod JoinLemmas
-mod MarkLemmas
+pub mod MarkLemmas
 mod TruthLemmas

@@ -53,6 +53,26 @@ marked_map : (level : ℕ) (tests : List Test) (records : List Record) →
 marked_map level [] records = refl
 marked_map level (test ∷ tests) records = rw (by_mark test level records, marked_map level tests records) refl
 
+joined_none : (truths more : List Bool) → list_any (λ truth. truth) more ≡ false → joined truths more ≡ truths
+joined_none [] more none = refl
+joined_none (truth ∷ truths) [] none = refl
+joined_none (truth ∷ truths) (true ∷ more) none = absurd (cc)
+joined_none (truth ∷ truths) (false ∷ more) none = rw (joined_none truths more none) (ap (λ (b : Bool). b ∷ truths) (sym (or_none truth)))
+
+-- where none of more records satisfies a test, the marks stay
+pub unseen_more : (tests : List Test) (records more : List Record) → list_any (λ truth. truth) (map (λ test. list_any (record_marks test) more) tests) ≡ false →
+    map (λ test. list_any (record_marks test) (records ++ more)) tests ≡ map (λ test. list_any (record_marks test) records) tests
+unseen_more tests records more none =
+    sym (marked_more tests records more) ∙ joined_none (map (λ test. list_any (record_marks test) records) tests) (map (λ test. list_any (record_marks test) more) tests) none
+
+under_none : (b : Bool) → (b && false) ≡ false
+under_none true = refl
+under_none false = refl
+
+marked_none : (level : ℕ) (tests : List Test) → list_any (λ truth. truth) (marked_of level tests (map (λ test. list_any (record_marks test) []) tests)) ≡ false
+marked_none level [] = refl
+marked_none level (test ∷ tests) = rw (under_none (meets_level test.criterion.level level)) (marked_none level tests)
+
 -- the answer of members, and of one more by its marks
 pub answered_more : (tests : List Test) (members : List Member) (member : Member) →
     joined (map (λ test. list_any (member_satisfies test) members) tests) (marked_of member.level tests (map (λ test. list_any (record_marks test) member.records) tests))
@@ -60,6 +80,16 @@ pub answered_more : (tests : List Test) (members : List Member) (member : Member
 answered_more tests members member =
     ap (joined (map (λ test. list_any (member_satisfies test) members) tests)) (marked_map member.level tests member.records)
     ∙ joined_maps (λ test. list_any (member_satisfies test) members) (λ test. member_satisfies test member) (λ test. list_any (member_satisfies test) (members ++ member ∷ [])) tests (λ test. any_more (member_satisfies test) members member)
+
+-- a member whose marks are those of no records changes no answer
+pub unmarked_member : (tests : List Test) (members : List Member) (member : Member) →
+    map (λ test. list_any (record_marks test) member.records) tests ≡ map (λ test. list_any (record_marks test) []) tests →
+    map (λ test. list_any (member_satisfies test) (members ++ member ∷ [])) tests ≡ map (λ test. list_any (member_satisfies test) members) tests
+unmarked_member tests members member unmarked =
+    let answer = map (λ test. list_any (member_satisfies test) members) tests in
+    sym (answered_more tests members member)
+    ∙ ap (λ (marks : List Bool). joined answer (marked_of member.level tests marks)) unmarked
+    ∙ joined_none answer (marked_of member.level tests (map (λ test. list_any (record_marks test) []) tests)) (marked_none member.level tests)
 
 -- what steps leave is what they leave with the truths of their tests in place
 pub same_truths : {A : Type 0} (test : A → Bool) (steps : List (StepOver A)) (left : List Bool) →

@@ -1,4 +1,5 @@
 pub mod Asker
+pub mod Asking
 pub mod Marks
 pub mod Meaning
 pub mod inside

@@ -1,6 +1,6 @@
 //! Whether a query holds for a group, by the marks of its members.
 
-ghost use Rattle.std.specs.Prelude.{◌≡◌, ◌||◌, ◌&&◌, [], ◌∷◌, ◌++◌, List, IfOk};
+ghost use Rattle.std.specs.Prelude.{◌≡◌, ◌||◌, ◌&&◌, [], ◌∷◌, ◌++◌, List, length, IfOk};
 ghost use Rattle.txn_rows.specs.declared.group.Group.{Group};
 ghost use Rattle.txn_rows.specs.declared.group.Member.{Member};
 ghost use Rattle.query_eval.specs.Meaning.{is_held, meets_level};
@@ -9,7 +9,7 @@ ghost use Rattle.query_eval.specs.inside.Truths.{joined, marked_of};
 
 use crate::marks::Marks;
 use crate::selection::meets_level;
-use crate::tests::{first_test, none_true};
+use crate::tests::{TestTruths, first_test, none_true};
 use crate::truths::{Steps, truth_of};
 use log_model::NoMemory;
 use query_grammar::StepOver;
@@ -21,7 +21,7 @@ use std::marker::Model;
 /// list of truths.
 #[derive(Drop)]
 pub struct Answer {
-    truths: Vec<bool>,
+    truths: TestTruths,
 }
 
 impl Model for Answer {
@@ -48,7 +48,12 @@ impl Answer {
             level ≡ member.level → marks.now ≡ marks_of query.now member.records →
             self.new ≡ answer_of query.now (members ++ member ∷ []) }
     {
-        join_marks(&mut self.truths, &query.steps, level, &marks.truths);
+        join_marks(
+            self.truths.as_mut_slice(),
+            &query.steps,
+            level,
+            marks.truths.as_slice(),
+        );
     }
 
     /// Whether the query holds for the group of the members so far. It takes no memory.
@@ -59,13 +64,14 @@ impl Answer {
         ensures group { (group : Group) → self.now ≡ answer_of query.now group.members →
             result ≡ is_held query.now group }
     {
-        query.always || truth_of(Steps::new(&query.steps, &self.truths))
+        query.always || truth_of(Steps::new(&query.steps, self.truths.as_slice()))
     }
 }
 
 /// Makes those of the truths true whose test's level is met, and has its mark.
-fn join_marks(truths: &mut Vec<bool>, steps: &[StepOver<Test>], level: u32, marks: &[bool])
-    ensures { truths.new.items ≡ joined truths.old.items (marked_of level (tests_in steps.now) marks.now) }
+fn join_marks(truths: &mut [bool], steps: &[StepOver<Test>], level: u32, marks: &[bool])
+    ensures len { length truths.new ≡ length truths.old }
+    ensures truths { truths.new ≡ joined truths.old (marked_of level (tests_in steps.now) marks.now) }
 {
     let mut left = steps;
     for i in 0..truths.len() {

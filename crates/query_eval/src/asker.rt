@@ -1,11 +1,11 @@
 //! Asking a query of one group, or one record, after the other.
 
-ghost use Rattle.std.specs.Prelude.{◌≡◌, ◌||◌, Bool, List, map, IfOk, OnOk};
+ghost use Rattle.std.specs.Prelude.{◌≡◌, ◌||◌, Bool, List, length, map, IfOk, OnOk};
 ghost use Rattle.std.specs.List.{list_any};
 ghost use Rattle.query_parser.specs.declared.test.Test.{Test};
 ghost use Rattle.query_eval.specs.Meaning.{group_satisfies, record_marks};
 ghost use Rattle.query_eval.specs.Marks.{tests_in, tests_of};
-ghost use Rattle.query_eval.specs.inside.Asking.{IsKept};
+ghost use Rattle.query_eval.specs.inside.Kept.{IsKept};
 ghost use Rattle.query_eval.specs.inside.Truths.{joined};
 
 use crate::asking::group_satisfies;
@@ -19,7 +19,6 @@ use query_parser::{Query, Test};
 use std::alloc::{AllocError, Global};
 use txn_rows::Group;
 use vsl_pattern::Matching;
-use vsl_record::{RecordView, RecordsView};
 
 /// A test of a query, and what asks its pattern, once that was made.
 #[derive(Drop)]
@@ -48,6 +47,14 @@ impl<'q> Asked<'q> {
         group_satisfies(alloc, self.test, &mut self.matching, group)
     }
 
+    /// Whether one of the records satisfies the test, its level left aside.
+    fn sees<M: Marking>(&mut self, alloc: Global, marking: &M) -> Result<bool, AllocError>
+        ensures test { self.new.test.now ≡ self.old.test.now }
+        ensures answer { IfOk result (λ b. b ≡ list_any (record_marks self.old.test.now) (M.records marking.now)) }
+    {
+        marking.marks(alloc, self.test, &mut self.matching)
+    }
+
     /// Makes a mark true that isn't yet, where one of the records satisfies the test, its level left aside.
     fn mark<M: Marking>(
         &mut self,
@@ -61,7 +68,7 @@ impl<'q> Asked<'q> {
         if *mark {
             return Ok(());
         }
-        *mark = marking.marks(alloc, self.test, &mut self.matching)?;
+        *mark = self.sees(alloc, marking)?;
         Ok(())
     }
 }
@@ -101,12 +108,13 @@ fn ask_all(
 fn mark_all<M: Marking>(
     alloc: Global,
     all: &mut [Asked<'_>],
-    marks: &mut Vec<bool>,
+    marks: &mut [bool],
     marking: &M,
 ) -> Result<(), AllocError>
     ensures tests { map (λ a. a.test.now) all.new ≡ map (λ a. a.test.now) all.old }
-    ensures marks { OnOk result (marks.new.items ≡
-        joined marks.old.items (map (λ test. list_any (record_marks test) (M.records marking.now)) (map (λ a. a.test.now) all.old))) }
+    ensures len { length marks.new ≡ length marks.old }
+    ensures marks { OnOk result (marks.new ≡
+        joined marks.old (map (λ test. list_any (record_marks test) (M.records marking.now)) (map (λ a. a.test.now) all.old))) }
 {
     for i in 0..all.len() {
         if marks.len() <= i {
@@ -115,6 +123,23 @@ fn mark_all<M: Marking>(
         all[i].mark(alloc, &mut marks[i], marking)?;
     }
     Ok(())
+}
+
+/// Whether one of the records satisfies some test.
+fn sees_any<M: Marking>(
+    alloc: Global,
+    all: &mut [Asked<'_>],
+    marking: &M,
+) -> Result<bool, AllocError>
+    ensures tests { map (λ a. a.test.now) all.new ≡ map (λ a. a.test.now) all.old }
+    ensures answer { IfOk result (λ b. b ≡ list_any (λ truth. truth) (map (λ test. list_any (record_marks test) (M.records marking.now)) (map (λ a. a.test.now) all.old))) }
+{
+    for i in 0..all.len() {
+        if all[i].sees(alloc, marking)? {
+            return Ok(true);
+        }
+    }
+    Ok(false)
 }
 
 /// A query that is asked of groups, or of records, one after the other. It borrows the query. What asks its patterns is
@@ -129,7 +154,7 @@ pub struct Asker<'q> {
 }
 
 impl<'q> Asker<'q> {
-    ghost use Rattle.std.specs.Prelude.{[], ◌∷◌, ◌++◌};
+    ghost use Rattle.std.specs.Prelude.{◌++◌, false};
     ghost use Rattle.vsl_record.specs.declared.record_type.Record.{Record};
     ghost use Rattle.query_eval.specs.Asker.{asker_query};
     ghost use Rattle.query_eval.specs.Meaning.{is_held};
@@ -176,33 +201,30 @@ impl<'q> Asker<'q> {
         Ok(truth_of(Steps::new(&self.query.steps, &self.truths)))
     }
 
-    /// Adds a record to marks of the query: asks it each test that isn't true yet. It takes memory for a pattern where a
-    /// record is asked, the first time.
-    pub fn add(&mut self, marks: &mut Marks, rec: &RecordView<'_>) -> Result<(), NoMemory>
-        ensures marks { (records : List Record) → marks.old ≡ marks_of (asker_query self.old) records →
-            OnOk result (marks.new ≡ marks_of (asker_query self.old) (records ++ rec.now ∷ [])) }
+    /// Whether one of the records satisfies some test of the query, its level left aside. Where none does, what marks are
+    /// of the records before stays what it is.
+    pub fn sees<M: Marking>(&mut self, marking: &M) -> Result<bool, NoMemory>
+        ensures answer { IfOk result (λ b. b ≡ list_any (λ test. list_any (record_marks test) (M.records marking.now)) (tests_of (asker_query self.old))) }
+        ensures unseen { (records : List Record) → IfOk result (λ b. b ≡ false → marks_of (asker_query self.old) (records ++ M.records marking.now) ≡ marks_of (asker_query self.old) records) }
         ensures same { asker_query self.new ≡ asker_query self.old }
     {
-        self.take(marks, rec)
+        Ok(sees_any(self.alloc, &mut self.tests, marking)?)
     }
 
-    /// Adds records to marks of the query: goes over them for each test that isn't true yet, up to the first one that
-    /// satisfies it. Where each mark is true already, no record is looked at.
-    pub fn add_all(&mut self, marks: &mut Marks, run: &RecordsView<'_>) -> Result<(), NoMemory>
-        ensures marks { (records : List Record) → marks.old ≡ marks_of (asker_query self.old) records →
-            OnOk result (marks.new ≡ marks_of (asker_query self.old) (records ++ run.now)) }
-        ensures same { asker_query self.new ≡ asker_query self.old }
-    {
-        self.take(marks, run)
-    }
-
-    /// Adds what is asked at once to marks of the query.
-    fn take<M: Marking>(&mut self, marks: &mut Marks, marking: &M) -> Result<(), NoMemory>
+    /// Adds a record, or records, to marks of the query: goes over them for each test that isn't true yet, up to the first
+    /// one that satisfies it. Where each mark is true already, no record is looked at. It takes memory for a pattern where
+    /// a record is asked, the first time.
+    pub fn add<M: Marking>(&mut self, marks: &mut Marks, marking: &M) -> Result<(), NoMemory>
         ensures marks { (records : List Record) → marks.old ≡ marks_of (asker_query self.old) records →
             OnOk result (marks.new ≡ marks_of (asker_query self.old) (records ++ M.records marking.now)) }
         ensures same { asker_query self.new ≡ asker_query self.old }
     {
-        mark_all(self.alloc, &mut self.tests, &mut marks.truths, marking)?;
+        mark_all(
+            self.alloc,
+            &mut self.tests,
+            marks.truths.as_mut_slice(),
+            marking,
+        )?;
         Ok(())
     }
 }

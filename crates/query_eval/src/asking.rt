@@ -3,7 +3,7 @@
 ghost use Rattle.std.specs.Prelude.{◌≡◌, IfOk};
 ghost use Rattle.std.specs.List.{list_any};
 ghost use Rattle.query_eval.specs.Meaning.{group_satisfies, member_satisfies, record_marks, subject, subject_satisfies};
-ghost use Rattle.query_eval.specs.inside.Asking.{IsReady};
+ghost use Rattle.query_eval.specs.Asking.{IsReady};
 
 use crate::check::satisfies;
 use crate::selection::{meets_level, subject};

@@ -7,7 +7,7 @@ ghost use Rattle.vsl_decimal.specs.Decimal.{decimal_of};
 ghost use Rattle.vsl_decimal.specs.Prefix.{trimmed};
 ghost use Rattle.vsl_pattern.specs.Patterns.{is_match, pattern_text, pattern_caseless};
 ghost use Rattle.query_eval.specs.Meaning.{compared, compares, folded, is_so, number_satisfies, satisfies};
-ghost use Rattle.query_eval.specs.inside.Asking.{IsMatchingOf, IsReady};
+ghost use Rattle.query_eval.specs.Asking.{IsMatchingOf, IsReady};
 
 use query_parser::{Check, Comparison};
 use std::alloc::{AllocError, Global};

@@ -1,14 +1,18 @@
 //! A group with the answers of queries.
 
-ghost use Rattle.std.specs.Prelude.{◌≡◌};
+ghost use Rattle.std.specs.Prelude.{◌≡◌, [], ◌∷◌, ◌++◌, OnOk};
 
+use crate::tests::TestTruths;
+use log_model::NoMemory;
+use smallvec::SmallVec;
+use std::alloc::Global;
 use std::marker::Model;
 use txn_rows::Group;
 
 /// Whether each of several queries holds, in their order. Contracts see the list.
 #[derive(Drop)]
 pub struct Truths {
-    truths: Vec<bool>,
+    truths: TestTruths,
 }
 
 impl Model for Truths {
@@ -20,16 +24,27 @@ impl Model for Truths {
 }
 
 impl Truths {
-    pub fn new(truths: Vec<bool>) -> Truths
-        ensures { result ≡ truths.items }
+    /// Of no queries. It takes no memory.
+    pub fn new(alloc: Global) -> Truths
+        ensures { result ≡ [] }
     {
-        Truths { truths }
+        Truths {
+            truths: SmallVec::new(alloc),
+        }
+    }
+
+    /// Adds whether one query more holds. Up to 16 take no memory.
+    pub fn push(&mut self, truth: bool) -> Result<(), NoMemory>
+        ensures { OnOk result (self.new ≡ self.old ++ truth ∷ []) }
+    {
+        self.truths.push(truth)?;
+        Ok(())
     }
 
     pub fn as_slice(&self) -> &[bool]
         ensures { result.now ≡ self.now }
     {
-        &self.truths
+        self.truths.as_slice()
     }
 }
 

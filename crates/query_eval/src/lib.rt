@@ -27,4 +27,5 @@ pub use asker::Asker;
 pub use chosen::{Chosen, Truths};
 pub use eval::holds;
 pub use laws::{queries_of_trees, queries_of_truths};
+pub use marking::Marking;
 pub use marks::Marks;

@@ -4,7 +4,7 @@ ghost use Rattle.std.specs.Prelude.{◌≡◌, [], ◌∷◌, List, IfOk};
 ghost use Rattle.std.specs.List.{list_any};
 ghost use Rattle.vsl_record.specs.declared.record_type.Record.{Record};
 ghost use Rattle.query_eval.specs.Meaning.{record_marks};
-ghost use Rattle.query_eval.specs.inside.Asking.{IsReady};
+ghost use Rattle.query_eval.specs.Asking.{IsReady};
 
 use crate::asking::{record_marks, records_mark};
 use query_parser::Test;
@@ -12,9 +12,9 @@ use std::alloc::{AllocError, Global};
 use vsl_pattern::Matching;
 use vsl_record::{RecordView, RecordsView};
 
-/// Records of a transaction that arrive at once. Each test is asked of them by itself, so that one test's loop over many
-/// records is as tight as can be.
-pub(crate) trait Marking {
+/// A record of a transaction, or a run of its records, that arrive at once. Each test is asked of them by itself, so that
+/// one test's loop over many records is as tight as can be.
+pub trait Marking {
     /// The records.
     ghost records: { Self → List Record };
 

@@ -5,7 +5,7 @@ ghost use Rattle.vsl_record.specs.declared.record_type.Record.{Record};
 ghost use Rattle.query_eval.specs.Marks.{marks_of};
 
 use crate::asker::Asker;
-use crate::tests::none_true;
+use crate::tests::{TestTruths, none_true};
 use log_model::NoMemory;
 use query_parser::Query;
 use std::alloc::Global;
@@ -17,7 +17,7 @@ use vsl_record::RecordView;
 #[derive(Drop)]
 pub struct Marks {
     alloc: Global,
-    pub(crate) truths: Vec<bool>,
+    pub(crate) truths: TestTruths,
 }
 
 impl Model for Marks {

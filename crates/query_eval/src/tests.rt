@@ -5,7 +5,11 @@ ghost use Rattle.query_eval.specs.Marks.{tests_in};
 
 use query_grammar::StepOver;
 use query_parser::Test;
+use smallvec::SmallVec;
 use std::alloc::{AllocError, Global};
+
+/// Whether tests are true, in their order. Those of at most 16 take no memory.
+pub(crate) type TestTruths = SmallVec<bool, 16>;
 
 /// The first test among steps, and the steps behind it.
 pub(crate) fn first_test(steps: &[StepOver<Test>]) -> Option<(&Test, &[StepOver<Test>])>
@@ -24,10 +28,10 @@ pub(crate) fn first_test(steps: &[StepOver<Test>]) -> Option<(&Test, &[StepOver<
 }
 
 /// For each test among steps that it isn't true.
-pub(crate) fn none_true(alloc: Global, steps: &[StepOver<Test>]) -> Result<Vec<bool>, AllocError>
+pub(crate) fn none_true(alloc: Global, steps: &[StepOver<Test>]) -> Result<TestTruths, AllocError>
     ensures { IfOk result (λ truths. truths.items ≡ map (λ _. false) (tests_in steps.now)) }
 {
-    let mut truths = Vec::new(alloc);
+    let mut truths = SmallVec::new(alloc);
     let mut left = steps;
     'left: while let Some((_, more)) = first_test(left) {
         truths.push(false)?;

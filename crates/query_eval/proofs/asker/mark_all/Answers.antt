@@ -1,5 +1,5 @@
 use Rattle.std.proofs.Common.{◌<◌, ◌≤◌, List, length, map, sym, ◌∙◌, arith}
-use Rattle.std.proofs.lemmas.List.{length-map}
+use Rattle.std.proofs.lemmas.List.{length-map, length-set, get_or_default}
 use Rattle.std.specs.List.{list_any}
 use Rattle.query_parser.specs.declared.test.Test.{Test}
 use Rattle.query_eval.specs.declared.asker.Asked.{Asked}
@@ -12,8 +12,8 @@ pub returns-in_err-mark-clause-tests : goal.returns-in_err-mark-clause-tests
 returns-in_err-mark-clause-tests g c = same_tests (λ a. a.test.now) _ _ c.loop-i.i c.index-all-i.result _ c.loop-i.invariant.tests c.mark.ensures.test
 
 -- there are no more marks
-pub returns-then-len-i-clause-marks : goal.returns-then-len-i-clause-marks
-returns-then-len-i-clause-marks g c = sym (joined_past c.loop-i.i c.loop-i.marks.items _ (omega (arith, c.loop-i.marks.ok.0))) ∙ c.loop-i.invariant.marks
+pub returns-then-marks-i-clause-marks : goal.returns-then-marks-i-clause-marks
+returns-then-marks-i-clause-marks g c = sym (joined_past c.loop-i.i c.loop-i.marks _ (omega (arith, c.if-marks-i.true))) ∙ c.loop-i.invariant.marks
 
 -- one mark more was joined
 pub loop-i-preserved : goal.loop-i-preserved
@@ -22,11 +22,13 @@ loop-i-preserved g c =
     let says = λ (test : Test). list_any (record_marks test) (g.M.Marking.records c.args.marking.now) in
     let tests : List Test = map f c.args.all.now in
     let within : c.loop-i.i < length c.loop-i.all = omega arith in
+    let inside : c.loop-i.i < length c.loop-i.marks = omega (arith, c.if-marks-i.false) in
     let in_more : c.loop-i.i < length (map says tests) = omega (arith, length-map tests says, length-map c.args.all.now f) in
     record {
       tests = same_tests f _ _ c.loop-i.i c.index-all-i.result _ c.loop-i.invariant.tests c.mark.ensures.test;
-      marks = joined_one c.loop-i.i c.loop-i.marks.items (map says tests) _ c.index_mut.result.now _ c.mark.new.mark (omega (arith, c.loop-i.marks.ok.0)) in_more
-          c.index_mut.ensures.value (sym (at_test f says c.loop-i.all c.args.all.now c.loop-i.i c.index-all-i.result _ c.loop-i.invariant.tests within)) c.in_ok-mark.ensures.mark c.loop-i.invariant.marks;
+      within = length-set c.loop-i.marks c.loop-i.i _ ∙ c.loop-i.invariant.within;
+      marks = joined_one c.loop-i.i c.loop-i.marks (map says tests) _ _ _ c.mark.new.mark inside in_more
+          (get_or_default c.loop-i.marks c.loop-i.i _ _ inside) (sym (at_test f says c.loop-i.all c.args.all.now c.loop-i.i c.index-all-i.result _ c.loop-i.invariant.tests within)) c.in_ok-mark.ensures.mark c.loop-i.invariant.marks;
     }
 
 -- no test is left
@@ -36,4 +38,4 @@ returns-clause-marks g c =
     let says = λ (test : Test). list_any (record_marks test) (g.M.Marking.records c.args.marking.now) in
     let tests : List Test = map f c.args.all.now in
     let end : length (map says tests) ≤ c.loop-i.i = omega (arith, length-map tests says, length-map c.args.all.now f) in
-    sym (joined_end c.loop-i.i c.loop-i.marks.items (map says tests) end) ∙ c.loop-i.invariant.marks
+    sym (joined_end c.loop-i.i c.loop-i.marks (map says tests) end) ∙ c.loop-i.invariant.marks

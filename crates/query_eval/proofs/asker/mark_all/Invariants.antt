@@ -1,4 +1,4 @@
-use Rattle.std.proofs.Common.{◌≡◌, map}
+use Rattle.std.proofs.Common.{◌≡◌, length, map}
 use Rattle.std.specs.List.{list_any}
 use Rattle.query_eval.specs.Meaning.{record_marks}
 use Rattle.query_eval.specs.inside.Truths.{joined, joined_from}
@@ -8,5 +8,6 @@ use Rattle.query_eval.proofs.asker.mark_all.Given as goal
 abbrev pub invariant-loop-i : goal.invariant-loop-i
 invariant-loop-i g l = record {
   tests : map (λ a. a.test.now) l.all ≡ map (λ a. a.test.now) l.initial.all;
-  marks : joined_from l.i l.marks.items (map (λ test. list_any (record_marks test) (g.M.Marking.records l.marking)) (map (λ a. a.test.now) l.initial.all)) ≡ joined l.initial.marks.items (map (λ test. list_any (record_marks test) (g.M.Marking.records l.marking)) (map (λ a. a.test.now) l.initial.all));
+  within : length l.marks ≡ length l.initial.marks;
+  marks : joined_from l.i l.marks (map (λ test. list_any (record_marks test) (g.M.Marking.records l.marking)) (map (λ a. a.test.now) l.initial.all)) ≡ joined l.initial.marks (map (λ test. list_any (record_marks test) (g.M.Marking.records l.marking)) (map (λ a. a.test.now) l.initial.all));
 }

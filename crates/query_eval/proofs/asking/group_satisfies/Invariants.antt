@@ -1,7 +1,7 @@
 use Rattle.std.proofs.Common.{◌≡◌, false, take}
 use Rattle.std.specs.List.{list_any}
 use Rattle.query_eval.specs.Meaning.{member_satisfies}
-use Rattle.query_eval.specs.inside.Asking.{IsReady}
+use Rattle.query_eval.specs.Asking.{IsReady}
 use Rattle.query_eval.proofs.asking.group_satisfies.Given as goal
 
 -- none of the members before the index satisfies the test, and what asks its pattern is that of the test

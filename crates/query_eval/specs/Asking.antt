@@ -1,11 +1,9 @@
--- What asks a pattern.
-use Rattle.std.specs.Prelude.{◌≡◌, ℕ, Bool, List, Option, None, Some, IfSome}
-use Rattle.std.specs.Option.{ForSome}
+-- What asks the pattern of a test: it is made once, and kept (this project's choice).
+use Rattle.std.specs.Prelude.{◌≡◌, Option, None, IfSome}
 use Rattle.vsl_pattern.specs.declared.pattern.Pattern.{Pattern}
 use Rattle.vsl_pattern.specs.declared.pattern.Matching.{Matching}
 use Rattle.query_parser.specs.declared.test.Check.{Check}
 use Rattle.query_parser.specs.declared.test.Check.TheVariants as checks
-use Rattle.query_parser.specs.declared.test.Test.{Test}
 use Rattle.vsl_pattern.specs.Patterns.{pattern_text, pattern_caseless, matching_text, matching_caseless}
 
 -- it asks this pattern
@@ -19,11 +17,3 @@ IsReady checks.Selected matching = matching ≡ None
 IsReady (checks.Number comparison operand whole) matching = matching ≡ None
 IsReady (checks.Text equal caseless operand) matching = matching ≡ None
 IsReady (checks.Pattern matches pattern) matching = IfSome matching (IsMatchingOf pattern)
-
--- the pattern that a test asks, and whether without regard to case
-abbrev pub test_pattern : Test → Option (Bool × List ℕ)
-test_pattern test = elim test.check [ checks.Selected ↦ None | checks.Number comparison operand whole ↦ None | checks.Text equal caseless operand ↦ None | checks.Pattern matches pattern ↦ Some (pattern_caseless pattern, pattern_text pattern) ]
-
--- what was made for a test asks its pattern
-abbrev pub IsKept : Test → Option Matching → Type 0
-IsKept test matching = ForSome matching (λ m. test_pattern test ≡ Some (matching_caseless m, matching_text m))
