@@ -1,15 +1,19 @@
 -- What queries say of the group of visits, by the marks that nodes keep.
-use Rattle.std.proofs.Common.{◌≡◌, ◌+◌, ◌<◌, ◌≤◌, ⊎_elim, inl, inr, ℕ, zero, suc, Bool, Some, List, [], ◌∷◌, ◌++◌, length, map, take, get_or, refl, ap, sym, ◌∙◌, arith}
+use Rattle.std.proofs.Common.{◌≡◌, ◌+◌, ◌<◌, ◌≤◌, ⊎_elim, inl, inr, ℕ, zero, suc, Bool, Some, None, List, [], ◌∷◌, ◌++◌, length, map, take, get_or, refl, ap, sym, ◌∙◌, arith}
 use Rattle.std.specs.Prelude.{slice_get}
 use Rattle.std.specs.Option.{option_map}
 use Rattle.std.proofs.lemmas.List.{length-map, get_or-map, map_more}
 use Rattle.std.proofs.lemmas.Option.{slice_get-map, slice_get-get_or}
+use Rattle.vsl_record.specs.declared.record_type.Record.{Record}
 use Rattle.txn_rows.specs.declared.group.Group.{Group}
+use Rattle.txn_rows.specs.declared.group.Member.{Member}
+use Rattle.txn_rows.specs.Links.{parent_vxid}
 use Rattle.query_parser.specs.declared.query.Query.{Query}
 use Rattle.query_eval.specs.declared.asker.Asker.{Asker}
 use Rattle.query_eval.specs.Asker.{asker_query}
 use Rattle.query_eval.specs.Meaning.{is_held}
-use Rattle.query_eval.specs.Marks.{answer_of, marks_of}
+use Rattle.query_eval.specs.Marks.{answer_of, marks_of, tests_of}
+use Rattle.query_eval.proofs.MarkLemmas.{unmarked_member}
 use Rattle.txn_groups.specs.declared.node.Node.{Node}
 use Rattle.txn_groups.specs.declared.walk.Visit.{Visit}
 use Rattle.txn_groups.specs.inside.Walked.{member_at, members_of}
@@ -29,11 +33,22 @@ answered_whole query nodes visits i answer past answered = answered ∙ ap (λ (
 -- the marks of the query at a place
 marked_at : (queries : List Query) (place : ℕ) (query : Query) (x : Node) → slice_get queries place ≡ Some query → AreMarksOf queries x.records x.marks → IsMarkedFor query place x
 marked_at queries place query x here marked = ⊎_elim
-    (λ (none : (x.records ≡ []) × (x.marks ≡ [])). inl (none.0, ap (λ (ms : List (List Bool)). slice_get ms place) none.1))
+    (λ (none : (x.marks ≡ []) × (marks_for queries x.records ≡ marks_for queries [])).
+    let told : (rs : List Record) → slice_get (marks_for queries rs) place ≡ Some (marks_of query rs) = λ rs. slice_get-map (λ (q : Query). marks_of q rs) queries place ∙ ap (option_map (λ (q : Query). marks_of q rs)) here in
+    let same : Some (marks_of query x.records) ≡ Some (marks_of query []) = sym (told x.records) ∙ ap (λ (ms : List (List Bool)). slice_get ms place) none.1 ∙ told [] in
+    inl (ap (λ (ms : List (List Bool)). slice_get ms place) none.0, cc))
     (λ (are : x.marks ≡ marks_for queries x.records). inr (
     ap (λ (ms : List (List Bool)). slice_get ms place) are
     ∙ slice_get-map (λ (q : Query). marks_of q x.records) queries place
     ∙ ap (option_map (λ (q : Query). marks_of q x.records)) here))
+    marked
+
+-- a member that has no marks changes no answer
+pub answered_unmarked : (query : Query) (place level : ℕ) (x : Node) (members : List Member) (answer : List Bool) → slice_get x.marks place ≡ None → IsMarkedFor query place x → answer ≡ answer_of query members → answer ≡ answer_of query (members ++ member_at (Some x) level)
+answered_unmarked query place level x members answer missing marked answered = ⊎_elim
+    (λ (none : (slice_get x.marks place ≡ None) × (marks_of query x.records ≡ marks_of query [])).
+    answered ∙ sym (unmarked_member (tests_of query) members (record { vxid = x.vxid; kind = x.kind; reason = x.reason; level = level; parent = parent_vxid x.parent; records = x.records }) none.1))
+    (λ (some : slice_get x.marks place ≡ Some (marks_of query x.records)). let e : None ≡ Some (marks_of query x.records) = sym missing ∙ some in absurd (cc))
     marked
 
 -- the query of an asker among others

@@ -1,7 +1,7 @@
 -- The marks of each of several queries.
-use Rattle.std.proofs.Common.{◌≡◌, ◌<◌, ◌≤◌, ⊎_elim, ℕ, zero, suc, ◌+◌, ◌⊎◌, Some, None, List, [], ◌∷◌, ◌++◌, Bool, length, map, take, set, get_or, refl, ap, sym, ◌∙◌, add-one, arith}
+use Rattle.std.proofs.Common.{◌≡◌, ◌<◌, ◌≤◌, ⊎_elim, inl, ℕ, zero, suc, ◌+◌, ◌⊎◌, Some, None, List, [], ◌∷◌, ◌++◌, Bool, length, map, take, set, get_or, refl, ap, sym, ◌∙◌, add-one, arith}
 use Rattle.std.specs.Prelude.{slice_get}
-use Rattle.std.proofs.lemmas.List.{length-map, get_or-map, take_more}
+use Rattle.std.proofs.lemmas.List.{length-map, get_or-map, map_more, take_more}
 use Rattle.std.proofs.Math.Seq.{map-set_same}
 use Rattle.vsl_record.specs.declared.record_type.Record.{Record}
 use Rattle.query_parser.specs.declared.query.Query.{Query}
@@ -71,16 +71,35 @@ marked_whole (suc n) (query ∷ queries) records more past = ap (λ (l : List (L
 pub marks_made : (queries : List Query) (records : List Record) (marks : List (List Bool)) → AreMarksOf queries records marks → marks ≡ [] → marks_for queries [] ≡ marks_for queries records
 marks_made [] records marks are none = refl
 marks_made (query ∷ queries) records marks are none = ⊎_elim
-    (λ (both : (records ≡ []) × (marks ≡ [])). ap (marks_for (query ∷ queries)) (sym both.0))
+    (λ (both : (marks ≡ []) × (marks_for (query ∷ queries) records ≡ marks_for (query ∷ queries) [])). sym both.1)
     (λ (is : marks ≡ marks_for (query ∷ queries) records). let e : marks_for (query ∷ queries) records ≡ [] = sym is ∙ none in absurd (cc))
     are
 
 -- those that have some have them all
 pub marks_there : (queries : List Query) (records : List Record) (marks : List (List Bool)) → AreMarksOf queries records marks → (marks ≡ [] → ⊥) → marks ≡ marks_for queries records
 marks_there queries records marks are some = ⊎_elim
-    (λ (both : (records ≡ []) × (marks ≡ [])). absurd (some both.1))
+    (λ (both : (marks ≡ []) × (marks_for queries records ≡ marks_for queries [])). absurd (some both.0))
     (λ (is : marks ≡ marks_for queries records). is)
     are
+
+-- where there are none, none are needed as long as more records change nothing
+pub none_seen : (queries : List Query) (records more : List Record) (marks : List (List Bool)) → AreMarksOf queries records marks → marks ≡ [] → marks_for queries (records ++ more) ≡ marks_for queries records → AreMarksOf queries (records ++ more) marks
+none_seen queries records more marks are none unseen = inl (none, unseen ∙ sym (marks_made queries records marks are none))
+
+-- the records change no marks of so many queries, nor those of the next
+pub unseen_next : {A : Type 0} (f : A → Query) (all old : List A) (i : ℕ) (a : A) (records more : List Record) → map f all ≡ map f old → i < length all → marks_of (f (get_or all i a)) (records ++ more) ≡ marks_of (f (get_or all i a)) records →
+    marks_for (take i (map f old)) (records ++ more) ≡ marks_for (take i (map f old)) records → marks_for (take (i + 1) (map f old)) (records ++ more) ≡ marks_for (take (i + 1) (map f old)) records
+unseen_next f all old i a records more same within unseen so_far =
+    let queries : List Query = map f old in
+    let after : Query → List Bool = λ query. marks_of query (records ++ more) in
+    let before : Query → List Bool = λ query. marks_of query records in
+    let inside : i < length queries = omega (arith, within, length-map all f, ap length same) in
+    let query : get_or queries i (f a) ≡ f (get_or all i a) = ap (λ (l : List Query). get_or l i (f a)) (sym same) ∙ get_or-map f all i a (f a) within in
+    let here : after (get_or queries i (f a)) ≡ before (get_or queries i (f a)) = ap after query ∙ unseen ∙ ap before (sym query) in
+    map_more after queries i (f a) inside
+    ∙ ap (λ (l : List (List Bool)). l ++ after (get_or queries i (f a)) ∷ []) so_far
+    ∙ ap (λ (marks : List Bool). map before (take i queries) ++ marks ∷ []) here
+    ∙ sym (map_more before queries i (f a) inside)
 
 of_some : (queries : List Query) (query : Query) (records : List Record) (place : ℕ) → slice_get queries place ≡ Some query → slice_get (marks_for queries records) place ≡ Some (marks_of query records)
 of_some [] query records place is = absurd (cc)
@@ -93,9 +112,9 @@ pub marks_read : (queries : List Query) (query : Query) (place : ℕ) (records :
 marks_read queries query place records kept none marks asked are none_is found =
     let blank : slice_get none place ≡ Some (marks_of query []) = ap (λ (l : List (List Bool)). slice_get l place) none_is ∙ of_some queries query [] place asked in
     ⊎_elim
-    (λ (empty : (records ≡ []) × (kept ≡ [])). ⊎_elim
-    (λ (here : slice_get kept place ≡ Some marks). let e : None ≡ Some marks = sym (ap (λ (l : List (List Bool)). slice_get l place) empty.1) ∙ here in absurd (cc))
-    (λ (there : (slice_get kept place ≡ None) × (slice_get none place ≡ Some marks)). let e : Some marks ≡ Some (marks_of query []) = sym there.1 ∙ blank in let same : marks ≡ marks_of query [] = cc in same ∙ ap (marks_of query) (sym empty.0))
+    (λ (empty : (kept ≡ []) × (marks_for queries records ≡ marks_for queries [])). ⊎_elim
+    (λ (here : slice_get kept place ≡ Some marks). let e : None ≡ Some marks = sym (ap (λ (l : List (List Bool)). slice_get l place) empty.0) ∙ here in absurd (cc))
+    (λ (there : (slice_get kept place ≡ None) × (slice_get none place ≡ Some marks)). let e : Some marks ≡ Some (marks_of query records) = sym there.1 ∙ blank ∙ sym (of_some queries query [] place asked) ∙ ap (λ (l : List (List Bool)). slice_get l place) (sym empty.1) ∙ of_some queries query records place asked in cc)
     found)
     (λ (is : kept ≡ marks_for queries records).
     let whole : slice_get kept place ≡ Some (marks_of query records) = ap (λ (l : List (List Bool)). slice_get l place) is ∙ of_some queries query records place asked in

@@ -13,7 +13,7 @@ use Rattle.txn_groups.specs.inside.Nodes.{StandsAt, transaction_of_node}
 use Rattle.txn_groups.specs.inside.Retold.{AreChanged}
 use Rattle.txn_groups.specs.inside.Ended.{finished_node}
 use Rattle.txn_groups.specs.inside.Taken.{AreTaken}
-use Rattle.txn_groups.specs.inside.Marked.{AreMarksOf, AreMarked, IsAsBefore, KeepMarks, IsAhead}
+use Rattle.txn_groups.specs.inside.Marked.{marks_for, AreMarksOf, AreMarked, IsAsBefore, KeepMarks, IsAhead}
 use Rattle.txn_groups.proofs.HeldLemmas.{names_of, was_before}
 use Rattle.txn_groups.proofs.EndLemmas.{Finishes, ended_finishes, forced_finishes, finished_keeps}
 
@@ -30,7 +30,7 @@ same_keep nodes = λ at x there. inl (record { node = x; there = there; records 
 pub still_marked : (queries : List Query) (old new : List Node) → AreMarked queries old → KeepMarks old new → AreMarked queries new
 still_marked queries old new marked keep = λ at x there. ⊎_elim
     (λ (s : IsAsBefore old at x). rw (s.records, s.marks) (marked at s.node s.there))
-    (λ (none : (x.records ≡ []) × (x.marks ≡ [])). inl none)
+    (λ (none : (x.records ≡ []) × (x.marks ≡ [])). inl (none.1, ap (marks_for queries) none.0))
     (keep at x there)
 
 -- the node at a place has the marks that it needs once its transaction is changed

@@ -42,4 +42,5 @@ pub mod AskersLemmas
 pub mod MarkedLemmas
 pub mod TreesLemmas
 pub mod CountLemmas
+pub mod HaveTakenLemmas
 pub mod GroupsLemmas

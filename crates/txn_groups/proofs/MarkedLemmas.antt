@@ -23,7 +23,7 @@ use Rattle.txn_groups.specs.inside.Retold.{AreChanged, KeepsLinks}
 use Rattle.txn_groups.specs.inside.Told.{told_at}
 use Rattle.txn_groups.specs.inside.Held.{state_of, IsHeld, HoldsRows, Went}
 use Rattle.txn_groups.specs.inside.Marked.{marks_for, AreMarksOf, AreMarked, IsAsBefore, KeepMarks}
-use Rattle.txn_groups.specs.inside.Remarked.{remarked, IsAheadBy}
+use Rattle.txn_groups.specs.inside.Remarked.{remarked, IsRemarked, IsAheadBy}
 use Rattle.txn_groups.proofs.ChangedLemmas.{changed_at, changed_past}
 use Rattle.txn_groups.proofs.FoundLemmas.{same_node}
 use Rattle.txn_groups.proofs.HeldLemmas.{KeepsNames, WasBefore, was_before, hold_still, went_by}
@@ -72,10 +72,10 @@ keep_put old mid new at f older changed put records marks = λ i x there.
 pub marked_kept : (queries : List Query) (old new : List Node) → AreMarked queries old → KeepMarks old new → AreMarked queries new
 marked_kept queries old new are keep = λ at x there. ⊎_elim
     (λ (w : IsAsBefore old at x). ⊎_elim
-    (λ (none : (w.node.records ≡ []) × (w.node.marks ≡ [])). inl (w.records ∙ none.0, w.marks ∙ none.1))
+    (λ (none : (w.node.marks ≡ []) × (marks_for queries w.node.records ≡ marks_for queries [])). inl (w.marks ∙ none.0, ap (marks_for queries) w.records ∙ none.1))
     (λ (is : w.node.marks ≡ marks_for queries w.node.records). inr (w.marks ∙ is ∙ ap (marks_for queries) (sym w.records)))
     (are at w.node w.there))
-    (λ (none : (x.records ≡ []) × (x.marks ≡ [])). inl none)
+    (λ (none : (x.records ≡ []) × (x.marks ≡ [])). inl (none.1, ap (marks_for queries) none.0))
     (keep at x there)
 
 -- no node
@@ -109,18 +109,22 @@ others_same : (place : ℕ) (marks : List (List Bool)) (i : ℕ) (z : Node) → 
 others_same place marks i z other = ap (λ (b : Bool). record z { marks = cond b marks z.marks }) (ne_eqb i place other)
 
 -- marks are written at a place
-pub remarked_set : (place : ℕ) (queries : List Query) (more : List Record) (xs : List Node) (g : Node) (new : List (List Bool)) → place < length xs → g ≡ get_or xs place g → ((records : List Record) → AreMarksOf queries records g.marks → new ≡ marks_for queries (records ++ more)) →
-    (x : Node) (records : List Record) → StandsAt xs place x → AreMarksOf queries records x.marks → AreChanged (remarked place (marks_for queries (records ++ more))) xs (set xs place (record g { marks = new }))
+pub remarked_set : (place : ℕ) (queries : List Query) (more : List Record) (xs : List Node) (g : Node) (new : List (List Bool)) → place < length xs → g ≡ get_or xs place g → ((records : List Record) → AreMarksOf queries records g.marks → AreMarksOf queries (records ++ more) new) →
+    (x : Node) (records : List Record) → StandsAt xs place x → AreMarksOf queries records x.marks → IsRemarked queries (records ++ more) place xs (set xs place (record g { marks = new }))
 remarked_set place queries more xs g new within read added x records there are =
-    let marks : List (List Bool) = marks_for queries (records ++ more) in
     let same : x ≡ g = same_node xs place x g there (slice_get_read xs (length xs) place g refl within read) in
-    let is : new ≡ marks = added records (subst (λ (n : Node). AreMarksOf queries records n.marks) same are) in
-    changed_at (remarked place marks) xs place g (record g { marks = new }) within read
-    (ap {B = Node} (λ (m : List (List Bool)). record g { marks = m }) is ∙ ap {B = Node} (λ (b : Bool). record g { marks = cond b marks g.marks }) (sym (eq-eqb place place refl)))
-    (others_same place marks)
+    record {
+      marks = new;
+      are = added records (subst (λ (n : Node). AreMarksOf queries records n.marks) same are);
+      changed = changed_at (remarked place new) xs place g (record g { marks = new }) within read
+          (ap {B = Node} (λ (b : Bool). record g { marks = cond b new g.marks }) (sym (eq-eqb place place refl)))
+          (others_same place new);
+    }
 
-pub remarked_past : (place : ℕ) (marks : List (List Bool)) (xs : List Node) → length xs ≤ place → AreChanged (remarked place marks) xs xs
-remarked_past place marks xs past = changed_past (remarked place marks) xs place past (others_same place marks)
+pub remarked_past : (place : ℕ) (queries : List Query) (records : List Record) (xs : List Node) → length xs ≤ place → IsRemarked queries records place xs xs
+remarked_past place queries records xs past =
+    let marks : List (List Bool) = marks_for queries records in
+    record { marks = marks; are = inr refl; changed = changed_past (remarked place marks) xs place past (others_same place marks) }
 
 -- other marks change nothing that nodes hold
 pub remarked_went : (place : ℕ) (marks : List (List Bool)) (p m : Pending) → IsHeld p → AreChanged (remarked place marks) p.nodes.items m.nodes.items → m.order.items ≡ p.order.items → m.begun ≡ p.begun → m.index ≡ p.index → m.free ≡ p.free → m.rows ≡ p.rows → m.time ≡ p.time → Went (state_of p) m
@@ -138,16 +142,16 @@ remarked_went place marks p m held changed order_is begun_is index_is free_is ro
     went_by m (map f rows) (listed old p.order.items) p.begun p.time hold (ap (map transaction_of) same ∙ sym (tells p.begun old p.order.items rows held.are)) begun_is time_is
 
 -- the marks of a node are ahead of its records
-pub ahead : (change : Transaction → Transaction) (queries : List Query) (at : ℕ) (records : List Record) (old mid : List Node) (x : Node) → (change (transaction_of_node x)).records ≡ records → AreMarked queries old → StandsAt old at x → AreChanged (remarked at (marks_for queries records)) old mid → IsAheadBy change queries at mid
-ahead change queries at records old mid x is are there changed = λ i y standing.
-    let c = remarked at (marks_for queries records) in
-    let w : WasBefore c old i y = was_before c old mid i y (remarked_names at (marks_for queries records)) changed standing in
+pub ahead : (change : Transaction → Transaction) (queries : List Query) (at : ℕ) (records : List Record) (old mid : List Node) (x : Node) → (change (transaction_of_node x)).records ≡ records → AreMarked queries old → StandsAt old at x → IsRemarked queries records at old mid → IsAheadBy change queries at mid
+ahead change queries at records old mid x is are there r = λ i y standing.
+    let c = remarked at r.marks in
+    let w : WasBefore c old i y = was_before c old mid i y (remarked_names at r.marks) r.changed standing in
     let z : Node = w.node in
     subst (λ (n : Node). AreMarksOf queries (cond (eqb i at) (change (transaction_of_node n)).records n.records) n.marks) (sym w.is)
-    (by_cases (AreMarksOf queries (cond (eqb i at) (change (transaction_of_node z)).records z.records) (cond (eqb i at) (marks_for queries records) z.marks)) (eqb i at)
+    (by_cases (AreMarksOf queries (cond (eqb i at) (change (transaction_of_node z)).records z.records) (cond (eqb i at) r.marks z.marks)) (eqb i at)
     (λ t.
     let same : z ≡ x = same_node old i z x w.there (ap (slice_get old) (eqb-true i at t) ∙ there.here) in
-    rw t (inr (ap (marks_for queries) (sym is ∙ ap (λ (n : Node). (change (transaction_of_node n)).records) (sym same)))))
+    rw t (subst (λ (rs : List Record). AreMarksOf queries rs r.marks) (sym is ∙ ap (λ (n : Node). (change (transaction_of_node n)).records) (sym same)) r.are))
     (λ t. rw t (are i z w.there)))
 
 -- and the records follow
@@ -170,6 +174,6 @@ ahead_told change queries at mid new vxid are changed = λ i y standing.
 
 -- so nodes keep the marks of their records where records come to one
 pub added_marked : {T E : Type 0} (r : Result T E) (change : Transaction → Transaction) (queries : List Query) (at : ℕ) (more : List Record) (old mid new : List Node) (x : Node) → ((t : Transaction) → (change t).vxid ≡ t.vxid) → ((t : Transaction) → (change t).records ≡ t.records ++ more) → AreMarked queries old → StandsAt old at x →
-    AreChanged (remarked at (marks_for queries (x.records ++ more))) old mid → OnOk r (AreChanged (told_at change at) mid new) → OnOk r (AreMarked queries new)
+    IsRemarked queries (x.records ++ more) at old mid → OnOk r (AreChanged (told_at change at) mid new) → OnOk r (AreMarked queries new)
 added_marked r change queries at more old mid new x vxid is are there marked told =
     on_ok_weaker r (ahead_told change queries at mid new vxid (ahead change queries at (x.records ++ more) old mid x (is (transaction_of_node x)) are there marked)) told

@@ -33,7 +33,7 @@ use Rattle.txn_groups.specs.Groups.{chosen}
 use Rattle.txn_groups.specs.inside.Retold.{AreChanged}
 use Rattle.txn_groups.specs.inside.Told.{told_at}
 use Rattle.txn_groups.specs.inside.Marked.{queries_of, marks_for, AreMarksOf, AreMarked, KeepMarks, IsAhead}
-use Rattle.txn_groups.specs.inside.Remarked.{remarked}
+use Rattle.txn_groups.specs.inside.Remarked.{remarked, IsRemarked}
 use Rattle.txn_groups.specs.inside.Trees.{IsTrees, state_of_trees}
 use Rattle.txn_groups.proofs.FoundLemmas.{same_node}
 use Rattle.txn_groups.proofs.AskersLemmas.{marks_read}
@@ -77,16 +77,16 @@ told_node p v at held told = let w = (held.index v).some at told in (w.0, w.1)
 
 -- records come to the newest node of a VXID, whose marks came before them
 pub add_all : {T E : Type 0} (r : Result T E) (queries asked : List Query) (v at : ℕ) (change : Transaction → Transaction) (more : List Record) (f : State → State) (p mid q : Pending) → asked ≡ queries → IsHeld p → newest_in p.index v ≡ Some at → AreMarked queries p.nodes.items → ((t : Transaction) → (change t).vxid ≡ t.vxid) → ((t : Transaction) → (change t).records ≡ t.records ++ more) →
-    ((x : Node) (records : List Record) → StandsAt p.nodes.items at x → AreMarksOf asked records x.marks → AreChanged (remarked at (marks_for asked (records ++ more))) p.nodes.items mid.nodes.items) →
+    ((x : Node) (records : List Record) → StandsAt p.nodes.items at x → AreMarksOf asked records x.marks → IsRemarked asked (records ++ more) at p.nodes.items mid.nodes.items) →
     mid.order.items ≡ p.order.items → mid.begun ≡ p.begun → mid.index ≡ p.index → mid.free ≡ p.free → mid.rows ≡ p.rows → mid.time ≡ p.time →
     (IsHeld mid → OnOk r (Went (f (state_of mid)) q)) → OnOk r (AreChanged (told_at change at) mid.nodes.items q.nodes.items) → OnOk r (AreMarked queries q.nodes.items) × OnOk r (Went (f (state_of p)) q)
 add_all r queries asked v at change more f p mid q same held told are vxid is marks order_is begun_is index_is free_is rows_is time_is went changed =
     let n = told_node p v at held told in
     let x : Node = n.0 in
-    let marked : AreChanged (remarked at (marks_for queries (x.records ++ more))) p.nodes.items mid.nodes.items =
-    subst (λ (qs : List Query). AreChanged (remarked at (marks_for qs (x.records ++ more))) p.nodes.items mid.nodes.items) same
+    let marked : IsRemarked queries (x.records ++ more) at p.nodes.items mid.nodes.items =
+    subst (λ (qs : List Query). IsRemarked qs (x.records ++ more) at p.nodes.items mid.nodes.items) same
     (marks x x.records n.1 (subst (λ (qs : List Query). AreMarksOf qs x.records x.marks) (sym same) (are at x n.1))) in
-    let now : Went (state_of p) mid = remarked_went at (marks_for queries (x.records ++ more)) p mid held marked order_is begun_is index_is free_is rows_is time_is in (
+    let now : Went (state_of p) mid = remarked_went at marked.marks p mid held marked.changed order_is begun_is index_is free_is rows_is time_is in (
       added_marked r change queries at more p.nodes.items mid.nodes.items q.nodes.items x vxid is are n.1 marked changed,
       subst (λ (s : State). OnOk r (Went (f s) q)) now.told (went now.kept),
     )
@@ -102,18 +102,18 @@ pub record IsReadyToForce (queries : List Query) (cause : Cause) (at : ℕ) (p m
   pub ahead : IsAhead queries cause at mid.nodes.items
 
 pub ready_to_force : (queries asked : List Query) (cause : Cause) (at : ℕ) (p mid : Pending) (x : Node) → asked ≡ queries → IsHeld p → AreMarked queries p.nodes.items → StandsAt p.nodes.items at x →
-    (AreMarksOf asked x.records x.marks → AreChanged (remarked at (marks_for asked (forced cause (transaction_of_node x)).records)) p.nodes.items mid.nodes.items) →
+    (AreMarksOf asked x.records x.marks → IsRemarked asked (forced cause (transaction_of_node x)).records at p.nodes.items mid.nodes.items) →
     mid.order.items ≡ p.order.items → mid.begun ≡ p.begun → mid.index ≡ p.index → mid.free ≡ p.free → mid.rows ≡ p.rows → mid.time ≡ p.time → IsReadyToForce queries cause at p mid x
 ready_to_force queries asked cause at p mid x same held are there marks order_is begun_is index_is free_is rows_is time_is =
     let records : List Record = (forced cause (transaction_of_node x)).records in
-    let c = remarked at (marks_for queries records) in
-    let marked : AreChanged c p.nodes.items mid.nodes.items =
-    subst (λ (qs : List Query). AreChanged (remarked at (marks_for qs records)) p.nodes.items mid.nodes.items) same
+    let marked : IsRemarked queries records at p.nodes.items mid.nodes.items =
+    subst (λ (qs : List Query). IsRemarked qs records at p.nodes.items mid.nodes.items) same
     (marks (subst (λ (qs : List Query). AreMarksOf qs x.records x.marks) (sym same) (are at x there))) in
-    let now : Went (state_of p) mid = remarked_went at (marks_for queries records) p mid held marked order_is begun_is index_is free_is rows_is time_is in
+    let now : Went (state_of p) mid = remarked_went at marked.marks p mid held marked.changed order_is begun_is index_is free_is rows_is time_is in
+    let c = remarked at marked.marks in
     record {
       node = c at x;
-      there = stands_still c p.nodes.items mid.nodes.items at x (remarked_names at (marks_for queries records)) marked there;
+      there = stands_still c p.nodes.items mid.nodes.items at x (remarked_names at marked.marks) marked.changed there;
       unended = refl;
       same = refl;
       held = now.kept;

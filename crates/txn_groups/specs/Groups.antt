@@ -1,7 +1,7 @@
 -- Groups with the answers of queries (this project's choice).
-use Rattle.std.specs.Prelude.{◌≡◌, List, map}
+use Rattle.std.specs.Prelude.{◌≡◌, false, List, map}
 use Rattle.txn_rows.specs.declared.group.Group.{Group}
-use Rattle.txn_rows.specs.Grouping.{Leaving}
+use Rattle.txn_rows.specs.Grouping.{Leaving, Taken, no_state, taken_steps, groups_of}
 use Rattle.txn_rows.specs.TableState.{TableState}
 use Rattle.txn_rows.specs.Table.{TableStepped, TableFailed}
 use Rattle.query_parser.specs.declared.query.Query.{Query}
@@ -32,3 +32,9 @@ pub record GroupsStepped (leaving : Leaving) (before now : GroupsState) (out_bef
 pub record GroupsFailed (leaving : Leaving) (before now : GroupsState) (out_before out_now : List Chosen) : Type 0 where
   pub table : TableFailed (chosen before.queries) leaving before.table now.table out_before out_now
   pub queries : now.queries ≡ before.queries
+
+-- from the beginning on these items were taken: what they leave is pending, and the groups that are reported of them were
+-- handed out with the answers of the queries
+pub record HaveTaken (taken : List Taken) (g : GroupsState) (out : List Chosen) : Type 0 where
+  pub state : g.table.state ≡ (taken_steps g.table.options taken no_state).state
+  pub groups : out ≡ map (chosen g.queries) (groups_of g.table.options taken false)

@@ -1,6 +1,6 @@
 //! The queries that groups are asked.
 
-ghost use Rattle.std.specs.Prelude.{◌≡◌, ◌++◌, [], ◌∷◌, List, map, IfOk, OnOk};
+ghost use Rattle.std.specs.Prelude.{◌≡◌, ◌++◌, [], false, List, map, IfOk, OnOk};
 ghost use Rattle.vsl_record.specs.declared.record_type.Record.{Record};
 ghost use Rattle.query_eval.specs.Asker.{asker_query};
 ghost use Rattle.query_eval.specs.Meaning.{is_held};
@@ -13,11 +13,10 @@ use crate::marks::RowMarks;
 use crate::node::Node;
 use crate::walk::Visit;
 use log_model::NoMemory;
-use query_eval::{Asker, Marks, Truths};
+use query_eval::{Asker, Marking, Marks, Truths};
 use query_parser::Query;
 use std::alloc::Global;
 use txn_rows::Group;
-use vsl_record::{RecordView, RecordsView};
 
 /// Queries, in their order, and what asks them.
 #[derive(Drop)]
@@ -38,49 +37,45 @@ fn no_marks(alloc: Global, askers: &[Asker<'_>]) -> Result<Vec<Marks>, NoMemory>
 }
 
 /// Whether each query holds for a group.
-fn ask_each(alloc: Global, askers: &mut [Asker<'_>], group: &Group) -> Result<Vec<bool>, NoMemory>
-    ensures answers { IfOk result (λ truths. truths.items ≡ map (λ query. is_held query group.now) (map asker_query askers.old)) }
+fn ask_each(alloc: Global, askers: &mut [Asker<'_>], group: &Group) -> Result<Truths, NoMemory>
+    ensures answers { IfOk result (λ truths. truths ≡ map (λ query. is_held query group.now) (map asker_query askers.old)) }
     ensures same { map asker_query askers.new ≡ map asker_query askers.old }
 {
-    let mut truths = Vec::with_capacity(alloc, askers.len())?;
+    let mut truths = Truths::new(alloc);
     for i in 0..askers.len() {
         truths.push(askers[i].holds(group)?)?;
     }
     Ok(truths)
 }
 
-/// Adds a record to the marks of each.
-fn add_to_each(
-    askers: &mut [Asker<'_>],
-    marks: &mut Vec<Marks>,
-    rec: &RecordView<'_>,
-) -> Result<(), NoMemory>
-    ensures marks { (records : List Record) → marks.old.items ≡ marks_for (map asker_query askers.old) records → OnOk result (marks.new.items ≡ marks_for (map asker_query askers.old) (records ++ rec.now ∷ [])) }
+/// Whether one of the records satisfies some test of some query, its level left aside. Where none does, what marks are of
+/// the records before stays what it is.
+fn see_any<M: Marking>(askers: &mut [Asker<'_>], marking: &M) -> Result<bool, NoMemory>
+    ensures unseen { (records : List Record) → IfOk result (λ b. b ≡ false → marks_for (map asker_query askers.old) (records ++ M.records marking.now) ≡ marks_for (map asker_query askers.old) records) }
     ensures same { map asker_query askers.new ≡ map asker_query askers.old }
 {
     for i in 0..askers.len() {
-        if marks.len() <= i {
-            return Ok(());
+        if askers[i].sees(marking)? {
+            return Ok(true);
         }
-        askers[i].add(&mut marks[i], rec)?;
     }
-    Ok(())
+    Ok(false)
 }
 
-/// Adds records to the marks of each.
-fn add_run_to_each(
+/// Adds a record, or records, to the marks of each.
+fn add_to_each<M: Marking>(
     askers: &mut [Asker<'_>],
     marks: &mut Vec<Marks>,
-    run: &RecordsView<'_>,
+    marking: &M,
 ) -> Result<(), NoMemory>
-    ensures marks { (records : List Record) → marks.old.items ≡ marks_for (map asker_query askers.old) records → OnOk result (marks.new.items ≡ marks_for (map asker_query askers.old) (records ++ run.now)) }
+    ensures marks { (records : List Record) → marks.old.items ≡ marks_for (map asker_query askers.old) records → OnOk result (marks.new.items ≡ marks_for (map asker_query askers.old) (records ++ M.records marking.now)) }
     ensures same { map asker_query askers.new ≡ map asker_query askers.old }
 {
     for i in 0..askers.len() {
         if marks.len() <= i {
             return Ok(());
         }
-        askers[i].add_all(&mut marks[i], run)?;
+        askers[i].add(&mut marks[i], marking)?;
     }
     Ok(())
 }
@@ -101,12 +96,12 @@ impl<'q> Askers<'q> {
     pub(crate) fn answers(&self, nodes: &[Node], visits: &[Visit]) -> Result<Truths, NoMemory>
         ensures { AreStanding nodes.now visits.now → AreMarked (queries_of self.now) nodes.now → IfOk result (λ truths. truths ≡ map (λ query. is_held query (visited_group nodes.now visits.now)) (queries_of self.now)) }
     {
-        let mut truths = Vec::with_capacity(self.alloc, self.all.len())?;
+        let mut truths = Truths::new(self.alloc);
         for i in 0..self.all.len() {
             let holds = answer_at(self.alloc, self.all[i].query(), i, nodes, visits)?;
             truths.push(holds)?;
         }
-        Ok(Truths::new(truths))
+        Ok(truths)
     }
 
     /// Whether each query holds for a group.
@@ -114,8 +109,7 @@ impl<'q> Askers<'q> {
         ensures answers { IfOk result (λ truths. truths ≡ map (λ query. is_held query group.now) (queries_of self.old)) }
         ensures same { queries_of self.new ≡ queries_of self.old }
     {
-        let truths = ask_each(self.alloc, &mut self.all, group)?;
-        Ok(Truths::new(truths))
+        ask_each(self.alloc, &mut self.all, group)
     }
 
     /// The marks of no records, of each query.
@@ -126,39 +120,22 @@ impl<'q> Askers<'q> {
         Ok(RowMarks { all })
     }
 
-    /// Where marks have none, they get those of no records.
-    fn make_marks(&self, marks: &mut RowMarks) -> Result<(), NoMemory>
-        ensures { (records : List Record) → AreMarksOf (queries_of self.now) records marks.old → OnOk result (marks.new ≡ marks_for (queries_of self.now) records) }
+    /// Adds a record, or records, to the marks of those before. Where there are none, none are made as long as no record
+    /// satisfies a test.
+    pub(crate) fn add<M: Marking>(
+        &mut self,
+        marks: &mut RowMarks,
+        marking: &M,
+    ) -> Result<(), NoMemory>
+        ensures marks { (records : List Record) → AreMarksOf (queries_of self.old) records marks.old → OnOk result (AreMarksOf (queries_of self.old) (records ++ M.records marking.now) marks.new) }
+        ensures same { queries_of self.new ≡ queries_of self.old }
     {
         if marks.all.is_empty() {
+            if !see_any(&mut self.all, marking)? {
+                return Ok(());
+            }
             *marks = self.no_marks()?;
         }
-        Ok(())
-    }
-
-    /// Adds a record to the marks of those before it.
-    pub(crate) fn add_one(
-        &mut self,
-        marks: &mut RowMarks,
-        rec: &RecordView<'_>,
-    ) -> Result<(), NoMemory>
-        ensures marks { (records : List Record) → AreMarksOf (queries_of self.old) records marks.old → OnOk result (marks.new ≡ marks_for (queries_of self.old) (records ++ rec.now ∷ [])) }
-        ensures same { queries_of self.new ≡ queries_of self.old }
-    {
-        self.make_marks(marks)?;
-        add_to_each(&mut self.all, &mut marks.all, rec)
-    }
-
-    /// Adds records to the marks of those before them.
-    pub(crate) fn add(
-        &mut self,
-        marks: &mut RowMarks,
-        run: &RecordsView<'_>,
-    ) -> Result<(), NoMemory>
-        ensures marks { (records : List Record) → AreMarksOf (queries_of self.old) records marks.old → OnOk result (marks.new ≡ marks_for (queries_of self.old) (records ++ run.now)) }
-        ensures same { queries_of self.new ≡ queries_of self.old }
-    {
-        self.make_marks(marks)?;
-        add_run_to_each(&mut self.all, &mut marks.all, run)
+        add_to_each(&mut self.all, &mut marks.all, marking)
     }
 }

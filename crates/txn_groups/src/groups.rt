@@ -1,9 +1,11 @@
 //! Groups with the answers of queries.
 
-ghost use Rattle.std.specs.Prelude.{◌≡◌, ◌≤◌, ◌<◌, true, false, length, Some, IfOk, IfSome, IfNone, OnOk, OnErr, IsErr, slice_get};
+ghost use Rattle.std.specs.Prelude.{◌≡◌, ◌≤◌, ◌<◌, ◌++◌, [], ◌∷◌, true, false, List, length, map, Some, IfOk, IfSome, IfNone, OnOk, OnErr, IsErr, slice_get};
 ghost use Rattle.std.specs.Option.{option_map};
 ghost use Rattle.txn_rows.specs.Transaction.{is_pending, newest};
-ghost use Rattle.txn_rows.specs.Grouping.{no_state, unit_step, unfinished, force, flush};
+ghost use Rattle.vsl_record.specs.Unit.{Log};
+ghost use Rattle.txn_rows.specs.Grouping.{Taken, TakenUnit, Missed, all_taken, is_raw, no_state, unit_step, unfinished, force, flush};
+ghost use Rattle.txn_partition.specs.Partition.{Regular, Calm, partition};
 ghost use Rattle.query_parser.specs.declared.query.Query.{Query as AsQuery};
 ghost use Rattle.query_eval.specs.Marks.{marks_of};
 ghost use Rattle.txn_rows.specs.States.{IsSound};
@@ -32,7 +34,7 @@ pub struct Groups<'q> {
 }
 
 impl<'q> Groups<'q> {
-    ghost use Rattle.txn_groups.specs.Groups.{GroupsStepped, GroupsFailed, groups_state};
+    ghost use Rattle.txn_groups.specs.Groups.{GroupsStepped, GroupsFailed, HaveTaken, chosen, groups_state};
 
     /// Nothing is pending. Each group that is complete will be asked these queries.
     pub fn new(
@@ -51,10 +53,14 @@ impl<'q> Groups<'q> {
     }
 
     /// Takes the records of a unit in order, and hands out the groups that they complete. No more transactions
-    /// than the limit stay pending.
+    /// than the limit stay pending. With the last unit of a regular and calm log, but under raw grouping, the groups that
+    /// were handed out are its partition.
     pub fn step(&mut self, unit: &Unit, out: &mut Vec<Chosen>) -> Result<(), NoMemory>
         ensures ok { OnOk result (GroupsStepped (unit_step (groups_state self.old).table.options unit.now (groups_state self.old).table.state) (groups_state self.old) (groups_state self.new) out.old.items out.new.items) }
         ensures limit { OnOk result (length (groups_state self.new).table.state.pending ≤ (groups_state self.new).table.options.limit) }
+        ensures taken { OnOk result ((taken : List Taken) → HaveTaken taken (groups_state self.old) out.old.items → HaveTaken (taken ++ TakenUnit unit.now ∷ []) (groups_state self.new) out.new.items) }
+        ensures parted { OnOk result ((log : Log) → is_raw (groups_state self.old).table.options.grouping ≡ false → Regular (log ++ unit.now ∷ []) (groups_state self.old).table.options.grouping → Calm (log ++ unit.now ∷ []) (groups_state self.old).table.options →
+            HaveTaken (all_taken log) (groups_state self.old) out.old.items → out.new.items ≡ map (chosen (groups_state self.old).queries) (partition (log ++ unit.now ∷ []) (groups_state self.old).table.options.grouping)) }
         ensures err { OnErr result (GroupsFailed (unit_step (groups_state self.old).table.options unit.now (groups_state self.old).table.state) (groups_state self.old) (groups_state self.new) out.old.items out.new.items) }
         ensures failed { (groups_state self.old).table.failed ≡ true → IsErr result × (out.new.items ≡ out.old.items) }
     {
@@ -84,10 +90,14 @@ impl<'q> Groups<'q> {
     }
 
     /// Force-completes every transaction that has not ended, the oldest first, and hands out the groups that they
-    /// complete. Nothing stays pending. It serves an overrun and the end of a log.
+    /// complete. Nothing stays pending. It serves an overrun and the end of a log. At the end of a regular and calm log, but
+    /// under raw grouping, it hands out nothing: the groups that were handed out are the partition already.
     pub fn flush(&mut self, out: &mut Vec<Chosen>) -> Result<(), NoMemory>
         ensures ok { OnOk result (GroupsStepped (flush (groups_state self.old).table.state) (groups_state self.old) (groups_state self.new) out.old.items out.new.items) }
         ensures none { OnOk result (length (groups_state self.new).table.state.pending ≡ 0) }
+        ensures taken { OnOk result ((taken : List Taken) → HaveTaken taken (groups_state self.old) out.old.items → HaveTaken (taken ++ Missed ∷ []) (groups_state self.new) out.new.items) }
+        ensures parted { OnOk result ((log : Log) → is_raw (groups_state self.old).table.options.grouping ≡ false → Regular log (groups_state self.old).table.options.grouping → Calm log (groups_state self.old).table.options →
+            HaveTaken (all_taken log) (groups_state self.old) out.old.items → (out.new.items ≡ out.old.items) × (out.new.items ≡ map (chosen (groups_state self.old).queries) (partition log (groups_state self.old).table.options.grouping))) }
         ensures err { OnErr result (GroupsFailed (flush (groups_state self.old).table.state) (groups_state self.old) (groups_state self.new) out.old.items out.new.items) }
         ensures failed { (groups_state self.old).table.failed ≡ true → IsErr result × (out.new.items ≡ out.old.items) }
     {
@@ -123,6 +133,7 @@ impl<'q> Groups<'q> {
     {
         self.store.unfinished()
     }
+
     /// The marks of a query, by its place, that are kept with the newest pending transaction of a VXID: which of the
     /// query's tests its records satisfy.
     pub fn marks(&self, vxid: Vxid, query: usize) -> Option<&Marks>

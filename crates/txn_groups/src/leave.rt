@@ -102,5 +102,5 @@ pub fn leave(
     let top = node.top;
     let size = node.size;
     let visits = walk(alloc, &pending.nodes, top, size)?;
-    hand_out(alloc, grouping, pending, &visits, askers, out)
+    hand_out(alloc, grouping, pending, visits.as_slice(), askers, out)
 }

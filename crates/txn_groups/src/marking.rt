@@ -1,49 +1,33 @@
 //! Records that are added to the marks of nodes.
 
-ghost use Rattle.std.specs.Prelude.{◌≡◌, ◌<◌, ◌++◌, [], ◌∷◌, List, length, IfOk, OnOk};
+ghost use Rattle.std.specs.Prelude.{◌≡◌, ◌<◌, ◌++◌, List, length, IfOk, OnOk};
 ghost use Rattle.vsl_record.specs.declared.record_type.Record.{Record};
 ghost use Rattle.txn_rows.specs.Transaction.{Transaction, forced};
 ghost use Rattle.txn_groups.specs.declared.node.Node.{Node as AsNode};
 ghost use Rattle.txn_groups.specs.inside.Nodes.{StandsAt, transaction_of_node};
-ghost use Rattle.txn_groups.specs.inside.Marked.{queries_of, marks_for, AreMarksOf};
-ghost use Rattle.txn_groups.specs.inside.Remarked.{remarked};
-ghost use Rattle.txn_groups.specs.inside.Retold.{AreChanged};
+ghost use Rattle.txn_groups.specs.inside.Marked.{queries_of, AreMarksOf};
+ghost use Rattle.txn_groups.specs.inside.Remarked.{IsRemarked};
 
 use crate::askers::Askers;
 use crate::node::Node;
 use log_model::NoMemory;
+use query_eval::Marking;
 use std::alloc::Global;
 use txn_rows::{Cause, add_forced};
-use vsl_record::{RecordView, Records, RecordsView};
+use vsl_record::{Records, RecordsView};
 
-/// Adds a record to the marks of the node at a place.
-pub fn mark_one_at(
+/// Adds a record, or records, to the marks of the node at a place.
+pub fn mark_at<M: Marking>(
     nodes: &mut Vec<Node>,
     askers: &mut Askers<'_>,
     place: usize,
-    rec: &RecordView<'_>,
+    marking: &M,
 ) -> Result<(), NoMemory>
-    ensures marks { (x : AsNode) (records : List Record) → StandsAt nodes.old.items place x → AreMarksOf (queries_of askers.old) records x.marks → OnOk result (AreChanged (remarked place (marks_for (queries_of askers.old) (records ++ rec.now ∷ []))) nodes.old.items nodes.new.items) }
+    ensures marks { (x : AsNode) (records : List Record) → StandsAt nodes.old.items place x → AreMarksOf (queries_of askers.old) records x.marks → OnOk result (IsRemarked (queries_of askers.old) (records ++ M.records marking.now) place nodes.old.items nodes.new.items) }
     ensures same { queries_of askers.new ≡ queries_of askers.old }
 {
     if place < nodes.len() {
-        askers.add_one(&mut nodes[place].marks, rec)?;
-    }
-    Ok(())
-}
-
-/// Adds records to the marks of the node at a place.
-pub fn mark_at(
-    nodes: &mut Vec<Node>,
-    askers: &mut Askers<'_>,
-    place: usize,
-    run: &RecordsView<'_>,
-) -> Result<(), NoMemory>
-    ensures marks { (x : AsNode) (records : List Record) → StandsAt nodes.old.items place x → AreMarksOf (queries_of askers.old) records x.marks → OnOk result (AreChanged (remarked place (marks_for (queries_of askers.old) (records ++ run.now))) nodes.old.items nodes.new.items) }
-    ensures same { queries_of askers.new ≡ queries_of askers.old }
-{
-    if place < nodes.len() {
-        askers.add(&mut nodes[place].marks, run)?;
+        askers.add(&mut nodes[place].marks, marking)?;
     }
     Ok(())
 }
@@ -78,7 +62,7 @@ pub fn mark_forced(
     cause: Cause,
 ) -> Result<(), NoMemory>
     requires { place < length nodes.old.items }
-    ensures marks { (x : AsNode) → StandsAt nodes.old.items place x → AreMarksOf (queries_of askers.old) x.records x.marks → OnOk result (AreChanged (remarked place (marks_for (queries_of askers.old) (forced cause (transaction_of_node x)).records)) nodes.old.items nodes.new.items) }
+    ensures marks { (x : AsNode) → StandsAt nodes.old.items place x → AreMarksOf (queries_of askers.old) x.records x.marks → OnOk result (IsRemarked (queries_of askers.old) (forced cause (transaction_of_node x)).records place nodes.old.items nodes.new.items) }
     ensures same { queries_of askers.new ≡ queries_of askers.old }
 {
     let node = &nodes[place];

@@ -6,7 +6,7 @@ use query_eval::Marks;
 use std::alloc::Global;
 use std::marker::Model;
 
-/// The marks of each of several queries, in their order; none before a record was added. Contracts see the list.
+/// The marks of each of several queries, in their order; none before a record satisfied a test. Contracts see the list.
 #[derive(Drop)]
 pub struct RowMarks {
     pub(crate) all: Vec<Marks>,

@@ -16,7 +16,7 @@ use crate::askers::Askers;
 use crate::end_row::end_row;
 use crate::force_row::force_at;
 use crate::link_row::link_row;
-use crate::marking::{mark_at, mark_forced, mark_one_at};
+use crate::marking::{mark_at, mark_forced};
 use crate::marks::RowMarks;
 use crate::node::is_ended;
 use crate::oldest::seek_oldest;
@@ -140,7 +140,7 @@ impl<'q> Store for Trees<'q> {
         claim: Option<Claim>,
         at_hand: &RecordsView<'_>,
     ) -> Result<(), NoMemory> {
-        mark_one_at(&mut self.pending.nodes, &mut self.askers, at, rec)?;
+        mark_at(&mut self.pending.nodes, &mut self.askers, at, rec)?;
         add_to(&mut self.pending, at, rec, claim, at_hand)
     }
 

@@ -8,17 +8,21 @@ ghost use Rattle.txn_groups.specs.inside.Walked.{IsTopAt, AreVisits, visit_of};
 
 use crate::node::Node;
 use log_model::NoMemory;
+use smallvec::SmallVec;
 use std::alloc::Global;
 
 /// A node that a walk comes to, and its level, from 1 at the top, as a group tells it.
-#[derive(Clone, Copy, Drop)]
+#[derive(Clone, Copy, Default, Drop)]
 pub struct Visit {
     pub at: usize,
     pub level: u32,
 }
 
+/// Visits in order. Those of at most 8 nodes take no memory.
+pub type Visits = SmallVec<Visit, 8>;
+
 /// Puts a node on the stack, where there is one.
-fn put_off(later: &mut Vec<Visit>, at: Option<usize>, level: u32) -> Result<(), NoMemory>
+fn put_off(later: &mut Visits, at: Option<usize>, level: u32) -> Result<(), NoMemory>
     ensures { OnOk result (later.new.items ≡ later.old.items ++ visit_of at level) }
 {
     if let Some(at) = at {
@@ -29,7 +33,7 @@ fn put_off(later: &mut Vec<Visit>, at: Option<usize>, level: u32) -> Result<(), 
 
 /// Puts the first child of a node at a level on the stack, where there is one. That it is at a level that no `u32` holds
 /// counts as want of memory.
-fn put_below(later: &mut Vec<Visit>, first: Option<usize>, level: u32) -> Result<(), NoMemory>
+fn put_below(later: &mut Visits, first: Option<usize>, level: u32) -> Result<(), NoMemory>
     ensures { OnOk result (later.new.items ≡ later.old.items ++ visit_of first (level + 1)) }
 {
     let Some(at) = first else {
@@ -44,11 +48,11 @@ fn put_below(later: &mut Vec<Visit>, first: Option<usize>, level: u32) -> Result
 
 /// The nodes of a tree in preorder, from its top on: each node, then its first child, then the child that its parent
 /// got next. A level that no `u32` holds counts as want of memory.
-pub fn walk(alloc: Global, nodes: &[Node], top: usize, size: usize) -> Result<Vec<Visit>, NoMemory>
+pub fn walk(alloc: Global, nodes: &[Node], top: usize, size: usize) -> Result<Visits, NoMemory>
     ensures { (begun root : ℕ) (order : List Entry) (rows : List Row) → AreNodes begun nodes.now order rows → IsTopAt nodes.now rows root size top → IfOk result (λ visits. AreVisits nodes.now rows root visits.items) }
 {
-    let mut visits = Vec::with_capacity(alloc, size)?;
-    let mut later = Vec::new(alloc);
+    let mut visits = SmallVec::with_capacity(alloc, size)?;
+    let mut later = SmallVec::new(alloc);
     later.push(Visit { at: top, level: 1 })?;
     for i in 0..size {
         let Some(visit) = later.pop() else {

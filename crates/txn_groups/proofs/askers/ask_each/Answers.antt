@@ -14,5 +14,5 @@ returns-in_err-push-clause-same c = same_queries asker_query _ _ c.loop-i.i c.in
 pub loop-i-preserved : goal.loop-i-preserved
 loop-i-preserved c = record {
   same = same_queries asker_query _ _ c.loop-i.i c.index-askers-i.result _ c.loop-i.invariant.same c.holds.ensures.same;
-  truths = c.in_ok-push.ensures.items ∙ asked_more asker_query (λ query. is_held query c.args.group.now) c.loop-i.askers c.args.askers.now c.loop-i.i c.index-askers-i.result _ _ c.loop-i.invariant.same (omega (arith, c.loop-i-test.true)) c.in_ok-holds.ensures.answer c.loop-i.invariant.truths;
+  truths = c.in_ok-push.ensures ∙ asked_more asker_query (λ query. is_held query c.args.group.now) c.loop-i.askers c.args.askers.now c.loop-i.i c.index-askers-i.result _ _ c.loop-i.invariant.same (omega (arith, c.loop-i-test.true)) c.in_ok-holds.ensures.answer c.loop-i.invariant.truths;
 }

@@ -7,5 +7,5 @@ use Rattle.txn_groups.proofs.askers.ask_each.Given as goal
 abbrev pub invariant-loop-i : goal.invariant-loop-i
 invariant-loop-i l = record {
   same : map asker_query l.askers ≡ map asker_query l.initial.askers;
-  truths : l.truths.items ≡ take l.i (map (λ query. is_held query l.group) (map asker_query l.initial.askers));
+  truths : l.truths ≡ take l.i (map (λ query. is_held query l.group) (map asker_query l.initial.askers));
 }

@@ -40,7 +40,7 @@ returns-clause-ok c = λ queries rows n hold top asks marked.
     let none : n.node.unended ≡ 0 = omega (arith, ap (λ (x : Node). x.unended) same, c.if-node-gt0.false) in
     let standing = visits_stand p.begun n.row.root nodes p.order.items rows c.in_ok-visits.visits.items hold.are all in
     let few = visits_few n.row.root p rows c.in_ok-visits.visits.items hold all in
-    let handing = rw c.deref-3.ensures.value at c.hand_out.ensures.ok in
+    let handing = rw c.as_slice.ensures at c.hand_out.ensures.ok in
     let handed = handed_of c.hand_out.result (queries_of c.args.askers.now) queries c.args.grouping p c.hand_out.new.pending c.in_ok-visits.visits.items c.args.out.now.items c.hand_out.new.out.items asks marked
     (λ m. handing standing few m (kin_of p.begun nodes p.order.items rows hold.are) hold.index hold.free) in
     on_ok_weaker c.hand_out.result (λ h. tree_leaves (chosen queries) c.args.grouping c.args.last p c.hand_out.new.pending rows n c.in_ok-visits.visits.items c.args.out.now.items c.hand_out.new.out.items hold top none all h) handed

@@ -6,9 +6,8 @@ use Rattle.vsl_record.specs.declared.record_type.Record.{Record}
 use Rattle.txn_rows.specs.Transaction.{forced}
 use Rattle.txn_groups.specs.declared.node.Node.{Node}
 use Rattle.txn_groups.specs.inside.Nodes.{transaction_of_node}
-use Rattle.txn_groups.specs.inside.Marked.{queries_of, marks_for}
-use Rattle.txn_groups.specs.inside.Remarked.{remarked}
-use Rattle.txn_groups.specs.inside.Retold.{AreChanged}
+use Rattle.txn_groups.specs.inside.Marked.{queries_of}
+use Rattle.txn_groups.specs.inside.Remarked.{IsRemarked}
 use Rattle.txn_groups.proofs.FoundLemmas.{same_node}
 use Rattle.txn_groups.proofs.marking.mark_forced.Goals as goal
 
@@ -20,4 +19,4 @@ returns-clause-marks c = λ x there are.
     let same : x ≡ g = same_node items c.args.place x g there read in
     let is : (forced c.args.cause (transaction_of_node x)).records ≡ x.records ++ c.view-2.result =
     c.in_ok-more.ensures (transaction_of_node x) (ap (λ (n : Node). n.records) same ∙ sym c.view.ensures) ∙ ap (λ (more : List Record). x.records ++ more) (sym c.view-2.ensures) in
-    subst (λ (all : List Record). OnOk c.mark_at.result (AreChanged (remarked c.args.place (marks_for (queries_of c.args.askers.now) all)) items c.mark_at.new.nodes.items)) (sym is) (c.mark_at.ensures.marks x x.records there are)
+    subst (λ (all : List Record). OnOk c.mark_at.result (IsRemarked (queries_of c.args.askers.now) all c.args.place items c.mark_at.new.nodes.items)) (sym is) (c.mark_at.ensures.marks x x.records there are)

@@ -7,7 +7,7 @@ use Rattle.txn_groups.proofs.walk.walk.Goals as goal
 pub loop-i-init : goal.loop-i-init
 loop-i-init c = λ begun root order rows are is.
     let w = walks_first begun root c.args.size c.args.top c.args.nodes.now order rows are is in
-    let stack = c.in_ok-push.ensures.items in
+    let stack = c.in_ok-push.ensures.ok in
     let none = c.in_ok-visits.ensures.items in
     rw (stack, none, c.new-later.ensures.items) w
 
@@ -22,7 +22,7 @@ returns-in_default-get c = λ begun root order rows are is.
 pub loop-i-preserved : goal.loop-i-preserved
 loop-i-preserved c = λ begun root order rows are is.
     let more = walks_more begun root c.loop-i.i c.args.nodes.now order rows c.loop-i.visits.items c.loop-i.later.items c.pop.new.self.items c.in-Some.visit c.in-Some-get.node.now are (c.loop-i.invariant begun root order rows are is) c.in-Some.ensures.items (slice_get_read c.args.nodes.now (length c.args.nodes.now) c.in-Some.visit.at c.in-Some-get.node.now refl c.in-Some-get.ensures.lookup.3.0 c.in-Some-get.ensures.lookup.1) in
-    rw (c.in_ok-push-2.ensures.items, c.in_ok-put_below.ensures, c.in_ok-put_off.ensures) more
+    rw (c.in_ok-push-2.ensures.ok, c.in_ok-put_below.ensures, c.in_ok-put_off.ensures) more
 
 pub returns : goal.returns
 returns c = λ begun root order rows are is.

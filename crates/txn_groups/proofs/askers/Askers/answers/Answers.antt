@@ -10,6 +10,6 @@ loop-i-preserved c = λ standing marked.
     let a : Asker = c.index.result.now in
     let within : c.loop-i.i < length all = omega (arith, c.loop-i-test.true, c.len-i-end.ensures) in
     let told = rw c.query.ensures at c.in_ok-holds.ensures in
-    c.in_ok-push.ensures.items
-    ∙ answers_more all (visited_group c.args.nodes.now c.args.visits.now) c.loop-i.i a c.loop-i.truths.items c.in_ok-holds.holds within c.index.ensures
+    c.in_ok-push.ensures
+    ∙ answers_more all (visited_group c.args.nodes.now c.args.visits.now) c.loop-i.i a c.loop-i.truths c.in_ok-holds.holds within c.index.ensures
     (told standing (marked_for all c.args.nodes.now c.loop-i.i a within c.index.ensures marked)) (c.loop-i.invariant standing marked)

@@ -2,11 +2,12 @@ use Rattle.std.proofs.Common.{sym, ◌∙◌}
 use Rattle.std.specs.Coded.{Coded-set, coded_ℕ}
 use Rattle.std.proofs.lemmas.Result.{on_ok_weaker}
 use Rattle.std.proofs.Math.Logic.{∥∥₁_map}
-use Rattle.txn_rows.specs.Grouping.{flush}
+use Rattle.txn_rows.specs.Grouping.{Missed, flush}
 use Rattle.txn_rows.proofs.TableLemmas.{with_ok, flush_sound, flushed_none}
 use Rattle.txn_groups.specs.Groups.{chosen}
 use Rattle.txn_groups.specs.inside.Trees.{IsTrees, state_of_trees}
 use Rattle.txn_groups.proofs.GroupsLemmas.{groups_stepped, groups_failed, on_ok_elim}
+use Rattle.txn_groups.proofs.HaveTakenLemmas.{taken_more, flush_parted}
 use Rattle.txn_groups.proofs.groups.Groups.flush.Goals as goal
 
 -- the store stays sound
@@ -36,3 +37,11 @@ returns-clause-none c =
     let queries = g.queries.now in
     on_ok_elim c.flush_all-flushed.result (g.sound c.if-self.false) (Coded-set coded_ℕ _ _) (λ s.
     on_ok_weaker c.flush_all-flushed.result (flushed_none (IsTrees queries) state_of_trees (chosen queries) g.options.limit g.options.grouping g.store c.flush_all-flushed.new.store c.args.out.now.items c.flush_all-flushed.new.out.items s) (c.flush_all-flushed.ensures.ok queries s.ordered))
+
+pub returns-clause-taken : goal.returns-clause-taken
+returns-clause-taken c =
+    on_ok_weaker c.flush_all-flushed.result (λ stepped taken have. taken_more taken Missed _ _ _ _ have stepped) (returns-clause-ok c)
+
+pub returns-clause-parted : goal.returns-clause-parted
+returns-clause-parted c =
+    on_ok_weaker c.flush_all-flushed.result (λ stepped log trees regular calm have. flush_parted log _ _ _ _ trees regular calm have stepped) (returns-clause-ok c)

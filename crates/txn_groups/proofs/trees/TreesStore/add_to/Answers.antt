@@ -14,10 +14,10 @@ pub returns-clause-went : goal.returns-clause-went
 returns-clause-went c = λ queries trees.
     let t : Trees = c.args.self.now in
     let p : Pending = t.pending in
-    let mid : Pending = record p { nodes = c.mark_one_at.new.nodes } in
+    let mid : Pending = record p { nodes = c.mark_at.new.nodes } in
     let q : Pending = c.add_to.new.pending in
     let f = λ (s : State). record s { pending = with_kind c.args.vxid c.args.rec.now (with_record c.args.vxid c.args.rec.now s.pending) } in
     let all = add_all c.add_to.result queries _ c.args.vxid c.args.at (with_one c.args.rec.now) (c.args.rec.now ∷ []) f p mid q trees.asks trees.held c.requires.newest trees.marked
-    (one_keeps c.args.rec.now).vxid (one_longer c.args.rec.now) c.in_ok-mark_one_at.ensures.marks refl refl refl refl refl refl
+    (one_keeps c.args.rec.now).vxid (one_longer c.args.rec.now) c.in_ok-mark_at.ensures.marks refl refl refl refl refl refl
     (λ held. c.add_to.ensures.went c.args.vxid held c.requires.newest) c.add_to.ensures.changed in
-    trees_go c.add_to.result queries (record t { pending = q; askers = c.mark_one_at.new.askers }) _ (low_added t.low c.args.vxid c.args.rec.now (state_of_trees t) trees.low) (record { asks = c.mark_one_at.ensures.same ∙ trees.asks; none = trees.unmarked }) all.0 all.1
+    trees_go c.add_to.result queries (record t { pending = q; askers = c.mark_at.new.askers }) _ (low_added t.low c.args.vxid c.args.rec.now (state_of_trees t) trees.low) (record { asks = c.mark_at.ensures.same ∙ trees.asks; none = trees.unmarked }) all.0 all.1
