@@ -46,7 +46,10 @@ fn give(
     ensures two { length (entries_of dispatch.new) ≡ 2 }
 {
     let group = group_of(alloc, payload)?;
-    let holds = Truths::new(Vec::from_array(alloc, holds)?);
+    let [first, second] = holds;
+    let mut holds = Truths::new(alloc);
+    holds.push(first)?;
+    holds.push(second)?;
     dispatch.give(&Chosen { group, holds })?;
     Ok(())
 }

@@ -1,5 +1,5 @@
 -- What becomes of consumers, and of what they write (this project's choice).
-use Rattle.std.specs.Prelude.{◌≡◌, ◌≢◌, ℕ, ◌+◌, Bool, true, false, if◌then◌else◌, List, [], ◌∷◌, ◌++◌, length, Option, Some, None}
+use Rattle.std.specs.Prelude.{◌≡◌, ◌≢◌, ℕ, ◌+◌, ◌<◌, Bool, true, false, if◌then◌else◌, List, [], ◌∷◌, ◌++◌, length, Option, Some, None, slice_get}
 use Rattle.vsl_record.specs.Unit.{LogUnit}
 use Rattle.txn_rows.specs.declared.group.Group.{Group}
 use Rattle.vsl_dispatch.specs.Groups.{raw_groups, kept, is_filled}
@@ -11,6 +11,11 @@ use Rattle.vsl_dispatch.specs.declared.entry.Entry.TheVariants.{Live, Gone}
 -- read twice
 abbrev pub entries_of : {C : Type 0} → Dispatcher C → List (Entry C)
 entries_of d = d.entries.items
+
+-- whether a dispatcher found no memory once. From then on it takes no group, so that no consumer writes what comes behind
+-- a group that it lacks
+abbrev pub has_failed : {C : Type 0} → Dispatcher C → Bool
+has_failed d = d.failed
 
 -- whether a consumer takes groups
 abbrev pub is_live : {C : Type 0} → Entry C → Bool
@@ -53,11 +58,23 @@ module _ {C : Type 0} (keep : C → Option ℕ) (output : C → List Group → B
   Handed group true (Gone bytes) new = new ≡ Gone bytes
   Handed group false (Gone bytes) new = new ≡ Gone bytes
 
+  -- no memory was found for the entry at a place: those before it were given the group, and those behind it were not
+  pub record GivenBefore (at : ℕ) (group : Group) (holds : List Bool) (before now : List (Entry C)) : Type 0 where
+    pub within : at < length before
+    pub given : (i : ℕ) (b : Bool) (old new : Entry C) → i < at → slice_get holds i ≡ Some b → slice_get before i ≡ Some old → slice_get now i ≡ Some new → Handed group b old new
+    pub others : (i : ℕ) → at < i → slice_get now i ≡ slice_get before i
+
   -- no group will follow: a consumer was ended, and left these bytes, with which its text is complete; one that is gone stays as it is
   abbrev pub Finished : Entry C → Entry C → Type 0
   Finished (Live c) (Live d) = ⊥
   Finished (Live c) (Gone bytes) = (groups : List Group) (taken : List ℕ) → represents c groups false taken → taken ++ bytes.items ≡ output c groups true
   Finished (Gone bytes) new = new ≡ Gone bytes
+
+  -- no memory was found for the entry at a place: those before it were ended, and those behind it were not
+  pub record FinishedBefore (at : ℕ) (before now : List (Entry C)) : Type 0 where
+    pub within : at < length before
+    pub ended : (i : ℕ) (old new : Entry C) → i < at → slice_get before i ≡ Some old → slice_get now i ≡ Some new → Finished old new
+    pub others : (i : ℕ) → at < i → slice_get now i ≡ slice_get before i
 
   -- a text was taken from a consumer. It is what was written since the last time: so the lines of varnishlog come with
   -- each unit, and the report of varnishtop at the end
