@@ -1,5 +1,5 @@
 -- Every job keeps to the limits.
-use Rattle.std.proofs.Common.{◌≡◌, ℕ, ◌+◌, ◌≤◌, Bool, true, false, ◌&&◌, List, [], ◌∷◌, Option, Some, None, Result, Ok, Err, length, arith, lit≤, refl, subst, leb}
+use Rattle.std.proofs.Common.{◌≡◌, ℕ, ◌+◌, ◌≤◌, Bool, true, false, List, [], ◌∷◌, Option, Some, None, Result, Ok, Err, length, arith, lit≤, refl, subst, leb}
 use Rattle.std.specs.Prelude.{IfSome, IfOk, unwrap_or, position, take, drop, if◌then◌else◌}
 use Rattle.std.proofs.lemmas.Option.{IfSome_then}
 use Rattle.vsl_decimal.specs.Whole.{whole_number}
