@@ -3,3 +3,4 @@ mod CountLemmas
 mod Examples
 mod LoopLemmas
 mod OrderLemmas
+mod ReportLemmas

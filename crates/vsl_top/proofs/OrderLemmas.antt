@@ -72,7 +72,7 @@ times_in_order x (line ∷ lines) = times_put x line (in_order lines) ∙ ap (λ
 
 -- ---- lines that rise
 
-abbrev Each : (Line → Type 0) → List Line → Type 0
+abbrev pub Each : (Line → Type 0) → List Line → Type 0
 Each P [] = Unit {0}
 Each P (l ∷ lines) = P l × Each P lines
 
@@ -80,7 +80,7 @@ each_weaker : (P Q : Line → Type 0) → ((l : Line) → P l → Q l) → (line
 each_weaker P Q weaker [] each = tt
 each_weaker P Q weaker (l ∷ lines) each = (weaker l each.0, each_weaker P Q weaker lines each.1)
 
-each_put : (P : Line → Type 0) (line : Line) (lines : List Line) → P line → Each P lines → Each P (put_in line lines)
+pub each_put : (P : Line → Type 0) (line : Line) (lines : List Line) → P line → Each P lines → Each P (put_in line lines)
 each_put P line [] p each = (p, tt)
 each_put P line (l ∷ lines) p each = of_test (lt l line) (each_put P line lines p each.1)
   where
@@ -89,7 +89,7 @@ each_put P line (l ∷ lines) p each = of_test (lt l line) (each_put P line line
     of_test false rest = (p, each)
 
 -- no line comes before one that it follows
-abbrev Rises : List Line → Type 0
+abbrev pub Rises : List Line → Type 0
 Rises [] = Unit {0}
 Rises (l ∷ lines) = Each (λ m. lt m l ≡ false) lines × Rises lines
 
@@ -101,7 +101,7 @@ rises_put line (l ∷ lines) up = of_test (lt l line) refl (rises_put line lines
     of_test true less rest = (each_put (λ z. lt z l ≡ false) line lines (order.one_way l line less) up.0, rest)
     of_test false least rest = ((least, each_weaker (λ z. lt z l ≡ false) (λ z. lt z line ≡ false) (λ z h. order.chain z l line h least) lines up.0), up)
 
-rises_in_order : (lines : List Line) → Rises (in_order lines)
+pub rises_in_order : (lines : List Line) → Rises (in_order lines)
 rises_in_order [] = tt
 rises_in_order (line ∷ lines) = rises_put line (in_order lines) (rises_in_order lines)
 
@@ -206,7 +206,7 @@ times_distinct x count (k ∷ keys) = by_cases _ (list_any (is_same k) keys)
     (λ t. rw (t, times_distinct x count keys, same_key x.key k t, last) (omega arith))
     (λ t. rw t (omega (arith, times_distinct x count keys)))))
 
-any_counted : (p : Key → Bool) (keys : List Key) → list_any p keys ≡ is_some (some_count (length (filter p keys)))
+pub any_counted : (p : Key → Bool) (keys : List Key) → list_any p keys ≡ is_some (some_count (length (filter p keys)))
 any_counted p [] = refl
 any_counted p (k ∷ keys) = of_test (p k) (any_counted p keys)
   where

@@ -9,6 +9,8 @@
 mod consumer;
 mod counts;
 mod key;
+mod laws;
 mod line;
 
 pub use consumer::TopConsumer;
+pub use laws::reports_add_up;
