@@ -4,6 +4,7 @@ mod BoundLemmas
 mod CountedExamples
 pub mod CountedLemmas
 mod Examples
+mod FittingLemmas
 mod GatheringLemmas
 mod MadeBounds
 mod MadeExamples

@@ -1,11 +1,11 @@
 -- How many records, words and cuts traffic has that is made.
-use Rattle.std.proofs.Common.{◌≡◌, ℕ, zero, suc, ◌+◌, ◌*◌, ◌%◌, ◌<◌, ◌≤◌, Bool, true, false, cond, List, [], ◌∷◌, ◌++◌, length, Option, None, Some, inl, inr, refl, ap, ◌∙◌, arith}
+use Rattle.std.proofs.Common.{◌≡◌, ℕ, zero, suc, ◌+◌, ◌*◌, ◌%◌, ◌<◌, ◌≤◌, Bool, true, false, cond, List, [], ◌∷◌, ◌++◌, length, Option, None, Some, inl, inr, refl, sym, ap, ◌∙◌, arith}
 use Rattle.std.specs.Prelude.{codes, decimal}
 use Rattle.std.specs.List.{flat_map, fold}
 use Rattle.std.proofs.lemmas.Bool.{cases_Bool}
 use Rattle.std.proofs.lemmas.Fmt.{length-decimal-le}
 use Rattle.std.proofs.lemmas.List.{append-nil, length-append, length-take}
-use Rattle.vsl_record.specs.Unit.{LogUnit, Log}
+use Rattle.vsl_record.specs.Unit.{LogUnit, Log, vxid_end}
 use Rattle.vsl_record.specs.Words.{record_words, unit_words}
 use Rattle.raw_records.specs.Lines.{LoggedRecord, Line, BlankLine, CommentLine, RecordLine}
 use Rattle.raw_records.specs.Gathered.{unit_of, with_record, goes_on, shortened}
@@ -138,18 +138,18 @@ sizes_bytes headers x few = omega (
   digits_few (x % 1000 + headers) (omega (arith, few)),
 )
 
--- VXIDs are such numbers
-vxid_low : (whose : Whose) (k : ℕ) → k < request_end → vxid_of whose k < 4294967296
-vxid_low Fetch k few = omega (arith, few)
-vxid_low Request k few = omega (arith, few)
-vxid_low Miss k few = omega (arith, few)
-vxid_low Hit k few = omega (arith, few)
-vxid_low Session k few = omega (arith, few)
+-- VXIDs are in range
+pub vxid_in_range : (whose : Whose) (k : ℕ) → k < request_end → vxid_of whose k < vxid_end
+vxid_in_range Fetch k few = omega (arith, few)
+vxid_in_range Request k few = omega (arith, few)
+vxid_in_range Miss k few = omega (arith, few)
+vxid_in_range Hit k few = omega (arith, few)
+vxid_in_range Session k few = omega (arith, few)
 
 -- the text of a number
 number_bytes : (number : Number) (k x : ℕ) → k < request_end → length (number_text number k x) ≤ most_digits number
 number_bytes Nothing k x few = omega arith
-number_bytes (VxidOf whose) k x few = digits_few (vxid_of whose k) (vxid_low whose k few)
+number_bytes (VxidOf whose) k x few = digits_few (vxid_of whose k) (omega (arith, vxid_in_range whose k few))
 number_bytes Seconds k x few = digits_few (1650000000 + k) (omega (arith, few))
 number_bytes Item k x few = digits_few (x % 100) (omega arith)
 number_bytes SizesFetched k x few = sizes_bytes 180 x (omega arith)
@@ -214,19 +214,25 @@ pub record IsMade (count seed reclen seg : ℕ) (units : Log) (cuts : ℕ) : Typ
   pub few_words : word_count units ≤ 256 * count
   pub few_cuts : cuts ≤ record_count units
 
+-- these units and cuts are what traffic is that is made
+pub made_is : (count seed reclen seg : ℕ) (units : Log) (cuts : ℕ) → count ≤ 100000 → units ≡ made_units count seed reclen seg → cuts ≡ made_cuts count seed reclen seg → IsMade count seed reclen seg units cuts
+made_is count seed reclen seg units cuts most units_are cuts_are =
+    let ls = made_lines count seed in
+    let units_of : units ≡ closed (gathered_lines reclen seg ls) = units_are ∙ sym (gathered_units reclen seg ls) in
+    let cuts_of : cuts ≡ (gathered_lines reclen seg ls).cuts = cuts_are ∙ sym (gathered_cuts reclen seg ls) in
+    let adds = Adds-lines ls (nothing reclen seg) in
+    let small = made_small count seed most in
+    record {
+      units_are = units_are;
+      cuts_are = cuts_are;
+      few_records = omega (arith, ap record_count units_of, adds.records, small.few);
+      few_words = omega (arith, ap word_count units_of, adds.words, small.few, small.short);
+      few_cuts = omega (arith, ap record_count units_of, cuts_of, adds.cuts);
+    }
+
 -- all lines were made
 pub IsMade-from : (count seed reclen seg k x : ℕ) (g : Gathered) (units : Log) (cuts : ℕ) → count ≤ 100000 → k ≡ count → IsPartlyMade seed reclen seg k x g → units ≡ (ended g).units → cuts ≡ g.cuts → IsMade count seed reclen seg units cuts
 IsMade-from count seed reclen seg k x g units cuts most all made units_is cuts_is =
     let ls = made_lines count seed in
     let state : g ≡ gathered_lines reclen seg ls = made.state ∙ ap (λ n. gathered_lines reclen seg (made_lines n seed)) all in
-    let units_of : units ≡ closed (gathered_lines reclen seg ls) = units_is ∙ ap closed state in
-    let cuts_of : cuts ≡ (gathered_lines reclen seg ls).cuts = cuts_is ∙ ap (λ (g : Gathered). g.cuts) state in
-    let adds = Adds-lines ls (nothing reclen seg) in
-    let small = made_small count seed most in
-    record {
-      units_are = units_of ∙ gathered_units reclen seg ls;
-      cuts_are = cuts_of ∙ gathered_cuts reclen seg ls;
-      few_records = omega (arith, ap record_count units_of, adds.records, small.few);
-      few_words = omega (arith, ap word_count units_of, adds.words, small.few, small.short);
-      few_cuts = omega (arith, ap record_count units_of, cuts_of, adds.cuts);
-    }
+    made_is count seed reclen seg units cuts most (units_is ∙ ap closed state ∙ gathered_units reclen seg ls) (cuts_is ∙ ap (λ (g : Gathered). g.cuts) state ∙ gathered_cuts reclen seg ls)

@@ -1,13 +1,16 @@
-//! The laws of listings. A law is a function that does nothing.
+//! The laws of listings and of made requests. A law is a function that does nothing.
 
-ghost use Rattle.std.specs.Prelude.{◌≡◌, ◌⊎◌, ℕ, Bool, false, List, ◌∷◌, ◌++◌, IfSome, slice_get};
-ghost use Rattle.std.specs.List.{AllByRecursion, flat_map};
+ghost use Rattle.std.specs.Prelude.{◌≡◌, ◌⊎◌, ℕ, ◌*◌, ◌≤◌, Bool, false, List, ◌∷◌, ◌++◌, IfSome, slice_get};
+ghost use Rattle.std.specs.List.{All, AllByRecursion, flat_map};
+ghost use Rattle.ring_layout.specs.Places.{IsSegment};
+ghost use Rattle.vsl_record.specs.Payload.{most_payload};
 ghost use Rattle.vsl_record.specs.Unit.{Log, LogUnit};
 ghost use Rattle.raw_records.specs.Gathered.{gathered, logged};
-ghost use Rattle.traffic_feed.specs.Batches.{listing_units, most_kept, sections};
+ghost use Rattle.traffic_feed.specs.Batches.{IsWithin, listing_units, most_kept, sections};
 ghost use Rattle.raw_records.specs.Lines.{IsFirstBad, Line, LoggedRecord};
 ghost use Rattle.vsl_select.specs.RawLine.{raw_lines};
-ghost use Rattle.traffic_feed.specs.Listing.{IsListing};
+ghost use Rattle.traffic_feed.specs.Listing.{IsListing, record_count, word_count};
+ghost use Rattle.traffic_feed.specs.Made.{made_cuts, made_units};
 ghost use Rattle.traffic_feed.specs.RawLog.{AreBatches, IsReadBack};
 
 /// Bytes are a listing of some units with so many cuts, or have a first bad line.
@@ -37,4 +40,13 @@ pub fn units_are_longest()
 /// are two batches.
 pub fn raw_lines_read_back()
     ensures { (log : Log) (reclen seg : ℕ) → AllByRecursion (IsReadBack reclen seg) log → AreBatches log → IsListing (flat_map raw_lines log) reclen seg log 0 }
+{}
+
+/// Each unit of up to 100,000 made requests fits in a segment, and they have at most 25 records and 256 words a request, and no
+/// more cuts than records.
+pub fn made_traffic_is_within()
+    ensures fits { (count seed reclen seg : ℕ) → IsSegment seg → count ≤ 100000 → reclen ≤ most_payload → All (IsWithin seg) (made_units count seed reclen seg) }
+    ensures few_records { (count seed reclen seg : ℕ) → count ≤ 100000 → record_count (made_units count seed reclen seg) ≤ 25 * count }
+    ensures few_words { (count seed reclen seg : ℕ) → count ≤ 100000 → word_count (made_units count seed reclen seg) ≤ 256 * count }
+    ensures few_cuts { (count seed reclen seg : ℕ) → count ≤ 100000 → made_cuts count seed reclen seg ≤ record_count (made_units count seed reclen seg) }
 {}

@@ -34,7 +34,8 @@ pub use fault::ListFault;
 pub use feeding::{Fed, feed};
 pub use gate::{Gate, OpenGate};
 pub use laws::{
-    each_record_once, every_listing, one_listing, raw_lines_read_back, units_are_longest,
+    each_record_once, every_listing, made_traffic_is_within, one_listing, raw_lines_read_back,
+    units_are_longest,
 };
 pub use listing::{Listing, read_listing};
 pub use traffic::generate;
