@@ -11,5 +11,6 @@ mod TakingLemmas
 mod TurningLemmas
 mod ReplayingLemmas
 pub mod UnreadLemmas
+mod OrderLemmas
 mod TallyLemmas
 mod CountingLemmas

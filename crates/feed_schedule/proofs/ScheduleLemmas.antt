@@ -16,7 +16,7 @@ use Rattle.feed_schedule.proofs.ReaderLemmas.{EndsBefore}
 use Rattle.feed_schedule.proofs.StageLemmas.{IsSound, sound_first, sound_turn, turns_end}
 
 -- all writers have left at the end
-none_at_end : (r : Reading) (writers : ℕ) → MayStand r writers → has_ended r ≡ true → writers ≡ 0
+pub none_at_end : (r : Reading) (writers : ℕ) → MayStand r writers → has_ended r ≡ true → writers ≡ 0
 none_at_end Reads writers h e = cc e
 none_at_end Waits writers h e = cc e
 none_at_end Ended writers h e = h

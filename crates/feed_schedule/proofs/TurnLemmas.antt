@@ -54,7 +54,7 @@ reads_past Ended writers k l a = absurd (omega arith)
 
 -- the one that was chosen may have a turn
 pub chosen_below : (drawn : Option ℕ) (active : ℕ) → 0 < active → chosen_by drawn active < active
-chosen_below None active some = some
+chosen_below None active some = omega arith
 chosen_below (Some x) active some = mod_below (next_draw x) active some
 
 -- what holds of a stage that has ended, after each turn of a writer, and after each of a reader that may have one, holds after a turn

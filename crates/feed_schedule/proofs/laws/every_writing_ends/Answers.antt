@@ -1,4 +1,5 @@
 use Rattle.std.proofs.Common.{refl, sym, ◌∙◌}
+use Rattle.feed_schedule.proofs.OrderLemmas.{writing_in_order}
 use Rattle.feed_schedule.proofs.UnreadLemmas.{writing_interleaves}
 use Rattle.feed_schedule.proofs.laws.every_writing_ends.Goals as goal
 
@@ -10,3 +11,6 @@ returns-clause-one_way c = λ order feeds log other h g. h ∙ sym g
 
 pub returns-clause-interleaved : goal.returns-clause-interleaved
 returns-clause-interleaved c = writing_interleaves
+
+pub returns-clause-in_order : goal.returns-clause-in_order
+returns-clause-in_order c = writing_in_order
