@@ -10,7 +10,9 @@
 
 mod beside;
 mod closing;
+mod laws;
 mod opening;
 mod running;
 
+pub use laws::counts_are_of_the_log;
 pub use running::{CountEnded, LiveEnded, count_live, run_live};
