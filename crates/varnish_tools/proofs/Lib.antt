@@ -6,3 +6,5 @@ mod PartLemmas
 mod OutLemmas
 mod ToldLemmas
 mod PartedLemmas
+mod QuietLemmas
+mod CountedLemmas

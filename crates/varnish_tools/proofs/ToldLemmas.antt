@@ -25,7 +25,7 @@ use Rattle.job_steps.specs.declared.fault.ToolFault.{ToolFault}
 use Rattle.job_steps.specs.Good.{AreGoodSteps}
 use Rattle.job_steps.specs.Jobs.{file_of, is_counting, write_of}
 use Rattle.job_steps.specs.Queries.{Ask, AreAsked}
-use Rattle.job_steps.specs.Steps.{Step, OpenLog, MakeSink, Found, FoundSink, Passes, Stops, creates_of, feed_steps, input_steps, listings_of, logs_of, opens_of, steps_of}
+use Rattle.job_steps.specs.Steps.{Step, OpenLog, MakeSink, Found, FoundSink, Passes, Stops, creates_of, feed_steps, listings_of, logs_of, opens_of, steps_of}
 use Rattle.job_steps.proofs.BegunLemmas.{formatted_create}
 use Rattle.job_steps.proofs.StepFacts.{passed_within}
 use Rattle.job_steps.proofs.TookLemmas.{opens_alone}

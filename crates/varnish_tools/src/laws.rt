@@ -1,7 +1,8 @@
 //! Laws: functions that do nothing, for what their clauses say.
 
-ghost use Rattle.std.specs.Prelude.{◌≡◌, ◌⊎◌, ℕ, Bool, true, false, is_some, List, None, Ok};
-ghost use Rattle.vio.specs.World.{HasStreams, Seen};
+ghost use Rattle.std.specs.Prelude.{◌≡◌, ◌⊎◌, ℕ, Bool, true, false, is_some, List, None, Ok, Some};
+ghost use Rattle.log_model.specs.Faults.{HasNewFault};
+ghost use Rattle.vio.specs.World.{CallKind, Creating, HasStreams, Opening, Reading, Seen, Writing};
 ghost use Rattle.vio.specs.Calls.{none_failed};
 ghost use Rattle.vsl_record.specs.Unit.{Log};
 ghost use Rattle.vsl_file.specs.File.{FileEnding, Whole};
@@ -9,6 +10,7 @@ ghost use Rattle.txn_rows.specs.Grouping.{is_raw};
 ghost use Rattle.txn_partition.specs.Partition.{Regular, Calm};
 ghost use Rattle.tool_words.specs.declared.job.Job.{Job};
 ghost use Rattle.tool_words.specs.Job.{job_of};
+ghost use Rattle.job_steps.specs.declared.fault.ToolFault.TheVariants.{NoOpen, ReadFault, WriteFault};
 ghost use Rattle.job_steps.specs.Good.{AreGoodSteps};
 ghost use Rattle.run_sources.specs.Sources.{unit_items};
 ghost use Rattle.text_printer.specs.Ends.{whole};
@@ -45,6 +47,20 @@ pub fn good_words_have_no_fault()
     good_steps_pass();
     faults_have_failed_calls();
 }
+
+/// A fault says that a file couldn't be opened or created, that a read failed or that a write failed, only where the count of
+/// such calls rose under the very name that it says. Where no count rose, no call of the work failed.
+pub fn faults_are_counted()
+    ensures opened { (words : List (List ℕ)) (outcome : Outcome) (before now : Seen) (name : List ℕ) →
+        HasStreams before → IsFaithful words outcome before now → outcome.fault ≡ Some (NoOpen name) →
+        HasNewFault (before.faults Opening name) (now.faults Opening name) ⊎ HasNewFault (before.faults Creating name) (now.faults Creating name) }
+    ensures read { (words : List (List ℕ)) (outcome : Outcome) (before now : Seen) (name : List ℕ) →
+        HasStreams before → IsFaithful words outcome before now → outcome.fault ≡ Some (ReadFault name) → HasNewFault (before.faults Reading name) (now.faults Reading name) }
+    ensures written { (words : List (List ℕ)) (outcome : Outcome) (before now : Seen) (name : List ℕ) →
+        HasStreams before → IsFaithful words outcome before now → outcome.fault ≡ Some (WriteFault name) → HasNewFault (before.faults Writing name) (now.faults Writing name) }
+    ensures quiet { (words : List (List ℕ)) (outcome : Outcome) (before now : Seen) → HasStreams before → (p : IsFaithful words outcome before now) →
+        ((kind : CallKind) (name : List ℕ) → ¬ (HasNewFault (before.faults kind name) (now.faults kind name))) → none_failed p.works.work ≡ true }
+{}
 
 /// Of a log that is told whole, and that keeps within the limit and the timeout of a job that groups, what is due is what is
 /// written of its partition: of the transactions that Begins and Links join.

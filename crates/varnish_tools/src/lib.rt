@@ -16,7 +16,9 @@ mod tools;
 
 pub use job_runs::RunRecord;
 pub use job_steps::ToolFault;
-pub use laws::{good_words_have_no_fault, regular_logs_are_parted, told_logs_are_printed};
+pub use laws::{
+    faults_are_counted, good_words_have_no_fault, regular_logs_are_parted, told_logs_are_printed,
+};
 pub use outcome::Outcome;
 pub use tools::{run_alone, run_tools};
 pub use traffic_feed::{Gate, OpenGate};

@@ -1,7 +1,3 @@
-use Rattle.std.proofs.Common.{List, ℕ, OnOk, OnErr, subst}
-use Rattle.std.proofs.lemmas.Result.{on_ok_weaker}
-use Rattle.vio.specs.Calls.{Called}
-use Rattle.one_run.specs.Promise.{Says, SaysPart}
 use Rattle.varnish_tools.proofs.SaidLemmas.{part_said, said_so}
 use Rattle.varnish_tools.proofs.tools.report.Goals as goal
 
