@@ -4,8 +4,8 @@ ghost use Rattle.std.specs.Prelude.{◌<◌};
 
 use crate::byte_table::{ALSO_WHOLE, ENDS_EARLY, FIRST_WHOLE, LAST_WHOLE, REQUEST_WITH_FETCH};
 use crate::support::{
-    Answer, Ending, FETCH, FETCH_GROUPS, HEADER, Log, ONE_PING, OPEN_GROUPS, PRINT_F, expect_run,
-    read_content, taken, world_with,
+    Answer, Ending, FETCH, FETCH_GROUPS, FETCH_TO_FILE, HEADER, Log, ONE_PING, OPEN_GROUPS,
+    OPEN_TO_FILE, PING_TO_FILE, PRINT_F, expect_run, read_content, taken, world_with,
 };
 use std::alloc::Global;
 use std::process::Abort;
@@ -17,28 +17,46 @@ use vsl_file::{FileFault, FileReader, put_header, put_unit};
 use vsl_record::{Mark, Record, Unit};
 use vsl_tags::Tag;
 
-/// What the first `cut` bytes of a log answer. The text is a buffer.
-fn answer_of_cut<'a>(log: &Log, cut: usize, text: &'a mut Vec<u8>) -> Result<Answer<'a>, Fail> {
+/// What a log answers of which these first units are whole, and which then ends so. The text is a buffer.
+fn answer_of_units<'a>(
+    log: &Log,
+    units: usize,
+    ending: Ending,
+    text: &'a mut Vec<u8>,
+) -> Result<Answer<'a>, Fail> {
     text.clear();
-    let mut begin = HEADER.len();
-    let mut units: u64 = 0;
+    text.extend_from_slice(log.head)?;
     let mut flush: &[u8] = b"";
-    for (end, unit_text, unit_flush) in log.units {
+    for (_, unit_text, unit_flush) in log.units.iter().take(units) {
+        flush = *unit_flush;
+        text.extend_from_slice(*unit_text)?;
+    }
+    if matches!(ending, Ending::Done) {
+        text.extend_from_slice(flush)?;
+    }
+    Ok(Answer {
+        sink: log.sink.handle,
+        ..taken(ending, units as u64, text)
+    })
+}
+
+/// How many units are whole in the first `cut` bytes of a log, and how it ends there.
+fn ending_of_cut(log: &Log, cut: usize) -> (usize, Ending) {
+    let mut begin = HEADER.len();
+    let mut units: usize = 0;
+    for (end, _, _) in log.units {
         if *end <= cut {
             units = units.saturating_add(1);
-            flush = *unit_flush;
-            text.extend_from_slice(*unit_text)?;
             begin = *end;
         }
     }
     if cut < HEADER.len() {
-        return Ok(taken(Ending::NotALog(cut as u64), units, text));
+        return (units, Ending::NotALog(cut as u64));
     }
     if cut != begin {
-        return Ok(taken(Ending::Damaged(begin as u64), units, text));
+        return (units, Ending::Damaged(begin as u64));
     }
-    text.extend_from_slice(flush)?;
-    Ok(taken(Ending::Done, units, text))
+    (units, Ending::Done)
 }
 
 /// Cuts a log at every length, and reads it in pieces of so many bytes.
@@ -50,7 +68,8 @@ fn expect_cuts<R: Abort + Threads + Wait + Sync>(
 ) -> Result<(), Fail> {
     let mut text = Vec::new(alloc);
     for cut in 0..=log.bytes.len() {
-        let want = answer_of_cut(log, cut, &mut text)?;
+        let (units, ending) = ending_of_cut(log, cut);
+        let want = answer_of_units(log, units, ending, &mut text)?;
         let mut world = world_with(alloc, &log.bytes[..cut])?;
         world.piece(piece);
         expect_run(rt, alloc, log.words, &mut world, &want, log.name, cut)?;
@@ -63,7 +82,14 @@ fn a_cut_file_prints_its_whole_units_and_a_whole_one_its_flush(
     rt: HostRuntime,
 ) -> Result<(), Fail> {
     for piece in [1, 3, 1000] {
-        for log in [ONE_PING, FETCH, FETCH_GROUPS, OPEN_GROUPS] {
+        for log in [
+            ONE_PING,
+            FETCH,
+            FETCH_GROUPS,
+            OPEN_GROUPS,
+            PING_TO_FILE,
+            OPEN_TO_FILE,
+        ] {
             expect_cuts(&rt, rt.alloc(), &log, piece)?;
         }
     }
@@ -119,6 +145,51 @@ fn a_changed_byte_is_seen_where_it_matters(rt: HostRuntime) -> Result<(), Fail> 
                 let content = read_content(rt.alloc(), &bytes, piece)?;
                 let want = content_of_changed(place, value);
                 assert_eq!(rt; content, want, "{value} at {place}");
+            }
+        }
+    }
+    Ok(())
+}
+
+/// How a run ends over a file that isn't whole; nothing where it is.
+fn ending_of_fault(fault: Option<FileFault>) -> Option<Ending> {
+    match fault {
+        Some(FileFault::NotALog { at }) => Some(Ending::NotALog(at)),
+        Some(FileFault::Damaged { at }) => Some(Ending::Damaged(at)),
+        _ => None,
+    }
+}
+
+/// Changes each byte of a log of the request and its fetch to this value, and reads it in pieces of so many bytes. What is
+/// whole then has another text or the same, and isn't looked at.
+fn expect_changes<R: Abort + Threads + Wait + Sync>(
+    rt: &R,
+    alloc: Global,
+    log: &Log,
+    value: u8,
+    piece: usize,
+) -> Result<(), Fail> {
+    let mut text = Vec::new(alloc);
+    for place in 0..REQUEST_WITH_FETCH.len() {
+        let mut bytes = REQUEST_WITH_FETCH;
+        bytes[place] = value;
+        let (units, fault) = content_of_changed(place, value);
+        if let Some(ending) = ending_of_fault(fault) {
+            let want = answer_of_units(log, units, ending, &mut text)?;
+            let mut world = world_with(alloc, &bytes)?;
+            world.piece(piece);
+            expect_run(rt, alloc, log.words, &mut world, &want, log.name, place)?;
+        }
+    }
+    Ok(())
+}
+
+#[test]
+fn a_changed_file_prints_the_units_before_the_changed_one(rt: HostRuntime) -> Result<(), Fail> {
+    for piece in [1, 3, 1000] {
+        for log in [FETCH, FETCH_GROUPS, FETCH_TO_FILE] {
+            for value in [0, 128, 255] {
+                expect_changes(&rt, rt.alloc(), &log, value, piece)?;
             }
         }
     }

@@ -20,6 +20,4 @@ mod files;
 #[cfg(test)]
 mod live;
 #[cfg(test)]
-mod queries;
-#[cfg(test)]
 mod support;

@@ -5,11 +5,10 @@
 //! schedule is; where one has to be met, a gate holds threads.
 
 mod beside;
-mod faults;
-mod gates;
+pub mod gates;
 mod kept;
 mod overruns;
 mod support;
 mod sweep;
-mod texts;
+pub mod texts;
 mod traffic;

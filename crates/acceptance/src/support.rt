@@ -7,7 +7,7 @@ use std::sync::Wait;
 use std::test::Fail;
 use std::thread::Threads;
 use tool_words::UsageFault;
-use varnish_tools::{OpenGate, Outcome, RunRecord, ToolFault, run_tools};
+use varnish_tools::{Gate, OpenGate, Outcome, RunRecord, ToolFault, run_tools};
 use vio::{MemWorld, World};
 use vsl_file::{FileFault, FileReader, FileStep};
 
@@ -55,7 +55,8 @@ pub const OUT: Sink = Sink {
 };
 
 /// A log of a unit of one record, of no transaction and no mark.
-const PING_BYTES: &[u8] = b"VSLOG-1\n\x05\x00\x00\xfe\x07\x00\x00\x03\x00\x00\x00\x00Rd ping\x00";
+pub const PING_BYTES: &[u8] =
+    b"VSLOG-1\n\x05\x00\x00\xfe\x07\x00\x00\x03\x00\x00\x00\x00Rd ping\x00";
 
 /// A unit of one record, of no transaction and no mark.
 pub const ONE_PING: Log = Log {
@@ -106,7 +107,7 @@ const OPEN_TEXT: &[u8] =
     b"*   << Request  >> 9         \n-   Begin          req 1 rxreq\n-   VSL            flush\n-   End            synth\n\n";
 
 /// A log of a request that begins and doesn't end, and then the backend's unit.
-const OPEN_BYTES: &[u8] =
+pub const OPEN_BYTES: &[u8] =
     b"VSLOG-1\n\x06\x00\x00\xfe\x0b\x00\x00\x2a\x09\x00\x00\x40req 1 rxreq\x00\x09\x00\x00\xfe\x0d\x00\x00\x2a\x03\x00\x00\x80bereq 2 fetch\x00\x00\x00\x00\x00\x00\x2c\x03\x00\x00\x80";
 
 /// A request that begins and doesn't end, and then the backend's unit, by transaction.
@@ -133,6 +134,10 @@ pub const PING_TO_FILE: Log = Log {
     sink: OUT,
 };
 
+/// The unit of the request that doesn't end, once it is flushed.
+const OPEN_UNIT: &[u8] =
+    b"\x0e\x00\x00\xfe\x0b\x00\x00\x2a\x09\x00\x00\x40req 1 rxreq\x00\x05\x00\x00\x2d\x09\x00\x00\x40flush\x00\x00\x00\x05\x00\x00\x2c\x09\x00\x00\x40synth\x00\x00\x00";
+
 /// The request that doesn't end and the backend's unit, by transaction, as a log file.
 pub const OPEN_TO_FILE: Log = Log {
     name: "an open transaction to a file",
@@ -140,11 +145,32 @@ pub const OPEN_TO_FILE: Log = Log {
     bytes: OPEN_BYTES,
     head: HEADER,
     units: &[
-        (32, b"", b""),
+        (32, b"", OPEN_UNIT),
         (
             68,
             b"\x09\x00\x00\xfe\x0d\x00\x00\x2a\x03\x00\x00\x80bereq 2 fetch\x00\x00\x00\x00\x00\x00\x2c\x03\x00\x00\x80",
-            b"\x0e\x00\x00\xfe\x0b\x00\x00\x2a\x09\x00\x00\x40req 1 rxreq\x00\x05\x00\x00\x2d\x09\x00\x00\x40flush\x00\x00\x00\x05\x00\x00\x2c\x09\x00\x00\x40synth\x00\x00\x00",
+            OPEN_UNIT,
+        ),
+    ],
+    sink: OUT,
+};
+
+/// The backend's unit and the client's, by transaction, as a log file, which is the same one.
+pub const FETCH_TO_FILE: Log = Log {
+    name: "two transactions to a file",
+    words: &["varnishlog", "-w", "out", "-r", "f"],
+    bytes: &REQUEST_WITH_FETCH,
+    head: HEADER,
+    units: &[
+        (
+            44,
+            b"\x09\x00\x00\xfe\x0d\x00\x00\x2a\x03\x00\x00\x80bereq 2 fetch\x00\x00\x00\x00\x00\x00\x2c\x03\x00\x00\x80",
+            b"",
+        ),
+        (
+            100,
+            b"\x0e\x00\x00\xfe\x0b\x00\x00\x2a\x02\x00\x00\x40req 1 rxreq\x00\x0d\x00\x00\x2b\x02\x00\x00\x40bereq 3 fetch\x00\x00\x00\x00\x00\x00\x2c\x02\x00\x00\x40",
+            b"",
         ),
     ],
     sink: OUT,
@@ -168,7 +194,7 @@ pub enum Ending {
 }
 
 /// The status of an ending.
-fn status_of(ending: Ending) -> u8 {
+pub fn status_of(ending: Ending) -> u8 {
     match ending {
         Ending::Done => 0,
         Ending::BadValue => 2,
@@ -213,7 +239,7 @@ fn put_number(text: &mut Vec<u8>, number: u64) -> Result<(), Fail> {
 }
 
 /// The message of an ending.
-fn message_of(alloc: Global, ending: Ending) -> Result<Vec<u8>, Fail> {
+pub fn message_of(alloc: Global, ending: Ending) -> Result<Vec<u8>, Fail> {
     let mut text = Vec::new(alloc);
     if matches!(ending, Ending::Done) {
         return Ok(text);
@@ -265,13 +291,13 @@ fn told_in(fault: &ToolFault) -> (&str, u64) {
 }
 
 /// Compares a fault with that of an ending; no fault has no variant.
-fn expect_fault(rt: &impl Abort, fault: &Option<ToolFault>, ending: Ending) {
+pub fn expect_fault(rt: &impl Abort, fault: &Option<ToolFault>, ending: Ending, what: &str) {
     let (variant, name, at) = fault_of(ending);
     match fault {
-        None => assert_eq!(rt; "", variant),
+        None => assert_eq!(rt; "", variant, "{what}"),
         Some(fault) => {
-            assert_eq!(rt; variant_of(fault), variant);
-            assert_eq!(rt; told_in(fault), (name, at));
+            assert_eq!(rt; variant_of(fault), variant, "{what}");
+            assert_eq!(rt; told_in(fault), (name, at), "{what}");
         }
     }
 }
@@ -287,7 +313,7 @@ pub enum Took {
 }
 
 /// What a run record tells.
-fn took_of(run: &RunRecord) -> Took {
+pub fn took_of(run: &RunRecord) -> Took {
     match run {
         RunRecord::Nothing => Took::Nothing,
         RunRecord::Counted { units, items } => Took::Counted(*units, *items),
@@ -355,17 +381,19 @@ pub fn read_content(
     Ok((1000, None))
 }
 
-fn run<R: Threads + Wait + Sync>(
+/// Runs the words, at a gate.
+pub fn run_words<R: Threads + Wait + Sync, W: World, G: Gate>(
     rt: &R,
     alloc: Global,
     words: &[&str],
-    world: &mut MemWorld,
+    world: &mut W,
+    gate: &G,
 ) -> Result<Outcome, Fail> {
     let mut typed = Vec::new(alloc);
     for word in words {
         typed.push(String::from_str(alloc, word)?)?;
     }
-    Ok(run_tools(rt, alloc, &typed, world, &OpenGate)?)
+    Ok(run_tools(rt, alloc, &typed, world, gate)?)
 }
 
 /// Runs the words, and compares all that comes out; `what` and `at` tell the run from others.
@@ -378,10 +406,10 @@ pub fn expect_run<R: Abort + Threads + Wait + Sync>(
     what: &str,
     at: usize,
 ) -> Result<(), Fail> {
-    let outcome = run(rt, alloc, words, world)?;
+    let outcome = run_words(rt, alloc, words, world, &OpenGate)?;
     let message = message_of(alloc, want.ending)?;
     let errors = message.get(..want.written).unwrap_or(&message);
-    expect_fault(rt, &outcome.fault, want.ending);
+    expect_fault(rt, &outcome.fault, want.ending, what);
     assert_eq!(rt; outcome.status, status_of(want.ending), "{what}, {at}");
     assert_eq!(rt; took_of(&outcome.run), want.took, "{what}, {at}");
     assert_eq!(rt; world.content(want.sink), want.output, "{what}, {at}");

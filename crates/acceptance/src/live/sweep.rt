@@ -3,9 +3,7 @@
 
 use crate::live::gates::UnevenGate;
 use crate::live::support::{Left, expect_done, run_feeds};
-use crate::live::texts::{
-    have_same_groups, have_same_lines, lines_of_feed, without_waits_and_wraps,
-};
+use crate::live::texts::{Kept, have_same_parts, lines_of_feed};
 use crate::live::traffic::listings_of;
 use std::alloc::Global;
 use std::process::Abort;
@@ -40,21 +38,6 @@ const RINGS: [RingCase; 3] = [
     },
 ];
 
-/// What a schedule leaves as it is of a text.
-#[derive(Clone, Copy)]
-enum Kept {
-    /// The lines of each feed, in their order.
-    FeedLines,
-    /// The groups, each of which ends with a blank line.
-    Groups,
-    /// The lines.
-    Lines,
-    /// All.
-    Whole,
-    /// The lines of all counters but those of waits for another writer and of laps.
-    Counters,
-}
-
 /// Whether each feed's lines come in their order.
 fn are_in_order(
     alloc: Global,
@@ -83,13 +66,7 @@ fn is_as_stated(
     }
     match kept {
         Kept::FeedLines => are_in_order(alloc, listings, live, stated),
-        Kept::Groups => have_same_groups(alloc, live, stated),
-        Kept::Lines => have_same_lines(alloc, live, stated),
-        Kept::Whole => Ok(live == stated),
-        Kept::Counters => {
-            let ours = without_waits_and_wraps(alloc, live)?;
-            Ok(ours == without_waits_and_wraps(alloc, stated)?)
-        }
+        _ => have_same_parts(alloc, kept, live, stated),
     }
 }
 

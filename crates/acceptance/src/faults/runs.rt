@@ -1,0 +1,400 @@
+//! Runs in which calls fail, and what each has to answer and to leave.
+
+use crate::faults::tables::{Content, Input, NAMES, Order, Tool};
+use crate::faults::watched::{Call, Deed, STDERR, WatchedWorld, moved_of};
+use crate::live::gates::{Hold, HoldingGate, Step};
+use crate::live::texts::{Kept, are_first_lines, has_parts_of};
+use crate::support::{Ending, Took, expect_fault, message_of, run_words, status_of, took_of};
+use std::alloc::Global;
+use std::process::Abort;
+use std::sync::Wait;
+use std::test::Fail;
+use std::thread::Threads;
+use varnish_tools::{OpenGate, Outcome};
+use vio::{ERRORS, OUTPUT};
+
+/// More calls than a run makes.
+const MOST_CALLS: usize = 1000;
+
+/// The reader begins once eleven units of a feed of twelve are in the ring, which overrun it.
+const LATE: &[Hold] = &[Hold {
+    step: Step::Read(0),
+    until: &[Step::Put(0, 11)],
+}];
+
+/// What a run left: its outcome, what was written to its sink and to standard error, and the calls that were made.
+#[derive(Drop)]
+struct Left {
+    outcome: Outcome,
+    text: Vec<u8>,
+    errors: Vec<u8>,
+    calls: Vec<Call>,
+}
+
+/// A tool's run over an input, and what it leaves where no call fails.
+#[derive(Clone, Copy)]
+struct Row<'a> {
+    input: &'a Input,
+    tool: &'a Tool,
+    whole: &'a Left,
+    /// How many calls it makes then, but those of its last message.
+    work: usize,
+}
+
+/// A listing of twelve requests, each a unit of 64 words, of VXIDs behind this one: one word for the unit, 5 for Begin, 56
+/// for the log and 2 for End.
+fn long_requests(alloc: Global, before: u32) -> Result<Vec<u8>, Fail> {
+    let mut listing = Vec::new(alloc);
+    for unit in 1..=12u8 {
+        let vxid = before.saturating_add(u32::from(unit));
+        let begin = format!(in alloc;
+            "{vxid:>10} Begin          c req 1 rxreq\n{vxid:>10} VCL_Log        c "
+        )?;
+        listing.extend_from_slice(begin.as_bytes())?;
+        for _ in 0..216u8 {
+            listing.push(b'a')?;
+        }
+        let end = format!(in alloc; "\n{vxid:>10} End            c \n")?;
+        listing.extend_from_slice(end.as_bytes())?;
+    }
+    Ok(listing)
+}
+
+/// The bytes of a file.
+fn bytes_of(alloc: Global, content: &Content) -> Result<Vec<u8>, Fail> {
+    match content {
+        Content::Bytes(bytes) => Ok(Vec::from_slice(alloc, *bytes)?),
+        Content::LongRequests(before) => long_requests(alloc, *before),
+    }
+}
+
+/// The bytes of the file of this name of an input; none where it has no such file.
+fn file_of(alloc: Global, input: &Input, name: &str) -> Result<Vec<u8>, Fail> {
+    for (known, content) in input.files {
+        if *known == name {
+            return bytes_of(alloc, content);
+        }
+    }
+    Ok(Vec::new(alloc))
+}
+
+/// A world with the files of an input, in which calls of these numbers fail.
+fn world_for(alloc: Global, input: &Input, failing: &[usize]) -> Result<WatchedWorld, Fail> {
+    let mut world = WatchedWorld::new(alloc, NAMES)?;
+    for (name, content) in input.files {
+        let bytes = bytes_of(alloc, content)?;
+        world.memory.file(*name, &bytes)?;
+    }
+    world.memory.piece(input.piece);
+    for call in failing {
+        world.memory.fail(*call as u64)?;
+    }
+    Ok(world)
+}
+
+/// Runs a tool over an input, at a gate that holds the reader where it is to come late.
+fn run_in<R: Abort + Threads + Wait + Sync>(
+    rt: &R,
+    alloc: Global,
+    input: &Input,
+    tool: &Tool,
+    world: &mut WatchedWorld,
+) -> Result<Outcome, Fail> {
+    let mut words = Vec::new(alloc);
+    for part in [input.before, tool.words, input.behind] {
+        words.extend_from_slice(part)?;
+    }
+    if input.order != Order::Late {
+        return run_words(rt, alloc, &words, world, &OpenGate);
+    }
+    let gate = HoldingGate::new(LATE);
+    let outcome = run_words(rt, alloc, &words, world, &gate)?;
+    assert!(rt; !gate.has_failed(rt), "a step was held to the last turn");
+    Ok(outcome)
+}
+
+/// What a run leaves in which calls of these numbers fail, counted from 1.
+fn left_of<R: Abort + Threads + Wait + Sync>(
+    rt: &R,
+    alloc: Global,
+    input: &Input,
+    tool: &Tool,
+    failing: &[usize],
+) -> Result<Left, Fail> {
+    let mut world = world_for(alloc, input, failing)?;
+    let outcome = run_in(rt, alloc, input, tool, &mut world)?;
+    let calls = world.calls(alloc)?;
+    let errors = Vec::from_slice(alloc, world.memory.content(ERRORS))?;
+    let text = if tool.sink == "-" {
+        Vec::from_slice(alloc, world.memory.content(OUTPUT))?
+    } else {
+        world.held(alloc, tool.sink)?
+    };
+    Ok(Left {
+        outcome,
+        text,
+        errors,
+        calls,
+    })
+}
+
+/// How many calls a run makes where none fails.
+pub fn count_calls<R: Abort + Threads + Wait + Sync>(
+    rt: &R,
+    alloc: Global,
+    input: &Input,
+    tool: &Tool,
+) -> Result<usize, Fail> {
+    Ok(left_of(rt, alloc, input, tool, &[])?.calls.len())
+}
+
+/// What an input is called with a tool, and which of its calls fail.
+fn name_of(alloc: Global, input: &Input, tool: &Tool, failing: &[usize]) -> Result<String, Fail> {
+    let last = failing.last().copied().unwrap_or(0);
+    let twice = failing.len();
+    Ok(format!(in alloc; "{}, {}, {twice} up to {last}", input.name, tool.name)?)
+}
+
+/// Nothing was written but to the sink and to standard error.
+fn expect_sink(rt: &impl Abort, tool: &Tool, left: &Left, what: &str) {
+    for call in left.calls.iter() {
+        let is_known = call.object == tool.sink || call.object == STDERR;
+        assert!(rt; is_known || call.deed != Deed::Write, "{what}");
+    }
+}
+
+/// A run without a failing call tells its overruns, and ends as it must, with its message.
+fn expect_whole(
+    rt: &impl Abort,
+    alloc: Global,
+    input: &Input,
+    tool: &Tool,
+    left: &Left,
+) -> Result<(), Fail> {
+    let what = name_of(alloc, input, tool, &[])?;
+    let message = message_of(alloc, input.ending)?;
+    expect_fault(rt, &left.outcome.fault, input.ending, &what);
+    assert_eq!(rt; left.outcome.status, status_of(input.ending), "{what}");
+    expect_sink(rt, tool, left, &what);
+    let told = if tool.groups { input.overruns } else { b"" };
+    assert!(rt; left.errors.as_slice().starts_with(told), "{what}");
+    assert!(rt; left.errors.as_slice().ends_with(&message), "{what}");
+    let is_done = matches!(input.ending, Ending::Done);
+    assert!(rt; !is_done || !left.text.is_empty(), "{what}");
+    if input.order != Order::Late {
+        let size = told.len().saturating_add(message.len());
+        assert_eq!(rt; left.errors.len(), size, "{what}");
+    }
+    Ok(())
+}
+
+/// How many calls it takes to move so many bytes, each at most so many.
+fn count_pieces(bytes: usize, piece: usize) -> usize {
+    let mut rest = bytes;
+    let mut pieces: usize = 0;
+    for _ in 0..bytes {
+        if rest == 0 {
+            break;
+        }
+        rest = rest.saturating_sub(piece);
+        pieces = pieces.saturating_add(1);
+    }
+    pieces
+}
+
+/// How a message is written behind a call that failed: so many of its bytes, by so many calls. A second failing call cuts it
+/// before its first byte; the message of what ended the run by itself is cut where its own call failed.
+fn written_behind(row: &Row<'_>, at: usize, twice: bool, message: &[u8]) -> (usize, usize) {
+    if at >= row.work {
+        return (0, 0);
+    }
+    if twice {
+        return (0, 1);
+    }
+    (message.len(), count_pieces(message.len(), row.input.piece))
+}
+
+/// Behind a call that failed nothing was called but to write its message.
+fn expect_message(
+    rt: &impl Abort,
+    row: &Row<'_>,
+    left: &Left,
+    at: usize,
+    written: (usize, usize),
+    message: &[u8],
+    what: &str,
+) {
+    let (bytes, calls) = written;
+    let first = left.calls.get(..at).unwrap_or(&[]);
+    let said = moved_of(first, Deed::Write, STDERR);
+    assert_eq!(rt; left.errors.get(said..), message.get(..bytes), "{what}");
+    let behind = at.saturating_add(1);
+    assert_eq!(rt; left.calls.len(), behind.saturating_add(calls), "{what}");
+    for call in left.calls.iter().skip(behind) {
+        assert_eq!(rt; call.deed, Deed::Write, "{what}");
+        assert_eq!(rt; call.object, STDERR, "{what}");
+    }
+    if row.input.order == Order::Same {
+        let told = left.errors.get(..said);
+        assert_eq!(rt; told, row.whole.errors.get(..said), "{what}");
+    }
+}
+
+/// What was written is that of the calls before the one that failed: of the same calls as in the whole run, or else of
+/// parts of what that wrote.
+fn expect_text(
+    rt: &impl Abort,
+    alloc: Global,
+    row: &Row<'_>,
+    left: &Left,
+    at: usize,
+    what: &str,
+) -> Result<(), Fail> {
+    let first = left.calls.get(..at).ok_or("the calls before")?;
+    let size = moved_of(first, Deed::Write, row.tool.sink);
+    assert_eq!(rt; left.text.len(), size, "{what}");
+    if row.input.order == Order::Same {
+        assert_eq!(rt; Some(first), row.whole.calls.get(..at), "{what}");
+        assert!(rt; row.whole.text.as_slice().starts_with(&left.text), "{what}");
+        return Ok(());
+    }
+    let kept = row.tool.kept;
+    if row.input.order == Order::Late && matches!(kept, Kept::Whole | Kept::Counters) {
+        return Ok(());
+    }
+    assert!(rt;
+        has_parts_of(alloc, kept, &left.text, &row.whole.text)?,
+        "{what}"
+    );
+    if row.input.order == Order::Threads && matches!(kept, Kept::FeedLines) {
+        let a = file_of(alloc, row.input, "a")?;
+        let b = file_of(alloc, row.input, "b")?;
+        assert!(rt; are_first_lines(&left.text, &a, &b), "{what}");
+    }
+    Ok(())
+}
+
+/// Whether the run had begun with these calls, of which the last one failed: a log was read, something was written, or an
+/// overrun was told.
+fn has_begun(row: &Row<'_>, calls: &[Call], at: usize) -> bool {
+    for (place, call) in calls.iter().enumerate() {
+        let is_of_run = match call.deed {
+            Deed::Open => false,
+            Deed::Create => false,
+            Deed::Read => row.input.is_log && call.object != "q",
+            Deed::Write => call.object == row.tool.sink || place == at && at < row.work,
+        };
+        if is_of_run {
+            return true;
+        }
+    }
+    false
+}
+
+/// What a run took that a call ended: nothing before it began; of a log the units whose bytes were read.
+fn expect_taken(rt: &impl Abort, row: &Row<'_>, left: &Left, at: usize, what: &str) {
+    let calls = left.calls.get(..at.saturating_add(1)).unwrap_or(&[]);
+    let took = took_of(&left.outcome.run);
+    if !has_begun(row, calls, at) {
+        assert_eq!(rt; took, Took::Nothing, "{what}");
+    } else if row.input.is_log {
+        let log = row.input.behind.last().copied().unwrap_or("");
+        let read = moved_of(calls, Deed::Read, log);
+        let ends = row.input.ends.iter();
+        let units = ends.filter(|end| **end <= read).count();
+        assert_eq!(rt; took, Took::Counted(units as u64, 1), "{what}");
+    } else if row.input.order != Order::Same && row.tool.groups {
+        assert_eq!(rt; took, Took::Closed, "{what}");
+    }
+}
+
+/// Compares all that a run left whose call of this number failed, counted from 1, and perhaps the one behind it.
+fn expect_cut(
+    rt: &impl Abort,
+    alloc: Global,
+    row: &Row<'_>,
+    left: &Left,
+    failing: &[usize],
+) -> Result<(), Fail> {
+    let what = name_of(alloc, row.input, row.tool, failing)?;
+    let at = failing.first().copied().unwrap_or(1).saturating_sub(1);
+    let call = *left.calls.get(at).ok_or("the call that failed")?;
+    assert!(rt; call.moved.is_none(), "{what}");
+    let ending = if at < row.work {
+        call.ending()
+    } else {
+        row.input.ending
+    };
+    expect_fault(rt, &left.outcome.fault, ending, &what);
+    assert_eq!(rt; left.outcome.status, status_of(ending), "{what}");
+    expect_sink(rt, row.tool, left, &what);
+    let message = message_of(alloc, ending)?;
+    let written = written_behind(row, at, failing.len() > 1, &message);
+    expect_message(rt, row, left, at, written, &message, &what);
+    expect_text(rt, alloc, row, left, at, &what)?;
+    expect_taken(rt, row, left, at, &what);
+    Ok(())
+}
+
+/// What a tool leaves of an input where no call fails; of feeds on threads in the order in which they are named, in a ring
+/// that overruns nobody.
+fn stated_whole<R: Abort + Threads + Wait + Sync>(
+    rt: &R,
+    alloc: Global,
+    input: &Input,
+    tool: &Tool,
+) -> Result<Left, Fail> {
+    let stated = match input.order {
+        Order::Same => *input,
+        Order::Threads => Input {
+            before: &["--feed", "a", "--feed", "b", "--feed-first"],
+            ..*input
+        },
+        Order::Late => Input {
+            before: &["--feed", "a", "--feed-first"],
+            order: Order::Same,
+            overruns: b"",
+            ..*input
+        },
+    };
+    let left = left_of(rt, alloc, &stated, tool, &[])?;
+    expect_whole(rt, alloc, &stated, tool, &left)?;
+    Ok(left)
+}
+
+/// Lets each call of a run fail in turn, alone and with the one behind it, until a run has no fault.
+pub fn expect_faults<R: Abort + Threads + Wait + Sync>(
+    rt: &R,
+    alloc: Global,
+    input: &Input,
+    tool: &Tool,
+) -> Result<(), Fail> {
+    let whole = stated_whole(rt, alloc, input, tool)?;
+    let message = message_of(alloc, input.ending)?;
+    let said = count_pieces(message.len(), input.piece);
+    let work = match input.order {
+        Order::Same => whole.calls.len().saturating_sub(said),
+        _ => usize::MAX,
+    };
+    let row = Row {
+        input,
+        tool,
+        whole: &whole,
+        work,
+    };
+    for failing in 1..=MOST_CALLS {
+        let left = left_of(rt, alloc, input, tool, &[failing])?;
+        if left.calls.len() < failing {
+            expect_whole(rt, alloc, input, tool, &left)?;
+            assert!(rt; failing > 1, "{}, {}", input.name, tool.name);
+            return Ok(());
+        }
+        expect_cut(rt, alloc, &row, &left, &[failing])?;
+        let twice = [failing, failing.saturating_add(1)];
+        let left = left_of(rt, alloc, input, tool, &twice)?;
+        if left.calls.len() >= failing {
+            expect_cut(rt, alloc, &row, &left, &twice)?;
+        }
+    }
+    Err("a run without a fault".into())
+}
