@@ -50,8 +50,8 @@ def sorted_lines(text):
 def of_texts(program, texts):
     """The four texts, which are made again and printed by the program."""
     for grouping in GROUPINGS:
-        made = made_by("tools/reference/group_listing.py", grouping, LOG)
-        same_text(f"examples/real-1.{grouping}, as tools/reference/group_listing.py makes it,", made, texts[grouping])
+        made = made_by("tools/reference/vtools.py", "varnishlog", "-g", grouping, "-r", LOG)
+        same_text(f"examples/real-1.{grouping}, as tools/reference/vtools.py makes it,", made, texts[grouping])
         compare(program, ["varnishlog", "-g", grouping, "-r", LOG], texts[grouping])
     return 2 * len(GROUPINGS)
 
@@ -74,7 +74,7 @@ def of_lines(program):
     sides = [["-c"], ["-E"], ["-b"], ["-bc"], ["-bE"], []]
     for side in sides:
         compare(program, ["varnishncsa", *side, "-r", LOG], access_lines(*side))
-        compare(program, ["varnishncsa", *side, *SHORT, "-r", LOG], access_lines(*side, "-s"))
+        compare(program, ["varnishncsa", *side, *SHORT, "-r", LOG], access_lines(*side, *SHORT))
     came = run([program, "varnishncsa", "-bE", "-g", "request", "-r", LOG])
     ordered = came._replace(stdout=sorted_lines(came.stdout))
     same_run("varnishncsa -bE -g request, sorted", Run(0, b"", sorted_lines(access_lines("-bE"))), ordered)

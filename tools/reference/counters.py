@@ -1,21 +1,11 @@
-#!/usr/bin/env python3
-"""Prints what `vtools` must print of counters, of feeds and of requests that are made up, in a stated order.
+"""Counters of feeds and of requests that are made up, and what is printed of them, by docs/formats alone.
 
-    tools/reference/counters.py [--ring SEG] [--reclen N] [--feed FILE].. [--gen COUNT,SEED] --feed-first | --turns SEED
-                      -1 | -j | -l [-f GLOB]..
-    tools/reference/counters.py --gen COUNT,SEED --lines
-
-The words are those before and behind `varnishstat`. With --lines the made up requests are printed in place of counters,
-as the lines of a listing. It follows the rules alone, and uses no output of the program. It is made to be read, not to
-be fast.
+The pages are counters.md and feeds.md there. It is made to be read, not to be fast.
 """
 
-import getopt
 import json
 import re
-import sys
 
-sys.dont_write_bytecode = True
 import schedules
 from group_listing import read_claim
 from vslog import raw_line
@@ -175,45 +165,3 @@ def json_text(values, globs):
 
 def name_lines(globs):
     return "".join(f"MAIN.{name}\n" for name in selected(globs))
-
-
-def main():
-    names, made, seg, reclen, seed, stated, modes, globs = [], None, 65536, 255, None, False, set(), []
-    long = ["feed=", "gen=", "ring=", "reclen=", "turns=", "feed-first", "lines"]
-    options, rest = getopt.getopt(sys.argv[1:], "1jlf:", long)
-    for option, value in options:
-        if option == "--feed":
-            names.append(value)
-        elif option == "--gen":
-            made = [int(number) for number in value.split(",")]
-        elif option == "--ring":
-            seg = int(value)
-        elif option == "--reclen":
-            reclen = int(value)
-        elif option == "-f":
-            globs.append(value)
-        elif option in ("--turns", "--feed-first"):  # the last of the two counts
-            seed, stated = int(value) if value else None, True
-        else:
-            modes.add(option)
-    has_log = bool(names or made)
-    if rest or not modes or has_log and not stated and "--lines" not in modes or not has_log and "-l" not in modes:
-        sys.exit(__doc__)
-    if "--lines" in modes:
-        sys.stdout.buffer.write(made_listing(*made))
-        return
-    listings = [schedules.read_feed(number, name, reclen, seg) for number, name in enumerate(names)]
-    if made:
-        listings.append(schedules.read_listing(made_listing(*made), reclen, seg))
-    values = replayed_values(listings, seg, seed)
-    # of the three ways to print, -l counts before -j, and -j before -1
-    if "-l" in modes:
-        print(name_lines(globs), end="")
-    elif "-j" in modes:
-        print(json_text(values, globs), end="")
-    else:
-        print(text_lines(values, globs), end="")
-
-
-if __name__ == "__main__":
-    main()

@@ -1,22 +1,14 @@
-#!/usr/bin/env python3
-"""Prints what `vtools varnishlog -g GROUPING [OPTION ..] -r FILE` must print, or with --top what varnishtop must.
+"""The groups of a log, and the text of a group, by docs/formats/groups.md alone: made to be read, not to be fast.
 
-    tools/reference/group_listing.py [OPTION ..] GROUPING FILE        GROUPING is raw, vxid, request or session
-
-Options are --top, -v, and -L, -T, -k and -q with their values. It follows the rules of docs/formats alone, and uses no
-output of the program. It is made to be read, not to be fast. A log that isn't whole is printed up to the damage and not
-flushed, of varnishtop not at all, and a message tells the place, with status 1.
+A group is a list of levels and members; a member has a VXID, a kind, and records, each a mark, a tag and a payload.
 """
 
-import collections
-import getopt
-import itertools
 import re
 import sys
+import typing
 
-sys.dont_write_bytecode = True
-from queries import PART, asked_by, parts_of
-from vslog import MOST_VXID, NotRead, escaped, raw_line, read_units
+from decimals import PART, parts_of
+from vslog import MOST_VXID, escaped, raw_line
 
 LIMIT, TIMEOUT = 1000, 120  # without -L and -T
 sys.setrecursionlimit(100000)  # trees may be deep
@@ -37,18 +29,20 @@ def read_time(payload):
     return None if time is None or time < 0 or not label.endswith(b":") else time
 
 
-class Single:
-    """A record by itself."""
+class Shown(typing.NamedTuple):
+    """What is shown of a transaction, or a record by itself."""
 
-    def __init__(self, vxid, record):
-        self.vxid, self.records = vxid, [record]
+    vxid: int
+    kind: str
+    records: list
 
 
 class Row:
     """A transaction that stands in a table."""
 
     def __init__(self, vxid, table):
-        self.vxid, self.time, self.kind, self.records, self.ended = vxid, table.time, "Unknown", [], False
+        self.vxid, self.time, self.records, self.ended = vxid, table.time, [], False
+        self.kind, self.reason = "Unknown", b""
         self.parent, self.children = None, []  # the children in the order in which their claims took effect
         table.rows.append(self)
 
@@ -68,7 +62,7 @@ class Table:
         """Takes a unit of the log: the groups that it completes. Each is a list of levels and members."""
         for tag, payload in records:
             if self.grouping == "raw":
-                self.groups.append([(0, Single(vxid, (mark, tag, payload)))])
+                self.groups.append([(0, Shown(vxid, "Record", [(mark, tag, payload)]))])
             elif vxid != 0:
                 self.take(vxid, mark, tag, payload)
         return self.leave()
@@ -107,7 +101,7 @@ class Table:
     def take_claim(self, row, begins, kind, vxid, reason):
         """A Begin gives its row a kind and claims a parent; a Link claims a child."""
         if begins and row.kind == "Unknown":
-            row.kind = KINDS.get(kind, "Unknown")
+            row.kind, row.reason = KINDS.get(kind, "Unknown"), reason
         by_client = self.grouping == "request" and (kind, reason) == (b"req", b"rxreq")
         if self.grouping == "vxid" or vxid == 0 or kind == b"sess" or by_client:
             return
@@ -159,12 +153,6 @@ def groups_of(table, units):
     yield from table.flush()
 
 
-def taken(groups, queries, most):
-    """The groups for which a query holds, if there are any, and of these the first."""
-    asked = [asked_by(text) for text in queries]
-    return itertools.islice((group for group in groups if not asked or any(holds(group) for holds in asked)), most)
-
-
 def lines_of(group, verbose):
     """The text of a group."""
     lines = []
@@ -179,41 +167,4 @@ def lines_of(group, verbose):
                 lines.append(dashes.encode() + raw_line(row.vxid, mark, tag, payload))
             else:
                 lines.append(f"{dashes}{tag:14} ".encode() + escaped(payload) + b"\n")
-    return b"".join(lines) + (b"\n" if group[0][0] > 0 else b"")
-
-
-def report(groups):
-    """The lines of varnishtop: each different tag and payload once, the highest count first."""
-    records = ((tag.encode(), payload) for group in groups for _, row in group for _, tag, payload in row.records)
-    counts = collections.Counter(records).items()
-    ordered = sorted(counts, key=lambda counted: (-counted[1], counted[0]))
-    return b"".join(b"%10d %-14s %s\n" % (count, tag, escaped(payload)) for (tag, payload), count in ordered)
-
-
-def printed(units, grouping, limit=LIMIT, timeout=TIMEOUT, most=None, queries=(), verbose=False, top=False):
-    """What is printed of the units of a log, in parts."""
-    groups = taken(groups_of(Table(grouping, limit, timeout), units), queries, most)
-    if top:
-        yield report(groups)
-    else:
-        yield from (lines_of(group, verbose) for group in groups)
-
-
-def main():
-    given, (grouping, name) = getopt.getopt(sys.argv[1:], "vL:T:k:q:", ["top"])
-    options = dict(given)
-    if grouping not in ("raw", "vxid", "request", "session"):
-        sys.exit(__doc__)
-    limit, timeout = int(options.get("-L", LIMIT)), int(options.get("-T", TIMEOUT))
-    most, queries = int(options["-k"]) if "-k" in options else None, [text for option, text in given if option == "-q"]
-    with open(name, "rb") as log:
-        units = read_units(log.read())
-    try:
-        for part in printed(units, grouping, limit, timeout, most, queries, "-v" in options, "--top" in options):
-            sys.stdout.buffer.write(part)
-    except NotRead as damage:
-        sys.exit(f"vtools: {name}: {damage}")
-
-
-if __name__ == "__main__":
-    main()
+    return b"".join(lines) + (b"\n" if any(level > 0 for level, _ in group) else b"")

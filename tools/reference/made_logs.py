@@ -4,7 +4,9 @@
     tools/reference/made_logs.py NAME COUNT
 
 Of begun_then_ended COUNT requests begin, and then each ends, in the order in which they began. Of chain each of COUNT
-requests is below the one before: its Begin names that one, and its Link the next, before that one begins.
+requests is below the one before: its Begin names that one, and its Link the next, before that one begins. Of
+chain_from_below the last one comes first, and without Links; of open_chain none ends, without Links too; of ring there
+are no Links, and the first names the last. Of star all but the first are below the first, which ends last.
 """
 
 import sys
@@ -25,7 +27,39 @@ def chain(count):
         yield unit(vxid, "c", [begin, *links, ("End", b"")])
 
 
-LOGS = {"begun_then_ended": begun_then_ended, "chain": chain}
+def named(vxid, parent, *ends):
+    """The unit of a request that names its parent, and ends or doesn't."""
+    begin = b"req %d %s" % (parent, b"esi" if parent else b"rxreq")
+    return unit(vxid, "c", [("Begin", begin), *ends])
+
+
+END = ("End", b"")
+
+
+def chain_from_below(count):
+    for vxid in range(count, 0, -1):
+        yield named(vxid, vxid - 1, END)
+
+
+def open_chain(count):
+    for vxid in range(1, count + 1):
+        yield named(vxid, vxid - 1)
+
+
+def ring(count):
+    for vxid in range(1, count + 1):
+        yield named(vxid, vxid - 1 or count, END)
+
+
+def star(count):
+    yield named(1, 0)
+    for vxid in range(2, count + 1):
+        yield unit(vxid, "c", [("Begin", b"req 1 esi %d" % vxid), END])
+    yield unit(1, "c", [END])
+
+
+MAKERS = (begun_then_ended, chain, chain_from_below, open_chain, ring, star)
+LOGS = {maker.__name__: maker for maker in MAKERS}
 
 
 def main():

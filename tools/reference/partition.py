@@ -1,21 +1,13 @@
-#!/usr/bin/env python3
-"""Compares the groups of made-up logs, told at once, with those that the rules of grouping give record by record.
-
-    tools/reference/partition.py COUNT [SEED]
+"""The groups of a log, told at once: which logs have them, and what they are; and those by the rules record by record.
 
 A log whose links and transactions are told whole is regular, and one that keeps within the limit and the timeout is
-calm: both are said below, and what the groups of such a log are. COUNT regular and calm logs are made up and their
-groups compared with those of group_listing.py. As many hostile logs are made up too, where nothing is claimed of those
-that aren't regular and calm. It prints how many logs there were of each kind, and stops at the first that differs.
+calm: both are said below, and what the groups of such a log are. Nothing is claimed of others.
 """
 
 import collections
-import random
-import sys
 
-sys.dont_write_bytecode = True
 from group_listing import KINDS, Table, groups_of, read_claim, read_time
-from queries import PART
+from decimals import PART
 
 Place = collections.namedtuple("Place", "at vxid tag payload mark")
 Link = collections.namedtuple("Link", "at child parent")
@@ -121,100 +113,12 @@ def by_rules(units, grouping, limit, timeout, flushed):
     ]
 
 
-def made_regular(chance):
-    """Trees of transactions, each linked by its Begin, by Links of its parent, or both, in an order made up."""
-    vxids = chance.sample(range(1, 12), chance.randint(1, 7))
-    parents = {vxid: chance.choice([None, *vxids[:place]]) for place, vxid in enumerate(vxids)}
-    begins, inner = {}, {vxid: [] for vxid in vxids}
-    for vxid, parent in parents.items():
-        begins[vxid], linked = made_begin(chance, parent)
-        if parent is not None and (not linked or chance.random() < 0.5):
-            link = b"%s %d esi" % (chance.choice([b"req", b"bereq"]), vxid)
-            inner[parent] += [("Link", link)] * chance.choice([1, 1, 2])
-    for records in inner.values():
-        records += [made_other(chance) for _ in range(chance.randint(0, 2))]
-        chance.shuffle(records)
-    return mixed(chance, {vxid: [begins[vxid], *inner[vxid], ("End", b"")] for vxid in vxids})
+def told(units, grouping):
+    """The groups of a regular log, told at once."""
+    return Told(units, grouping).partition()
 
 
-def made_begin(chance, parent):
-    """A Begin, and whether it names the parent."""
-    if parent is None:
-        return ("Begin", chance.choice([b"sess 0 HTTP/1", b"req 0 rxreq", b"req 1 rxreq", b"bereq 0"])), False
-    named = chance.choice([parent, parent, 0])
-    return ("Begin", b"%s %d %s" % (chance.choice([b"req", b"bereq"]), named, chance.choice([b"esi", b"fetch", b""]))), named > 0
-
-
-def made_other(chance):
-    """A record that makes no link."""
-    time = b"Start: %d.5 0 0" % chance.randint(0, 9)
-    return chance.choice([("Timestamp", time), ("Timestamp", b"bad"), ("Debug", b"x"), ("Link", b"none")])
-
-
-def mixed(chance, lists):
-    """Units of these lists of records, each list in its order, and some of VXID 0."""
-    units, lists = [], {vxid: list(records) for vxid, records in lists.items()}
-    while any(lists.values()):
-        vxid = chance.choice([vxid for vxid, records in lists.items() if records])
-        long = chance.randint(1, len(lists[vxid]))
-        long = chance.choice([long, 1])
-        units.append((vxid, chance.choice("cb-"), lists[vxid][:long]))
-        lists[vxid] = lists[vxid][long:]
-        if chance.random() < 0.1:
-            units.append((0, "-", [chance.choice([("End", b""), ("Timestamp", b"Start: 99 0 0"), ("Begin", b"req 1 esi")])]))
-    return units
-
-
-def made_hostile(chance):
-    """Records of a few VXIDs, made up without a rule."""
-    units = []
-    for _ in range(chance.randint(1, 14)):
-        kind, reason = chance.choice([b"req", b"bereq", b"sess", b"x"]), chance.choice([b"rxreq", b"esi", b""])
-        claim = b"%s %d %s" % (kind, chance.randint(0, 4), reason)
-        time = ("Timestamp", b"a: %d 0 0" % chance.randint(0, 9))
-        tags = [("Begin", claim), ("Begin", claim), ("Link", claim), time, ("End", b""), ("End", b""), ("Debug", b"")]
-        units.append((chance.randint(0, 4), chance.choice("cb-"), [chance.choice(tags)]))
-    return units
-
-
-class Differs(Exception):
-    """The groups of a regular and calm log aren't its partition."""
-
-
-def compare(units, grouping, limit, timeout, counts, source):
-    """Compares the groups of a log, where it is regular and calm, and counts it."""
-    told = Told(units, grouping)
-    if not told.is_regular():
-        counts[source, "not regular"] += 1
-        return
-    calm = told.is_calm(limit, timeout)
-    same = [by_rules(units, grouping, limit, timeout, flushed) == told.partition() for flushed in (True, False)]
-    if calm and not all(same):
-        raise Differs(f"differs: -g {grouping} -L {limit} -T {timeout} {units}")
-    counts[source, "regular and calm" if calm else "regular, not calm, same" if all(same) else "regular, not calm, differs"] += 1
-
-
-def compared(count, seed):
-    """How many logs of each kind were made up and compared: so many that are regular and calm, and so many hostile ones."""
-    chance, counts = random.Random(seed), collections.Counter()
-    options = lambda: (chance.choice(["vxid", "request", "session"]), chance.choice([2, 4, 9]), chance.choice([0, 2, 6, 20]))
-    while counts["made regular", "regular and calm"] < count:
-        compare(made_regular(chance), *options(), counts, "made regular")
-    for _ in range(count):
-        compare(made_hostile(chance), *options(), counts, "hostile")
-    return counts
-
-
-def main():
-    if len(sys.argv) not in (2, 3) or not all(word.isdigit() for word in sys.argv[1:]):
-        sys.exit(__doc__)
-    try:
-        counts = compared(int(sys.argv[1]), int(sys.argv[2]) if sys.argv[2:] else 1)
-    except Differs as found:
-        sys.exit(str(found))
-    for (source, kind), number in sorted(counts.items()):
-        print(f"{number:8} {source}: {kind}")
-
-
-if __name__ == "__main__":
-    main()
+def is_claimed(units, grouping, limit, timeout):
+    """Whether a log is regular and calm, so that its groups are its partition."""
+    log = Told(units, grouping)
+    return log.is_regular() and log.is_calm(limit, timeout)

@@ -1,12 +1,6 @@
-#!/usr/bin/env python3
-"""Prints what `vtools` must print of feeds that are replayed in a stated order.
+"""What a reader takes of feeds that are replayed in a stated order, by docs/formats/feeds.md alone.
 
-    tools/reference/schedules.py [--ring SEG] [--reclen N] --feed FILE.. --feed-first [--history]
-    tools/reference/schedules.py [--ring SEG] [--reclen N] --feed FILE.. --turns SEED [--history]
-
-The words are those before `varnishlog -g raw`: its lines, its messages and its status are answered. With --history the
-reader's history is printed in place of them: which units it took, and where it was overrun. It follows the rules
-alone, and uses no output of the program. It is made to be read, not to be fast.
+It is made to be read, not to be fast.
 
 A ring of eight segments is an unbounded line of places here, on which each unit has a start and an end, and of which
 the ring has the last lap. No word is stored: what a reader finds follows from the places.
@@ -15,18 +9,14 @@ the ring has the last lap. No word is stored: what a reader finds follows from t
 import bisect
 import collections
 import dataclasses
-import getopt
 import re
-import sys
 import typing
 
-sys.dont_write_bytecode = True
-from vslog import MOST_VXID, TAGS, raw_line
+from vslog import MOST_VXID, TAGS, raw_line, record_words, unit_words
 
 SEGMENTS = 8  # of a ring
 OVERRUN_DISTANCE = 6  # segments by which the tail is ahead of a reader that is overrun
 SEEK_DISTANCE = 4  # segments by which the tail is ahead of the segment in which that reader goes on
-MOST_BYTES = 16777216  # of a feed
 NAMES = {name.lower().encode(): name for name in TAGS[1:]}
 LINE = re.compile(rb" *([0-9]{1,10}) +([^ ]+) +([cb-])(?: (.*))?", re.DOTALL)
 
@@ -43,13 +33,7 @@ class Unit(typing.NamedTuple):
     records: list
 
     def words(self):
-        """One word for the unit, and those of its records."""
-        return 1 + sum(record_words(payload) for _, payload in self.records)
-
-
-def record_words(payload):
-    """Two words, and four bytes of the payload in each that follows."""
-    return 2 + (len(payload) + 3) // 4
+        return unit_words(self.records)
 
 
 def listing_lines(data):
@@ -242,55 +226,3 @@ def messages(history):
     """The messages of all overruns."""
     overruns = [item for item in history if isinstance(item, Overrun)]
     return "".join(f"vtools: log overrun at segment {at}, counter {seen}\n" for at, seen in overruns)
-
-
-def print_history(history):
-    for item in history:
-        if isinstance(item, Overrun):
-            print(f"overrun at segment {item.at}, counter {item.seen}")
-        else:
-            print(f"run from segment {item.segment}: {len(item.units)} units from number {item.first}")
-
-
-def read_feed(number, name, reclen, seg):
-    """The units of a feed, and how often a batch was cut; a fault of it ends the program."""
-    try:
-        with open(name, "rb") as file:
-            data = file.read()
-    except OSError:
-        sys.exit(f"vtools: {name}: cannot open")
-    if len(data) > MOST_BYTES:
-        sys.exit(f"vtools: {name}: larger than {MOST_BYTES} bytes")
-    try:
-        return read_listing(data, reclen, seg)
-    except BadLine as bad:
-        sys.exit(f"vtools: feed {number}: bad line {bad}")
-
-
-def main():
-    names, seg, reclen, seed, stated, shows_history = [], 65536, 255, None, False, False
-    options, rest = getopt.getopt(sys.argv[1:], "", ["feed=", "ring=", "reclen=", "turns=", "feed-first", "history"])
-    for option, value in options:
-        if option == "--feed":
-            names.append(value)
-        elif option == "--ring":
-            seg = int(value)
-        elif option == "--reclen":
-            reclen = int(value)
-        elif option == "--history":
-            shows_history = True
-        else:  # of --turns and --feed-first the last counts
-            seed, stated = int(value) if value else None, True
-    if rest or not names or not stated:
-        sys.exit(__doc__)
-    feeds = [read_feed(number, name, reclen, seg)[0] for number, name in enumerate(names)]
-    _, history = replayed(feeds, seg, seed)
-    if shows_history:
-        print_history(history)
-    else:
-        sys.stdout.buffer.write(raw_lines(history))
-        sys.stderr.write(messages(history))
-
-
-if __name__ == "__main__":
-    main()

@@ -36,6 +36,16 @@ class NotRead(Exception):
         self.at = at
 
 
+def record_words(payload):
+    """Two words, and four bytes of the payload in each that follows."""
+    return 2 + (len(payload) + 3) // 4
+
+
+def unit_words(records):
+    """One word for a unit, and those of its records."""
+    return 1 + sum(record_words(payload) for _, payload in records)
+
+
 def unit(vxid, mark, records):
     """The bytes of a unit."""
     number = MARKS.index(mark) << 30 | vxid
