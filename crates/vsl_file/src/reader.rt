@@ -15,7 +15,7 @@ use bytes::BytesMut;
 use std::alloc::Global;
 use std::marker::Model;
 use vio::{NoMemory, World};
-use vsl_record::Unit;
+use vsl_record::{Records, Unit};
 
 /// The most bytes of a file that are read: 2^40.
 const MOST_BYTES: u64 = 1_099_511_627_776;
@@ -29,8 +29,8 @@ pub enum FileStep {
     End,
 }
 
-/// Reads the units of a log file, one after the other. It holds at most one unit's bytes and 64 KiB.
-/// Contracts see its state.
+/// Reads the units of a log file, one after the other. It holds at most one unit's bytes and 64 KiB, and the memory of one
+/// unit that was given back. Contracts see its state.
 #[derive(Drop)]
 pub struct FileReader {
     alloc: Global,
@@ -38,6 +38,8 @@ pub struct FileReader {
     begun: bool,
     place: u64,
     buffer: BytesMut,
+    /// Records that aren't needed, in whose memory the next unit will stand.
+    room: Records,
     failed: bool,
 }
 
@@ -64,6 +66,7 @@ impl FileReader {
             begun: false,
             place: 0,
             buffer: BytesMut::with_capacity(alloc, 2 * PIECE)?,
+            room: Records::new(alloc),
             failed: false,
         })
     }
@@ -90,6 +93,15 @@ impl FileReader {
         let step = self.step(world);
         self.failed = step.is_err();
         step
+    }
+
+    /// Takes back a unit that isn't needed: the next one will stand in its memory.
+    pub fn give_back(&mut self, unit: Unit)
+        ensures { self.new ≡ self.old }
+    {
+        if let Some(records) = unit.into_records() {
+            self.room = records;
+        }
     }
 
     /// Gives the next unit, after the header.
@@ -139,7 +151,14 @@ impl FileReader {
         ensures handle { self.new.handle ≡ self.old.handle }
     {
         let most = (MOST_BYTES - self.place) as usize;
-        match take_unit(self.alloc, &mut self.buffer, most, self.handle, world) {
+        match take_unit(
+            self.alloc,
+            &mut self.room,
+            &mut self.buffer,
+            most,
+            self.handle,
+            world,
+        ) {
             Ok(Taken::Whole(unit, size)) => {
                 self.place += size as u64;
                 Ok(FileStep::Unit(unit))

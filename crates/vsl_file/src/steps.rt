@@ -10,8 +10,9 @@ use crate::fault::StepFault;
 use crate::filling::fill_to;
 use bytes::BytesMut;
 use std::alloc::Global;
+use std::mem;
 use vio::{Failed, NoMemory, World};
-use vsl_record::{MAX_UNIT_WORDS, TOP_BYTE, UNIT_MARK, Unit, WordFault, read_unit_bytes};
+use vsl_record::{MAX_UNIT_WORDS, Records, TOP_BYTE, UNIT_MARK, Unit, WordFault, read_unit_bytes};
 
 /// The bytes of a word.
 pub(crate) const WORD: usize = 4;
@@ -66,15 +67,15 @@ fn head_size(bytes: &[u8]) -> Option<usize>
     Some(WORD * (head % TOP_BYTE) as usize)
 }
 
-/// Reads the unit of this size that begins the bytes.
-fn read_sized(alloc: Global, bytes: &[u8], size: usize) -> Result<Option<Unit>, NoMemory>
+/// Reads the unit of this size that begins the bytes. It stands in the memory of the records that are given.
+fn read_sized(room: Records, bytes: &[u8], size: usize) -> Result<Option<Unit>, NoMemory>
     requires sized { IsHeadSize size bytes.now }
     requires enough { size ≤ length bytes.now }
     ensures some { IfOk result (λ o. IfSome o (λ u. BeginsWithUnit bytes.now u (drop size bytes.now))) }
     ensures none { IfOk result (λ o. IfNone o (IsBroken bytes.now)) }
 {
     let (part, _) = bytes.split_at(size);
-    match read_unit_bytes(alloc, part) {
+    match read_unit_bytes(room, part) {
         Ok((unit, _)) => Ok(Some(unit)),
         Err(fault) if fault == WordFault::NoMemory => Err(NoMemory),
         Err(_) => Ok(None),
@@ -129,9 +130,10 @@ fn goes_on<W: World>(held: usize, most: usize, handle: u32, world: &mut W) -> Re
     Ok(n > 0)
 }
 
-/// Takes the unit that begins what is left.
+/// Takes the unit that begins what is left. It stands in the memory of the records that are given, which are let go.
 pub(crate) fn take_unit<W: World>(
     alloc: Global,
+    room: &mut Records,
     buffer: &mut BytesMut,
     most: usize,
     handle: u32,
@@ -146,7 +148,12 @@ pub(crate) fn take_unit<W: World>(
 {
     match hold_unit(buffer, most, handle, world)? {
         Held::Sized(size) => {
-            let Some(unit) = read_sized(alloc, buffer.as_slice(), size)? else {
+            let Some(unit) = read_sized(
+                mem::replace(room, Records::new(alloc)),
+                buffer.as_slice(),
+                size,
+            )?
+            else {
                 return Ok(Taken::Damaged);
             };
             buffer.advance(size);

@@ -173,6 +173,17 @@ impl<'a> RecordsView<'a> {
         self.listed[place].view()
     }
 
+    /// The tag of the record at this place, from 0. No payload is looked at.
+    pub fn tag(&self, place: usize) -> Tag
+        requires { place < length self.now }
+        ensures { (rec : Record) → result ≡ (slice_index_or self.now place rec).tag }
+    {
+        if self.listed.is_empty() {
+            return self.entries[place].tag;
+        }
+        self.listed[place].tag
+    }
+
     /// The block and the entries of the records, where they stand in a block.
     pub(crate) fn in_block(&self) -> Option<(&'a [u8], &'a [Entry])>
         ensures { IfSome result (λ x. IsBlock x.0.now x.1.now × (self.now ≡ block_records x.0.now x.1.now)) }

@@ -19,7 +19,6 @@ use crate::mark::Mark;
 use crate::payload::MAX_PAYLOAD;
 use crate::records::Records;
 use crate::unit::{MAX_UNIT_WORDS, TOP_BYTE, UNIT_MARK, Unit, VXID_END};
-use std::alloc::Global;
 use vsl_tags::Tag;
 
 /// An id word from here on has both marks.
@@ -170,10 +169,10 @@ fn entry_of(block: &[u8], left: &[u8], rec: &RecordView<'_>) -> Entry
     }
 }
 
-/// The entries of the records of a unit of so many words: its bytes are a block, and those from its first record on are
-/// given beside it.
+/// The entries of the records of a unit of so many words, whose bytes are a block. They stand in the memory of the
+/// entries that are given.
 fn look_at_records(
-    alloc: Global,
+    room: Vec<Entry>,
     id: u32,
     size: usize,
     block: &[u8],
@@ -185,7 +184,9 @@ fn look_at_records(
     ensures entries { IfOk result (λ v. IsBlock block.now v.items) }
     ensures refused { IfErr result (λ fault. fault ≢ WordFault.NoMemory → StopsAt id (drop 1 (words_in block.now)) fault) }
 {
-    let mut entries = Vec::with_capacity(alloc, size / USUAL_WORDS)?;
+    let mut entries = room;
+    entries.clear();
+    entries.reserve(size / USUAL_WORDS)?;
     let (_, mut left) = block.split_at(4);
     while let Some(head) = first_word(left) {
         let (rec, rest) = look_at_record(head, id, size, left)?;
@@ -224,7 +225,7 @@ pub(crate) fn unit_size(head: u32, count: usize) -> Result<usize, WordFault>
 }
 
 /// Reads the unit of these bytes, which are as many words as its header counts. It keeps a copy of them.
-pub(crate) fn read_checked(alloc: Global, bytes: &[u8]) -> Result<Unit, WordFault>
+pub(crate) fn read_checked(room: Records, bytes: &[u8]) -> Result<Unit, WordFault>
     requires { IsHeaded (words_in bytes.now) }
     ensures read { IfOk result (λ u. IsUnit u × (words_in bytes.now ≡ unit_words u)) }
     ensures refused { IfErr result (λ fault. fault ≢ WordFault.NoMemory → HasBadRecord (words_in bytes.now) fault) }
@@ -232,32 +233,34 @@ pub(crate) fn read_checked(alloc: Global, bytes: &[u8]) -> Result<Unit, WordFaul
     let size = word_count(bytes);
     let (_, behind) = bytes.split_at(4);
     let id = second_word(behind);
-    let entries = look_at_records(alloc, id, size, bytes)?;
-    let mut block = Vec::with_capacity(alloc, bytes.len())?;
+    let (mut block, entries) = room.into_parts();
+    let entries = look_at_records(entries, id, size, bytes)?;
+    block.clear();
     block.extend_from_slice(bytes)?;
     let records = Records::of_block(block, entries);
     Ok(Unit::from_parts(id % VXID_END, Mark::of_id(id), Body::Packed(records)))
 }
 
 /// Reads the unit that begins the bytes' words, and says how many words it has.
-fn read_prefix(alloc: Global, bytes: &[u8]) -> Result<(Unit, usize), WordFault>
+fn read_prefix(room: Records, bytes: &[u8]) -> Result<(Unit, usize), WordFault>
     ensures found { IfOk result (λ x. IsUnit x.0 × (x.1 ≤ length (words_in bytes.now)) × (take x.1 (words_in bytes.now) ≡ unit_words x.0)) }
     ensures refused { IfErr result (λ fault. fault ≢ WordFault.NoMemory → FirstFault (words_in bytes.now) fault) }
 {
     let head = header_word(bytes);
     let size = unit_size(head, word_count(bytes))?;
-    let unit = read_checked(alloc, keep_words(bytes, size))?;
+    let unit = read_checked(room, keep_words(bytes, size))?;
     Ok((unit, size))
 }
 
 /// Reads the unit that begins the bytes' words, whatever stands behind it, and says how many words it
-/// has. It keeps one copy of the unit's bytes. Bytes that are no whole word at the end don't count.
-pub fn read_unit_bytes(alloc: Global, bytes: &[u8]) -> Result<(Unit, usize), WordFault>
+/// has. It keeps one copy of the unit's bytes, in the memory of the records that are given, which are let go. Bytes that
+/// are no whole word at the end don't count.
+pub fn read_unit_bytes(room: Records, bytes: &[u8]) -> Result<(Unit, usize), WordFault>
     ensures found { IfOk result (λ x. IsUnit x.0 × (x.1 ≤ length (words_in bytes.now)) × (take x.1 (words_in bytes.now) ≡ unit_words x.0)) }
     ensures only { (u : LogUnit) (rest : List ℕ) → IsUnit u → words_in bytes.now ≡ unit_words u ++ rest →
         (result ≡ Ok (u, length (unit_words u))) ⊎ (result ≡ Err WordFault.NoMemory) }
     ensures refused { IfErr result (λ fault. fault ≢ WordFault.NoMemory → FirstFault (words_in bytes.now) fault) }
     ensures faulty { (fault : WordFault) → FirstFault (words_in bytes.now) fault → (result ≡ Err fault) ⊎ (result ≡ Err WordFault.NoMemory) }
 {
-    read_prefix(alloc, bytes)
+    read_prefix(room, bytes)
 }

@@ -55,6 +55,11 @@ impl Records {
         Records { block, entries }
     }
 
+    /// The block and the entries.
+    pub(crate) fn into_parts(self) -> (Vec<u8>, Vec<Entry>) {
+        (self.block, self.entries)
+    }
+
     /// Makes room for records that are to be added, or for the first of them: at most 64, and 4,096 bytes. The list stays
     /// as it is, also where there is no memory.
     pub fn reserve(&mut self, more: &RecordsView<'_>) -> Result<(), AllocError>

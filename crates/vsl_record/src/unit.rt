@@ -1,6 +1,6 @@
 //! A unit of a log.
 
-ghost use Rattle.std.specs.Prelude.{◌≡◌, ◌+◌, ◌-◌, ◌^◌, ◌<◌, ◌↔◌, ℕ, min, length, IfOk};
+ghost use Rattle.std.specs.Prelude.{◌≡◌, ◌+◌, ◌-◌, ◌^◌, ◌<◌, ◌↔◌, ℕ, min, length, IfOk, IfSome};
 ghost use Rattle.std.specs.List.{All, flat_map};
 ghost use Rattle.vsl_tags.specs.Tags.{IsTag};
 ghost use Rattle.vsl_record.specs.Payload.{IsPayload};
@@ -13,6 +13,7 @@ use crate::fault::UnitFault;
 use crate::lent::RecordsView;
 use crate::mark::Mark;
 use crate::record_type::Record;
+use crate::records::Records;
 use std::marker::Model;
 
 /// A VXID (vsl(7)), the number of a transaction: below `VXID_END`.
@@ -83,6 +84,16 @@ impl Unit {
         ensures { result ≡ record { vxid = vxid; mark = mark; records = body_records body } }
     {
         Unit { vxid, mark, body }
+    }
+
+    /// The records of a unit that was read. Their memory serves `read_unit_bytes` again.
+    pub fn into_records(self) -> Option<Records>
+        ensures { IfSome result (λ records. records ≡ self.records) }
+    {
+        match self.body {
+            Body::Listed(_) => None,
+            Body::Packed(records) => Some(records),
+        }
     }
 
     /// The VXID.

@@ -10,6 +10,7 @@ use crate::laws::are_bytes;
 use crate::lent::RecordView;
 use crate::mark::Mark;
 use crate::reading::{header_word, read_unit_bytes, second_word};
+use crate::records::Records;
 use crate::unit::{TOP_BYTE, Unit, VXID_END, Vxid};
 use log_model::NoMemory;
 use std::alloc::Global;
@@ -117,7 +118,7 @@ impl<'a> UnitView<'a> {
     pub fn to_unit(&self, alloc: Global) -> Result<Unit, NoMemory>
         ensures { (u : LogUnit) → Spells self.now u → IfOk result (λ unit. unit ≡ u) }
     {
-        match read_unit_bytes(alloc, self.bytes) {
+        match read_unit_bytes(Records::new(alloc), self.bytes) {
             Ok((unit, _)) => Ok(unit),
             Err(_) => Err(NoMemory),
         }

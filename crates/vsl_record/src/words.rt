@@ -7,6 +7,7 @@ ghost use Rattle.vsl_record.specs.Words.{IsUnit, most_words, unit_words, words_i
 
 use crate::fault::WordFault;
 use crate::reading::{read_checked, unit_size};
+use crate::records::Records;
 use crate::unit::Unit;
 use std::alloc::{AllocError, Global};
 
@@ -31,7 +32,7 @@ fn read_prefix(alloc: Global, words: &[u32]) -> Result<(Unit, usize), WordFault>
     let size = unit_size(head, words.len())?;
     let (part, _) = words.split_at(size);
     let bytes = bytes_of(alloc, part)?;
-    let unit = read_checked(alloc, &bytes)?;
+    let unit = read_checked(Records::new(alloc), &bytes)?;
     Ok((unit, size))
 }
 

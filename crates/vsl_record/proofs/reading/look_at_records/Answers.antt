@@ -1,11 +1,11 @@
-use Rattle.std.proofs.Common.{rules, arith}
+use Rattle.std.proofs.Common.{◌∙◌, rules, arith}
 use Rattle.std.proofs.lemmas.Result.{err_from_is_err_and}
 use Rattle.vsl_record.proofs.WordLemmas.{length-words_in}
 use Rattle.vsl_record.proofs.LookLemmas.{look_start, look_more, look_stop}
 use Rattle.vsl_record.proofs.reading.look_at_records.Goals as goal
 
 pub loop-head-init : goal.loop-head-init
-loop-head-init c = look_start c.args.id c.args.size _ _ _ c.requires.size c.requires.some c.split_at.ensures.back c.in_ok-entries.ensures.items
+loop-head-init c = look_start c.args.id c.args.size _ _ _ c.requires.size c.requires.some c.split_at.ensures.back (c.reserve.ensures.items ∙ c.clear.ensures.items)
 
 pub entry_of-requires-clause-few : goal.entry_of-requires-clause-few
 entry_of-requires-clause-few c = omega (arith, c.requires.size, c.requires.few, length-words_in c.args.block.now)
