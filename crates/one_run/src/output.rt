@@ -44,11 +44,11 @@ pub trait Output: Drop {
     fn item<W: World>(
         &mut self,
         world: &mut W,
-        item: Item,
+        item: &Item,
     ) -> Result<Option<Self::Ending>, NoMemory>
         requires ready { is_ready self.old (W.seen world.old) }
         ensures prints { (start : Self) (calls : List Call) (done : List Item) → printed start self.old calls done →
-            Made (goes_on result) [] (writes start) (λ more. ItemTo (λ now. printed start self.new (calls ++ more) now) (λ ending now last all. ended start ending (calls ++ more) now last all) (λ now all. starved start (calls ++ more) now all) result done item) (W.seen world.old) (W.seen world.new) }
+            Made (goes_on result) [] (writes start) (λ more. ItemTo (λ now. printed start self.new (calls ++ more) now) (λ ending now last all. ended start ending (calls ++ more) now last all) (λ now all. starved start (calls ++ more) now all) result done item.now) (W.seen world.old) (W.seen world.new) }
         ensures ready { result ≡ Ok None → is_ready self.new (W.seen world.new) };
 
     /// Prints the rest, after all items.

@@ -48,12 +48,13 @@ fn run_on<W: World, S: Source, O: Output>(
         match source.next(world) {
             Ok(Some(item)) => {
                 met = met.and(&item);
-                if let Some(ending) = output.item(world, item)? {
+                if let Some(ending) = output.item(world, &item)? {
                     return Ok(RunEnded {
                         end: RunEnd::ByOutput(ending),
                         met,
                     });
                 }
+                source.give_back(item);
             }
             Ok(None) => {
                 let ending = output.end(world)?;

@@ -1,6 +1,6 @@
 //! Where a run takes its items from.
 
-ghost use Rattle.std.specs.Prelude.{ℕ, Bool, false, List, [], ◌++◌, IfOk};
+ghost use Rattle.std.specs.Prelude.{◌≡◌, ℕ, Bool, false, List, [], ◌++◌, IfOk};
 ghost use Rattle.vio.specs.World.{Seen};
 ghost use Rattle.vio.specs.Calls.{Call, AreOn};
 ghost use Rattle.one_run.specs.Run.{CameTo, Made, has_come};
@@ -40,6 +40,12 @@ pub trait Source: Drop {
         ensures came { (start : Self) (calls : List Call) (met : List Item) → gave start self.old calls met false →
             Made (has_come result) (reads start) [] (λ more. CameTo (λ now all. gave start self.new (calls ++ more) now all) (λ fault now. stopped start fault (calls ++ more) now (W.seen world.new)) (λ now. starved start self.new (calls ++ more) now) result met) (W.seen world.old) (W.seen world.new) }
         ensures ready { IfOk result (λ _. is_ready self.new) };
+
+    /// Takes back an item that isn't needed: its memory may serve those that come.
+    fn give_back(&mut self, _item: Item)
+        ensures same { self.new ≡ self.old }
+    {
+    }
 
     /// What is written changes nothing of what came.
     ghost stays: { (start now : Self) (calls more : List Call) (met : List Item) (all : Bool) (writes : List ℕ) → gave start now calls met all → AreOn [] writes more → gave start now (calls ++ more) met all };

@@ -40,7 +40,7 @@ pub loop-met-preserved : goal.loop-met-preserved
 loop-met-preserved g c =
     let run = c.loop-met.invariant in
     let again = rw c.in-Ok-Some.field-0-is at (c.in-Ok-Some.ensures.came _ run.taken run.done run.gave) in
-    record {
+    rw c.give_back.ensures.same (record {
       done = run.done ++ c.in-Ok-Some.item ∷ [];
       taken = run.taken ++ again.calls;
       gave = again.is;
@@ -53,7 +53,7 @@ loop-met-preserved g c =
           (λ calls more came on. g.met.S.Source.stays _ _ calls more (run.done ++ c.in-Ok-Some.item ∷ []) false _ came on));
       source = c.in-Ok-Some.ensures.ready;
       output = c.in_ok-ending-in-Ok-Some.ensures.ready (ap Ok c.in_default.is);
-    }
+    })
 
 pub returns-in-Some-clause-ran : goal.returns-in-Some-clause-ran
 returns-in-Some-clause-ran g c = λ start before first.
