@@ -24,7 +24,7 @@ use Rattle.query_grammar.specs.Judging.{tags_fault, level_fault, field_fault, cr
 use Rattle.query_grammar.specs.Steps.{steps_of}
 use Rattle.query_grammar.specs.Lines.{is_passed, joined, AreQueries, lines_of, joined_steps, ended_lines, read_lines}
 use Rattle.query_grammar.specs.Fine.{IsFine}
-use Rattle.query_grammar.specs.Stands.{in_level, in_field, Language, Fine, TestMayFollow, TestIn, InOperand, IsAt, StandsIn, lines_length, InLines, Stands}
+use Rattle.query_grammar.specs.Stands.{in_level, in_field, Language, Fine, TestMayFollow, TestIn, InOperand, IsAt, StandsIn, lines_length, InLines, HasNoQuery, Stands}
 use Rattle.query_grammar.proofs.Tokens.{some_is, some_none, none_is}
 use Rattle.query_grammar.proofs.Lexing.{same_bytes, whole_begins, over_blank}
 use Rattle.query_grammar.proofs.Marks.{Known, NoMore, is_known, blank_cases}
@@ -32,6 +32,7 @@ use Rattle.query_grammar.proofs.Scan.{Reads, at_spot, token_read, blank_read, wh
 use Rattle.query_grammar.proofs.Lines.{steps_in, joined_is}
 use Rattle.query_grammar.proofs.Ends.{NoneBehind, behind_in, IsBegun}
 use Rattle.query_grammar.proofs.Rulings.{criterion_anywhere, rules_judge}
+use Rattle.query_grammar.proofs.TextStops.{Lined, last_line, line_then, lined, lines_last, lines_more}
 use Rattle.query_grammar.proofs.Fine.{fine_lines_read, fine_lines_found}
 use Rattle.query_grammar.proofs.Faulty.{tags_wrong, level_wrong, field_wrong, unknown_fault, great_fault}
 
@@ -303,7 +304,7 @@ cut_at l a r back w AfterUnary k place n f there b h e = absurd cc
 
 -- no token goes on
 refused_at : (l : Language) (a : ℕ) (r back w : List ℕ) (m : Mode) (k : Kept) (place n : ℕ) (o : Option Fault) → n ≡ a + length r → Begun m k w back → Lay l a r back m k place w → (rules l).cut n place m k w ≡ o → IsAt l a r back (or_syntax n o)
-refused_at l a r back w m k place n None there b h e = tt
+refused_at l a r back w m k place n None there b h e = there
 refused_at l a r back w m k place n (Some f) there b h e = cut_at l a r back w m k place n f there b h e
 
 -- ---- where a token leads
@@ -521,9 +522,20 @@ line_before l from before next line lines f fine h =
       stands = subst (λ (n : ℕ). StandsIn l n h.line f) place h.stands;
     }
 
+-- none of these lines is a query, and none was one before them
+record NoneIn (from : ℕ) (before : Option Written) (lines : List (List ℕ)) (f : Fault) : Type 0 where
+  none : before ≡ None
+  passed : list_all is_passed lines ≡ true
+  place : f ≡ Syntax (from + lines_length lines - 1)
+
 -- lines at fault
 abbrev Faults : Language → List (List ℕ) → Fault → Type 0
-Faults l lines f = (from : ℕ) (before : Option Written) → read_lines (rules l) from (steps_in before) lines ≡ Err f → InLines l from before lines f
+Faults l lines f = (from : ℕ) (before : Option Written) → read_lines (rules l) from (steps_in before) lines ≡ Err f → NoneIn from before lines f ⊎ InLines l from before lines f
+
+-- behind a query a fault is that of a line
+some_query : (l : Language) (from : ℕ) (q : Written) (lines : List (List ℕ)) (f : Fault) → NoneIn from (Some q) lines f ⊎ InLines l from (Some q) lines f → InLines l from (Some q) lines f
+some_query l from q lines f (inl h) = let none = h.none in absurd cc
+some_query l from q lines f (inr h) = h
 
 line_kept : (l : Language) (from : ℕ) (before : Option Written) (line : List ℕ) (lines : List (List ℕ)) (f : Fault) (r : Result (List Step) Fault) → Faults l lines f → is_passed line ≡ false → run (rules l) from begin line ≡ r → (r >>= λ s. read_lines (rules l) (from + 1 + length line) (Some (joined_steps (steps_in before) s)) lines) ≡ Err f → InLines l from before (line ∷ lines) f
 line_kept l from before line lines f (Ok s) later kept r e =
@@ -531,31 +543,66 @@ line_kept l from before line lines f (Ok s) later kept r e =
     let same : Some (joined_steps (steps_in before) s) ≡ Some (steps_of (joined before q.query)) = ap (λ (t : List Step). Some t) (ap (joined_steps (steps_in before)) (sym q.steps) ∙ joined_is before q.query) in
     line_before l from before (Some (joined before q.query)) line lines f
     (λ earlier all are. subst (λ (b : Bool). MatchBool b (AreQueries (Fine l) before earlier all) ((p : Written) × Fine l line p × AreQueries (Fine l) (Some (joined before p)) earlier all)) (sym kept) (q.query, q.is, are))
-    (later (from + 1 + length line) (Some (joined before q.query)) (sym (ap (λ (o : Option (List Step)). read_lines (rules l) (from + 1 + length line) o lines) same) ∙ e))
+    (some_query l (from + 1 + length line) (joined before q.query) lines f (later (from + 1 + length line) (Some (joined before q.query)) (sym (ap (λ (o : Option (List Step)). read_lines (rules l) (from + 1 + length line) o lines) same) ∙ e)))
 line_kept l from before line lines f (Err g) later kept r e =
     let same : g ≡ f = cc in
     let none : from ≡ from + 0 = omega arith in
     record { earlier = []; line = line; later = lines; all = before; parts = refl; fine = refl; kept = kept; stands = subst (λ (n : ℕ). StandsIn l n line f) none (stands l from line f (r ∙ ap (λ (h : Fault). Err h) same)) }
 
-one_line : (l : Language) (from : ℕ) (before : Option Written) (line : List ℕ) (lines : List (List ℕ)) (f : Fault) (b : Bool) → Faults l lines f → is_passed line ≡ b → cond b (read_lines (rules l) (from + 1 + length line) (steps_in before) lines) (run (rules l) from begin line >>= λ s. read_lines (rules l) (from + 1 + length line) (Some (joined_steps (steps_in before) s)) lines) ≡ Err f → InLines l from before (line ∷ lines) f
-one_line l from before line lines f true later passed e =
-    line_before l from before before line lines f
-    (λ earlier all are. subst (λ (b : Bool). MatchBool b (AreQueries (Fine l) before earlier all) ((p : Written) × Fine l line p × AreQueries (Fine l) (Some (joined before p)) earlier all)) (sym passed) are) (later (from + 1 + length line) before e)
-one_line l from before line lines f false later kept e = line_kept l from before line lines f (run (rules l) from begin line) later kept refl e
+line_passed : (l : Language) (from : ℕ) (before : Option Written) (line : List ℕ) (lines : List (List ℕ)) (f : Fault) → is_passed line ≡ true → NoneIn (from + 1 + length line) before lines f ⊎ InLines l (from + 1 + length line) before lines f → NoneIn from before (line ∷ lines) f ⊎ InLines l from before (line ∷ lines) f
+line_passed l from before line lines f passed (inl h) =
+    let place : from + 1 + length line + lines_length lines - 1 ≡ from + lines_length (line ∷ lines) - 1 = omega arith in
+    inl (record { none = h.none; passed = and_from _ _ passed h.passed; place = h.place ∙ ap Syntax place })
+line_passed l from before line lines f passed (inr h) =
+    inr
+    (line_before l from before before line lines f
+    (λ earlier all are. subst (λ (b : Bool). MatchBool b (AreQueries (Fine l) before earlier all) ((p : Written) × Fine l line p × AreQueries (Fine l) (Some (joined before p)) earlier all)) (sym passed) are) h)
 
-no_line : (from : ℕ) (before : Option Written) (f : Fault) → ended_lines from (steps_in before) ≡ Err f → f ≡ Syntax (from - 1)
-no_line from None f e = cc
+one_line : (l : Language) (from : ℕ) (before : Option Written) (line : List ℕ) (lines : List (List ℕ)) (f : Fault) (b : Bool) → Faults l lines f → is_passed line ≡ b → cond b (read_lines (rules l) (from + 1 + length line) (steps_in before) lines) (run (rules l) from begin line >>= λ s. read_lines (rules l) (from + 1 + length line) (Some (joined_steps (steps_in before) s)) lines) ≡ Err f → NoneIn from before (line ∷ lines) f ⊎ InLines l from before (line ∷ lines) f
+one_line l from before line lines f true later passed e = line_passed l from before line lines f passed (later (from + 1 + length line) before e)
+one_line l from before line lines f false later kept e = inr (line_kept l from before line lines f (run (rules l) from begin line) later kept refl e)
+
+no_line : (from : ℕ) (before : Option Written) (f : Fault) → ended_lines from (steps_in before) ≡ Err f → NoneIn from before [] f
+no_line from None f e =
+    let same : f ≡ Syntax (from - 1) = cc in
+    let place : from - 1 ≡ from + 0 - 1 = omega arith in
+    record { none = refl; passed = refl; place = same ∙ ap Syntax place }
 no_line from (Some q) f e = absurd cc
 
-in_lines : (l : Language) (lines : List (List ℕ)) (f : Fault) → ((n : ℕ) → f ≡ Syntax n → ⊥) → Faults l lines f
+in_lines : (l : Language) (lines : List (List ℕ)) (f : Fault) → Faults l lines f
 unfolding read_lines
-in_lines l [] f never from before e = absurd (never (from - 1) (no_line from before f e))
-in_lines l (line ∷ lines) f never from before e = one_line l from before line lines f (is_passed line) (in_lines l lines f never) refl e
+in_lines l [] f from before e = inl (no_line from before f e)
+in_lines l (line ∷ lines) f from before e = one_line l from before line lines f (is_passed line) (in_lines l lines f) refl e
+
+-- each line but the last has a line feed behind it
+text_length : (text : List ℕ) → Lined text → lines_length (lines_of text) ≡ length text + 1
+text_length _ (last_line line plain) = ap lines_length (lines_last line plain) ∙ (omega arith)
+text_length _ (line_then {text} line plain rest) =
+    let more = text_length text rest in
+    let sum : lines_length (line ∷ lines_of text) ≡ length (line ++ 10 ∷ text) + 1 = omega (arith, more, length-append line (10 ∷ text)) in
+    ap lines_length (lines_more line text plain) ∙ sum
+
+-- a text without a query
+no_query : (text : List ℕ) (at : ℕ) → NoneIn 0 None (lines_of text) (Syntax at) → HasNoQuery text at
+no_query text at h =
+    let place : Syntax at ≡ Syntax (0 + lines_length (lines_of text) - 1) = h.place in
+    let same : at ≡ 0 + lines_length (lines_of text) - 1 = cc in
+    (h.passed, omega (arith, same, text_length text (lined text)))
+
+-- other faults are those of a line
+in_line : (l : Language) (text : List ℕ) (f : Fault) → ((n : ℕ) → f ≡ Syntax n → ⊥) → NoneIn 0 None (lines_of text) f ⊎ InLines l 0 None (lines_of text) f → InLines l 0 None (lines_of text) f
+in_line l text f never (inl h) = absurd (never _ h.place)
+in_line l text f never (inr h) = h
+
+-- a fault of syntax is that of a line, or of a text without a query
+syntax_stands : (l : Language) (text : List ℕ) (at : ℕ) → NoneIn 0 None (lines_of text) (Syntax at) ⊎ InLines l 0 None (lines_of text) (Syntax at) → Stands l text (Syntax at)
+syntax_stands l text at (inl h) = inl (no_query text at h)
+syntax_stands l text at (inr h) = inr h
 
 -- what stands at the fault of a text
 pub text_stands : (l : Language) (text : List ℕ) (f : Fault) → read_lines (rules l) 0 None (lines_of text) ≡ Err f → Stands l text f
-text_stands l text (Syntax at) e = tt
-text_stands l text (UnknownTag at) e = in_lines l (lines_of text) (UnknownTag at) (λ n same. absurd cc) 0 None e
-text_stands l text (Number at) e = in_lines l (lines_of text) (Number at) (λ n same. absurd cc) 0 None e
-text_stands l text (Pattern at) e = in_lines l (lines_of text) (Pattern at) (λ n same. absurd cc) 0 None e
-text_stands l text (Deep at) e = in_lines l (lines_of text) (Deep at) (λ n same. absurd cc) 0 None e
+text_stands l text (Syntax at) e = syntax_stands l text at (in_lines l (lines_of text) (Syntax at) 0 None e)
+text_stands l text (UnknownTag at) e = in_line l text (UnknownTag at) (λ n same. absurd cc) (in_lines l (lines_of text) (UnknownTag at) 0 None e)
+text_stands l text (Number at) e = in_line l text (Number at) (λ n same. absurd cc) (in_lines l (lines_of text) (Number at) 0 None e)
+text_stands l text (Pattern at) e = in_line l text (Pattern at) (λ n same. absurd cc) (in_lines l (lines_of text) (Pattern at) 0 None e)
+text_stands l text (Deep at) e = in_line l text (Deep at) (λ n same. absurd cc) (in_lines l (lines_of text) (Deep at) 0 None e)

@@ -30,11 +30,11 @@ lines_onto (c ∷ w) text line lines plain e =
     slice_split-cons_no (λ b. b == 10) c (w ++ text) (not-true (c == 10) both.0) ∙ ap (onto_first c) (lines_onto w text line lines both.1 e)
 
 -- a line without a line feed behind it is all of the lines
-lines_last : (line : List ℕ) → is_plain line ≡ true → lines_of line ≡ line ∷ []
+pub lines_last : (line : List ℕ) → is_plain line ≡ true → lines_of line ≡ line ∷ []
 lines_last line plain = subst (λ (w : List ℕ). lines_of w ≡ w ∷ []) (append-nil line) (lines_onto line [] [] [] plain refl)
 
 -- a line feed ends the first line
-lines_more : (line text : List ℕ) → is_plain line ≡ true → lines_of (line ++ 10 ∷ text) ≡ line ∷ lines_of text
+pub lines_more : (line text : List ℕ) → is_plain line ≡ true → lines_of (line ++ 10 ∷ text) ≡ line ∷ lines_of text
 lines_more line text plain = lines_onto line (10 ∷ text) [] (lines_of text) plain refl ∙ ap (λ (w : List ℕ). w ∷ lines_of text) (append-nil line)
 
 -- lines of which there is a first
@@ -53,7 +53,7 @@ first_line [] = record { line = []; lines = []; same = refl }
 first_line (c ∷ text) = cond_both (c == 10) _ _ First (λ e. record { line = []; lines = lines_of text; same = refl }) (λ e. first_onto c (lines_of text) (first_line text))
 
 -- a text, as a line after the other
-data Lined : List ℕ → Type 0 where
+pub data Lined : List ℕ → Type 0 where
   last_line : (line : List ℕ) → is_plain line ≡ true → Lined line
   line_then : {text : List ℕ} (line : List ℕ) → is_plain line ≡ true → Lined text → Lined (line ++ 10 ∷ text)
 
@@ -68,7 +68,7 @@ lined_byte true c text e l = subst (λ (d : ℕ). Lined (d ∷ text)) (sym (eqb-
 lined_byte false c text e l = lined_more c text e l
 
 -- each text is lines
-lined : (text : List ℕ) → Lined text
+pub lined : (text : List ℕ) → Lined text
 lined [] = last_line [] refl
 lined (c ∷ text) = lined_byte (c == 10) c text refl (lined text)
 

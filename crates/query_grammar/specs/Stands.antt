@@ -1,5 +1,5 @@
--- What stands where a query's text is at fault beside syntax (vsl-query(7); what is a fault, and which comes first, is this project's
--- choice).
+-- What stands where a query's text is at fault, and before it (vsl-query(7); what is a fault, and which comes first, is this
+-- project's choice).
 use Rattle.std.specs.Prelude.{◌≡◌, ℕ, ◌+◌, ◌⊎◌, Bool, true, false, List, [], ◌∷◌, ◌++◌, length, Option, None}
 use Rattle.std.specs.List.{list_all}
 use Rattle.query_grammar.specs.declared.lex.Lex.TheVariants.{Begin}
@@ -93,7 +93,7 @@ IsAt l from read back (UnknownTag at) = InCriterion l (UnknownName l.is_tag) fro
 IsAt l from read back (Number at) = InCriterion l (WrongNumber l) from read back at ⊎ InOperand l numeric_operators l.is_decimal from read back at
 IsAt l from read back (Pattern at) = InOperand l pattern_operators l.is_pattern from read back at
 IsAt l from read back (Deep at) = TooDeep l from read back at
-IsAt l from read back (Syntax at) = Unit {0}
+IsAt l from read back (Syntax at) = at ≡ from + length read
 
 -- what was read at the fault of a line that begins at this place: no query without a fault goes on over it
 pub record StandsIn (l : Language) (from : ℕ) (line : List ℕ) (f : Fault) : Type 0 where
@@ -119,7 +119,11 @@ pub record InLines (l : Language) (from : ℕ) (before : Option Written) (lines 
   pub kept : is_passed line ≡ false
   pub stands : StandsIn l (from + lines_length earlier) line f
 
--- what stands at the fault of a text, beside those of syntax
+-- each line of the text is passed over, and its end is this byte
+abbrev pub HasNoQuery : List ℕ → ℕ → Type 0
+HasNoQuery text at = (list_all is_passed (lines_of text) ≡ true) × (at ≡ length text)
+
+-- what stands at the fault of a text: a text without a query has its fault, of syntax, at its end
 abbrev pub Stands : Language → List ℕ → Fault → Type 0
-Stands l text (Syntax at) = Unit {0}
+Stands l text (Syntax at) = HasNoQuery text at ⊎ InLines l 0 None (lines_of text) (Syntax at)
 Stands l text f = InLines l 0 None (lines_of text) f

@@ -67,8 +67,9 @@ pub fn steps_of_trees()
 {}
 
 /// A text in UTF-8 is queries without a fault just where it has no first fault, so it never has both. Its first
-/// fault of syntax is at the first byte at which no text of queries can go on. At each other fault stands what it
-/// names: a name that is no tag, a number or a pattern that is none, or a parenthesis or a `not` too many.
+/// fault of syntax is at the first byte at which no text of queries can go on, or at the end of a text without a
+/// query. At each other fault stands what it names: a name that is no tag, a number or a pattern that is none, or a
+/// parenthesis or a `not` too many. Each line before that of a fault is passed over or is a query without a fault.
 pub fn text_faults()
     ensures none { (is_tag is_decimal is_pattern : List ℕ → Bool) (most : ℕ) (text : List ℕ) → query_fault is_tag is_decimal is_pattern most text ≡ None → IsUtf8 text × (q : Written) × IsFineText is_tag is_decimal is_pattern most text q }
     ensures only_none { (is_tag is_decimal is_pattern : List ℕ → Bool) (most : ℕ) (text : List ℕ) (q : Written) → IsUtf8 text → IsFineText is_tag is_decimal is_pattern most text q → query_fault is_tag is_decimal is_pattern most text ≡ None }
