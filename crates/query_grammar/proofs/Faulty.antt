@@ -1,5 +1,5 @@
 -- The faults of a criterion's bytes are those of its parts.
-use Rattle.std.proofs.Common.{◌≡◌, ℕ, ◌+◌, ◌*◌, ◌-◌, ◌<◌, ◌≤◌, ◌==◌, ◌&&◌, ◌||◌, not, ◌⊎◌, inl, inr, Bool, true, false, cond, List, [], ◌∷◌, ◌++◌, length, Option, Some, None, refl, sym, ap, subst, ◌∙◌, append_assoc, arith}
+use Rattle.std.proofs.Common.{◌≡◌, ℕ, ◌+◌, ◌*◌, ◌-◌, ◌<◌, ◌≤◌, ◌==◌, ◌≢◌, ◌&&◌, ◌||◌, not, ◌⊎◌, inl, inr, Bool, true, false, cond, List, [], ◌∷◌, ◌++◌, length, Option, Some, None, refl, sym, ap, subst, ◌∙◌, append_assoc, arith}
 use Rattle.std.specs.Prelude.{nat_lt}
 use Rattle.std.specs.Option.{option_or}
 use Rattle.std.specs.List.{list_all}
@@ -7,7 +7,7 @@ use Rattle.std.specs.Str.Parse.{digits_value, digits_value_after}
 use Rattle.std.specs.Char.{digit_value}
 use Rattle.std.proofs.lemmas.List.{length-append, append-nil}
 use Rattle.std.proofs.lemmas.List.Folds.{list_all-append}
-use Rattle.std.proofs.lemmas.Bool.{and_parts, and_from, or_cases, cond_both, cond-true, cond-false, eqb-true, eq-eqb, not-true, not_from_false, ltb-true, lt-ltb}
+use Rattle.std.proofs.lemmas.Bool.{and_parts, and_from, or_cases, cond_both, cond-true, cond-false, eqb-true, eq-eqb, not-true, not_from_false, ltb-true, ltb-false, lt-ltb, or_parts}
 use Rattle.std.proofs.lemmas.Bool.Decides.{nat_tests}
 use Rattle.query_grammar.specs.declared.lex.Lex.{Lex}
 use Rattle.query_grammar.specs.declared.lex.Lex.TheVariants.{Begin, LevelOpen, Level as InLevel, LevelSign as BehindLevel, NameNext, InName, TextNext, InWord, InQuote, Escape, TextDone, FieldOpen, Field, Done}
@@ -421,3 +421,86 @@ pub great_fault : (w : List ℕ) (at n : ℕ) → level_fault at w ≡ None → 
 great_fault w at n e h =
     let some : Some (Number (at + 1)) ≡ None = sym (cond-true (nat_lt 9999 (number 0 (h.digits ++ h.behind))) _ _ (lt-ltb 9999 _ (great_level h.digits h.behind h.run h.great))) ∙ sym (ap (level_fault at) h.parts) ∙ e in
     absurd cc
+
+-- ---- and so is a wrong field
+
+no_last : (w : List ℕ) → is_last (lexed_from w None) ≡ true → ⊥
+no_last [] e = absurd cc
+no_last (c ∷ w) e = absurd cc
+
+-- in a field, or behind one
+abbrev in_field : Lex → Bool
+in_field FieldOpen = true
+in_field Field = true
+in_field Done = true
+in_field _ = false
+
+abbrev FieldEnds : List ℕ → List ℕ → Option Lex → Type 0
+FieldEnds u v o = is_last (lexed_from u o) ≡ true → is_state (lexed_from (u ++ 91 ∷ v) o) ≡ true → ⊥
+
+none_ends : (u v : List ℕ) → FieldEnds u v None
+none_ends u v whole b = no_last u whole
+
+-- behind a field no other one begins
+field_ends : (u v : List ℕ) (l : Lex) → in_field l ≡ true → FieldEnds u v (Some l)
+field_ends [] v FieldOpen e whole b = absurd cc
+field_ends [] v Field e whole b = absurd cc
+field_ends [] v Done e whole b = no_way v b
+field_ends (c ∷ u) v FieldOpen e whole b = cond_both (is_digit c) (Some Field) None (FieldEnds u v) (λ t. field_ends u v Field refl) (λ t. none_ends u v) whole b
+field_ends (c ∷ u) v Field e whole b =
+    cond_both (is_digit c) (Some Field) (cond (c == 93) (Some Done) None) (FieldEnds u v) (λ t. field_ends u v Field refl) (λ t. cond_both (c == 93) (Some Done) None (FieldEnds u v) (λ d. field_ends u v Done refl) (λ d. none_ends u v)) whole b
+field_ends (c ∷ u) v Done e whole b = none_ends u v whole b
+field_ends _ v _ e whole b = absurd cc
+
+-- a field begins at a bracket behind what may end, and goes on
+bracket_begins : (l : Lex) (v : List ℕ) → may_end l ≡ true → is_state (lexed_from v (lex l 91)) ≡ true → is_field_open (lex l 91) ≡ true
+bracket_begins InName v e b = refl
+bracket_begins (InWord Prefix) v e b = refl
+bracket_begins (TextDone Prefix) v e b = refl
+bracket_begins (InWord Operand) v e b = absurd (no_way v b)
+bracket_begins (TextDone Operand) v e b = absurd (no_way v b)
+bracket_begins Done v e b = absurd (no_way v b)
+bracket_begins _ v e b = absurd cc
+
+-- what is read as a field behind what would be a criterion without it
+abbrev Asked : List ℕ → Type 0
+Asked v = (at : ℕ) × (field_value at v ≡ None)
+
+abbrev Asks : List ℕ → List ℕ → Option Lex → Type 0
+Asks u v o = (at : ℕ) → is_last (lexed_from u o) ≡ true → is_state (lexed_from (u ++ 91 ∷ v) o) ≡ true → field_fault at o (u ++ 91 ∷ v) ≡ None → Asked v
+
+none_asks : (u v : List ℕ) → Asks u v None
+none_asks u v at whole b e = absurd (no_last u whole)
+
+opens_ends : (u v : List ℕ) (o : Option Lex) → is_field_open o ≡ true → FieldEnds u v o
+opens_ends u v (Some FieldOpen) e = field_ends u v FieldOpen refl
+opens_ends u v _ e = absurd cc
+
+field_asked : (u v : List ℕ) (o : Option Lex) → Asks u v o
+field_asked u v None at whole b e = none_asks u v at whole b e
+field_asked [] v (Some l) at whole b e = (at + 1, sym (cond-true (is_field_open (lex l 91)) _ _ (bracket_begins l v whole b)) ∙ e)
+field_asked (c ∷ u) v (Some l) at whole b e =
+    cond_both (is_field_open (lex l c)) (field_value (at + 1) (u ++ 91 ∷ v)) (field_fault (at + 1) (lex l c) (u ++ 91 ∷ v)) (λ o. o ≡ None → Asked v)
+    (λ opens g. absurd (opens_ends u v (lex l c) opens whole b)) (λ opens g. field_asked u v (lex l c) (at + 1) whole b g) e
+
+-- a number that is read as none at fault is in range
+in_range : (c : ℕ) (w : List ℕ) (at m : ℕ) → SameNumber (number 0 (c ∷ w)) m → field_value at (c ∷ w) ≡ None → (1 ≤ m) × (m ≤ 9999)
+in_range c w at m same =
+    let n = number 0 (c ∷ w) in
+    cond_both ((n == 0) || nat_lt 9999 n) (Some (Number at)) None (λ o. o ≡ None → (1 ≤ m) × (m ≤ 9999)) (λ b e. absurd cc)
+    (λ b e.
+    let both = or_parts (n == 0) (nat_lt 9999 n) b in
+    let some : n ≢ 0 = λ z. (let t = eq-eqb n 0 z in absurd cc) in
+    let most : n ≤ 9999 = ltb-false 9999 n both.1 in
+    elim same [ inl is ↦ (omega (arith, is, some), omega (arith, is, most)) | inr two ↦ absurd (omega (arith, two.0, most)) ])
+
+asked_field : (digits behind : List ℕ) → is_run is_digit digits behind ≡ true → Asked (digits ++ behind) → (1 ≤ digits_value 10 digits) × (digits_value 10 digits ≤ 9999)
+asked_field [] behind run asked = absurd cc
+asked_field (c ∷ digits) behind run asked =
+    let both = and_parts (is_all is_digit (c ∷ digits)) (ends_there is_digit behind) run in
+    in_range c (digits ++ behind) asked.0 (digits_value 10 (c ∷ digits)) (number_is (c ∷ digits) behind 0 (and_parts (nat_lt 0 (length (c ∷ digits))) (list_all is_digit (c ∷ digits)) both.0).1 both.1) asked.1
+
+pub wrong_fault : (w : List ℕ) (at n : ℕ) → begins_from Begin w ≡ true → field_fault at (Some Begin) w ≡ None → WrongField w n → ⊥
+wrong_fault w at n b e h =
+    let asked = field_asked h.front (h.digits ++ h.behind) (Some Begin) at h.whole (sym (ap (begins_from Begin) h.parts) ∙ b) (sym (ap (field_fault at (Some Begin)) h.parts) ∙ e) in
+    h.wrong (asked_field h.digits h.behind h.run asked)

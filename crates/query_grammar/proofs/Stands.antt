@@ -1,40 +1,43 @@
 -- What stands at the fault of a line.
-use Rattle.std.proofs.Common.{◌≡◌, ℕ, ◌+◌, ◌-◌, ◌≤◌, ◌&&◌, not, ◌⊎◌, inl, inr, Bool, true, false, cond, List, [], ◌∷◌, ◌++◌, length, Result, Ok, Err, Option, Some, None, refl, sym, ap, subst, ◌∙◌, append_assoc, length-append, arith}
+use Rattle.std.proofs.Common.{◌≡◌, ℕ, ◌+◌, ◌-◌, ◌≤◌, ◌&&◌, ◌||◌, not, ◌⊎◌, inl, inr, Bool, true, false, cond, List, [], ◌∷◌, ◌++◌, length, Result, Ok, Err, Option, Some, None, refl, sym, ap, subst, ◌∙◌, append_assoc, length-append, arith}
 use Rattle.std.specs.Prelude.{codes, nat_lt}
 use Rattle.std.specs.Bool.{MatchBool}
 use Rattle.std.specs.Option.{is_none, option_or}
 use Rattle.std.specs.Str.{bytes_eq}
 use Rattle.std.specs.List.{list_all}
 use Rattle.std.proofs.lemmas.List.{append-nil}
-use Rattle.std.proofs.lemmas.List.Folds.{list_all-append}
-use Rattle.std.proofs.lemmas.Bool.{and_parts, and_from, or_cases, or_parts, cond_both, not-true, not_from_false}
+use Rattle.std.proofs.lemmas.List.Folds.{list_all-append, list_any-append}
+use Rattle.std.proofs.lemmas.Bool.{and_parts, and_from, or_cases, or_parts, or_left, or_right, cond_both, cond-true, not-true, not_from_false}
 use Rattle.query_grammar.specs.declared.mode.Mode.{Mode}
 use Rattle.query_grammar.specs.declared.mode.Mode.TheVariants.{BeforeUnary, AfterCriterion, BeforeOperand, AfterUnary}
 use Rattle.query_grammar.specs.declared.mode.Waiting.{Waiting}
 use Rattle.query_grammar.specs.declared.mode.Waiting.TheVariants as waits
 use Rattle.query_grammar.specs.declared.lex.Lex.TheVariants.{Begin}
 use Rattle.query_grammar.specs.Step.{Step}
-use Rattle.query_grammar.specs.Bytes.{is_blank}
-use Rattle.query_grammar.specs.Lexical.{begins_from, whole_from, is_one_of, words, ends_word}
+use Rattle.query_grammar.specs.Bytes.{is_blank, is_name_byte}
+use Rattle.query_grammar.specs.Lexical.{operand_begin, begins_from, whole_from, is_prefix, is_one_of, begins_one_of, operators, words, ends_word}
 use Rattle.query_grammar.specs.Criterion.{operand_meaning}
-use Rattle.query_grammar.specs.Grammar.{Token, CriterionToken, OperatorToken, OperandToken, NotWord, AndWord, OrWord, OpenMark, CloseMark, token_text, is_token, is_over, is_ended, IsLaid, nothing, blank, token, Written, Test}
-use Rattle.query_grammar.specs.Moves.{Kept, State, open_count, closes, loosened, tested, taken, last, start}
-use Rattle.query_grammar.specs.Scanner.{Fault, Syntax, UnknownTag, Number, Pattern, Deep, ◌>>=◌, Rules, Spot, begins, whole, or_syntax, unless_fault, place_after, token_taken, token_done, fresh, step_in, step, last_done, finish_in, run, begin}
+use Rattle.query_grammar.specs.Grammar.{Token, CriterionToken, OperatorToken, OperandToken, NotWord, AndWord, OrWord, OpenMark, CloseMark, token_text, is_token, is_over, is_ended, IsLaid, nothing, blank, token, Written, Test, CanGoOn}
+use Rattle.query_grammar.specs.Moves.{Kept, State, open_count, can_close, closes, tightened, loosened, rested, tested, taken, last, start}
+use Rattle.query_grammar.specs.Scanner.{Fault, Syntax, UnknownTag, Number, Pattern, Deep, ◌>>=◌, Rules, Spot, joining, begins_after_unary, begins, whole, or_syntax, unless_fault, place_after, token_taken, token_done, fresh, step_in, step, last_done, finish_in, run, begin}
 use Rattle.query_grammar.specs.Judging.{tags_fault, level_fault, field_fault, criterion_fault, numeric_operators, pattern_operators, operand_fault, rules_of}
 use Rattle.query_grammar.specs.Steps.{steps_of}
 use Rattle.query_grammar.specs.Lines.{is_passed, joined, AreQueries, lines_of, joined_steps, ended_lines, read_lines}
 use Rattle.query_grammar.specs.Fine.{IsFine}
-use Rattle.query_grammar.specs.Stands.{in_level, in_field, Language, Fine, TestMayFollow, TestIn, InOperand, IsAt, StandsIn, lines_length, InLines, HasNoQuery, Stands}
+use Rattle.query_grammar.specs.Faulty.{UnknownName}
+use Rattle.query_grammar.specs.Tested.{no_bytes, other_byte, word_ends, in_level, in_field, Language, Fine, IsApart, TestMayFollow, TestIn, AtNone, WrongNumber}
+use Rattle.query_grammar.specs.Before.{before_test, behind_criterion, behind_operator, behind_operand, behind_mark, BehindOperand, BehindMark, behind_tests, NoneBefore}
+use Rattle.query_grammar.specs.Stands.{InOperand, IsAt, StandsIn, lines_length, InLines, HasNoQuery, Stands}
 use Rattle.query_grammar.proofs.Tokens.{some_is, some_none, none_is}
-use Rattle.query_grammar.proofs.Lexing.{same_bytes, whole_begins, over_blank}
+use Rattle.query_grammar.proofs.Lexing.{same_bytes, whole_begins, over_blank, one_of}
 use Rattle.query_grammar.proofs.Marks.{Known, NoMore, is_known, blank_cases}
 use Rattle.query_grammar.proofs.Scan.{Reads, at_spot, token_read, blank_read, whole_first, no_out}
 use Rattle.query_grammar.proofs.Lines.{steps_in, joined_is}
 use Rattle.query_grammar.proofs.Ends.{NoneBehind, behind_in, IsBegun}
 use Rattle.query_grammar.proofs.Rulings.{criterion_anywhere, rules_judge}
 use Rattle.query_grammar.proofs.TextStops.{Lined, last_line, line_then, lined, lines_last, lines_more}
-use Rattle.query_grammar.proofs.Fine.{fine_lines_read, fine_lines_found}
-use Rattle.query_grammar.proofs.Faulty.{tags_wrong, level_wrong, field_wrong, unknown_fault, great_fault}
+use Rattle.query_grammar.proofs.Fine.{or_else_none, fine_lines_read, fine_lines_found}
+use Rattle.query_grammar.proofs.Faulty.{tags_wrong, level_wrong, field_wrong, unknown_fault, great_fault, wrong_fault}
 
 abbrev rules : Language → Rules
 rules l = rules_of l.is_tag l.is_decimal l.is_pattern l.most
@@ -93,20 +96,23 @@ test_reads l k c is fine =
 abbrev Leads : Language → ℕ → List ℕ → Kept → Type 0
 Leads l a r k = (text : List ℕ) (out : List Step) → Reads (rules l) BeforeUnary k [] (32 ∷ text) out → run (rules l) a begin (r ++ 32 ∷ text) ≡ Ok out
 
-may_follow : (l : Language) (a : ℕ) (r : List ℕ) (k : Kept) → Leads l a r k → TestMayFollow l r
-may_follow l a r k leads test fine =
-    let t = test_reads l k test (alone _ _ fine.0.laid test refl) fine.1 in
-    let ok = leads (test ++ t.more) t.out (blank_read (rules l) BeforeUnary k 32 (test ++ t.more) t.out refl t.reads) in
-    let q = (fine_lines_found l.is_tag l.is_decimal l.is_pattern l.most).each a (r ++ 32 ∷ (test ++ t.more)) t.out ok in
-    record { more = t.more; query = q.query; whole = subst (λ (w : List ℕ). Fine l w q.query) (sym (append_assoc r (32 ∷ test) t.more)) q.is }
+may_follow : (l : Language) (a : ℕ) (r next : List ℕ) (k : Kept) → IsApart r next → Leads l a r k → TestMayFollow l r next
+may_follow l a r next k apart leads = record {
+  apart = apart;
+  each = λ test fine.
+      let t = test_reads l k test (alone _ _ fine.0.laid test refl) fine.1 in
+      let ok = leads (test ++ t.more) t.out (blank_read (rules l) BeforeUnary k 32 (test ++ t.more) t.out refl t.reads) in
+      let q = (fine_lines_found l.is_tag l.is_decimal l.is_pattern l.most).each a (r ++ 32 ∷ (test ++ t.more)) t.out ok in
+      record { more = t.more; query = q.query; whole = subst (λ (w : List ℕ). Fine l w q.query) (sym (append_assoc r (32 ∷ test) t.more)) q.is };
+}
 
 -- ---- what is known of the bytes that were read
 
 -- a unary begins with these bytes, where a test may stand
-record Opened (l : Language) (r w : List ℕ) : Type 0 where
+record Opened (l : Language) (r back w : List ℕ) : Type 0 where
   before : List ℕ
   parts : r ≡ before ++ w
-  follows : TestMayFollow l before
+  follows : TestMayFollow l before (w ++ back)
 
 -- behind a criterion
 record Named (l : Language) (a : ℕ) (r back w : List ℕ) (k : Kept) (place : ℕ) : Type 0 where
@@ -121,13 +127,18 @@ record Signed (l : Language) (a : ℕ) (r back w : List ℕ) (k : Kept) (place :
   blank : list_all is_blank blanks ≡ true
   blank_more : list_all is_blank more ≡ true
   test : TestIn l a r back k.criterion (blanks ++ (k.operator ++ (more ++ w))) place
+  one : is_one_of operators k.operator ≡ true
+
+-- behind a unary
+abbrev Rested : Language → ℕ → List ℕ → List ℕ → List ℕ → Type 0
+Rested l a r back w = BehindOperand l a r back w ⊎ BehindMark l r w
 
 -- by what may stand next, with the bytes of a token that has begun
 abbrev Lay : Language → ℕ → List ℕ → List ℕ → Mode → Kept → ℕ → List ℕ → Type 0
-Lay l a r back BeforeUnary k place w = Opened l r w
+Lay l a r back BeforeUnary k place w = Opened l r back w
 Lay l a r back AfterCriterion k place w = Named l a r back w k place
 Lay l a r back BeforeOperand k place w = Signed l a r back w k place
-Lay l a r back AfterUnary k place w = Unit {0}
+Lay l a r back AfterUnary k place w = Rested l a r back w
 
 -- bytes that are behind a criterion, and one more that was read
 tested_more : (l : Language) (a : ℕ) (r criterion u v : List ℕ) (c : ℕ) (back : List ℕ) (place : ℕ) → u ++ c ∷ [] ≡ v → TestIn l a r (c ∷ back) criterion u place → TestIn l a (r ++ c ∷ []) back criterion v place
@@ -135,14 +146,38 @@ tested_more l a r criterion u v c back place e t = record {
   before = t.before;
   parts = ap (λ (x : List ℕ). x ++ c ∷ []) t.parts ∙ append_assoc t.before (criterion ++ u) (c ∷ []) ∙ ap (λ (x : List ℕ). t.before ++ x) (append_assoc criterion u (c ∷ []) ∙ ap (λ (x : List ℕ). criterion ++ x) e);
   there = t.there;
-  follows = t.follows;
+  follows = subst (λ (x : List ℕ). TestMayFollow l t.before (criterion ++ x)) (sym (append_assoc u (c ∷ []) back) ∙ ap (λ (x : List ℕ). x ++ back) e) t.follows;
   begins = t.begins;
   over = ap (is_over (begins_from Begin) criterion) (ap (λ (x : List ℕ). x ++ back) (sym e) ∙ append_assoc u (c ∷ []) back) ∙ t.over;
 }
 
+-- a byte more behind a unary, where it is no blank
+rest_byte : (l : Language) (a : ℕ) (r : List ℕ) (c : ℕ) (back w : List ℕ) → Rested l a r (c ∷ back) w → Rested l a (r ++ c ∷ []) back (w ++ c ∷ [])
+rest_byte l a r c back w (inl h) =
+    inl
+    (record {
+      place = h.place;
+      criterion = h.criterion;
+      blanks = h.blanks;
+      operator = h.operator;
+      more = h.more;
+      operand = h.operand;
+      last = h.last;
+      test = tested_more l a r h.criterion (h.blanks ++ (h.operator ++ (h.more ++ (h.operand ++ (h.last ++ w))))) (h.blanks ++ (h.operator ++ (h.more ++ (h.operand ++ (h.last ++ (w ++ c ∷ [])))))) c back h.place (simp append_assoc) h.test;
+      fine = h.fine;
+      blank = h.blank;
+      blank_more = h.blank_more;
+      blank_last = h.blank_last;
+      one = h.one;
+      whole = h.whole;
+      over = ap (λ (x : List ℕ). is_over (begins_from operand_begin) h.operand (h.last ++ x)) (append_assoc w (c ∷ []) back) ∙ h.over;
+    })
+rest_byte l a r c back w (inr h) =
+    inr (record { before = h.before; blanks = h.blanks; parts = ap (λ (x : List ℕ). x ++ c ∷ []) h.parts ∙ (simp append_assoc); goes_on = h.goes_on; blank = h.blank })
+
 -- a byte more of a token
 lay_byte : (l : Language) (a : ℕ) (r : List ℕ) (c : ℕ) (back : List ℕ) (m : Mode) (k : Kept) (place : ℕ) (w : List ℕ) → Lay l a r (c ∷ back) m k place w → Lay l a (r ++ c ∷ []) back m k place (w ++ c ∷ [])
-lay_byte l a r c back BeforeUnary k place w h = record { before = h.before; parts = ap (λ (x : List ℕ). x ++ c ∷ []) h.parts ∙ append_assoc h.before w (c ∷ []); follows = h.follows }
+lay_byte l a r c back BeforeUnary k place w h = record { before = h.before; parts = ap (λ (x : List ℕ). x ++ c ∷ []) h.parts ∙ append_assoc h.before w (c ∷ []); follows = subst (TestMayFollow l h.before) (sym (append_assoc w (c ∷ []) back)) h.follows }
 lay_byte l a r c back AfterCriterion k place w h = record { blanks = h.blanks; blank = h.blank; test = tested_more l a r k.criterion (h.blanks ++ w) (h.blanks ++ (w ++ c ∷ [])) c back place (append_assoc h.blanks w (c ∷ [])) h.test }
 lay_byte l a r c back BeforeOperand k place w h = record {
   blanks = h.blanks;
@@ -150,12 +185,48 @@ lay_byte l a r c back BeforeOperand k place w h = record {
   blank = h.blank;
   blank_more = h.blank_more;
   test = tested_more l a r k.criterion (h.blanks ++ (k.operator ++ (h.more ++ w))) (h.blanks ++ (k.operator ++ (h.more ++ (w ++ c ∷ [])))) c back place (simp append_assoc) h.test;
+  one = h.one;
 }
-lay_byte l a r c back AfterUnary k place w h = tt
+lay_byte l a r c back AfterUnary k place w h = rest_byte l a r c back w h
 
 -- a blank more
 blank_more_is : (blanks : List ℕ) (c : ℕ) → list_all is_blank blanks ≡ true → is_blank c ≡ true → list_all is_blank (blanks ++ c ∷ []) ≡ true
 blank_more_is blanks c all b = list_all-append is_blank blanks (c ∷ []) ∙ and_from _ _ all (and_from _ _ b refl)
+
+-- a blank is in no word
+no_name : (c : ℕ) → is_blank c ≡ true → is_name_byte c ≡ false
+no_name c b = blank_cases (λ d. is_name_byte d ≡ false) refl refl refl c b
+
+-- a blank more behind a unary
+rest_blank : (l : Language) (a : ℕ) (r : List ℕ) (c : ℕ) (back : List ℕ) → is_blank c ≡ true → Rested l a r (c ∷ back) [] → Rested l a (r ++ c ∷ []) back []
+rest_blank l a r c back b (inl h) =
+    inl
+    (record {
+      place = h.place;
+      criterion = h.criterion;
+      blanks = h.blanks;
+      operator = h.operator;
+      more = h.more;
+      operand = h.operand;
+      last = h.last ++ c ∷ [];
+      test = tested_more l a r h.criterion (h.blanks ++ (h.operator ++ (h.more ++ (h.operand ++ (h.last ++ []))))) (h.blanks ++ (h.operator ++ (h.more ++ (h.operand ++ ((h.last ++ c ∷ []) ++ []))))) c back h.place (simp (append_assoc, append-nil)) h.test;
+      fine = h.fine;
+      blank = h.blank;
+      blank_more = h.blank_more;
+      blank_last = blank_more_is h.last c h.blank_last b;
+      one = h.one;
+      whole = h.whole;
+      over = ap (is_over (begins_from operand_begin) h.operand) (append_assoc h.last (c ∷ []) back) ∙ h.over;
+    })
+rest_blank l a r c back b (inr h) =
+    inr
+    (record {
+      before = h.before;
+      blanks = h.blanks ++ c ∷ [];
+      parts = ap (λ (x : List ℕ). x ++ c ∷ []) h.parts ∙ (simp (append_assoc, append-nil));
+      goes_on = h.goes_on;
+      blank = blank_more_is h.blanks c h.blank b;
+    })
 
 -- reading goes on from a spot
 abbrev Goes : Language → ℕ → List ℕ → Spot → Type 0
@@ -165,7 +236,7 @@ lay_blank : (l : Language) (a : ℕ) (r : List ℕ) (c : ℕ) (back : List ℕ) 
 lay_blank l a r c back BeforeUnary k place b goes h = record {
   before = r ++ c ∷ [];
   parts = sym (append-nil (r ++ c ∷ []));
-  follows = may_follow l a (r ++ c ∷ []) k (λ text out e. goes (32 ∷ text) ∙ e.reads (a + length (r ++ c ∷ [])) place);
+  follows = may_follow l a (r ++ c ∷ []) back k (other_byte r c refl (no_name c b)) (λ text out e. goes (32 ∷ text) ∙ e.reads (a + length (r ++ c ∷ [])) place);
 }
 lay_blank l a r c back AfterCriterion k place b goes h = record {
   blanks = h.blanks ++ c ∷ [];
@@ -178,8 +249,9 @@ lay_blank l a r c back BeforeOperand k place b goes h = record {
   blank = h.blank;
   blank_more = blank_more_is h.more c h.blank_more b;
   test = tested_more l a r k.criterion (h.blanks ++ (k.operator ++ (h.more ++ []))) (h.blanks ++ (k.operator ++ ((h.more ++ c ∷ []) ++ []))) c back place (simp (append_assoc, append-nil)) h.test;
+  one = h.one;
 }
-lay_blank l a r c back AfterUnary k place b goes h = tt
+lay_blank l a r c back AfterUnary k place b goes h = rest_blank l a r c back b h
 
 -- ---- what stands at a fault of a criterion
 
@@ -203,13 +275,13 @@ criterion_at l a r back criterion behind place f t e = first_of l a r back crite
 -- ---- what stands at a fault of a token, or where a token is cut off
 
 -- a parenthesis or a `not` too many
-deep_at : (l : Language) (a : ℕ) (r back w : List ℕ) (from : ℕ) (t : Token) (f : Fault) (b : Bool) → (t ≡ OpenMark) ⊎ (t ≡ NotWord) → from + length w ≡ a + length r → Known t w back → Opened l r w → cond b None (Some (Deep from)) ≡ Some f → IsAt l a r back f
+deep_at : (l : Language) (a : ℕ) (r back w : List ℕ) (from : ℕ) (t : Token) (f : Fault) (b : Bool) → (t ≡ OpenMark) ⊎ (t ≡ NotWord) → from + length w ≡ a + length r → Known t w back → Opened l r back w → cond b None (Some (Deep from)) ≡ Some f → IsAt l a r back f
 deep_at l a r back w from t f true which place known h e = absurd cc
 deep_at l a r back w from t f false which place known h e =
     let same : f ≡ Deep from = cc in
     let there : from ≡ a + length h.before = omega (arith, place, ap length h.parts, length-append h.before w) in
     let parts : r ≡ h.before ++ token_text t = h.parts ∙ ap (λ (v : List ℕ). h.before ++ v) (sym known.text) in
-    subst (IsAt l a r back) (sym same) (record { before = h.before; mark = t; parts = parts; place = there; follows = h.follows; opens = which; ended = known.ended })
+    subst (IsAt l a r back) (sym same) (record { before = h.before; mark = t; parts = parts; place = there; follows = subst (λ (v : List ℕ). TestMayFollow l h.before (v ++ back)) (sym known.text) h.follows; opens = which; ended = known.ended })
 
 -- an operand that isn't as its operator wants it
 operand_in : (l : Language) (a : ℕ) (r back v : List ℕ) (k : Kept) (place from : ℕ) (wanting : List (List ℕ)) (is_good : List ℕ → Bool) → (is_one_of wanting k.operator && not (is_good (operand_meaning v))) ≡ true → from + length v ≡ a + length r → Known (OperandToken v) v back → Signed l a r back v k place → criterion_fault l.is_tag place k.criterion ≡ None
@@ -267,8 +339,7 @@ end_at l a r w _ k place from f h e = absurd cc
 
 -- bytes that have begun, and go on no more
 abbrev Begun : Mode → Kept → List ℕ → List ℕ → Type 0
-Begun m k [] back = Unit {0}
-Begun m k (d ∷ w) back = (begins m k (d ∷ w) ≡ true) × NoMore m k (d ∷ w) back
+Begun m k w back = IsBegun m k w × NoMore m k w back
 
 -- what goes on no more is no longer criterion
 criterion_over : (k : Kept) (w back : List ℕ) → NoMore BeforeUnary k w back → is_over (begins_from Begin) w back ≡ true
@@ -276,7 +347,7 @@ criterion_over k w [] none = refl
 criterion_over k w (c ∷ back) none = not_from_false _ (or_parts (bytes_eq (w ++ c ∷ []) (codes "(")) (begins_from Begin (w ++ c ∷ [])) none).1
 
 -- a criterion that is cut off
-cut_unary : (l : Language) (a : ℕ) (r back : List ℕ) (k : Kept) (n : ℕ) (w : List ℕ) (f : Fault) → n ≡ a + length r → Begun BeforeUnary k w back → Opened l r w → criterion_fault l.is_tag (n - length w) w ≡ Some f → IsAt l a r back f
+cut_unary : (l : Language) (a : ℕ) (r back : List ℕ) (k : Kept) (n : ℕ) (w : List ℕ) (f : Fault) → n ≡ a + length r → Begun BeforeUnary k w back → Opened l r back w → criterion_fault l.is_tag (n - length w) w ≡ Some f → IsAt l a r back f
 cut_unary l a r back k n [] f there b h e = absurd cc
 cut_unary l a r back k n (d ∷ w) f there b h e =
     elim (or_cases (bytes_eq (d ∷ w) (codes "(")) (begins_from Begin (d ∷ w)) b.0) [
@@ -302,33 +373,181 @@ cut_at l a r back w AfterCriterion k place n f there b h e = criterion_at l a r 
 cut_at l a r back w BeforeOperand k place n f there b h e = criterion_at l a r back k.criterion _ place f h.test e
 cut_at l a r back w AfterUnary k place n f there b h e = absurd cc
 
+-- ---- nothing is at fault where no token goes on
+
+-- what is known where bytes are no token that may stand here
+abbrev Stuck : Mode → List ℕ → List ℕ → Type 0
+Stuck BeforeUnary w back = (bytes_eq w (codes "(") ≡ false) × (is_one_of words w ≡ true → ends_word back ≡ true)
+Stuck AfterCriterion w back = Unit {0}
+Stuck BeforeOperand w back = whole_from operand_begin w ≡ false
+Stuck AfterUnary w back = Unit {0}
+
+stuck_fresh : (m : Mode) (back : List ℕ) → Stuck m [] back
+stuck_fresh BeforeUnary back = (refl, λ e. absurd cc)
+stuck_fresh AfterCriterion back = tt
+stuck_fresh BeforeOperand back = refl
+stuck_fresh AfterUnary back = tt
+
+-- a word is a criterion by its bytes
+word_whole : (w : List ℕ) → is_one_of words w ≡ true → whole_from Begin w ≡ true
+word_whole w one = one_of (λ v. whole_from Begin v ≡ true) words w (refl, (refl, (refl, (refl, (refl, tt))))) one
+
+-- bytes are no token
+stuck_none : (m : Mode) (k : Kept) (w back : List ℕ) → whole m w back ≡ None → Stuck m w back
+stuck_none BeforeUnary k w back =
+    let P : Option Token → Type 0 = λ o. o ≡ None → Stuck BeforeUnary w back in
+    cond_both (bytes_eq w (codes "(")) _ _ P (λ b e. absurd cc) (λ b.
+    cond_both (bytes_eq w (codes "not") && ends_word back) _ _ P (λ n e. absurd cc) (λ n.
+    cond_both (is_one_of words w && ends_word back) _ _ P (λ o e. (b, λ one. (and_parts (is_one_of words w) (ends_word back) o).1)) (λ o e.
+    (b, λ one. absurd (some_none (CriterionToken w) (sym e ∙ cond-true (whole_from Begin w) (Some (CriterionToken w)) None (word_whole w one)))))))
+stuck_none AfterCriterion k w back = λ e. tt
+stuck_none BeforeOperand k w back = cond_both (whole_from operand_begin w) _ _ (λ (o : Option Token). o ≡ None → Stuck BeforeOperand w back) (λ b e. absurd cc) (λ b e. b)
+stuck_none AfterUnary k w back = λ e. tt
+
+-- bytes are a token that may not stand here
+stuck_some : (m : Mode) (k : Kept) (w back : List ℕ) (t : Token) → whole m w back ≡ Some t → taken m k t ≡ None → Stuck m w back
+stuck_some BeforeUnary k w back t =
+    let P : Option Token → Type 0 = λ o. o ≡ Some t → taken BeforeUnary k t ≡ None → Stuck BeforeUnary w back in
+    cond_both (bytes_eq w (codes "(")) _ _ P (λ b e none. absurd cc) (λ b.
+    cond_both (bytes_eq w (codes "not") && ends_word back) _ _ P (λ n e none. absurd cc) (λ n.
+    cond_both (is_one_of words w && ends_word back) _ _ P (λ o e none. absurd cc) (λ o.
+    cond_both (whole_from Begin w) _ _ P (λ g e none. absurd cc) (λ g e none. absurd cc))))
+stuck_some AfterCriterion k w back t = λ e none. tt
+stuck_some BeforeOperand k w back t = cond_both (whole_from operand_begin w) _ _ (λ (o : Option Token). o ≡ Some t → taken BeforeOperand k t ≡ None → Stuck BeforeOperand w back) (λ b e none. absurd cc) (λ b e none. b)
+stuck_some AfterUnary k w back t = λ e none. tt
+
+-- bytes begin one of these, and others
+begins_any : (xs ys : List (List ℕ)) (w : List ℕ) → (begins_one_of xs w || begins_one_of ys w) ≡ true → begins_one_of (xs ++ ys) w ≡ true
+begins_any xs ys w e = list_any-append (is_prefix w) xs ys ∙ e
+
+-- what begins behind a unary
+begins_behind : (k : Kept) (w : List ℕ) → begins_after_unary k w ≡ true → begins_one_of behind_tests w ≡ true
+begins_behind k w e =
+    elim (or_cases (begins_one_of joining w) (bytes_eq w (codes ")") && can_close k.waiting) e) [
+      | inl word ↦ or_right (is_prefix w (codes ")")) (begins_one_of joining w) word
+      | inr mark ↦ ap (begins_one_of behind_tests) (same_bytes w (codes ")") (and_parts (bytes_eq w (codes ")")) (can_close k.waiting) mark).0)
+    ]
+
+begun_behind : (k : Kept) (w : List ℕ) → IsBegun AfterUnary k w → begins_one_of behind_tests w ≡ true
+begun_behind k [] b = refl
+begun_behind k (d ∷ w) b = begins_behind k (d ∷ w) b
+
+begun_named : (k : Kept) (w : List ℕ) → IsBegun AfterCriterion k w → begins_one_of (operators ++ behind_tests) w ≡ true
+begun_named k [] b = refl
+begun_named k (d ∷ w) b =
+    elim (or_cases (begins_one_of operators (d ∷ w)) (begins_after_unary k (d ∷ w)) b) [
+      | inl one ↦ begins_any operators behind_tests (d ∷ w) (or_left _ _ one)
+      | inr behind ↦ begins_any operators behind_tests (d ∷ w) (or_right _ _ (begins_behind k (d ∷ w) behind))
+    ]
+
+begun_value : (k : Kept) (w : List ℕ) → IsBegun BeforeOperand k w → begins_from operand_begin w ≡ true
+begun_value k [] b = refl
+begun_value k (d ∷ w) b = b
+
+begun_test : (k : Kept) (w : List ℕ) → bytes_eq w (codes "(") ≡ false → IsBegun BeforeUnary k w → begins_from Begin w ≡ true
+begun_test k [] mark b = refl
+begun_test k (d ∷ w) mark b =
+    elim (or_cases (bytes_eq (d ∷ w) (codes "(")) (begins_from Begin (d ∷ w)) b) [ inl open_mark ↦ absurd cc | inr begun ↦ begun ]
+
+-- a criterion without a fault, as far as it goes
+none_wrong : (l : Language) (w : List ℕ) (at : ℕ) → begins_from Begin w ≡ true → criterion_fault l.is_tag at w ≡ None → AtNone (UnknownName l.is_tag w) × AtNone (WrongNumber l w)
+none_wrong l w at b e =
+    let names = or_else_none (tags_fault l.is_tag at w) _ e in
+    let numbers = or_else_none (level_fault at w) (field_fault at (Some Begin) w) names.1 in
+    (λ n u. unknown_fault l.is_tag w at n names.0 u, λ n u. elim u [ in_level _ h ↦ great_fault w at n numbers.0 h | in_field _ _ h ↦ wrong_fault w at n b numbers.1 h ])
+
+-- where no token goes on, and nothing that was read is at fault
+none_at : (l : Language) (a : ℕ) (r back w : List ℕ) (m : Mode) (k : Kept) (place n : ℕ) → Stuck m w back → Begun m k w back → Lay l a r back m k place w → (rules l).cut n place m k w ≡ None → NoneBefore l a r back
+none_at l a r back w BeforeUnary k place n stuck b h e =
+    let begun = begun_test k w stuck.0 b.0 in
+    let over = criterion_over k w back b.1 in
+    before_test w
+    (record {
+      before = h.before;
+      parts = h.parts;
+      follows = h.follows;
+      begins = begun;
+      over = over;
+      fine = cond_both (is_one_of words w) None (criterion_fault l.is_tag (n - length w) w) (λ o. o ≡ None → ((is_one_of words w ≡ true) × (ends_word back ≡ true)) ⊎ (AtNone (UnknownName l.is_tag w) × AtNone (WrongNumber l w))) (λ one g. inl (one, stuck.1 one)) (λ one g. inr (none_wrong l w (n - length w) begun g)) e;
+    })
+none_at l a r back w AfterCriterion k place n stuck b h e =
+    behind_criterion w (record { place = place; criterion = k.criterion; blanks = h.blanks; test = h.test; fine = λ at. criterion_anywhere l.is_tag place at k.criterion e; blank = h.blank }) (begun_named k w b.0)
+none_at l a r back w BeforeOperand k place n stuck b h e =
+    behind_operator w
+    (record {
+      place = place;
+      criterion = k.criterion;
+      blanks = h.blanks;
+      operator = k.operator;
+      more = h.more;
+      test = h.test;
+      fine = λ at. criterion_anywhere l.is_tag place at k.criterion e;
+      blank = h.blank;
+      blank_more = h.blank_more;
+      one = h.one;
+      begins = begun_value k w b.0;
+      cut = stuck;
+    })
+none_at l a r back w AfterUnary k place n stuck b (inl h) e = behind_operand w h (begun_behind k w b.0)
+none_at l a r back w AfterUnary k place n stuck b (inr h) e = behind_mark w h (begun_behind k w b.0)
+
 -- no token goes on
-refused_at : (l : Language) (a : ℕ) (r back w : List ℕ) (m : Mode) (k : Kept) (place n : ℕ) (o : Option Fault) → n ≡ a + length r → Begun m k w back → Lay l a r back m k place w → (rules l).cut n place m k w ≡ o → IsAt l a r back (or_syntax n o)
-refused_at l a r back w m k place n None there b h e = there
-refused_at l a r back w m k place n (Some f) there b h e = cut_at l a r back w m k place n f there b h e
+refused_at : (l : Language) (a : ℕ) (r back w : List ℕ) (m : Mode) (k : Kept) (place n : ℕ) (o : Option Fault) → n ≡ a + length r → Stuck m w back → Begun m k w back → Lay l a r back m k place w → (rules l).cut n place m k w ≡ o → IsAt l a r back (or_syntax n o)
+refused_at l a r back w m k place n None there stuck b h e = (there, none_at l a r back w m k place n stuck b h e)
+refused_at l a r back w m k place n (Some f) there stuck b h e = cut_at l a r back w m k place n f there b h e
 
 -- ---- where a token leads
 
 -- before a unary
-opened_by : (l : Language) (a : ℕ) (r back w : List ℕ) (d : ℕ) (m : Mode) (k : Kept) (place : ℕ) (t : Token) (k2 : Kept) → Goes l a r (at_spot m k place (d ∷ w)) → Known t (d ∷ w) back → ((text : List ℕ) → is_ended t (32 ∷ text) ≡ true) → ((from place : ℕ) → (rules l).fault from place m k t ≡ None) → taken m k t ≡ Some (BeforeUnary, k2) → Opened l r []
-opened_by l a r back w d m k place t k2 goes known ended none e = record {
+opened_by : (l : Language) (a : ℕ) (r back w : List ℕ) (d : ℕ) (m : Mode) (k : Kept) (place : ℕ) (t : Token) (k2 : Kept) → IsApart r back → Goes l a r (at_spot m k place (d ∷ w)) → Known t (d ∷ w) back → ((text : List ℕ) → is_ended t (32 ∷ text) ≡ true) → ((from place : ℕ) → (rules l).fault from place m k t ≡ None) → taken m k t ≡ Some (BeforeUnary, k2) → Opened l r back []
+opened_by l a r back w d m k place t k2 apart goes known ended none e = record {
   before = r;
   parts = sym (append-nil r);
-  follows = may_follow l a r k2 (λ text out h. goes (32 ∷ text) ∙ (token_read (rules l) [] m k t (BeforeUnary, k2) (d ∷ w) (32 ∷ text) out none (known.text ∙ sym (append-nil (d ∷ w))) known.good (ended text) e h).reads (a + length r) place);
+  follows = may_follow l a r back k2 apart (λ text out h. goes (32 ∷ text) ∙ (token_read (rules l) [] m k t (BeforeUnary, k2) (d ∷ w) (32 ∷ text) out none (known.text ∙ sym (append-nil (d ∷ w))) known.good (ended text) e h).reads (a + length r) place);
 }
 
 -- a token that a blank may end, and behind which a unary may begin
-place_leads : (l : Language) (a : ℕ) (r back w : List ℕ) (d : ℕ) (m : Mode) (k : Kept) (place next : ℕ) (t : Token) (x : State) (k2 : Kept) → Goes l a r (at_spot m k place (d ∷ w)) → Known t (d ∷ w) back → ((from place : ℕ) → (rules l).fault from place m k t ≡ None) → taken m k t ≡ Some x → ((text : List ℕ) → is_ended t (32 ∷ text) ≡ true) → taken m k t ≡ Some (BeforeUnary, k2)
+place_leads : (l : Language) (a : ℕ) (r back w : List ℕ) (d : ℕ) (m : Mode) (k : Kept) (place next : ℕ) (t : Token) (x : State) (k2 : Kept) → IsApart r back → Goes l a r (at_spot m k place (d ∷ w)) → Known t (d ∷ w) back → ((from place : ℕ) → (rules l).fault from place m k t ≡ None) → taken m k t ≡ Some x → ((text : List ℕ) → is_ended t (32 ∷ text) ≡ true) → taken m k t ≡ Some (BeforeUnary, k2)
     → Lay l a r back x.0 x.1 next []
-place_leads l a r back w d m k place next t x k2 goes known none e ended is = subst (λ (y : State). Lay l a r back y.0 y.1 next []) (some_is (BeforeUnary, k2) x (sym is ∙ e)) (opened_by l a r back w d m k place t k2 goes known ended none is)
+place_leads l a r back w d m k place next t x k2 apart goes known none e ends is = subst (λ (y : State). Lay l a r back y.0 y.1 next []) (some_is (BeforeUnary, k2) x (sym is ∙ e)) (opened_by l a r back w d m k place t k2 apart goes known ends none is)
+
+-- what was read ends with what has begun
+abbrev EndsWith : List ℕ → List ℕ → Type 0
+EndsWith r w = (before : List ℕ) × (r ≡ before ++ w)
+
+lay_ends : (l : Language) (a : ℕ) (r back : List ℕ) (m : Mode) (k : Kept) (place : ℕ) (w : List ℕ) → Lay l a r back m k place w → EndsWith r w
+lay_ends l a r back BeforeUnary k place w h = (h.before, h.parts)
+lay_ends l a r back AfterCriterion k place w h = (h.test.before ++ (k.criterion ++ h.blanks), h.test.parts ∙ (simp append_assoc))
+lay_ends l a r back BeforeOperand k place w h = (h.test.before ++ (k.criterion ++ (h.blanks ++ (k.operator ++ h.more))), h.test.parts ∙ (simp append_assoc))
+lay_ends l a r back AfterUnary k place w (inl h) = (h.test.before ++ (h.criterion ++ (h.blanks ++ (h.operator ++ (h.more ++ (h.operand ++ h.last))))), h.test.parts ∙ (simp append_assoc))
+lay_ends l a r back AfterUnary k place w (inr h) = (h.before ++ (token_text CloseMark ++ h.blanks), h.parts ∙ (simp append_assoc))
+
+-- what was read, up to a parenthesis that closes, begins a query without a fault
+closed_on : (l : Language) (a : ℕ) (r back w : List ℕ) (d : ℕ) (m : Mode) (k : Kept) (place : ℕ) (k2 : Kept) → Goes l a r (at_spot m k place (d ∷ w)) → Known CloseMark (d ∷ w) back → ((n p : ℕ) → (rules l).fault n p m k CloseMark ≡ None) → taken m k CloseMark ≡ Some (AfterUnary, k2) → CanGoOn (Fine l) r
+closed_on l a r back w d m k place k2 goes known none e =
+    let h = behind_in (rules l) (none_behind l) k2 in
+    let ok = goes h.more ∙ (token_read (rules l) [] m k CloseMark (AfterUnary, k2) (d ∷ w) h.more h.out none (known.text ∙ sym (append-nil (d ∷ w))) known.good refl e h.ends).reads (a + length r) place in
+    let q = (fine_lines_found l.is_tag l.is_decimal l.is_pattern l.most).each a (r ++ h.more) h.out ok in
+    record { more = h.more; query = q.query; whole = q.is }
 
 -- a parenthesis that closes leads behind a unary
-close_leads : (l : Language) (a : ℕ) (r back : List ℕ) (y : List Waiting × List Step) (x : State) (next : ℕ) → closes y ≡ Some x → Lay l a r back x.0 x.1 next []
-close_leads l a r back ((waits.Open ∷ ws), done) x next e = subst (λ (s : State). Lay l a r back s.0 s.1 next []) (some_is _ x e) tt
-close_leads l a r back _ x next e = absurd (some_none x e)
+close_leads : (l : Language) (a : ℕ) (r back w : List ℕ) (d : ℕ) (m : Mode) (k : Kept) (place : ℕ) (y : List Waiting × List Step) (x : State) (next : ℕ) → Goes l a r (at_spot m k place (d ∷ w)) → Known CloseMark (d ∷ w) back → ((n p : ℕ) → (rules l).fault n p m k CloseMark ≡ None) → EndsWith r (d ∷ w) → taken m k CloseMark ≡ closes y → closes y ≡ Some x
+    → Lay l a r back x.0 x.1 next []
+close_leads l a r back w d m k place ((waits.Open ∷ ws), done) x next goes known none h is e =
+    let ends : r ≡ h.0 ++ token_text CloseMark = h.1 ∙ ap (λ (v : List ℕ). h.0 ++ v) (sym known.text) in
+    subst (λ (s : State). Lay l a r back s.0 s.1 next []) (some_is _ x e)
+    (inr
+    (record {
+      before = h.0;
+      blanks = [];
+      parts = ends;
+      goes_on = subst (CanGoOn (Fine l)) ends (closed_on l a r back w d m k place (rested (tightened ws done)).1 goes known none is);
+      blank = refl;
+    }))
+close_leads l a r back w d m k place _ x next goes known none h is e = absurd (some_none x e)
 
 -- behind a criterion
-named_leads : (l : Language) (a : ℕ) (r back v : List ℕ) (k : Kept) (place from : ℕ) → from + length v ≡ a + length r → Known (CriterionToken v) v back → begins_from Begin v ≡ true → Opened l r v → Named l a r back [] (record k { criterion = v }) from
+named_leads : (l : Language) (a : ℕ) (r back v : List ℕ) (k : Kept) (place from : ℕ) → from + length v ≡ a + length r → Known (CriterionToken v) v back → begins_from Begin v ≡ true → Opened l r back v → Named l a r back [] (record k { criterion = v }) from
 named_leads l a r back v k place from there known b h = record {
   blanks = [];
   blank = refl;
@@ -342,14 +561,37 @@ named_leads l a r back v k place from there known b h = record {
   };
 }
 
-signed_leads : (l : Language) (a : ℕ) (r back v : List ℕ) (k : Kept) (place : ℕ) → Named l a r back v k place → Signed l a r back [] (record k { operator = v }) place
-signed_leads l a r back v k place h = record {
+signed_leads : (l : Language) (a : ℕ) (r back v : List ℕ) (k : Kept) (place : ℕ) → is_one_of operators v ≡ true → Named l a r back v k place → Signed l a r back [] (record k { operator = v }) place
+signed_leads l a r back v k place one h = record {
   blanks = h.blanks;
   more = [];
   blank = h.blank;
   blank_more = refl;
   test = subst (λ (u : List ℕ). TestIn l a r back k.criterion (h.blanks ++ u) place) (sym (append-nil v)) h.test;
+  one = one;
 }
+
+-- behind a comparison
+rested_leads : (l : Language) (a : ℕ) (r back v : List ℕ) (k : Kept) (place : ℕ) → Known (OperandToken v) v back → ((n p : ℕ) → (rules l).fault n p BeforeOperand k (OperandToken v) ≡ None) → Signed l a r back v k place → Rested l a r back []
+rested_leads l a r back v k place known none h =
+    inl
+    (record {
+      place = place;
+      criterion = k.criterion;
+      blanks = h.blanks;
+      operator = k.operator;
+      more = h.more;
+      operand = v;
+      last = [];
+      test = subst (λ (u : List ℕ). TestIn l a r back k.criterion (h.blanks ++ (k.operator ++ (h.more ++ u))) place) (sym (append-nil v)) h.test;
+      fine = (λ n. (or_else_none _ _ (none 0 n)).0, λ n. (or_else_none (criterion_fault l.is_tag 0 k.criterion) _ (none n 0)).1);
+      blank = h.blank;
+      blank_more = h.blank_more;
+      blank_last = refl;
+      one = h.one;
+      whole = known.good;
+      over = known.ended;
+    })
 
 -- a token that has no fault leads on
 token_leads : (l : Language) (a : ℕ) (r back w : List ℕ) (d : ℕ) (m : Mode) (k : Kept) (place from : ℕ) (t : Token) (x : State) → from + length (d ∷ w) ≡ a + length r → Goes l a r (at_spot m k place (d ∷ w)) → Known t (d ∷ w) back → ((n p : ℕ) → (rules l).fault n p m k t ≡ None) → taken m k t ≡ Some x → Lay l a r back m k place (d ∷ w)
@@ -357,19 +599,21 @@ token_leads : (l : Language) (a : ℕ) (r back w : List ℕ) (d : ℕ) (m : Mode
 token_leads l a r back w d BeforeUnary k place from (CriterionToken v) x there goes known none e h =
     let same : d ∷ w ≡ v = sym known.text in
     subst (λ (y : State). Lay l a r back y.0 y.1 from []) (some_is _ x e)
-    (named_leads l a r back v k place from (subst (λ (u : List ℕ). from + length u ≡ a + length r) same there) (subst (λ (u : List ℕ). Known (CriterionToken v) u back) same known) (whole_begins Begin v known.good) (subst (λ (u : List ℕ). Opened l r u) same h))
-token_leads l a r back w d BeforeUnary k place from NotWord x there goes known none e h = place_leads l a r back w d BeforeUnary k place from NotWord x _ goes known none e (λ text. refl) refl
-token_leads l a r back w d BeforeUnary k place from OpenMark x there goes known none e h = place_leads l a r back w d BeforeUnary k place from OpenMark x _ goes known none e (λ text. refl) refl
+    (named_leads l a r back v k place from (subst (λ (u : List ℕ). from + length u ≡ a + length r) same there) (subst (λ (u : List ℕ). Known (CriterionToken v) u back) same known) (whole_begins Begin v known.good) (subst (λ (u : List ℕ). Opened l r back u) same h))
+token_leads l a r back w d BeforeUnary k place from NotWord x there goes known none e h = place_leads l a r back w d BeforeUnary k place from NotWord x _ (word_ends known.ended) goes known none e (λ text. refl) refl
+token_leads l a r back w d BeforeUnary k place from OpenMark x there goes known none e h = place_leads l a r back w d BeforeUnary k place from OpenMark x _ (other_byte h.before 40 (h.parts ∙ ap (λ (v : List ℕ). h.before ++ v) (sym known.text)) refl) goes known none e (λ text. refl) refl
 token_leads l a r back w d AfterCriterion k place from (OperatorToken v) x there goes known none e h =
     let same : d ∷ w ≡ v = sym known.text in
-    subst (λ (y : State). Lay l a r back y.0 y.1 place []) (some_is _ x e) (signed_leads l a r back v k place (subst (λ (u : List ℕ). Named l a r back u k place) same h))
-token_leads l a r back w d AfterCriterion k place from AndWord x there goes known none e h = place_leads l a r back w d AfterCriterion k place place AndWord x _ goes known none e (λ text. refl) refl
-token_leads l a r back w d AfterCriterion k place from OrWord x there goes known none e h = place_leads l a r back w d AfterCriterion k place place OrWord x _ goes known none e (λ text. refl) refl
-token_leads l a r back w d AfterCriterion k place from CloseMark x there goes known none e h = close_leads l a r back (loosened (tested k []).1.waiting (tested k []).1.steps) x place e
-token_leads l a r back w d BeforeOperand k place from (OperandToken v) x there goes known none e h = subst (λ (y : State). Lay l a r back y.0 y.1 place []) (some_is _ x e) tt
-token_leads l a r back w d AfterUnary k place from AndWord x there goes known none e h = place_leads l a r back w d AfterUnary k place place AndWord x _ goes known none e (λ text. refl) refl
-token_leads l a r back w d AfterUnary k place from OrWord x there goes known none e h = place_leads l a r back w d AfterUnary k place place OrWord x _ goes known none e (λ text. refl) refl
-token_leads l a r back w d AfterUnary k place from CloseMark x there goes known none e h = close_leads l a r back (loosened k.waiting k.steps) x place e
+    subst (λ (y : State). Lay l a r back y.0 y.1 place []) (some_is _ x e) (signed_leads l a r back v k place known.good (subst (λ (u : List ℕ). Named l a r back u k place) same h))
+token_leads l a r back w d AfterCriterion k place from AndWord x there goes known none e h = place_leads l a r back w d AfterCriterion k place place AndWord x _ (word_ends known.ended) goes known none e (λ text. refl) refl
+token_leads l a r back w d AfterCriterion k place from OrWord x there goes known none e h = place_leads l a r back w d AfterCriterion k place place OrWord x _ (word_ends known.ended) goes known none e (λ text. refl) refl
+token_leads l a r back w d AfterCriterion k place from CloseMark x there goes known none e h = close_leads l a r back w d AfterCriterion k place (loosened (tested k []).1.waiting (tested k []).1.steps) x place goes known none (lay_ends l a r back AfterCriterion k place (d ∷ w) h) refl e
+token_leads l a r back w d BeforeOperand k place from (OperandToken v) x there goes known none e h =
+    let same : d ∷ w ≡ v = sym known.text in
+    subst (λ (y : State). Lay l a r back y.0 y.1 place []) (some_is _ x e) (rested_leads l a r back v k place (subst (λ (u : List ℕ). Known (OperandToken v) u back) same known) none (subst (λ (u : List ℕ). Signed l a r back u k place) same h))
+token_leads l a r back w d AfterUnary k place from AndWord x there goes known none e h = place_leads l a r back w d AfterUnary k place place AndWord x _ (word_ends known.ended) goes known none e (λ text. refl) refl
+token_leads l a r back w d AfterUnary k place from OrWord x there goes known none e h = place_leads l a r back w d AfterUnary k place place OrWord x _ (word_ends known.ended) goes known none e (λ text. refl) refl
+token_leads l a r back w d AfterUnary k place from CloseMark x there goes known none e h = close_leads l a r back w d AfterUnary k place (loosened k.waiting k.steps) x place goes known none (lay_ends l a r back AfterUnary k place (d ∷ w) h) refl e
 token_leads l a r back w d _ k place from _ x there goes known none e h = absurd (some_none x e)
 
 -- ---- one byte more
@@ -392,7 +636,7 @@ good_fresh : (l : Language) (a : ℕ) (r : List ℕ) (c : ℕ) (back : List ℕ)
 good_fresh l a r c back m k place n there h =
     cond_both (begins m k (c ∷ [])) _ _ (Good l a r c back) (λ b goes. record { lay = lay_byte l a r c back m k place [] h; begun = b; fits = one_longer [] r c (omega arith) }) (λ b.
     cond_both (is_blank c) _ _ (Good l a r c back) (λ w goes. record { lay = lay_blank l a r c back m k place w goes h; begun = tt; fits = omega arith }) (λ w.
-    refused_at l a r (c ∷ back) [] m k place n ((rules l).cut n place m k []) there tt h refl))
+    refused_at l a r (c ∷ back) [] m k place n ((rules l).cut n place m k []) there (stuck_fresh m (c ∷ back)) (tt, b) h refl))
 
 -- a token without a fault at one place has none at any
 clean : (l : Language) (m : Mode) (k : Kept) (t : Token) (from place : ℕ) → (rules l).fault from place m k t ≡ None → (n p : ℕ) → (rules l).fault n p m k t ≡ None
@@ -419,21 +663,21 @@ over_clean l a r back m k place n d w P f v bad good t known x e None o =
     good x.0 x.1 (place_after m (n - length (d ∷ w)) place) (token_leads l a r back w d m k place (n - length (d ∷ w)) t x (from_is l a r back m k place n d w v) v.goes known (clean l m k t (n - length (d ∷ w)) place o) e v.lay)
 
 over_taken : {A : Type 0} (l : Language) (a : ℕ) (r back : List ℕ) (m : Mode) (k : Kept) (place n d : ℕ) (w : List ℕ) (P : Result A Fault → Type 0) (f : Spot → Result A Fault) → Over l a r back m k place n d w → ((g : Fault) → IsAt l a r back g → P (Err g))
-    → ((m2 : Mode) (k2 : Kept) (next : ℕ) → Lay l a r back m2 k2 next [] → P (f (at_spot m2 k2 next []))) → (t : Token) → Known t (d ∷ w) back → (x : Option State) → taken m k t ≡ x → P (token_taken (rules l) n (at_spot m k place (d ∷ w)) t x >>= f)
-over_taken l a r back m k place n d w P f v bad good t known None e = bad _ (refused_at l a r back (d ∷ w) m k place n _ v.there v.begun v.lay refl)
-over_taken l a r back m k place n d w P f v bad good t known (Some x) e = over_clean l a r back m k place n d w P f v bad good t known x e _ refl
+    → ((m2 : Mode) (k2 : Kept) (next : ℕ) → Lay l a r back m2 k2 next [] → P (f (at_spot m2 k2 next []))) → (t : Token) → whole m (d ∷ w) back ≡ Some t → (x : Option State) → taken m k t ≡ x → P (token_taken (rules l) n (at_spot m k place (d ∷ w)) t x >>= f)
+over_taken l a r back m k place n d w P f v bad good t is None e = bad _ (refused_at l a r back (d ∷ w) m k place n _ v.there (stuck_some m k (d ∷ w) back t is e) v.begun v.lay refl)
+over_taken l a r back m k place n d w P f v bad good t is (Some x) e = over_clean l a r back m k place n d w P f v bad good t (is_known m k (d ∷ w) back t v.begun.1 is) x e _ refl
 
 -- what holds of a result, where it holds of what a token that has ended leads to and of its faults
 over_done : {A : Type 0} (l : Language) (a : ℕ) (r back : List ℕ) (m : Mode) (k : Kept) (place n d : ℕ) (w : List ℕ) (P : Result A Fault → Type 0) (f : Spot → Result A Fault) → Over l a r back m k place n d w → ((g : Fault) → IsAt l a r back g → P (Err g))
-    → ((m2 : Mode) (k2 : Kept) (next : ℕ) → Lay l a r back m2 k2 next [] → P (f (at_spot m2 k2 next []))) → (t : Option Token) → ((u : Token) → t ≡ Some u → Known u (d ∷ w) back) → P (token_done (rules l) n (at_spot m k place (d ∷ w)) t >>= f)
-over_done l a r back m k place n d w P f v bad good None known = bad _ (refused_at l a r back (d ∷ w) m k place n _ v.there v.begun v.lay refl)
-over_done l a r back m k place n d w P f v bad good (Some t) known = over_taken l a r back m k place n d w P f v bad good t (known t refl) (taken m k t) refl
+    → ((m2 : Mode) (k2 : Kept) (next : ℕ) → Lay l a r back m2 k2 next [] → P (f (at_spot m2 k2 next []))) → (t : Option Token) → whole m (d ∷ w) back ≡ t → P (token_done (rules l) n (at_spot m k place (d ∷ w)) t >>= f)
+over_done l a r back m k place n d w P f v bad good None is = bad _ (refused_at l a r back (d ∷ w) m k place n _ v.there (stuck_none m k (d ∷ w) back is) v.begun v.lay refl)
+over_done l a r back m k place n d w P f v bad good (Some t) is = over_taken l a r back m k place n d w P f v bad good t is (taken m k t) refl
 
 good_word : (l : Language) (a : ℕ) (r : List ℕ) (c : ℕ) (back : List ℕ) (m : Mode) (k : Kept) (place n d : ℕ) (w : List ℕ) → n ≡ a + length r → Goes l a r (at_spot m k place (d ∷ w)) → Seen l a r (c ∷ back) (at_spot m k place (d ∷ w)) → Good l a r c back (step_in (rules l) n (at_spot m k place (d ∷ w)) (d ∷ w) c)
 good_word l a r c back m k place n d w there goes h =
     cond_both (begins m k ((d ∷ w) ++ c ∷ [])) _ _ (Good l a r c back) (λ b next. record { lay = lay_byte l a r c back m k place (d ∷ w) h.lay; begun = b; fits = one_longer (d ∷ w) r c h.fits }) (λ b.
     over_done l a r (c ∷ back) m k place n d w (Good l a r c back) (λ x. fresh (rules l) n x c) (record { there = there; goes = goes; lay = h.lay; begun = (h.begun, b); fits = h.fits }) (λ g is. is)
-    (λ m2 k2 next lay. good_fresh l a r c back m2 k2 next n there lay) (whole m (d ∷ w) (c ∷ [])) (λ u e. is_known m k (d ∷ w) (c ∷ back) u b (sym (whole_first m (d ∷ w) c back) ∙ e)))
+    (λ m2 k2 next lay. good_fresh l a r c back m2 k2 next n there lay) (whole m (d ∷ w) (c ∷ [])) (sym (whole_first m (d ∷ w) c back)))
 
 good_step : (l : Language) (a : ℕ) (r : List ℕ) (c : ℕ) (back : List ℕ) (m : Mode) (k : Kept) (place n : ℕ) (w : List ℕ) → n ≡ a + length r → Goes l a r (at_spot m k place w) → Seen l a r (c ∷ back) (at_spot m k place w) → Good l a r c back (step_in (rules l) n (at_spot m k place w) w c)
 good_step l a r c back m k place n [] there goes h = good_fresh l a r c back m k place n there h.lay
@@ -451,14 +695,14 @@ ended_unless l a r m k place n out None h e = tt
 ended_unless l a r m k place n out (Some f) h e = end_at l a r [] m k place n f h e
 
 ended_last : (l : Language) (a : ℕ) (r : List ℕ) (m : Mode) (k : Kept) (place n : ℕ) (o : Option (List Step)) → n ≡ a + length r → Lay l a r [] m k place [] → Ended l a r (last_done (rules l) n (at_spot m k place []) o)
-ended_last l a r m k place n None there h = refused_at l a r [] [] m k place n _ there tt h refl
+ended_last l a r m k place n None there h = refused_at l a r [] [] m k place n _ there (stuck_fresh m []) (tt, tt) h refl
 ended_last l a r m k place n (Some out) there h = ended_unless l a r m k place n out _ h refl
 
 ended : (l : Language) (a : ℕ) (r : List ℕ) (m : Mode) (k : Kept) (place n : ℕ) (w : List ℕ) → n ≡ a + length r → Goes l a r (at_spot m k place w) → Seen l a r [] (at_spot m k place w) → Ended l a r (finish_in (rules l) n (at_spot m k place w) w)
 ended l a r m k place n [] there goes h = ended_last l a r m k place n (last m k) there h.lay
 ended l a r m k place n (d ∷ w) there goes h =
     over_done l a r [] m k place n d w (Ended l a r) (λ x. last_done (rules l) n x (last x.mode x.kept)) (record { there = there; goes = goes; lay = h.lay; begun = (h.begun, tt); fits = h.fits }) (λ g is. is)
-    (λ m2 k2 next lay. ended_last l a r m2 k2 next n (last m2 k2) there lay) (whole m (d ∷ w) []) (λ u e. is_known m k (d ∷ w) [] u tt e)
+    (λ m2 k2 next lay. ended_last l a r m2 k2 next n (last m2 k2) there lay) (whole m (d ∷ w) []) refl
 
 -- ---- a line
 
@@ -502,7 +746,7 @@ pub stands : (l : Language) (a : ℕ) (line : List ℕ) (f : Fault) → run (rul
 stands l a line f e =
     let here : a + 0 ≡ a = omega arith in
     let goes : Goes l a [] begin = (λ text. ap (λ (n : ℕ). run (rules l) n begin text) (sym here)) in
-    let first : TestMayFollow l [] = may_follow l a [] start (λ text out h. goes (32 ∷ text) ∙ h.reads (a + 0) 0) in
+    let first : TestMayFollow l [] line = may_follow l a [] line start (no_bytes refl) (λ text out h. goes (32 ∷ text) ∙ h.reads (a + 0) 0) in
     stands_from l a line [] begin f goes (record { lay = record { before = []; parts = refl; follows = first }; begun = tt; fits = omega arith }) (ap (λ (n : ℕ). run (rules l) n begin line) here ∙ e)
 
 -- ---- a text

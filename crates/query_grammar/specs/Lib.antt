@@ -8,6 +8,8 @@ pub mod Scanner
 pub mod Judging
 pub mod Fine
 pub mod Faulty
+pub mod Tested
+pub mod Before
 pub mod Stands
 pub mod Munches
 pub mod Lines

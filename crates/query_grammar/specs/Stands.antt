@@ -2,41 +2,17 @@
 -- project's choice).
 use Rattle.std.specs.Prelude.{◌≡◌, ℕ, ◌+◌, ◌⊎◌, Bool, true, false, List, [], ◌∷◌, ◌++◌, length, Option, None}
 use Rattle.std.specs.List.{list_all}
-use Rattle.query_grammar.specs.declared.lex.Lex.TheVariants.{Begin}
 use Rattle.query_grammar.specs.Bytes.{is_blank}
 use Rattle.query_grammar.specs.Lexical.{operand_begin, begins_from, whole_from, is_one_of}
 use Rattle.query_grammar.specs.Criterion.{operand_meaning}
-use Rattle.query_grammar.specs.Grammar.{Token, NotWord, OpenMark, token_text, is_over, is_ended, Written, Test, CanGoOn, IsDead}
+use Rattle.query_grammar.specs.Grammar.{Token, NotWord, OpenMark, token_text, is_over, is_ended, Written, Test, IsDead}
 use Rattle.query_grammar.specs.Scanner.{Fault, Syntax, UnknownTag, Number, Pattern, Deep}
 use Rattle.query_grammar.specs.Judging.{numeric_operators, pattern_operators}
 use Rattle.query_grammar.specs.Lines.{is_passed, AreQueries, lines_of}
-use Rattle.query_grammar.specs.Fine.{IsFine, IsFineQuery}
-use Rattle.query_grammar.specs.Faulty.{UnknownName, WrongLevel, WrongField}
-
--- which names are tags, which texts are decimals, which are good patterns, and how many may be open at once
-pub record Language : Type 0 where
-  pub is_tag : List ℕ → Bool
-  pub is_decimal : List ℕ → Bool
-  pub is_pattern : List ℕ → Bool
-  pub most : ℕ
-
--- the line is this query, which has no fault
-abbrev pub Fine : Language → List ℕ → Written → Type 0
-Fine l line q = IsFineQuery l.is_tag l.is_decimal l.is_pattern l.most line q
-
--- a test may stand behind these bytes, and nothing in them is at fault: with any test that is a query they begin a query
-abbrev pub TestMayFollow : Language → List ℕ → Type 0
-TestMayFollow l before = (test : List ℕ) → Fine l test (Test test) → CanGoOn (Fine l) (before ++ 32 ∷ test)
-
--- what was read of a line has a test that begins at a place of the text: its criterion, as far as it goes, and what stands
--- behind it
-pub record TestIn (l : Language) (from : ℕ) (read back criterion behind : List ℕ) (place : ℕ) : Type 0 where
-  pub before : List ℕ
-  pub parts : read ≡ before ++ (criterion ++ behind)
-  pub there : place ≡ from + length before
-  pub follows : TestMayFollow l before
-  pub begins : begins_from Begin criterion ≡ true
-  pub over : is_over (begins_from Begin) criterion (behind ++ back) ≡ true
+use Rattle.query_grammar.specs.Fine.{IsFine}
+use Rattle.query_grammar.specs.Faulty.{UnknownName}
+use Rattle.query_grammar.specs.Tested.{Language, Fine, TestMayFollow, TestIn, WrongNumber}
+use Rattle.query_grammar.specs.Before.{NoneBefore}
 
 -- a test is at fault at a byte of its criterion
 pub record InCriterion (l : Language) (Wrong : List ℕ → ℕ → Type 0) (from : ℕ) (read back : List ℕ) (at : ℕ) : Type 0 where
@@ -47,15 +23,6 @@ pub record InCriterion (l : Language) (Wrong : List ℕ → ℕ → Type 0) (fro
   pub test : TestIn l from read back criterion behind place
   pub there : at ≡ place + byte
   pub wrong : Wrong criterion byte
-
--- this holds at no byte
-abbrev pub AtNone : (ℕ → Type 0) → Type 0
-AtNone At = (at : ℕ) → At at → ⊥
-
--- a number of a criterion is wrong, and its names are tags; of two it is the level
-pub data WrongNumber (l : Language) (criterion : List ℕ) (at : ℕ) : Type 0 where
-  in_level : AtNone (UnknownName l.is_tag criterion) → WrongLevel criterion at → WrongNumber l criterion at
-  in_field : AtNone (UnknownName l.is_tag criterion) → AtNone (WrongLevel criterion) → WrongField criterion at → WrongNumber l criterion at
 
 -- what was read ends with a comparison whose criterion has no fault, and what its operand stands for isn't as these
 -- operators want it
@@ -83,17 +50,17 @@ pub record TooDeep (l : Language) (from : ℕ) (read back : List ℕ) (at : ℕ)
   pub mark : Token
   pub parts : read ≡ before ++ token_text mark
   pub place : at ≡ from + length before
-  pub follows : TestMayFollow l before
+  pub follows : TestMayFollow l before (token_text mark ++ back)
   pub opens : (mark ≡ OpenMark) ⊎ (mark ≡ NotWord)
   pub ended : is_ended mark back ≡ true
 
--- what stands at a fault
+-- what stands at a fault; at one of syntax nothing that was read is at fault
 abbrev pub IsAt : Language → ℕ → List ℕ → List ℕ → Fault → Type 0
 IsAt l from read back (UnknownTag at) = InCriterion l (UnknownName l.is_tag) from read back at
 IsAt l from read back (Number at) = InCriterion l (WrongNumber l) from read back at ⊎ InOperand l numeric_operators l.is_decimal from read back at
 IsAt l from read back (Pattern at) = InOperand l pattern_operators l.is_pattern from read back at
 IsAt l from read back (Deep at) = TooDeep l from read back at
-IsAt l from read back (Syntax at) = at ≡ from + length read
+IsAt l from read back (Syntax at) = (at ≡ from + length read) × NoneBefore l from read back
 
 -- what was read at the fault of a line that begins at this place: no query without a fault goes on over it
 pub record StandsIn (l : Language) (from : ℕ) (line : List ℕ) (f : Fault) : Type 0 where

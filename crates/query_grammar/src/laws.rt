@@ -12,7 +12,8 @@ ghost use Rattle.query_grammar.specs.Grammar.{Written, IsQuery, StopsAt};
 ghost use Rattle.query_grammar.specs.Judging.{rules_of};
 ghost use Rattle.query_grammar.specs.Fine.{IsFine, IsFineText};
 ghost use Rattle.query_grammar.specs.Lines.{IsText, lines_of, read_lines};
-ghost use Rattle.query_grammar.specs.Stands.{Language, StandsIn, Stands};
+ghost use Rattle.query_grammar.specs.Tested.{Language};
+ghost use Rattle.query_grammar.specs.Stands.{StandsIn, Stands};
 ghost use Rattle.query_grammar.specs.QueryFault.{query_fault};
 ghost use Rattle.query_grammar.specs.Steps.{steps_of};
 ghost use Rattle.query_grammar.specs.Tree.{Query, is_true, tree_of, tree_steps, truths_of};
@@ -20,7 +21,8 @@ ghost use Rattle.query_grammar.specs.Scanner.{Fault, Rules, AreRules, Syntax, fr
 
 /// A query is read as its steps, and what is read is a query, whatever the rules. A fault of syntax is
 /// at the first byte at which no query can go on. Under the rules of tags, numbers and depth the
-/// queries without a fault are read, and no others, and at each other fault stands what it names.
+/// queries without a fault are read, and no others, at each other fault stands what it names, and
+/// before any fault nothing is at fault.
 pub fn reading()
     ensures complete { (line : List ℕ) (q : Written) → IsQuery line q → run free 0 begin line ≡ Ok (steps_of q) }
     ensures sound { (rules : Rules) → AreRules rules → (line : List ℕ) (out : List Step) → run rules 0 begin line ≡ Ok out → (q : Written) × IsQuery line q × (steps_of q ≡ out) }
@@ -69,7 +71,8 @@ pub fn steps_of_trees()
 /// A text in UTF-8 is queries without a fault just where it has no first fault, so it never has both. Its first
 /// fault of syntax is at the first byte at which no text of queries can go on, or at the end of a text without a
 /// query. At each other fault stands what it names: a name that is no tag, a number or a pattern that is none, or a
-/// parenthesis or a `not` too many. Each line before that of a fault is passed over or is a query without a fault.
+/// parenthesis or a `not` too many. Nothing is at fault before it: each line before its own is passed over or is a
+/// query without a fault, and what was read of its line has no other.
 pub fn text_faults()
     ensures none { (is_tag is_decimal is_pattern : List ℕ → Bool) (most : ℕ) (text : List ℕ) → query_fault is_tag is_decimal is_pattern most text ≡ None → IsUtf8 text × (q : Written) × IsFineText is_tag is_decimal is_pattern most text q }
     ensures only_none { (is_tag is_decimal is_pattern : List ℕ → Bool) (most : ℕ) (text : List ℕ) (q : Written) → IsUtf8 text → IsFineText is_tag is_decimal is_pattern most text q → query_fault is_tag is_decimal is_pattern most text ≡ None }
