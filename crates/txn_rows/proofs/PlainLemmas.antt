@@ -1,9 +1,10 @@
 -- A record that tells nothing but itself.
-use Rattle.std.proofs.Common.{◌≡◌, ◌<◌, ◌≤◌, ◌&&◌, ℕ, Bool, true, false, not, cond, eqb, Option, Some, None, List, [], ◌∷◌, ◌++◌, length, take, drop, get_or, refl, ap, sym, ◌∙◌, append_assoc, append-nil, arith}
+use Rattle.std.proofs.Common.{◌≡◌, ◌+◌, ◌<◌, ◌≤◌, ◌&&◌, ℕ, Bool, true, false, not, cond, eqb, Option, Some, None, List, [], ◌∷◌, ◌++◌, length, take, drop, get_or, refl, ap, sym, ◌∙◌, append_assoc, append-nil, arith}
 use Rattle.std.specs.List.{list_all}
 use Rattle.std.specs.Option.{option_map}
 use Rattle.std.proofs.lemmas.Bool.{and_parts, not-true, le-ltb}
 use Rattle.std.proofs.lemmas.List.{length-map}
+use Rattle.std.proofs.lemmas.List.Folds.{list_all_more}
 use Rattle.vsl_tags.specs.Tags.{begin_tag, link_tag, timestamp_tag, end_tag}
 use Rattle.vsl_record.specs.declared.record_type.Record.{Record}
 use Rattle.txn_rows.specs.declared.group.Group.{Group}
@@ -128,6 +129,11 @@ pub run_went : {S L : Type 0} (holds : S → Type 0) (state_of : S → State) (h
     Went holds state_of (longer_run vxid run (state_of store)) now → WentBy holds state_of hand options.grouping (steps options vxid run (state_of store)) now out out
 run_went holds state_of hand options vxid run store now out grouped plain opened few went =
     nothing_step holds state_of hand options.grouping now out (steps options vxid run (state_of store)) went.kept (plain_steps options vxid run (state_of store) grouped plain opened few ∙ ap nothing_left (sym went.told))
+
+-- so many records tell nothing but themselves, and by its tag the next
+pub plain_more : (records : List Record) (i tag : ℕ) → i < length records → ((rec : Record) → tag ≡ (get_or records i rec).tag) → is_plain tag ≡ true → list_all is_plain_record (take i records) ≡ true → list_all is_plain_record (take (i + 1) records) ≡ true
+plain_more [] i tag within is plain so_far = absurd (omega (arith, within))
+plain_more (r ∷ records) i tag within is plain so_far = rw (list_all_more is_plain_record (r ∷ records) i r within, so_far, ← is r) plain
 
 -- ---- records one after another
 

@@ -227,7 +227,7 @@ fn plain_run(grouping: Grouping, records: &RecordsView<'_>) -> usize
         return 0;
     }
     for i in 0..records.len() {
-        if !is_plain(records.get(i).tag()) {
+        if !is_plain(records.tag(i)) {
             return i;
         }
     }
