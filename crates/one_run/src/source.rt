@@ -44,8 +44,7 @@ pub trait Source: Drop {
     /// Takes back an item that isn't needed: its memory may serve those that come.
     fn give_back(&mut self, _item: Item)
         ensures same { self.new ≡ self.old }
-    {
-    }
+    {}
 
     /// What is written changes nothing of what came.
     ghost stays: { (start now : Self) (calls more : List Call) (met : List Item) (all : Bool) (writes : List ℕ) → gave start now calls met all → AreOn [] writes more → gave start now (calls ++ more) met all };

@@ -79,5 +79,11 @@ impl Source for FileItems {
         }
     }
 
+    fn give_back(&mut self, item: Item) {
+        if let Item::Unit(unit) = item {
+            self.reader.give_back(unit);
+        }
+    }
+
     ghost stays = { file_stays };
 }
