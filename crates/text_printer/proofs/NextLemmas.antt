@@ -65,7 +65,7 @@ due_is plan taken End = ap (λ (gs : List Group). plan.writes (kept plan.keep gs
 
 -- what was due is a prefix of it
 due_on : (plan : Plan) → IsOutput plan.writes → (taken : List Taken) (next : Next) → IsPrefix (due plan taken false) (due_with plan taken next)
-due_on plan is taken (Unit u) = due_prefix plan is taken (TakenUnit u ∷ []) false
+due_on plan is taken (Unit u) = due_prefix plan is taken (TakenUnit u.now ∷ []) false
 due_on plan is taken Missed = due_prefix plan is taken (taken_items.Missed ∷ []) false
 due_on plan is taken End = due_flag plan is taken true
 
@@ -109,17 +109,17 @@ module _ {C : Type 0} (keep : C → Option ℕ) (output : C → List Group → B
   completed_flush query next old new left entry is only stepped = completed_all query next old new left entry entry only (rw is stepped) (record { each = λ most writes before taken stands. rw append-nil stands })
 
   -- the records of a unit were taken, each as a group by itself
-  pub completed_raw : (query : Query) (u : LogUnit) (table : TableState) (old new : Entry C) → (table.options.grouping ≡ Raw) × (query.always ≡ true) → Gave keep output represents (raw_groups u) false old new
-      → Completed keep output represents query (Unit u) table table old new []
-  completed_raw query u table old new raw gave =
+  pub completed_raw : (query : Query) (next : Next) (u : LogUnit) (table : TableState) (old new : Entry C) → item_of next ≡ TakenUnit u → (table.options.grouping ≡ Raw) × (query.always ≡ true) → Gave keep output represents (raw_groups u) false old new
+      → Completed keep output represents query next table table old new []
+  completed_raw query next u table old new told raw gave =
       let run = steps table.options u.vxid u.records table.state in
       let is : unit_step table.options u table.state ≡ run = ap (λ (g : Grouping). cond (passes_over g u.vxid) (nothing_left table.state) run) raw.0 in
       let left = raw_groups_left table.options raw.0 u.vxid u.records table.state in record {
         options = refl;
-        state = rw is (sym left.0);
+        state = rw (told, is) (sym left.0);
         sound = λ sound. sound;
         given = raw_groups u;
-        groups = rw (is, always_holds query raw.1, append-nil) (rw (sym raw.0) at left.1);
+        groups = rw (told, is, always_holds query raw.1, append-nil) (rw (sym raw.0) at left.1);
         gave = gave;
       }
 

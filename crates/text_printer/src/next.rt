@@ -17,16 +17,16 @@ use vsl_record::Unit;
 
 /// What a printer is told of next.
 #[derive(Drop)]
-pub(crate) enum Next {
+pub(crate) enum Next<'a> {
     /// A unit of the log.
-    Unit(Unit),
+    Unit(&'a Unit),
     /// The reader was overrun, and missed units.
     Missed,
     /// The log has ended.
     End,
 }
 
-impl Next {
+impl Next<'_> {
     /// Whether the log has ended.
     pub fn is_end(&self) -> bool
         ensures { result ≡ is_end self.now }
@@ -65,19 +65,19 @@ pub(crate) fn complete<C: Consumer>(
     groups: &mut Groups<'_>,
     query: &Query,
     entry: &mut Entry<C>,
-    next: Next,
+    next: Next<'_>,
 ) -> Result<Vec<Chosen>, NoMemory>
     requires asked { (groups_state groups.old).queries ≡ query.now ∷ [] }
-    ensures completed { IfOk result (λ left. Completed C.keep C.output C.represents query.now next (groups_state groups.old).table (groups_state groups.new).table entry.old entry.new left.items) }
+    ensures completed { IfOk result (λ left. Completed C.keep C.output C.represents query.now next.entry (groups_state groups.old).table (groups_state groups.new).table entry.old entry.new left.items) }
     ensures asked { (groups_state groups.new).queries ≡ query.now ∷ [] }
 {
     let mut left = Vec::new(alloc);
     match next {
         Next::Unit(unit) => {
-            if offer(groups, query, entry, &unit)? {
+            if offer(groups, query, entry, unit)? {
                 return Ok(left);
             }
-            groups.step(&unit, &mut left)?;
+            groups.step(unit, &mut left)?;
             Ok(left)
         }
         Next::Missed | Next::End => {

@@ -87,9 +87,9 @@ impl<'q, C: Consumer> Output for TextOutput<'q, C> {
     fn item<W: World>(
         &mut self,
         world: &mut W,
-        item: Item,
+        item: &Item,
     ) -> Result<Option<TextEnding>, NoMemory> {
-        match report(self.alloc, world, &item) {
+        match report(self.alloc, world, item) {
             Ok(()) => {}
             Err(WorldFault::Failed) => return Ok(Some(TextEnding::Unreported)),
             Err(WorldFault::NoMemory) => return Err(NoMemory),

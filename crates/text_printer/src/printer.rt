@@ -105,9 +105,9 @@ impl<'q, C: Consumer> Printer<'q, C> {
     }
 
     /// Takes what comes next, and gives the consumer the groups that it completed; what the consumer hands out of them.
-    fn advance(&mut self, next: Next) -> Result<Vec<u8>, NoMemory>
+    fn advance(&mut self, next: Next<'_>) -> Result<Vec<u8>, NoMemory>
         ensures same { IsSameSink (printer_state self.old) (printer_state self.new) }
-        ensures advanced { IfOk result (λ text. (plan : Plan) (taken : List Taken) → Represents C.keep C.output C.represents plan (printer_state self.old) taken → Advanced C.keep C.output C.represents plan next (printer_state self.new) taken text.items) }
+        ensures advanced { IfOk result (λ text. (plan : Plan) (taken : List Taken) → Represents C.keep C.output C.represents plan (printer_state self.old) taken → Advanced C.keep C.output C.represents plan next.entry (printer_state self.new) taken text.items) }
     {
         let ended = next.is_end();
         let left = complete(
@@ -134,15 +134,15 @@ impl<'q, C: Consumer> Printer<'q, C> {
     }
 
     /// Takes what comes next, and writes what the consumer hands out.
-    fn take<W: World>(&mut self, world: &mut W, next: Next) -> Result<Go, PrintFault>
+    fn take<W: World>(&mut self, world: &mut W, next: Next<'_>) -> Result<Go, PrintFault>
         requires named { IsTrue ((W.seen world.old).names Writing (printer_state self.old).sink (printer_state self.old).name) }
         ensures same { IsSameSink (printer_state self.old) (printer_state self.new) }
-        ensures takes { result ≡ Ok Go.More → (plan : Plan) (taken : List Taken) → Represents C.keep C.output C.represents plan (printer_state self.old) taken → Represents C.keep C.output C.represents plan (printer_state self.new) (taken ++ item_of next ∷ []) }
-        ensures done { IfOk result (λ go. (plan : Plan) (taken : List Taken) → Represents C.keep C.output C.represents plan (printer_state self.old) taken → (is_end next || has_all plan (taken ++ item_of next ∷ [])) ≡ is_done go) }
+        ensures takes { result ≡ Ok Go.More → (plan : Plan) (taken : List Taken) → Represents C.keep C.output C.represents plan (printer_state self.old) taken → Represents C.keep C.output C.represents plan (printer_state self.new) (taken ++ item_of next.entry ∷ []) }
+        ensures done { IfOk result (λ go. (plan : Plan) (taken : List Taken) → Represents C.keep C.output C.represents plan (printer_state self.old) taken → (is_end next.entry || has_all plan (taken ++ item_of next.entry ∷ [])) ≡ is_done go) }
         ensures writes { OnOk result ((plan : Plan) (taken : List Taken) → Represents C.keep C.output C.represents plan (printer_state self.old) taken →
-            WroteOn plan.sink (due plan taken false) (λ text. text ≡ due_with plan taken next) (W.seen world.old) (W.seen world.new)) }
+            WroteOn plan.sink (due plan taken false) (λ text. text ≡ due_with plan taken next.entry) (W.seen world.old) (W.seen world.new)) }
         ensures refused { IfErr result (λ f. (plan : Plan) (taken : List Taken) → Represents C.keep C.output C.represents plan (printer_state self.old) taken →
-            WroteOn plan.sink (due plan taken false) (IsLeft f (due_with plan taken next)) (W.seen world.old) (W.seen world.new)) }
+            WroteOn plan.sink (due plan taken false) (IsLeft f (due_with plan taken next.entry)) (W.seen world.old) (W.seen world.new)) }
         ensures cause { IfErr result (λ f. HasPrintCause f (printer_state self.old).name (W.seen world.old) (W.seen world.new)) }
     {
         let Ok(text) = self.advance(next) else {
@@ -165,15 +165,15 @@ impl<'q, C: Consumer> Printer<'q, C> {
     /// Takes an item: a unit, or an overrun, which completes what is pending. It writes what the consumer hands out of the groups that the
     /// item completed and for which the query holds. It is done with the item that completes the last group that is kept; no more may
     /// follow then.
-    pub(crate) fn item<W: World>(&mut self, world: &mut W, item: Item) -> Result<Go, PrintFault>
+    pub(crate) fn item<W: World>(&mut self, world: &mut W, item: &Item) -> Result<Go, PrintFault>
         requires named { IsTrue ((W.seen world.old).names Writing (printer_state self.old).sink (printer_state self.old).name) }
         ensures same { IsSameSink (printer_state self.old) (printer_state self.new) }
-        ensures takes { result ≡ Ok Go.More → (plan : Plan) (before : List Taken) → Represents C.keep C.output C.represents plan (printer_state self.old) before → Represents C.keep C.output C.represents plan (printer_state self.new) (before ++ taken item ∷ []) }
-        ensures done { IfOk result (λ go. (plan : Plan) (before : List Taken) → Represents C.keep C.output C.represents plan (printer_state self.old) before → has_all plan (before ++ taken item ∷ []) ≡ is_done go) }
+        ensures takes { result ≡ Ok Go.More → (plan : Plan) (before : List Taken) → Represents C.keep C.output C.represents plan (printer_state self.old) before → Represents C.keep C.output C.represents plan (printer_state self.new) (before ++ taken item.now ∷ []) }
+        ensures done { IfOk result (λ go. (plan : Plan) (before : List Taken) → Represents C.keep C.output C.represents plan (printer_state self.old) before → has_all plan (before ++ taken item.now ∷ []) ≡ is_done go) }
         ensures writes { OnOk result ((plan : Plan) (before : List Taken) → Represents C.keep C.output C.represents plan (printer_state self.old) before →
-            WroteOn plan.sink (due plan before false) (λ text. text ≡ due plan (before ++ taken item ∷ []) false) (W.seen world.old) (W.seen world.new)) }
+            WroteOn plan.sink (due plan before false) (λ text. text ≡ due plan (before ++ taken item.now ∷ []) false) (W.seen world.old) (W.seen world.new)) }
         ensures refused { IfErr result (λ f. (plan : Plan) (before : List Taken) → Represents C.keep C.output C.represents plan (printer_state self.old) before →
-            WroteOn plan.sink (due plan before false) (IsLeft f (due plan (before ++ taken item ∷ []) false)) (W.seen world.old) (W.seen world.new)) }
+            WroteOn plan.sink (due plan before false) (IsLeft f (due plan (before ++ taken item.now ∷ []) false)) (W.seen world.old) (W.seen world.new)) }
         ensures cause { IfErr result (λ f. HasPrintCause f (printer_state self.old).name (W.seen world.old) (W.seen world.new)) }
     {
         match item {
@@ -195,7 +195,7 @@ impl<'q, C: Consumer> Printer<'q, C> {
             WroteOn plan.sink (due plan taken false) (IsLeft f (due plan (taken ++ TakenUnit unit ∷ []) false)) (W.seen world.old) (W.seen world.new)) }
         ensures cause { IfErr result (λ f. HasPrintCause f (printer_state self.old).name (W.seen world.old) (W.seen world.new)) }
     {
-        self.take(world, Next::Unit(unit))
+        self.take(world, Next::Unit(&unit))
     }
 
     /// The reader was overrun and missed units: completes what is pending, and writes what the consumer hands out of these groups,

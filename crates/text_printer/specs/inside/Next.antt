@@ -21,13 +21,13 @@ is_end End = true
 
 -- what a table takes: at the end it completes what is pending, as at an overrun
 abbrev pub item_of : Next → Taken
-item_of (Unit u) = TakenUnit u
+item_of (Unit u) = TakenUnit u.now
 item_of Missed = taken_items.Missed
 item_of End = taken_items.Missed
 
 -- the text that is due with what comes next
 abbrev pub due_with : Plan → List Taken → Next → List ℕ
-due_with plan taken (Unit u) = due plan (taken ++ TakenUnit u ∷ []) false
+due_with plan taken (Unit u) = due plan (taken ++ TakenUnit u.now ∷ []) false
 due_with plan taken Missed = due plan (taken ++ taken_items.Missed ∷ []) false
 due_with plan taken End = due plan taken true
 

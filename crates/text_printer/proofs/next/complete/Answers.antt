@@ -1,4 +1,4 @@
-use Rattle.std.proofs.Common.{ap, Ok, ◌∙◌, inl, inr}
+use Rattle.std.proofs.Common.{ap, refl, Ok, ◌∙◌, inl, inr}
 use Rattle.txn_groups.specs.Groups.{groups_state}
 use Rattle.text_printer.specs.declared.next.Next.TheVariants.{Unit}
 use Rattle.text_printer.specs.inside.Next.{item_of}
@@ -8,7 +8,7 @@ use Rattle.text_printer.proofs.next.complete.Goals as goal
 pub returns-then-branch-clause-completed : goal.returns-then-branch-clause-completed
 returns-then-branch-clause-completed g c =
     rw (c.in-Unit.is, c.new-left.ensures.items)
-    (completed_raw _ _ _ _ c.in-Unit.unit _ _ _ (c.offer.ensures.raw (c.in_ok-offer-in-Unit.was ∙ ap Ok c.if-branch.true)) (rw c.if-branch.true at c.in_ok-offer-in-Unit.ensures.gave))
+    (completed_raw _ _ _ _ (Unit c.in-Unit.unit) c.in-Unit.unit.now _ _ _ refl (c.offer.ensures.raw (c.in_ok-offer-in-Unit.was ∙ ap Ok c.if-branch.true)) (rw c.if-branch.true at c.in_ok-offer-in-Unit.ensures.gave))
 
 pub returns-in_ok-step-in-Unit-clause-completed : goal.returns-in_ok-step-in-Unit-clause-completed
 returns-in_ok-step-in-Unit-clause-completed g c =
