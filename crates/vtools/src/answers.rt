@@ -20,7 +20,7 @@ use vio::{NoMemory, World};
 pub const PROGRAM: &str = "vtools";
 
 /// What `vtools --version` prints.
-const VERSION: &str = "vtools 0.2\n";
+const VERSION: &str = "vtools 0.3\n";
 
 /// Answers the words of a command line, and gives the exit status.
 pub fn run<R: Threads + Wait + Sync + Eprint, W: World>(
