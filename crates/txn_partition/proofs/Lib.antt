@@ -14,3 +14,5 @@ pub mod PartitionLemmas
 pub mod SiblingLemmas
 pub mod PartitionExamples
 pub mod ClassOnceLemmas
+pub mod ClaimKeptLemmas
+pub mod OfUnitsLemmas

@@ -1,3 +1,4 @@
 pub mod LogFacts
 pub mod Partition
+pub mod OfUnits
 pub mod inside

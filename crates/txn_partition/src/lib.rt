@@ -9,4 +9,4 @@
 
 mod laws;
 
-pub use laws::{each_vxid_once, groups_are_the_partition};
+pub use laws::{each_vxid_once, groups_are_of_units, groups_are_the_partition};
