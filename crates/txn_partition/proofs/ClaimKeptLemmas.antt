@@ -19,49 +19,51 @@ use Rattle.txn_rows.proofs.KeepLemmas.{HoldsOn, timeouts_hold, down_holds, flush
 use Rattle.txn_rows.proofs.ChangeLemmas.{ChangesOne}
 use Rattle.txn_rows.proofs.OrderLemmas.{all_left, all_right}
 
--- a fact of a state that this record's rules keep, after it went to its transaction
-pub record KeepsClaim (grouping : Grouping) (vxid : ℕ) (rec : Record) (P : State → Type 0) : Type 0 where
+-- a fact of a state that this record's rules keep, after it went to its transaction, and one that holds after its claim
+pub record KeepsClaim (grouping : Grouping) (vxid : ℕ) (rec : Record) (P R : State → Type 0) : Type 0 where
   pub kind : (claim : Option Claim) (state : State) → P state → P (record state { pending = with_newest vxid (claimed_kind claim) state.pending })
   pub other : (claim : Claim) → claim_of rec.payload ≡ Some claim → (state : State) → is_pending claim.vxid state.pending ≡ false → P state → P (with_new claim.vxid state)
-  pub parent : (claim : Claim) → rec.tag ≡ begin_tag → claim_of rec.payload ≡ Some claim → gives_parent grouping claim ≡ true → (state : State) → P state → P (record state { pending = with_link vxid claim.vxid state.pending })
-  pub child : (claim : Claim) → rec.tag ≡ link_tag → claim_of rec.payload ≡ Some claim → gives_parent grouping claim ≡ true → (state : State) → P state → P (record state { pending = with_link claim.vxid vxid state.pending })
-  pub time : (told : Option ℕ) (state : State) → P state → P (with_time told state)
+  pub parent : (claim : Claim) → rec.tag ≡ begin_tag → claim_of rec.payload ≡ Some claim → gives_parent grouping claim ≡ true → (state : State) → P state → R (record state { pending = with_link vxid claim.vxid state.pending })
+  pub child : (claim : Claim) → rec.tag ≡ link_tag → claim_of rec.payload ≡ Some claim → gives_parent grouping claim ≡ true → (state : State) → P state → R (record state { pending = with_link claim.vxid vxid state.pending })
+  pub none : (state : State) → P state → R state
+  pub time : (told : Option ℕ) (state : State) → R state → R (with_time told state)
 
-other_kept : (P : State → Type 0) (grouping : Grouping) (vxid : ℕ) (rec : Record) → KeepsClaim grouping vxid rec P → (claim : Claim) → claim_of rec.payload ≡ Some claim → (state : State) → P state → P (with_other claim.vxid state)
-other_kept P grouping vxid rec keeps claim is state p =
-    cond_both (is_pending claim.vxid state.pending) state (with_new claim.vxid state) P (λ e. p) (λ e. keeps.other claim is state e p)
+-- one record's rules
+module _ (P R : State → Type 0) (grouping : Grouping) (vxid : ℕ) (rec : Record) (keeps : KeepsClaim grouping vxid rec P R) where
+  other_kept : (claim : Claim) → claim_of rec.payload ≡ Some claim → (state : State) → P state → P (with_other claim.vxid state)
+  other_kept claim is state p =
+      cond_both (is_pending claim.vxid state.pending) state (with_new claim.vxid state) P (λ e. p) (λ e. keeps.other claim is state e p)
 
-parent_kept : (P : State → Type 0) (grouping : Grouping) (vxid : ℕ) (rec : Record) → KeepsClaim grouping vxid rec P → rec.tag ≡ begin_tag → (o : Option Claim) → claim_of rec.payload ≡ o → (state : State) → P state → P (with_parent_named grouping vxid o state)
-parent_kept P grouping vxid rec keeps tag None is state p = p
-parent_kept P grouping vxid rec keeps tag (Some claim) is state p =
-    let both : State = with_other claim.vxid state in
-    cond_both (gives_parent grouping claim) (record both { pending = with_link vxid claim.vxid both.pending }) state P
-    (λ e. keeps.parent claim tag is e both (other_kept P grouping vxid rec keeps claim is state p)) (λ e. p)
+  parent_kept : rec.tag ≡ begin_tag → (o : Option Claim) → claim_of rec.payload ≡ o → (state : State) → P state → R (with_parent_named grouping vxid o state)
+  parent_kept tag None is state p = keeps.none state p
+  parent_kept tag (Some claim) is state p =
+      let both : State = with_other claim.vxid state in
+      cond_both (gives_parent grouping claim) (record both { pending = with_link vxid claim.vxid both.pending }) state R
+      (λ e. keeps.parent claim tag is e both (other_kept claim is state p)) (λ e. keeps.none state p)
 
-child_kept : (P : State → Type 0) (grouping : Grouping) (vxid : ℕ) (rec : Record) → KeepsClaim grouping vxid rec P → rec.tag ≡ link_tag → (o : Option Claim) → claim_of rec.payload ≡ o → (state : State) → P state → P (with_child_named grouping vxid o state)
-child_kept P grouping vxid rec keeps tag None is state p = p
-child_kept P grouping vxid rec keeps tag (Some claim) is state p =
-    let both : State = with_other claim.vxid state in
-    cond_both (gives_parent grouping claim) (record both { pending = with_link claim.vxid vxid both.pending }) state P
-    (λ e. keeps.child claim tag is e both (other_kept P grouping vxid rec keeps claim is state p)) (λ e. p)
+  child_kept : rec.tag ≡ link_tag → (o : Option Claim) → claim_of rec.payload ≡ o → (state : State) → P state → R (with_child_named grouping vxid o state)
+  child_kept tag None is state p = keeps.none state p
+  child_kept tag (Some claim) is state p =
+      let both : State = with_other claim.vxid state in
+      cond_both (gives_parent grouping claim) (record both { pending = with_link claim.vxid vxid both.pending }) state R
+      (λ e. keeps.child claim tag is e both (other_kept claim is state p)) (λ e. keeps.none state p)
 
--- the rules after the record went to its transaction
-pub claim_kept : (P : State → Type 0) (grouping : Grouping) (vxid : ℕ) (rec : Record) → KeepsClaim grouping vxid rec P → (state : State) →
-    P (record (with_transaction vxid state) { pending = with_record vxid rec (with_transaction vxid state).pending }) → P (with_all_told grouping vxid rec state)
-claim_kept P grouping vxid rec keeps state p =
-    let begun : State = with_transaction vxid state in
-    let claim : Option Claim = claim_of rec.payload in
-    let added : List Transaction = with_record vxid rec begun.pending in
-    let told : List Transaction = with_newest vxid (claimed_kind claim) added in
-    let kind : State = record begun { pending = cond (eqb rec.tag begin_tag) told added } in
-    let kind_kept : P kind = either (λ ts. P (record begun { pending = ts })) (eqb rec.tag begin_tag) told added (keeps.kind claim (record begun { pending = added }) p) p in
-    let child : State = with_child_named grouping vxid claim kind in
-    let linked : State = with_claim grouping vxid rec kind in
-    let linked_kept : P linked = cond_both (eqb rec.tag begin_tag) (with_parent_named grouping vxid claim kind) (cond (eqb rec.tag link_tag) child kind) P
-    (λ e. parent_kept P grouping vxid rec keeps (eqb-true rec.tag begin_tag e) claim refl kind kind_kept)
-    (λ e. cond_both (eqb rec.tag link_tag) child kind P (λ f. child_kept P grouping vxid rec keeps (eqb-true rec.tag link_tag f) claim refl kind kind_kept) (λ f. kind_kept)) in
-    let time : Option ℕ = time_of rec.payload in
-    either P (eqb rec.tag timestamp_tag) (with_time time linked) linked (keeps.time time linked linked_kept) linked_kept
+  -- the rules after the record went to its transaction
+  pub claim_kept : (state : State) → P (record (with_transaction vxid state) { pending = with_record vxid rec (with_transaction vxid state).pending }) → R (with_all_told grouping vxid rec state)
+  claim_kept state p =
+      let begun : State = with_transaction vxid state in
+      let claim : Option Claim = claim_of rec.payload in
+      let added : List Transaction = with_record vxid rec begun.pending in
+      let told : List Transaction = with_newest vxid (claimed_kind claim) added in
+      let kind : State = record begun { pending = cond (eqb rec.tag begin_tag) told added } in
+      let kind_kept : P kind = either (λ ts. P (record begun { pending = ts })) (eqb rec.tag begin_tag) told added (keeps.kind claim (record begun { pending = added }) p) p in
+      let child : State = with_child_named grouping vxid claim kind in
+      let linked : State = with_claim grouping vxid rec kind in
+      let linked_kept : R linked = cond_both (eqb rec.tag begin_tag) (with_parent_named grouping vxid claim kind) (cond (eqb rec.tag link_tag) child kind) R
+      (λ e. parent_kept (eqb-true rec.tag begin_tag e) claim refl kind kind_kept)
+      (λ e. cond_both (eqb rec.tag link_tag) child kind R (λ f. child_kept (eqb-true rec.tag link_tag f) claim refl kind kind_kept) (λ f. keeps.none kind kind_kept)) in
+      let time : Option ℕ = time_of rec.payload in
+      either R (eqb rec.tag timestamp_tag) (with_time time linked) linked (keeps.time time linked linked_kept) linked_kept
 
 -- a fact of a step that holds of the parts of steps, and of the step of each record that is good
 pub record HoldsOf (options : GroupOptions) (Good : ℕ → Record → Type 0) (Q : State → Leaving → Type 0) : Type 0 where

@@ -16,3 +16,5 @@ pub mod PartitionExamples
 pub mod ClassOnceLemmas
 pub mod ClaimKeptLemmas
 pub mod OfUnitsLemmas
+pub mod ChildNameLemmas
+pub mod ChildGroupLemmas

@@ -96,12 +96,13 @@ record IsGoodRecord (vxid : ℕ) (rec : Record) : Type 0 where
   below : vxid < vxid_end
   is : IsRecord rec
 
-units_keep : (grouping : Grouping) (vxid : ℕ) (rec : Record) → KeepsClaim grouping vxid rec AllUnits
+units_keep : (grouping : Grouping) (vxid : ℕ) (rec : Record) → KeepsClaim grouping vxid rec AllUnits AllUnits
 units_keep grouping vxid rec = record {
   kind = λ claim state all. one_each AreUnits (claimed_kind claim) (newest vxid state.pending) state.pending (with_newest vxid (claimed_kind claim) state.pending) (newest_one vxid (claimed_kind claim) state.pending) (claimed_units claim) all;
   other = λ claim is state none all. new_units claim.vxid state (claim_below rec.payload claim is) all;
   parent = λ claim tag is gives state all. parent_units (newest vxid state.pending) (newest claim.vxid state.pending) state.pending all;
   child = λ claim tag is gives state all. parent_units (newest claim.vxid state.pending) (newest vxid state.pending) state.pending all;
+  none = λ state all. all;
   time = λ told state all. All-map AreUnits (timed (raised told state.time)) state.pending (λ k d within. let u = all k d within in record { vxid = u.vxid; records = u.records });
 }
 
@@ -112,7 +113,7 @@ told_units : (grouping : Grouping) (vxid : ℕ) (rec : Record) (state : State) �
 told_units grouping vxid rec state good all =
     let longer : Transaction → Transaction = λ t. record t { records = t.records ++ rec ∷ [] } in
     let begun : State = with_transaction vxid state in
-    claim_kept AllUnits grouping vxid rec (units_keep grouping vxid rec) state
+    claim_kept AllUnits AllUnits grouping vxid rec (units_keep grouping vxid rec) state
     (one_each AreUnits longer (newest vxid begun.pending) begun.pending (with_newest vxid longer begun.pending) (newest_one vxid longer begun.pending) (longer_units rec good.is)
     (either AllUnits (is_open vxid state.pending) state (with_new vxid state) all (new_units vxid state good.below all)))
 

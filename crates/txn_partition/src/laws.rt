@@ -6,6 +6,7 @@ ghost use Rattle.vsl_record.specs.Unit.{Log};
 ghost use Rattle.txn_rows.specs.declared.group.Grouping.{Grouping};
 ghost use Rattle.txn_rows.specs.declared.group.GroupOptions.{GroupOptions};
 ghost use Rattle.txn_rows.specs.Grouping.{Taken, all_taken, groups_of, is_raw, left_of};
+ghost use Rattle.txn_partition.specs.ChildNames.{ChildrenWereNamed};
 ghost use Rattle.txn_partition.specs.LogFacts.{entries_of, is_in, named};
 ghost use Rattle.txn_partition.specs.OfUnits.{IsGroupOfUnits, TakeUnits};
 ghost use Rattle.txn_partition.specs.Partition.{Calm, Regular, classes, count_vxid, partition};
@@ -28,4 +29,9 @@ pub fn each_vxid_once()
 /// The law that where the units that were taken are units, each member of a group that left has the VXID of a unit, and records that units can have; those of force-completions too.
 pub fn groups_are_of_units()
     ensures { (options : GroupOptions) (taken : List Taken) (flushed : Bool) → TakeUnits taken → All IsGroupOfUnits (left_of options taken flushed) }
+{}
+
+/// The law that of each group that left, each member but the first has its parent before it, and a Begin of its own names that, or a Link of the parent's names the member. So no group joins what no record joins.
+pub fn each_child_was_named()
+    ensures { (options : GroupOptions) (taken : List Taken) (flushed : Bool) → All (ChildrenWereNamed options.grouping) (left_of options taken flushed) }
 {}

@@ -9,4 +9,6 @@
 
 mod laws;
 
-pub use laws::{each_vxid_once, groups_are_of_units, groups_are_the_partition};
+pub use laws::{
+    each_child_was_named, each_vxid_once, groups_are_of_units, groups_are_the_partition,
+};
