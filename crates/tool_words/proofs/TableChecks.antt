@@ -7,6 +7,7 @@ use Rattle.tool_words.specs.declared.job.Tool.{Tool}
 use Rattle.tool_words.specs.declared.job.Tool.TheVariants as tools
 use Rattle.tool_words.specs.declared.options.Meaning.{Meaning}
 use Rattle.tool_words.specs.declared.options.TheConstants.{WORDS}
+use Rattle.tool_words.specs.Letters.{HasLetters, HasWords}
 use Rattle.tool_words.specs.Options.{letters_of}
 
 -- whether each of a list is another
@@ -24,3 +25,13 @@ one_row tools.Stat = refl
 -- no two rows have the same word
 one_word : are_distinct bytes_eq (map (λ row. row.0.now) WORDS) ≡ true
 one_word = refl
+
+-- the rows are those that are written out
+pub all_letters : (tool : Tool) → HasLetters tool
+all_letters tools.Log = refl
+all_letters tools.Ncsa = refl
+all_letters tools.Top = refl
+all_letters tools.Stat = refl
+
+pub all_words : HasWords
+all_words = refl

@@ -1,7 +1,9 @@
+pub mod Again
 pub mod Answers
 pub mod FirstFault
 pub mod Fold
 pub mod Job
+pub mod Letters
 pub mod Number
 pub mod Options
 pub mod Reading

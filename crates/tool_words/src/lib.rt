@@ -21,5 +21,5 @@ mod words;
 
 pub use fault::{UsageFault, WordsFault};
 pub use job::{Job, Order, QueryText, StatMode, Tool};
-pub use laws::{first_fault_stays, jobs_are_sound};
+pub use laws::{first_fault_stays, jobs_are_sound, options_are_written_out, options_gather};
 pub use words::read_words;
