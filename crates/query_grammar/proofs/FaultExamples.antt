@@ -13,14 +13,14 @@ use Rattle.query_grammar.specs.Scanner.{free}
 use Rattle.query_grammar.specs.Lines.{lines_of, read_lines}
 use Rattle.query_grammar.specs.Judging.{rules_of}
 
-abbrev few : List ℕ → Bool
+abbrev pub few : List ℕ → Bool
 few w = is_one_of (codes "End" ∷ codes "Begin" ∷ codes "ReqURL" ∷ codes "RespStatus" ∷ []) w
 
 -- every pattern is good but `(`
-abbrev good : List ℕ → Bool
+abbrev pub good : List ℕ → Bool
 good w = not (bytes_eq w (codes "("))
 
-abbrev rules : Rules
+abbrev pub rules : Rules
 rules = rules_of few (λ w. is_all is_digit w) good 3
 
 tag_first : run rules 0 begin (codes "{99999}Foo") ≡ Err (UnknownTag 7)

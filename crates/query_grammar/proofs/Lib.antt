@@ -25,3 +25,4 @@ pub mod TextFaults
 pub mod Meanings
 pub mod Faulty
 pub mod Stands
+pub mod BeforeExamples
