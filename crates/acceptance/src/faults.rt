@@ -6,9 +6,9 @@ mod watched;
 
 use crate::faults::runs::{count_calls, expect_faults};
 use crate::faults::tables::{
-    ASKED, FAULTS, FEEDS, Input, LATE_READER, LOG, ONE_ON_A_THREAD, OPEN, OVERRUN,
-    OVERRUN_IN_TURNS, PING, RAW, RAW_UNITS, STREAM, TOOLS, TRANSACTION_UNITS, TRANSACTIONS, TURNS,
-    TWO_ON_THREADS, Tool,
+    ASKED, FAULTS, FEEDS, Input, LATE_READER, LOG, MADE, MORE_UNITS, ONE_ON_A_THREAD, OPEN,
+    OVERRUN, OVERRUN_IN_TURNS, PING, RAW, RAW_UNITS, STREAM, TOOLS, TRANSACTION_UNITS,
+    TRANSACTIONS, TURNS, TWO_ON_THREADS, Tool,
 };
 use std::alloc::Global;
 use std::process::Abort;
@@ -63,6 +63,14 @@ fn each_failing_call_ends_a_run_over_feeds_in_turns(rt: HostRuntime) -> Result<(
 }
 
 #[test]
+fn each_failing_call_ends_a_run_over_made_requests(rt: HostRuntime) -> Result<(), Fail> {
+    for input in &MADE {
+        expect_all(&rt, rt.alloc(), input)?;
+    }
+    Ok(())
+}
+
+#[test]
 fn each_failing_call_ends_a_run_over_a_feed_that_overran_its_reader(
     rt: HostRuntime,
 ) -> Result<(), Fail> {
@@ -102,7 +110,7 @@ fn a_message_that_fails_changes_nothing_else(rt: HostRuntime) -> Result<(), Fail
 }
 
 /// A log, a tool, and how many calls their run makes, each of three bytes at most.
-const COUNTS: [(Input, Tool, usize); 6] = [
+const COUNTS: [(Input, Tool, usize); 7] = [
     // an open, 10 reads and one at the end, and 12 writes
     (PING, RAW, 24),
     // an open, 34 reads and one at the end, 24 writes for the first unit and 37 for the second
@@ -113,6 +121,8 @@ const COUNTS: [(Input, Tool, usize); 6] = [
     (OPEN, TRANSACTIONS, 91),
     // an open, a creation, 3 writes for the header, 10 reads and one at the end, and 7 writes
     (PING, RAW_UNITS, 23),
+    // the same without a header
+    (PING, MORE_UNITS, 20),
     // an open, a creation, 3 writes for the header, 23 reads and one at the end, 12 writes for the second unit and 19 for
     // the flush
     (OPEN, TRANSACTION_UNITS, 60),

@@ -41,17 +41,18 @@ struct Row<'a> {
     work: usize,
 }
 
-/// A listing of twelve requests, each a unit of 64 words, of VXIDs behind this one: one word for the unit, 5 for Begin, 56
-/// for the log and 2 for End.
+/// A listing of twelve requests of as many sessions, each a unit of 64 words, of VXIDs behind this one: one word for the
+/// unit, 6 for Begin, 55 for the log and 2 for End.
 fn long_requests(alloc: Global, before: u32) -> Result<Vec<u8>, Fail> {
     let mut listing = Vec::new(alloc);
     for unit in 1..=12u8 {
         let vxid = before.saturating_add(u32::from(unit));
+        let session = vxid.saturating_add(1000);
         let begin = format!(in alloc;
-            "{vxid:>10} Begin          c req 1 rxreq\n{vxid:>10} VCL_Log        c "
+            "{vxid:>10} Begin          c req {session} rxreq\n{vxid:>10} VCL_Log        c "
         )?;
         listing.extend_from_slice(begin.as_bytes())?;
-        for _ in 0..216u8 {
+        for _ in 0..212u8 {
             listing.push(b'a')?;
         }
         let end = format!(in alloc; "\n{vxid:>10} End            c \n")?;
@@ -78,9 +79,17 @@ fn file_of(alloc: Global, input: &Input, name: &str) -> Result<Vec<u8>, Fail> {
     Ok(Vec::new(alloc))
 }
 
-/// A world with the files of an input, in which calls of these numbers fail.
-fn world_for(alloc: Global, input: &Input, failing: &[usize]) -> Result<WatchedWorld, Fail> {
+/// A world with the files of an input and what a tool's sink has, in which calls of these numbers fail.
+fn world_for(
+    alloc: Global,
+    input: &Input,
+    tool: &Tool,
+    failing: &[usize],
+) -> Result<WatchedWorld, Fail> {
     let mut world = WatchedWorld::new(alloc, NAMES)?;
+    if !tool.there.is_empty() {
+        world.memory.file(tool.sink, tool.there)?;
+    }
     for (name, content) in input.files {
         let bytes = bytes_of(alloc, content)?;
         world.memory.file(*name, &bytes)?;
@@ -121,7 +130,7 @@ fn left_of<R: Abort + Threads + Wait + Sync>(
     tool: &Tool,
     failing: &[usize],
 ) -> Result<Left, Fail> {
-    let mut world = world_for(alloc, input, failing)?;
+    let mut world = world_for(alloc, input, tool, failing)?;
     let outcome = run_in(rt, alloc, input, tool, &mut world)?;
     let calls = world.calls(alloc)?;
     let errors = Vec::from_slice(alloc, world.memory.content(ERRORS))?;
@@ -155,8 +164,9 @@ fn name_of(alloc: Global, input: &Input, tool: &Tool, failing: &[usize]) -> Resu
     Ok(format!(in alloc; "{}, {}, {twice} up to {last}", input.name, tool.name)?)
 }
 
-/// Nothing was written but to the sink and to standard error.
+/// Nothing was written but to the sink, behind what was there, and to standard error.
 fn expect_sink(rt: &impl Abort, tool: &Tool, left: &Left, what: &str) {
+    assert!(rt; left.text.as_slice().starts_with(tool.there), "{what}");
     for call in left.calls.iter() {
         let is_known = call.object == tool.sink || call.object == STDERR;
         assert!(rt; is_known || call.deed != Deed::Write, "{what}");
@@ -180,7 +190,7 @@ fn expect_whole(
     assert!(rt; left.errors.as_slice().starts_with(told), "{what}");
     assert!(rt; left.errors.as_slice().ends_with(&message), "{what}");
     let is_done = matches!(input.ending, Ending::Done);
-    assert!(rt; !is_done || !left.text.is_empty(), "{what}");
+    assert!(rt; !is_done || left.text.len() > tool.there.len(), "{what}");
     if input.order != Order::Late {
         let size = told.len().saturating_add(message.len());
         assert_eq!(rt; left.errors.len(), size, "{what}");
@@ -252,7 +262,8 @@ fn expect_text(
 ) -> Result<(), Fail> {
     let first = left.calls.get(..at).ok_or("the calls before")?;
     let size = moved_of(first, Deed::Write, row.tool.sink);
-    assert_eq!(rt; left.text.len(), size, "{what}");
+    let there = row.tool.there.len();
+    assert_eq!(rt; left.text.len(), there.saturating_add(size), "{what}");
     if row.input.order == Order::Same {
         assert_eq!(rt; Some(first), row.whole.calls.get(..at), "{what}");
         assert!(rt; row.whole.text.as_slice().starts_with(&left.text), "{what}");
@@ -362,6 +373,22 @@ fn stated_whole<R: Abort + Threads + Wait + Sync>(
     Ok(left)
 }
 
+/// Lets these calls of a row's run fail: whether it makes the first of them. Where it doesn't, it ends as the whole one.
+fn expect_failing<R: Abort + Threads + Wait + Sync>(
+    rt: &R,
+    alloc: Global,
+    row: &Row<'_>,
+    failing: &[usize],
+) -> Result<bool, Fail> {
+    let left = left_of(rt, alloc, row.input, row.tool, failing)?;
+    if left.calls.len() < failing.first().copied().unwrap_or(1) {
+        expect_whole(rt, alloc, row.input, row.tool, &left)?;
+        return Ok(false);
+    }
+    expect_cut(rt, alloc, row, &left, failing)?;
+    Ok(true)
+}
+
 /// Lets each call of a run fail in turn, alone and with the one behind it, until a run has no fault.
 pub fn expect_faults<R: Abort + Threads + Wait + Sync>(
     rt: &R,
@@ -383,18 +410,11 @@ pub fn expect_faults<R: Abort + Threads + Wait + Sync>(
         work,
     };
     for failing in 1..=MOST_CALLS {
-        let left = left_of(rt, alloc, input, tool, &[failing])?;
-        if left.calls.len() < failing {
-            expect_whole(rt, alloc, input, tool, &left)?;
+        if !expect_failing(rt, alloc, &row, &[failing])? {
             assert!(rt; failing > 1, "{}, {}", input.name, tool.name);
             return Ok(());
         }
-        expect_cut(rt, alloc, &row, &left, &[failing])?;
-        let twice = [failing, failing.saturating_add(1)];
-        let left = left_of(rt, alloc, input, tool, &twice)?;
-        if left.calls.len() >= failing {
-            expect_cut(rt, alloc, &row, &left, &twice)?;
-        }
+        expect_failing(rt, alloc, &row, &[failing, failing.saturating_add(1)])?;
     }
     Err("a run without a fault".into())
 }

@@ -12,8 +12,9 @@ pub const NAMES: &[&str] = &["-", "a", "b", "f", "q", "out"];
 pub struct Tool {
     pub name: &'static str,
     pub words: &'static [&'static str],
-    /// The name of what it writes.
+    /// The name of what it writes, and what that has before.
     pub sink: &'static str,
+    pub there: &'static [u8],
     /// What threads leave as it is of that.
     pub kept: Kept,
     /// Whether it prints groups, and so reads logs, and may be overrun.
@@ -24,6 +25,7 @@ pub const RAW: Tool = Tool {
     name: "lines",
     words: &["varnishlog", "-g", "raw"],
     sink: "-",
+    there: b"",
     kept: Kept::FeedLines,
     groups: true,
 };
@@ -31,9 +33,8 @@ pub const RAW: Tool = Tool {
 pub const TRANSACTIONS: Tool = Tool {
     name: "transactions",
     words: &["varnishlog"],
-    sink: "-",
     kept: Kept::Groups,
-    groups: true,
+    ..RAW
 };
 
 pub const RAW_UNITS: Tool = Tool {
@@ -41,19 +42,25 @@ pub const RAW_UNITS: Tool = Tool {
     words: &["varnishlog", "-g", "raw", "-w", "out"],
     sink: "out",
     kept: Kept::Units,
-    groups: true,
+    ..RAW
 };
 
 pub const TRANSACTION_UNITS: Tool = Tool {
     name: "transactions as a log file",
     words: &["varnishlog", "-w", "out"],
-    sink: "out",
-    kept: Kept::Units,
-    groups: true,
+    ..RAW_UNITS
+};
+
+/// A log file that has the ping gets more units, and no second header.
+pub const MORE_UNITS: Tool = Tool {
+    name: "records behind those of a log file",
+    words: &["varnishlog", "-g", "raw", "-a", "-w", "out"],
+    there: PING_BYTES,
+    ..RAW_UNITS
 };
 
 /// All tools, in all forms of what they write.
-pub const TOOLS: [Tool; 13] = [
+pub const TOOLS: [Tool; 15] = [
     RAW,
     TRANSACTIONS,
     Tool {
@@ -61,7 +68,13 @@ pub const TOOLS: [Tool; 13] = [
         words: &["varnishlog", "-g", "request"],
         ..TRANSACTIONS
     },
+    Tool {
+        name: "sessions",
+        words: &["varnishlog", "-g", "session"],
+        ..TRANSACTIONS
+    },
     RAW_UNITS,
+    MORE_UNITS,
     TRANSACTION_UNITS,
     Tool {
         name: "requests as a log file",
@@ -85,7 +98,7 @@ pub const TOOLS: [Tool; 13] = [
         words: &["varnishncsa", "-w", "out"],
         sink: "out",
         kept: Kept::Lines,
-        groups: true,
+        ..RAW
     },
     Tool {
         name: "a report",
@@ -96,23 +109,23 @@ pub const TOOLS: [Tool; 13] = [
     Tool {
         name: "counters",
         words: &["varnishstat", "-1"],
-        sink: "-",
         kept: Kept::Counters,
         groups: false,
+        ..RAW
     },
     Tool {
         name: "counters as JSON",
         words: &["varnishstat", "-j", "-f", "MAIN.*req*"],
-        sink: "-",
         kept: Kept::Whole,
         groups: false,
+        ..RAW
     },
     Tool {
         name: "names of counters",
         words: &["varnishstat", "-l"],
-        sink: "-",
         kept: Kept::Whole,
         groups: false,
+        ..RAW
     },
 ];
 
@@ -120,7 +133,7 @@ pub const TOOLS: [Tool; 13] = [
 #[derive(Clone, Copy)]
 pub enum Content {
     Bytes(&'static [u8]),
-    /// A listing of twelve requests, each as long as a segment of 64 words, of VXIDs behind this one.
+    /// A listing of twelve requests of as many sessions, each as long as a segment of 64 words, of VXIDs behind this one.
     LongRequests(u32),
 }
 
@@ -274,6 +287,24 @@ pub const TURNS: Input = Input {
     before: &["--ring", "64", "--feed", "a", "--feed", "b", "--turns", "7"],
     ..FEEDS
 };
+
+/// Requests that are made, by themselves and in turns with a feed.
+pub const MADE: [Input; 2] = [
+    Input {
+        name: "made requests",
+        files: &[],
+        before: &["--ring", "1024", "--gen", "2,7", "--feed-first"],
+        ..FEEDS
+    },
+    Input {
+        name: "a feed and made requests, in turns",
+        files: &[("a", Content::Bytes(FIRST_FEED))],
+        before: &[
+            "--ring", "1024", "--feed", "a", "--gen", "1,7", "--turns", "5",
+        ],
+        ..FEEDS
+    },
+];
 
 pub const OVERRUN: Input = Input {
     name: "a feed, and then a reader that it overran",
