@@ -1,8 +1,8 @@
 """Runs the program where data can't say what is around it: full and closed streams, pipes, large files, little memory."""
 
+import contextlib
 import os
 import re
-import resource
 import subprocess
 import tempfile
 import threading
@@ -10,6 +10,7 @@ import time
 
 from vslog import HEADER, read_units, unit
 from checks.running import MOST_SECONDS, TOP, Failed, Run, run, same_run, same_text, temporary_folder
+from checks.streams import BUSY, CLOSED, FULL, GONE, NOTHING, limited, opened
 
 LOG, LINES, TRANSACTIONS = (TOP / f"examples/real-1.{kind}" for kind in ("vslog", "raw", "vxid"))
 ONE = TOP / "crates/vtools/data/f"
@@ -19,7 +20,6 @@ TWO = TOP / "cases/written/a_log_is_written_to_standard_output/data/f"
 ACCESS = TOP / "cases/real_traffic/real_traffic_has_access_lines/stdout"
 OVERRUNS = TOP / "cases/overruns"
 
-NOTHING, CLOSED, FULL, GONE = "nothing", "closed", "full", "a pipe whose reader has gone"  # streams
 TEXT = "         0 CLI            - Rd ping\n"
 COUNTED = "         1 CLI            Rd ping\n"
 LINE = '- - - - "- http://localhost HTTP/1.0" - - "-" "-"\n'
@@ -49,21 +49,11 @@ class Edges:
 
     def start(self, words, streams, memory=None):
         """Starts the program on words, with three streams: each a file, a pipe's end, or one of the words for them."""
-        ours = [open_stream(stream) for stream in streams]
-
-        def change():
-            for number, stream in enumerate(streams):
-                if stream is CLOSED:
-                    os.close(number)
-            if memory:
-                resource.setrlimit(resource.RLIMIT_AS, (memory << 10, memory << 10))
-
-        child = subprocess.Popen(words_of(self.program, words), cwd=self.folder, preexec_fn=change,
-                                 **dict(zip(["stdin", "stdout", "stderr"], ours)))
-        for stream, own in zip(streams, ours):
-            if isinstance(stream, str):
-                os.close(own)
-        return child
+        with contextlib.ExitStack() as stack:
+            ours = [stack.enter_context(opened(one)) if isinstance(one, str) else one for one in streams]
+            given = dict(zip(["stdin", "stdout", "stderr"], ours))
+            before = limited(streams, memory)
+            return subprocess.Popen(words_of(self.program, words), cwd=self.folder, preexec_fn=before, **given)
 
     def ended(self, what, child, wanted, out, errors):
         """Waits until the program ends, and compares what came out; of a stream that is no file nothing came."""
@@ -83,8 +73,8 @@ class Edges:
             self.ended(what, child, Run(status, as_bytes(stderr), as_bytes(stdout)), out_file, errors_file)
 
     def unwritten(self, words):
-        """Runs it where standard output is a pipe whose reader has gone, full, or closed."""
-        for out in GONE, FULL, CLOSED:
+        """Runs it where standard output is a pipe whose reader has gone or that is full, a full device, or closed."""
+        for out in GONE, BUSY, FULL, CLOSED:
             self.run(f"standard output {out}: {words}", words, 1, UNWRITTEN, out=out)
 
     def unheard(self, what, status, stdout, words):
@@ -105,19 +95,6 @@ class Edges:
 
 def words_of(program, words):
     return [program, *(words.split() if isinstance(words, str) else words)]
-
-
-def open_stream(stream):
-    """A stream of the program: a file, or what a word stands for."""
-    if stream == GONE:
-        reading, writing = os.pipe()
-        os.close(reading)
-        return writing
-    if stream == FULL:
-        return os.open("/dev/full", os.O_WRONLY)
-    if isinstance(stream, str):
-        return os.open("/dev/null", os.O_RDWR)
-    return stream
 
 
 def bytes_of(file):

@@ -37,15 +37,16 @@ def check_program(path):
         raise Failed(f"{path} is missing: run rt ci first")
 
 
-def run(words, folder=TOP, stdin=b""):
-    """Runs a command in a folder, over these bytes."""
+def run(words, folder=TOP, stdin=b"", stdout=subprocess.PIPE, stderr=subprocess.PIPE, before=None):
+    """Runs a command in a folder, over these bytes, after what it does before; of a stream that is given nothing came."""
+    streams = {"input": stdin, "stdout": stdout, "stderr": stderr}
     try:
-        done = subprocess.run(words, cwd=folder, input=stdin, capture_output=True, timeout=MOST_SECONDS)
+        done = subprocess.run(words, cwd=folder, timeout=MOST_SECONDS, preexec_fn=before, **streams)
     except OSError as error:
         raise Failed(f"{shown(words)}: {error.strerror}") from None
     except subprocess.TimeoutExpired:
         raise Failed(f"{shown(words)}: it hasn't ended after {MOST_SECONDS} seconds") from None
-    return Run(done.returncode, done.stderr, done.stdout)
+    return Run(done.returncode, done.stderr or b"", done.stdout or b"")
 
 
 def made_by(script, *words):

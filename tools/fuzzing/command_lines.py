@@ -1,31 +1,59 @@
 """Cases that run the program on words over files, beside tools/reference/vtools.py."""
 
+import base64
+import gzip
 import os
 import shlex
 import shutil
 import typing
 
 import vtools
-from checks.running import Failed, Run, run, same_run, same_tree, tree, write_tree
+from checks.running import Failed, Run, same_run, same_tree, tree, write_tree
+from checks.streams import BUSY, CLOSED, FILE, FULL, GONE, run_over
 from fuzzing.files import Bytes
 
 MOST_TOLD = 4000  # bytes of the records of a log
+MOST_SPELLED = 50000  # signs of a word
+REDIRECTIONS = {
+    FULL: "{0}>/dev/full", CLOSED: "{0}>&-", GONE: "{0}> >(:)", FILE: "{0}>FILE{0}", BUSY: f"{{0}}> ({BUSY})",
+}
+
+
+class Streams(typing.NamedTuple):
+    """What standard output and standard error are, where not all is taken, and how many bytes a file may have."""
+
+    out: str = ""
+    errors: str = ""
+    most: int | None = None
+
+    def room(self):
+        rooms = [{"": None, FILE: self.most}.get(stream, 0) for stream in (self.out, self.errors)]
+        return vtools.Room(*rooms, self.most)
+
+    def shown(self, command):
+        """The command as a shell runs it over these."""
+        limit = f"trap '' XFSZ; prlimit --fsize={self.most} " if self.most is not None else ""
+        wait = "sleep 1; " if GONE in self else ""  # until no reader is there
+        command = f"({wait}{limit}{command})" if wait or limit else command
+        given = [(number, stream) for number, stream in ((1, self.out), (2, self.errors)) if stream]
+        return " ".join([command, *(REDIRECTIONS[stream].format(number) for number, stream in given)])
 
 
 class CommandLine(typing.NamedTuple):
-    """Words, the files of the folder where they run by their names, and standard input."""
+    """Words, the files of the folder where they run by their names, standard input, and the other streams."""
 
     words: list
     files: dict = {}
     stdin: typing.Any = Bytes(b"")
+    streams: Streams = Streams()
 
     def difference(self, program, folder):
         """How what comes out differs from what must; None where it doesn't."""
         files, stdin = {name: file.data() for name, file in self.files.items()}, self.stdin.data()
-        wanted = vtools.came(self.words, files, stdin)
+        wanted = vtools.came(self.words, files, stdin, self.streams.room())
         try:
             write_tree(folder, files)
-            came = run([program, *self.words], folder, stdin)
+            came = run_over([program, *self.words], folder, stdin, *self.streams)
             same_run("the run", Run(*wanted[:3]), came)
             same_tree("the folder", wanted.files, tree(folder))
         except Failed as failed:
@@ -35,7 +63,8 @@ class CommandLine(typing.NamedTuple):
         return None
 
     def parts(self):
-        """The files, the parts of each, the words, and the signs of each."""
+        """The streams, the files, the parts of each, the words, and the signs of each."""
+        yield list(self.streams._asdict().items()), lambda left: self._replace(streams=Streams(**dict(left)))
         yield list(self.files), lambda left: self._replace(files={name: self.files[name] for name in left})
         for name, file in self.files.items():
             for part, put in file.parts():
@@ -51,10 +80,10 @@ class CommandLine(typing.NamedTuple):
         lines, told = [], b""
         for name, file in self.files.items():
             data = file.data()
-            lines.append(f"mkdir {quoted(name)}" if data is None else f"printf {spelled(data)} >{quoted(name)}")
+            lines.append(f"mkdir {quoted(name)}" if data is None else f"{printing(data)} >{quoted(name)}")
             told += file.told()
-        piped = f"printf {spelled(self.stdin.data())} | " if self.stdin.data() else ""
-        lines.append(piped + " ".join(["vtools", *map(quoted, self.words)]))
+        piped = f"{printing(self.stdin.data())} | " if self.stdin.data() else ""
+        lines.append(piped + self.streams.shown(" ".join(["vtools", *map(quoted, self.words)])))
         records = (told + self.stdin.told())[:MOST_TOLD].decode(errors="backslashreplace")
         return "\n".join(lines) + (f"\nwith the records\n{records}".rstrip() if records else "")
 
@@ -70,6 +99,14 @@ def quoted(word):
     if word.isprintable():
         return shlex.quote(word)
     return "$" + spelled(os.fsencode(word)).replace("%%", "%")
+
+
+def printing(data):
+    """A command of a shell that prints bytes."""
+    text = spelled(data)
+    if len(text) <= MOST_SPELLED:
+        return f"printf {text}"
+    return f"echo {base64.b64encode(gzip.compress(data)).decode()} | base64 -d | gunzip"
 
 
 def spelled(data):

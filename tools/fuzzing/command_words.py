@@ -11,7 +11,7 @@ VALUES = {
     "q": ["End", "Begin ~ req", "RespStatus >= 500", "Foo", "%", ""],
     "Q": ["q", "missing", "folder", "f", "-", "long"],
     "r": ["f", "f", "f", "-", "cut", "missing", "folder", "a", ""],
-    "w": ["out", "old", "-", "folder", "no/such", "f", ""],
+    "w": ["out", "old", "-", "folder", "no/such", "f", "/dev/full", ""],
     "F": ["%s", "%{Host}i %b", "%Z", "", "%h %"],
     "f": ["*", "MAIN.cache_*", "cache_hit", ""],
 }

@@ -2,11 +2,13 @@
 
 import struct
 
+from checks.streams import BUSY, CLOSED, FILE, FULL, GONE
 from fuzzing import command_words, listings, logs, texts
-from fuzzing.command_lines import CommandLine
+from fuzzing.command_lines import CommandLine, Streams
 from fuzzing.engine import Kind
 from fuzzing.files import Bytes, Folder, Log
 from fuzzing.partitions import Partition
+from vtools import FULL_DEVICE
 from words import GROUPINGS
 
 MOST_LIMIT, MOST_TIMEOUT = 14, 5
@@ -157,6 +159,33 @@ def top(draw, _):
     yield of_log("varnishtop", *words, *asks, *limits(draw), "-g", draw.choice(GROUPINGS), log=Log(logs.any_log(draw)))
 
 
+def wide(draw, _):
+    """A log with a wide unit, whole or cut: as lines or groups, as units that are written, as access lines, a report."""
+    log = Log(logs.wide(draw))
+    file = Bytes(changed(draw, log.data())) if draw.randrange(6) == 0 else log
+    rules = texts.rule(draw) if draw.randrange(4) == 0 else []
+    some = draw.choice([[], [], limits(draw), asked([texts.of_query(draw, 2)])])
+    groups = ["-g", draw.choice(GROUPINGS)]
+    written = draw.choice([[], ["-w", "out"], ["-w", "out"], ["-aw", "out"], ["-Aw", "out"]])
+    lines = ["varnishlog", *groups, *rules, *some, *written]
+    report = ["varnishtop", "-1", *groups, *rules, *some]
+    words = draw.choice([lines, lines, lines, report, ["varnishncsa", "-bE", *some]])
+    old = {"out": Bytes(b"old")} if draw.randrange(4) == 0 else {}
+    yield CommandLine([*words, "-r", "f"], {"f": file} | old)
+
+
+def unwritten(draw, _):
+    """A command line of another kind, where streams or files take nothing, or so many bytes."""
+    made = draw.choice([regular, regular, cut, words, queries, formats, *[selection] * 3, *[fed] * 4, top])
+    case = draw.choice(list(made(draw, 0)))
+    if draw.randrange(4) == 0:
+        case = case._replace(words=[FULL_DEVICE if word == "out" else word for word in case.words])
+    most = draw.choice([None, None, 0, 1, 8, draw.randrange(60), draw.randrange(600), draw.randrange(3000)])
+    takes = [FULL, CLOSED, GONE, BUSY] if most is None else [FILE] * 7 + [FULL]
+    out, errors = draw.choice([*takes, ""]), draw.choice([*takes, *[""] * len(takes)])
+    yield case._replace(streams=Streams(out, errors, most))
+
+
 def parted(draw, _):
     """The groups of a regular and calm log, and of one that was made up without a rule."""
     for made in logs.regular, logs.unruly:
@@ -175,5 +204,7 @@ KINDS = {
     "selection": Kind("what is shown, and what is written of it", selection),
     "listings": Kind("feeds, their bad lines and cuts, overruns, and counters", fed),
     "top": Kind("reports of varnishtop", top),
+    "wide": Kind("units of more words than those that are written, up to the most that are read", wide, 40),
+    "unwritten": Kind("streams and files that are full or closed, at once or behind some bytes", unwritten, 400),
     "partition": Kind("groups of whole logs, told at once; no program runs", parted, 4000, claimed=0.25),
 }

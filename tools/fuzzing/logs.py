@@ -1,7 +1,8 @@
 """Logs that are made up from draws: hostile ones, regular ones, and such as a server writes."""
 
 from decimals import PART
-from vslog import MOST_VXID
+from vslog import MOST_VXID, MOST_WORDS, unit_words
+from written_logs import MOST_WORDS as MOST_WRITTEN
 
 MOST_UNITS, MOST_RECORDS = 40, 5
 OTHERS = [
@@ -194,6 +195,40 @@ def served(draw, most=6):
         begins, ends = [begun] * (draw.randrange(10) > 0), [("End", b"")] * (draw.randrange(10) > 0)
         lists[vxid] = [*begins, *records, *ends] or [begun]
     return mixed(draw, lists)
+
+
+# Words of a unit: about as many as one has that is written, or two, and about as many as one has that is read.
+WIDE = [MOST_WRITTEN + more for more in (-1, 0, 1, 2, 3, 4464)] + [2 * MOST_WRITTEN + more for more in (-2, -1, 0, 1)]
+WIDEST = [MOST_WORDS + more for more in (-1, 0, 0, 1, 2)]
+LONG, SHORT = [1002, 1002, 1001, 700], [1002, 257, 33, 6, 3, 2]  # words of a record
+LONGEST = 1002
+
+
+def filled(draw, words, long):
+    """Records of exactly so many words."""
+    size = draw.choice(LONG if long else SHORT)
+    count = (words - 2) // size
+    rest = words - size * count
+    rests = [rest] if rest <= LONGEST else [2, rest - 2]
+    letter = draw.choice([b"a", b"b", b"\xe9", b"\x01"])
+    body = [of_words(draw, size, letter)] * count
+    return body + [of_words(draw, size, letter) for size in rests]
+
+
+def of_words(draw, words, letter):
+    """A record of so many words."""
+    return draw.choice(["VCL_Log", "ReqURL", "Debug"]), letter * max(4 * (words - 2) - draw.choice([0, 0, 1, 3]), 0)
+
+
+def wide(draw):
+    """A log with a unit that is wider than those that are written, seldom with one as wide as any that is read."""
+    vxid, mark, is_widest = draw.choice([1, 7, MOST_VXID]), draw.choice("ccb-"), draw.randrange(6) == 0
+    begins = draw.choice([[("Begin", b"req 0 rxreq")], [("Begin", b"bereq 3 fetch")], []])
+    ends = draw.choice([[("End", b"")], [("End", b"")], []])
+    words = draw.choice(WIDEST if is_widest else WIDE) - unit_words(begins + ends)
+    before = draw.choice([[], [(vxid, draw.choice("cb-"), [draw.choice(OTHERS)])], [(2, "c", [("End", b"")])]])
+    behind = draw.choice([[], [(vxid, mark, [("End", b"")])], [(0, "-", [("CLI", b"Rd ping")]), (2, "b", [OTHERS[0]])]])
+    return [*before, (vxid, mark, begins + filled(draw, words, is_widest) + ends), *behind]
 
 
 def any_log(draw):

@@ -9,6 +9,7 @@ of patterns that patterns.py doesn't read. What `-w` names is kept, and isn't wr
 to be fast.
 """
 
+import contextlib
 import itertools
 import pathlib
 import sys
@@ -34,6 +35,7 @@ MOST_QUERY_BYTES, MOST_FEED_BYTES = 65536, 16777216
 RING, RECLEN = 65536, 255
 SAFE_SEGMENTS = 6  # a ring with fewer words than they have overruns no reader
 OF_THREADS = {"shm_cont", "shm_cycles"}  # counters of several feeds that threads may give other values
+FULL_DEVICE = "/dev/full"
 
 
 class Came(typing.NamedTuple):
@@ -45,12 +47,34 @@ class Came(typing.NamedTuple):
     files: dict
 
 
-class Run:
-    """A job, the files around it, and what was printed so far."""
+class Room(typing.NamedTuple):
+    """How many bytes standard output, standard error and a file of -w may have; None for as many as come."""
 
-    def __init__(self, words, files, stdin):
-        self.words, self.files, self.stdin = words, dict(files), stdin
-        self.stdout, self.stderr = b"", b""
+    out: int | None = None
+    errors: int | None = None
+    file: int | None = None
+
+
+class Sink:
+    """Where bytes go: its name in a message, what it has, and how many bytes it may have."""
+
+    def __init__(self, name, most, has=b""):
+        self.name, self.most, self.has = name, most, bytearray(has)
+
+    def write(self, text):
+        """Takes a text, or as much of it as there is room for, and then Refused."""
+        room = len(text) if self.most is None else max(self.most - len(self.has), 0)
+        self.has += text[:room]
+        if room < len(text):
+            raise Refused(f"vtools: {self.name}: write failed", 1)
+
+
+class Run:
+    """A job, the files around it, and where it writes to: standard output, standard error, and a file of -w or None."""
+
+    def __init__(self, words, files, stdin, room):
+        self.words, self.files, self.stdin, self.room = words, dict(files), stdin, room
+        self.stdout, self.stderr, self.file = Sink("-", room.out), Sink("stderr", room.errors), None
 
     def came(self):
         """All that comes of the words."""
@@ -58,9 +82,11 @@ class Run:
         try:
             self.go(words_of.read(self.words))
         except Refused as refused:
-            self.stderr += f"{refused}\n".encode(errors="surrogateescape")
             status = refused.status
-        return Came(status, self.stderr, self.stdout, self.files)
+            with contextlib.suppress(Refused):
+                self.stderr.write(f"{refused}\n".encode(errors="surrogateescape"))
+        written = {self.file.name: bytes(self.file.has)} if self.file else {}
+        return Came(status, bytes(self.stderr.has), bytes(self.stdout.has), self.files | written)
 
     def go(self, job):
         if job.tool == "varnishstat":
@@ -124,11 +150,20 @@ class Run:
             raise Refused(f"vtools: {name}: {damage}", 1) from None
 
     def sink(self, job, output):
-        """Makes the file of -w, and writes the output's first bytes: its name, or None for standard output."""
+        """Standard output or the file of -w, with the output's first bytes where it has none."""
         name = job.values.get("-w", "-")
         if name == "-":
-            self.stdout += output.head
-            return None
+            sink = self.stdout
+        elif name == FULL_DEVICE:
+            sink = Sink(name, 0)
+        else:
+            sink = self.file = self.created(name, job)
+        if not sink.has:
+            sink.write(output.head)
+        return sink
+
+    def created(self, name, job):
+        """The file that -w names."""
         if name == job.values.get("-r"):
             raise NotClaimed
         if name not in self.files and ("/" in name or name in ("", ".", "..")):
@@ -136,29 +171,21 @@ class Run:
             raise Refused(f"vtools: {name}: cannot open", 1)
         if name in self.files and self.files[name] is None:
             raise Refused(f"vtools: {name}: cannot open", 1)
-        kept = self.files.get(name, b"") if "a" in job.flags else b""
-        self.files[name] = kept or output.head
-        return name
-
-    def write(self, sink, text):
-        if sink is None:
-            self.stdout += text
-        else:
-            self.files[sink] += text
+        return Sink(name, self.room.file, self.files.get(name, b"") if "a" in job.flags else b"")
 
     def groups(self, job, queries, items, output, sink):
         """Takes item by item, up to the last group that is kept, and writes what is due."""
         table = Table(job.grouping(), job.values.get("-L", LIMIT), job.values.get("-T", TIMEOUT))
         is_taken = lambda group: not queries or any(holds(group) for holds in queries)
         for group in itertools.islice(filter(is_taken, self.completed(table, items)), job.values.get("-k")):
-            self.write(sink, output.group(group))
-        self.write(sink, output.end())
+            sink.write(output.group(group))
+        sink.write(output.end())
 
     def completed(self, table, items):
         """The groups that each item completes, and at the end those of the flush."""
         for item in items:
             if isinstance(item, schedules.Overrun):
-                self.stderr += schedules.messages([item]).encode()
+                self.stderr.write(schedules.messages([item]).encode())
                 yield from table.flush()
             else:
                 yield from table.take_unit(*item)
@@ -168,13 +195,13 @@ class Run:
         """Puts all feeds, and prints names or counters."""
         listings = self.listings(job)
         if "l" in job.flags:
-            self.stdout += counters.name_lines(job.globs).encode()
+            self.stdout.write(counters.name_lines(job.globs).encode())
             return
         if job.order is None and len(listings) > 1 and OF_THREADS & set(counters.selected(job.globs)):
             raise NotClaimed
         values = counters.replayed_values(listings, job.values.get("--ring", RING), seed_of(job))
         printed = counters.json_text if "j" in job.flags else counters.text_lines
-        self.stdout += printed(values, job.globs).encode()
+        self.stdout.write(printed(values, job.globs).encode())
 
 
 def is_same_in_any_order(job):
@@ -253,9 +280,9 @@ class Report:
 OUTPUTS = {"varnishlog": Lines, "varnishncsa": AccessLines, "varnishtop": Report}
 
 
-def came(words, files, stdin=b""):
+def came(words, files, stdin=b"", room=Room()):
     """What comes of the words in a folder with these files; NotClaimed where nothing is said of it."""
-    return Run(words, files, stdin).came()
+    return Run(words, files, stdin, room).came()
 
 
 def main():
