@@ -30,6 +30,7 @@ UNWRITTEN = "vtools: -: write failed\n"
 NO_MEMORY = "vtools: out of memory\n"
 MOST_BYTES = 16777216  # of a feed
 LITTLE = 30000  # KiB of address space
+KEYS, IN_A_UNIT = 300_000, 1000  # different texts of a report, and how many of them come together
 
 
 class Edges:
@@ -215,6 +216,25 @@ def written(edges):
     edges.run("a folder that is to be written", "varnishlog -w . -r one.log", 1, "vtools: .: cannot open\n")
 
 
+def left_alone(edges):
+    """The reader of a pipe that is written takes the header and goes: the first unit can't be written."""
+    what, header, until = "a pipe that is written, whose reader goes", b"", time.monotonic() + MOST_SECONDS
+    pipe = os.open(edges.folder / "pipe", os.O_RDONLY | os.O_NONBLOCK)
+    with tempfile.TemporaryFile() as out, tempfile.TemporaryFile() as errors_file:
+        reading, writing = os.pipe()
+        child = edges.start("varnishlog -g raw -w pipe -r -", [reading, out, errors_file])
+        os.close(reading)
+        while header != HEADER and time.monotonic() < until:
+            time.sleep(0.02)
+            with contextlib.suppress(BlockingIOError):
+                header += os.read(pipe, len(HEADER))
+        os.close(pipe)
+        same_text(f"{what}: what came before", HEADER, header)
+        os.write(writing, ONE.read_bytes())
+        os.close(writing)
+        edges.ended(what, child, Run(1, b"vtools: pipe: write failed\n", b""), out, errors_file)
+
+
 def wide(edges):
     """A transaction of 128 records of 4,000 bytes is written as units of 65 records and of 63 with the flush."""
     ((vxid, mark, (record,)),) = read_units(LONG.read_bytes())
@@ -223,6 +243,18 @@ def wide(edges):
     added = [("VSL", b"flush"), ("End", b"synth")]
     units = unit(vxid, mark, [record] * 65) + unit(vxid, mark, [record] * 63 + added)
     edges.is_file("a wide transaction", "wide", HEADER + units)
+
+
+def keys(edges):
+    """Of 300,000 different texts some come twice: these are first, and then the others by their bytes."""
+    texts = [b"/%d" % (at * 7919 % KEYS) for at in range(KEYS)]
+    twice = set(texts[::IN_A_UNIT])
+    units = [texts[at : at + IN_A_UNIT] for at in range(0, KEYS, IN_A_UNIT)]
+    edges.write("keys.log", HEADER, *(unit(0, "-", [("ReqURL", text) for text in part]) for part in [*units, twice]))
+    ordered = [(2, text) for text in sorted(twice)] + [(1, text) for text in sorted(set(texts) - twice)]
+    report = b"".join(b"%10d ReqURL         %s\n" % counted for counted in ordered)
+    edges.run("a report of 300,000 texts", "varnishtop -1 -g raw -r keys.log", stdout=report)
+    (edges.folder / "keys.log").unlink()
 
 
 def memory(edges):
@@ -480,8 +512,9 @@ def cut_short(edges):
             edges.count += 1
 
 
-CHECKS = [outputs, errors, no_streams, pipes, large, written, wide, memory, cut, overruns, feed_errors, feed_outputs,
-          no_streams_for_feeds, feed_pipes, large_feeds, feed_memory, feeds_written, cut_short]
+CHECKS = [outputs, errors, no_streams, pipes, large, written, left_alone, wide, keys, memory, cut, overruns,
+          feed_errors, feed_outputs, no_streams_for_feeds, feed_pipes, large_feeds, feed_memory, feeds_written,
+          cut_short]
 
 
 def check(program):

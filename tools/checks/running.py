@@ -38,7 +38,7 @@ def check_program(path):
 
 
 def run(words, folder=TOP, stdin=b"", stdout=subprocess.PIPE, stderr=subprocess.PIPE, before=None):
-    """Runs a command in a folder, over these bytes, after what it does before; of a stream that is given nothing came."""
+    """Runs a command in a folder, over these bytes, after what is to be done before; of a given stream nothing came."""
     streams = {"input": stdin, "stdout": stdout, "stderr": stderr}
     try:
         done = subprocess.run(words, cwd=folder, timeout=MOST_SECONDS, preexec_fn=before, **streams)

@@ -59,8 +59,10 @@ def run_over(words, folder, stdin, out, errors, most):
 
 
 def limited(streams, memory=None, most=None):
-    """What a program does before it begins: of its three streams those close that are to be closed, it has so many KiB of
-    address space, and a file that it writes has at most so many bytes, past which a write fails."""
+    """What a program does before it begins: it closes streams, and limits itself.
+
+    It has so many KiB of address space, and a file that it writes so many bytes at most, past which a write fails.
+    """
 
     def before():
         for number, stream in enumerate(streams):

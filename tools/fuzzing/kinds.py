@@ -160,7 +160,7 @@ def top(draw, _):
 
 
 def wide(draw, _):
-    """A log with a wide unit, whole or cut: as lines or groups, as units that are written, as access lines, a report."""
+    """A log with a wide unit, whole or cut: as lines or groups, as written units, as access lines, as a report."""
     log = Log(logs.wide(draw))
     file = Bytes(changed(draw, log.data())) if draw.randrange(6) == 0 else log
     rules = texts.rule(draw) if draw.randrange(4) == 0 else []
