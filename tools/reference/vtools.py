@@ -287,8 +287,9 @@ def came(words, files, stdin=b"", room=Room()):
 
 def main():
     words = sys.argv[1:]
-    named = {word: pathlib.Path(word) for word in words if word and pathlib.Path(word).exists()}
-    files = {word: None if path.is_dir() else path.read_bytes() for word, path in named.items()}
+    named = {word: pathlib.Path(word) for word in words if word}
+    files = {word: path.read_bytes() for word, path in named.items() if path.is_file()}
+    files |= {word: None for word, path in named.items() if path.is_dir()}
     try:
         found = came(words, files, sys.stdin.buffer.read() if "-" in words else b"")
     except NotClaimed:
