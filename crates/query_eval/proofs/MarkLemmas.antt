@@ -1,8 +1,9 @@
 -- Marks, of which levels are left aside, and the truths of tests by them.
-use Rattle.std.proofs.Common.{◌≡◌, ℕ, not, ◌&&◌, ◌||◌, Bool, true, false, List, [], ◌∷◌, ◌++◌, map, refl, sym, ap, ◌∙◌}
+use Rattle.std.proofs.Common.{◌≡◌, ℕ, ◌+◌, ◌<◌, not, ◌&&◌, ◌||◌, Bool, true, false, List, [], ◌∷◌, ◌++◌, length, map, take, get_or, refl, sym, ap, ◌∙◌, arith}
 use Rattle.std.proofs.lemmas.List.{append-nil}
-use Rattle.std.proofs.lemmas.List.Folds.{list_any-append}
+use Rattle.std.proofs.lemmas.List.Folds.{list_any-append, list_any_more}
 use Rattle.std.specs.List.{list_any}
+use Rattle.vsl_tags.specs.TagSet.{has_tag}
 use Rattle.vsl_record.specs.declared.record_type.Record.{Record}
 use Rattle.txn_rows.specs.declared.group.Group.{Group}
 use Rattle.txn_rows.specs.declared.group.Member.{Member}
@@ -37,6 +38,15 @@ or_first false b c d e = e
 pub any_more : {A : Type 0} (p : A → Bool) (xs : List A) (x : A) → (list_any p xs || p x) ≡ list_any p (xs ++ x ∷ [])
 any_more p [] x = or_none (p x)
 any_more p (y ∷ xs) x = or_first (p y) (list_any p xs) (p x) (list_any p (xs ++ x ∷ [])) (any_more p xs x)
+
+-- a record of a tag that a test doesn't select satisfies it no more than those before
+pub passed_more : (test : Test) (records : List Record) (i tag : ℕ) → i < length records → ((rec : Record) → tag ≡ (get_or records i rec).tag) → has_tag test.criterion.tags tag ≡ false →
+    list_any (record_marks test) (take (i + 1) records) ≡ list_any (record_marks test) (take i records)
+passed_more test [] i tag within is unselected = absurd (omega (arith, within))
+passed_more test (r ∷ records) i tag within is unselected =
+    list_any_more (record_marks test) (r ∷ records) i r within
+    ∙ ap (λ (b : Bool). list_any (record_marks test) (take i (r ∷ records)) || b) (rw (← is r, unselected) refl)
+    ∙ sym (or_none (list_any (record_marks test) (take i (r ∷ records))))
 
 joined_maps : {A : Type 0} (f g h : A → Bool) (xs : List A) → ((x : A) → (f x || g x) ≡ h x) → joined (map f xs) (map g xs) ≡ map h xs
 joined_maps f g h [] same = refl

@@ -1,6 +1,6 @@
 //! Asking a test of a group, of records, or of a record.
 
-ghost use Rattle.std.specs.Prelude.{◌≡◌, IfOk};
+ghost use Rattle.std.specs.Prelude.{◌≡◌, ◌≤◌, length, take, IfOk};
 ghost use Rattle.std.specs.List.{list_any};
 ghost use Rattle.query_eval.specs.Meaning.{group_satisfies, member_satisfies, record_marks, subject, subject_satisfies};
 ghost use Rattle.query_eval.specs.Asking.{IsReady};
@@ -50,6 +50,21 @@ fn member_satisfies<'t>(
     records_mark(alloc, test, matching, &member.records.view())
 }
 
+/// The place of the first record from a place on that is of one of the test's tags, or the number of records. No payload
+/// is looked at.
+fn next_of(test: &Test, records: &RecordsView<'_>, from: usize) -> usize
+    requires { from ≤ length records.now }
+    ensures behind { from ≤ result }
+    ensures passed { list_any (record_marks test.now) (take result records.now) ≡ list_any (record_marks test.now) (take from records.now) }
+{
+    for i in from..records.len() {
+        if test.criterion.tags.has(records.tag(i)) {
+            return i;
+        }
+    }
+    records.len()
+}
+
 /// Whether some record satisfies the test, its level left aside.
 pub(crate) fn records_mark<'t>(
     alloc: Global,
@@ -61,10 +76,12 @@ pub(crate) fn records_mark<'t>(
     ensures answer { IfOk result (λ b. b ≡ list_any (record_marks test.now) records.now) }
     ensures ready { IsReady test.now.check matching.new }
 {
-    for i in 0..records.len() {
-        if record_marks(alloc, test, matching, &records.get(i))? {
+    let mut at = next_of(test, records, 0);
+    while at < records.len() {
+        if record_marks(alloc, test, matching, &records.get(at))? {
             return Ok(true);
         }
+        at = next_of(test, records, at + 1);
     }
     Ok(false)
 }
