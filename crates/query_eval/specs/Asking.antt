@@ -1,5 +1,5 @@
 -- What asks the pattern of a test: it is made once, and kept (this project's choice).
-use Rattle.std.specs.Prelude.{◌≡◌, Option, None, IfSome}
+use Rattle.std.specs.Prelude.{◌≡◌, Bool, true, false, Option, None, IfSome}
 use Rattle.vsl_pattern.specs.declared.pattern.Pattern.{Pattern}
 use Rattle.vsl_pattern.specs.declared.pattern.Matching.{Matching}
 use Rattle.query_parser.specs.declared.test.Check.{Check}
@@ -17,3 +17,10 @@ IsReady checks.Selected matching = matching ≡ None
 IsReady (checks.Number comparison operand whole) matching = matching ≡ None
 IsReady (checks.Text equal caseless operand) matching = matching ≡ None
 IsReady (checks.Pattern matches pattern) matching = IfSome matching (IsMatchingOf pattern)
+
+-- a check asks a pattern
+abbrev pub has_pattern : Check → Bool
+has_pattern checks.Selected = false
+has_pattern (checks.Number comparison operand whole) = false
+has_pattern (checks.Text equal caseless operand) = false
+has_pattern (checks.Pattern matches pattern) = true

@@ -154,7 +154,7 @@ pub struct Asker<'q> {
 }
 
 impl<'q> Asker<'q> {
-    ghost use Rattle.std.specs.Prelude.{◌++◌, false};
+    ghost use Rattle.std.specs.Prelude.{◌++◌, true, false, IsOk};
     ghost use Rattle.vsl_record.specs.declared.record_type.Record.{Record};
     ghost use Rattle.query_eval.specs.Asker.{asker_query};
     ghost use Rattle.query_eval.specs.Meaning.{is_held};
@@ -192,6 +192,7 @@ impl<'q> Asker<'q> {
     /// Source: vsl-query(7), "Query Expressions".
     pub fn holds(&mut self, group: &Group) -> Result<bool, AllocError>
         ensures answer { IfOk result (λ b. b ≡ is_held (asker_query self.old) group.now) }
+        ensures always { (asker_query self.old).always ≡ true → IsOk result }
         ensures same { asker_query self.new ≡ asker_query self.old }
     {
         if self.query.always {

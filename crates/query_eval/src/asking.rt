@@ -1,9 +1,9 @@
 //! Asking a test of a group, of records, or of a record.
 
-ghost use Rattle.std.specs.Prelude.{◌≡◌, ◌≤◌, length, take, IfOk};
+ghost use Rattle.std.specs.Prelude.{◌≡◌, ◌≤◌, false, length, take, IfOk, IsOk};
 ghost use Rattle.std.specs.List.{list_any};
 ghost use Rattle.query_eval.specs.Meaning.{group_satisfies, member_satisfies, record_marks, subject, subject_satisfies};
-ghost use Rattle.query_eval.specs.Asking.{IsReady};
+ghost use Rattle.query_eval.specs.Asking.{IsReady, has_pattern};
 
 use crate::check::satisfies;
 use crate::selection::{meets_level, subject};
@@ -23,6 +23,7 @@ pub(crate) fn group_satisfies<'t>(
 ) -> Result<bool, AllocError>
     requires ready { IsReady test.now.check matching.old }
     ensures answer { IfOk result (λ b. b ≡ group_satisfies group.now test.now) }
+    ensures answered { has_pattern test.now.check ≡ false → IsOk result }
     ensures ready { IsReady test.now.check matching.new }
 {
     for member in group.members.as_slice() {
@@ -42,6 +43,7 @@ fn member_satisfies<'t>(
 ) -> Result<bool, AllocError>
     requires ready { IsReady test.now.check matching.old }
     ensures answer { IfOk result (λ b. b ≡ member_satisfies test.now member.now) }
+    ensures answered { has_pattern test.now.check ≡ false → IsOk result }
     ensures ready { IsReady test.now.check matching.new }
 {
     if !meets_level(test.criterion.level, member.level) {
@@ -74,6 +76,7 @@ pub(crate) fn records_mark<'t>(
 ) -> Result<bool, AllocError>
     requires ready { IsReady test.now.check matching.old }
     ensures answer { IfOk result (λ b. b ≡ list_any (record_marks test.now) records.now) }
+    ensures answered { has_pattern test.now.check ≡ false → IsOk result }
     ensures ready { IsReady test.now.check matching.new }
 {
     let mut at = next_of(test, records, 0);
@@ -95,6 +98,7 @@ pub(crate) fn record_marks<'t>(
 ) -> Result<bool, AllocError>
     requires ready { IsReady test.now.check matching.old }
     ensures answer { IfOk result (λ b. b ≡ record_marks test.now rec.now) }
+    ensures answered { has_pattern test.now.check ≡ false → IsOk result }
     ensures ready { IsReady test.now.check matching.new }
 {
     if !test.criterion.tags.has(rec.tag()) {
@@ -112,6 +116,7 @@ fn payload_marks<'t>(
 ) -> Result<bool, AllocError>
     requires ready { IsReady test.now.check matching.old }
     ensures answer { IfOk result (λ b. b ≡ subject_satisfies test.now.check (subject test.now.criterion payload.now)) }
+    ensures answered { has_pattern test.now.check ≡ false → IsOk result }
     ensures ready { IsReady test.now.check matching.new }
 {
     match subject(&test.criterion, payload) {

@@ -1,13 +1,13 @@
 //! What is asked of a text.
 
-ghost use Rattle.std.specs.Prelude.{◌≡◌, IfOk, OnOk, IfSome, None};
+ghost use Rattle.std.specs.Prelude.{◌≡◌, false, IfOk, OnOk, IsOk, IfSome, None};
 ghost use Rattle.std.specs.Ordering.{int_cmp};
 ghost use Rattle.std.specs.Str.{bytes_eq};
 ghost use Rattle.vsl_decimal.specs.Decimal.{decimal_of};
 ghost use Rattle.vsl_decimal.specs.Prefix.{trimmed};
 ghost use Rattle.vsl_pattern.specs.Patterns.{is_match, pattern_text, pattern_caseless};
 ghost use Rattle.query_eval.specs.Meaning.{compared, compares, folded, is_so, number_satisfies, satisfies};
-ghost use Rattle.query_eval.specs.Asking.{IsMatchingOf, IsReady};
+ghost use Rattle.query_eval.specs.Asking.{IsMatchingOf, IsReady, has_pattern};
 
 use query_parser::{Check, Comparison};
 use std::alloc::{AllocError, Global};
@@ -24,6 +24,7 @@ pub(crate) fn satisfies<'c>(
 ) -> Result<bool, AllocError>
     requires ready { IsReady check.now matching.old }
     ensures answer { IfOk result (λ b. b ≡ satisfies check.now text.now) }
+    ensures answered { has_pattern check.now ≡ false → IsOk result }
     ensures ready { IsReady check.now matching.new }
 {
     match check {

@@ -1,8 +1,10 @@
 //! Asking a query of a group.
 
-ghost use Rattle.std.specs.Prelude.{◌≡◌, ◌∷◌, [], IfOk, IfSome};
+ghost use Rattle.std.specs.Prelude.{◌≡◌, ◌≢◌, ◌∷◌, [], true, false, IfOk, IsOk, IfSome, IfNone};
 ghost use Rattle.query_grammar.specs.declared.step.StepOver.TheVariants as kinds;
+ghost use Rattle.query_parser.specs.declared.test.Test.{Test as AsTest};
 ghost use Rattle.query_eval.specs.Meaning.{is_held};
+ghost use Rattle.query_eval.specs.Asking.{has_pattern};
 
 use crate::asker::Asker;
 use crate::asking::group_satisfies;
@@ -16,7 +18,9 @@ use txn_rows::Group;
 ///
 /// Source: vsl-query(7), "Query Expressions".
 pub fn holds(alloc: Global, query: &Query, group: &Group) -> Result<bool, AllocError>
-    ensures { IfOk result (λ b. b ≡ is_held query.now group.now) }
+    ensures answer { IfOk result (λ b. b ≡ is_held query.now group.now) }
+    ensures always { query.now.always ≡ true → IsOk result }
+    ensures one { (test : AsTest) → query.now.steps.items ≡ kinds.Test test ∷ [] → has_pattern test.check ≡ false → IsOk result }
 {
     if query.always {
         return Ok(true);
@@ -31,7 +35,8 @@ pub fn holds(alloc: Global, query: &Query, group: &Group) -> Result<bool, AllocE
 
 /// The test of a query that is one test.
 fn only_test(steps: &[StepOver<Test>]) -> Option<&Test>
-    ensures { IfSome result (λ test. steps.now ≡ kinds.Test test.now ∷ []) }
+    ensures some { IfSome result (λ test. steps.now ≡ kinds.Test test.now ∷ []) }
+    ensures none { IfNone result ((test : AsTest) → steps.now ≢ kinds.Test test ∷ []) }
 {
     match steps {
         [StepOver::Test(test)] => Some(test),
