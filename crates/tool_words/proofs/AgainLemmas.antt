@@ -1,12 +1,9 @@
 -- Of an option that is given again the last counts, and those that gather are kept in order.
-use Rattle.std.proofs.Common.{◌≡◌, ℕ, Bool, true, false, List, [], ◌∷◌, ◌++◌, Option, Some, None, refl, sym, ap, subst, ◌∙◌, append_assoc}
+use Rattle.std.proofs.Common.{◌≡◌, ℕ, true, false, List, [], ◌∷◌, ◌++◌, Option, Some, None, refl, sym, ap, subst, ◌∙◌, append_assoc}
 use Rattle.std.specs.Prelude.{is_some, unwrap_or}
-use Rattle.std.specs.List.{flat_map}
 use Rattle.std.proofs.lemmas.List.{append-nil}
-use Rattle.vsl_select.specs.declared.rule_text.RuleText.{RuleText}
 use Rattle.txn_rows.specs.declared.group.Grouping.{Grouping}
 use Rattle.tool_words.specs.declared.job.Job.{Job}
-use Rattle.tool_words.specs.declared.job.QueryText.{QueryText}
 use Rattle.tool_words.specs.declared.job.StatMode.{StatMode}
 use Rattle.tool_words.specs.declared.job.StatMode.TheVariants as modes
 use Rattle.tool_words.specs.declared.options.Choice.{Choice}

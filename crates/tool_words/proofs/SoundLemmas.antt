@@ -99,5 +99,5 @@ read (Err fault) found few e = absurd (let bad : ⊥ = cc in bad)
 
 -- a job that is answered is sound
 pub sound_answer : (answer : Result Job WordsFault) (words : List (List ℕ)) → Gives answer (job_of words) → IfOk answer (λ job. IsSound job)
-sound_answer (Ok job) words given = read (read_all nothing 0 words) job (all-few words nothing 0 (record { given = lit≤ tt; wanted = tt })) given
+sound_answer (Ok job) words given = read (read_all nothing 0 words) job (all-few words) given
 sound_answer (Err fault) words given = tt

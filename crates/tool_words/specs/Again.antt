@@ -1,6 +1,6 @@
 -- What counts of an option that is given again (varnishlog(1), varnishncsa(1), varnishtop(1), varnishstat(1), "OPTIONS"; that the last one counts is this project's choice).
 use Rattle.std.specs.Prelude.{◌≡◌, ℕ, Bool, true, false, is_some, List, [], ◌∷◌, ◌++◌}
-use Rattle.std.specs.List.{flat_map}
+use Rattle.std.specs.List.{All, flat_map}
 use Rattle.vsl_select.specs.declared.rule_text.RuleText.{RuleText}
 use Rattle.tool_words.specs.declared.job.Job.{Job}
 use Rattle.tool_words.specs.declared.job.QueryText.{QueryText}
@@ -30,6 +30,10 @@ says choices.RecordLength value = is_some (number_for choices.RecordLength value
 says choices.Segment value = is_some (number_for choices.Segment value)
 says choices.Timeout value = is_some (number_for choices.Timeout value)
 says choice value = true
+
+-- the given options have such values
+abbrev pub AllSay : List Given → Type 0
+AllSay given = All (λ (one : Given). says one.choice one.value ≡ true) given
 
 -- of an option that gathers nothing, given again, the last counts: the one before it might as well not be there
 abbrev pub LastCounts : Type 0

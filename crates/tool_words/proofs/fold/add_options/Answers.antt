@@ -1,4 +1,4 @@
-use Rattle.std.proofs.Common.{List, [], ◌∷◌, sym, ◌∙◌, ap}
+use Rattle.std.proofs.Common.{[], ◌∷◌, sym, ◌∙◌, ap}
 use Rattle.tool_words.specs.Fold.{with_choice}
 use Rattle.tool_words.proofs.JobLemmas.{with_options-then}
 use Rattle.tool_words.proofs.fold.add_options.Goals as goal
