@@ -221,7 +221,7 @@ def of_words(draw, words, letter):
 
 
 def wide(draw):
-    """A log with a unit that is about as wide as one or two that are written, seldom about as wide as any that is read."""
+    """A log with a unit about as wide as one or two that are written, seldom about as wide as any that is read."""
     vxid, mark, is_widest = draw.choice([1, 7, MOST_VXID]), draw.choice("ccb-"), draw.randrange(6) == 0
     begins = draw.choice([[("Begin", b"req 0 rxreq")], [("Begin", b"bereq 3 fetch")], []])
     ends = draw.choice([[("End", b"")], [("End", b"")], []])
