@@ -1,5 +1,5 @@
 -- In each group a record names each child, because a tree leaves with the parents of its transactions.
-use Rattle.std.proofs.Common.{◌≡◌, ◌+◌, ◌≤◌, ◌⊎◌, ⊎_elim, ℕ, suc, Bool, true, false, not, eqb, cond, Option, Some, None, List, [], ◌∷◌, ◌++◌, length, map, refl, ap, sym, ◌∙◌, subst, get_or, take, drop, arith}
+use Rattle.std.proofs.Common.{◌≡◌, ◌+◌, ◌≤◌, ◌⊎◌, ⊎_elim, ℕ, Bool, true, false, not, eqb, Option, Some, None, List, [], ◌∷◌, ◌++◌, length, map, refl, ap, sym, ◌∙◌, subst, get_or, take, drop, arith}
 use Rattle.std.specs.Prelude.{◌≢◌, codes, slice_index_or}
 use Rattle.std.specs.List.{All, Contains, list_all}
 use Rattle.std.proofs.lemmas.Bool.{both_ways, cond_both}
@@ -16,8 +16,8 @@ use Rattle.txn_rows.specs.declared.group.Member.{Member}
 use Rattle.txn_rows.specs.declared.group.Group.{Group}
 use Rattle.txn_rows.specs.Store.{test_of}
 use Rattle.txn_rows.specs.Transaction.{Transaction, newest, with_newest, ended, forced, cause_text, first_mark, oldest, with_oldest}
-use Rattle.txn_rows.specs.Links.{line_of, path_of, is_path_before, preorder, root_of, tree_of, parent_vxid, member_of, group_of}
-use Rattle.txn_rows.specs.Grouping.{Taken, State, Leaving, no_state, nothing_left, then_left, left_by, forced_one, after_end, ended_one, with_all_told, is_raw, raw_group, step, taken_steps, flush, left_of}
+use Rattle.txn_rows.specs.Links.{path_of, is_path_before, preorder, root_of, tree_of, parent_vxid, member_of, group_of}
+use Rattle.txn_rows.specs.Grouping.{Taken, State, Leaving, no_state, nothing_left, then_left, left_by, forced_one, after_end, ended_one, with_all_told, is_raw, raw_group, taken_steps, flush, left_of}
 use Rattle.txn_rows.specs.Walk.{FollowsParent, FollowParents, IsWalk}
 use Rattle.txn_rows.specs.Trees.{transaction_of, row_of, Rising, IsTop, IsBelow, AreTrees}
 use Rattle.txn_rows.specs.States.{state_with, Standing}

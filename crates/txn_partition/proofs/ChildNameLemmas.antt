@@ -1,38 +1,25 @@
 -- Whatever was taken, a record names each child of a group.
-use Rattle.std.proofs.Common.{◌≡◌, ◌+◌, ◌<◌, ◌≤◌, ◌⊎◌, ⊎_elim, inl, inr, ℕ, suc, Bool, true, false, not, eqb, cond, ◌&&◌, Option, Some, None, List, [], ◌∷◌, ◌++◌, length, map, refl, ap, sym, ◌∙◌, subst, get_or, take, drop, append_assoc, arith}
-use Rattle.std.specs.Prelude.{◌≢◌}
-use Rattle.std.specs.List.{All, Contains, list_all, list_any}
+use Rattle.std.proofs.Common.{◌≡◌, ◌⊎◌, ⊎_elim, inl, inr, ℕ, true, false, not, eqb, Option, Some, None, List, [], ◌∷◌, ◌++◌, map, refl, ap, sym, ◌∙◌, subst, append_assoc, arith}
+use Rattle.std.specs.List.{All, Contains}
 use Rattle.std.specs.Option.{option_map}
-use Rattle.std.proofs.lemmas.Bool.{eqb-true, eq-eqb, and_parts, both_ways, cond_both}
+use Rattle.std.proofs.lemmas.Bool.{eqb-true, eq-eqb, and_parts, cond_both}
 use Rattle.std.proofs.lemmas.List.{length-map, get_or-map}
 use Rattle.std.proofs.lemmas.List.Folds.{list_any-append}
-use Rattle.std.proofs.lemmas.List.Elements.{All-nil, All-cons, All-head, All-tail, All-weaker, All-append, All-map, All-contains, All-contains_itself, Contains-append_left, Contains-append_cases, Contains-push}
-use Rattle.vsl_tags.specs.Tags.{begin_tag, link_tag, end_tag}
+use Rattle.std.proofs.lemmas.List.Elements.{All-nil, All-cons, All-head, All-tail, All-weaker, All-append, All-map, All-contains, All-contains_itself, Contains-append_left, Contains-push}
+use Rattle.vsl_tags.specs.Tags.{begin_tag, link_tag}
 use Rattle.vsl_record.specs.declared.record_type.Record.{Record}
-use Rattle.txn_rows.specs.declared.rows.Row.{Row}
 use Rattle.txn_rows.specs.declared.group.Grouping.{Grouping}
-use Rattle.txn_rows.specs.declared.group.GroupOptions.{GroupOptions}
 use Rattle.txn_rows.specs.declared.group.ParentLink.{ParentLink}
-use Rattle.txn_rows.specs.declared.group.Cause.{Cause}
-use Rattle.txn_rows.specs.declared.group.Member.{Member}
-use Rattle.txn_rows.specs.declared.group.Group.{Group}
 use Rattle.txn_rows.specs.declared.claim.Claim.{Claim}
 use Rattle.txn_rows.specs.Claim.{claim_of}
-use Rattle.txn_rows.specs.Store.{test_of}
-use Rattle.txn_rows.specs.Transaction.{Transaction, empty_transaction, is_pending, is_open, newest, with_newest, claimed_kind, ended, forced, oldest, with_oldest}
-use Rattle.txn_rows.specs.Links.{with_parent, with_link, can_join, children, line_of, path_of, is_path_before, preorder, root_of, tree_of, parent_vxid, member_of, group_of}
+use Rattle.txn_rows.specs.Transaction.{Transaction, empty_transaction, is_pending, is_open, newest, with_newest, claimed_kind}
+use Rattle.txn_rows.specs.Links.{with_parent, can_join, children}
 use Rattle.txn_rows.specs.Grouping.{State, with_new, with_transaction, gives_parent, raised, timed, with_all_told}
-use Rattle.txn_rows.specs.Trees.{transaction_of, row_of, Rising, IsTop, IsBelow, AreTrees}
-use Rattle.txn_rows.specs.inside.Rows.{Each, rows_below, rows_beside}
-use Rattle.txn_rows.proofs.LineLemmas.{by_cases, either, row_of_serial}
+use Rattle.txn_rows.proofs.LineLemmas.{by_cases, either}
 use Rattle.txn_rows.proofs.KeepLemmas.{claimed_same}
 use Rattle.txn_rows.proofs.ChangeLemmas.{ChangesOne, newest_in, newest_split, newest_none, newest_one, newest_is_changed}
-use Rattle.txn_rows.proofs.TreeLemmas.{line_whole, each_found, each_weaker, Found, row_in, row_found, around}
-use Rattle.txn_rows.proofs.JoinLemmas.{row_contained, same_row}
-use Rattle.txn_rows.proofs.StandLemmas.{found_filter, kept_filter, rising_filter}
-use Rattle.txn_rows.proofs.RunLemmas.{all_told}
-use Rattle.txn_rows.proofs.OrderLemmas.{path_total, path_then, path_same, path_longer, InOrder, Sorts, all_preorder, all_unsorted, preorder_sorted, all_left, all_right, contains_here, order_at}
-use Rattle.txn_partition.specs.ChildNames.{ClaimsVxid, NamesParent, NamesChild, WasNamed}
+use Rattle.txn_rows.proofs.OrderLemmas.{all_left, all_right, contains_here}
+use Rattle.txn_partition.specs.ChildNames.{ClaimsVxid, NamesParent, NamesChild}
 use Rattle.txn_partition.proofs.ClaimKeptLemmas.{KeepsClaim, claim_kept}
 
 -- a transaction has grown: it may have more records, and another parent

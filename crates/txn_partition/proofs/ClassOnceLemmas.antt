@@ -1,8 +1,7 @@
 -- Each VXID that a regular log names is a member of one class, once.
-use Rattle.std.proofs.Common.{◌≡◌, ◌+◌, ⊎_elim, ℕ, Bool, true, false, not, eqb, cond, ◌||◌, ◌&&◌, List, [], ◌∷◌, ◌++◌, length, map, refl, ap, sym, ◌∙◌, subst, arith}
+use Rattle.std.proofs.Common.{◌≡◌, ⊎_elim, ℕ, Bool, true, false, not, eqb, cond, ◌||◌, ◌&&◌, List, [], ◌∷◌, map, refl, ap, sym, ◌∙◌, arith}
 use Rattle.std.specs.Prelude.{count_by}
-use Rattle.std.specs.List.{sum_by}
-use Rattle.std.proofs.lemmas.Bool.{eqb-true, eq-eqb, both_ways, or_left, or_right, or_cases, and_parts, and_from, not-true, false_from_ne_true}
+use Rattle.std.proofs.lemmas.Bool.{eqb-true, both_ways, or_left, or_right, or_cases, and_parts, and_from, not-true, false_from_ne_true}
 use Rattle.std.proofs.lemmas.List.Sums.{sum_by-cons}
 use Rattle.vsl_tags.specs.Tags.{end_tag}
 use Rattle.vsl_record.specs.Unit.{Log}
@@ -11,7 +10,7 @@ use Rattle.txn_rows.specs.declared.group.Member.{Member}
 use Rattle.txn_rows.specs.declared.group.Group.{Group}
 use Rattle.txn_rows.specs.Links.{is_path_before, placed, preorder}
 use Rattle.txn_partition.specs.LogFacts.{Entry, entries_of, is_in, has_end, named}
-use Rattle.txn_partition.specs.Partition.{class_root, class_path, class_of, class_member, class_group, ends_later, ended_roots, classes, AreRegular, Regular, count_vxid}
+use Rattle.txn_partition.specs.Partition.{class_root, class_path, class_of, class_member, class_group, ends_later, ended_roots, classes, Regular, count_vxid}
 use Rattle.txn_partition.specs.inside.Parted.{class_ends}
 use Rattle.txn_rows.proofs.LineLemmas.{by_cases}
 use Rattle.txn_rows.proofs.JoinLemmas.{count_map}

@@ -18,3 +18,4 @@ pub mod ClaimKeptLemmas
 pub mod OfUnitsLemmas
 pub mod ChildNameLemmas
 pub mod ChildGroupLemmas
+pub mod NamedExamples

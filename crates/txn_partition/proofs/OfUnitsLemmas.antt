@@ -1,19 +1,18 @@
 -- Where the units that were taken are units, the records of groups are such records.
-use Rattle.std.proofs.Common.{◌≡◌, ◌<◌, ◌≤◌, ◌-◌, ℕ, zero, suc, Bool, true, false, not, eqb, ltb, leb, cond, ◌&&◌, Option, Some, None, List, [], ◌∷◌, ◌++◌, length, refl, ap, sym, ◌∙◌, subst, ltb-true, arith}
+use Rattle.std.proofs.Common.{◌≡◌, ◌<◌, ◌≤◌, ◌-◌, ℕ, zero, suc, Bool, true, false, not, eqb, ltb, leb, cond, Option, Some, None, List, [], ◌∷◌, ◌++◌, length, refl, ap, subst, ltb-true, arith}
 use Rattle.std.specs.Prelude.{codes, slice_index, slice_index_or, IfSome}
 use Rattle.std.specs.List.{All, AllByRecursion, list_all}
 use Rattle.std.specs.Option.{option_map}
-use Rattle.std.proofs.lemmas.Bool.{and_parts, cond_both}
-use Rattle.std.proofs.lemmas.List.Elements.{All-nil, All-cons, All-head, All-tail, All-append, All-map, All-filter}
+use Rattle.std.proofs.lemmas.Bool.{and_parts}
+use Rattle.std.proofs.lemmas.List.Elements.{All-nil, All-cons, All-append, All-map, All-filter}
 use Rattle.vsl_decimal.specs.Field.{field_of}
 use Rattle.vsl_decimal.specs.Whole.{whole_number}
 use Rattle.vsl_decimal.proofs.WholeLemmas.{Writes, whole_number-writes}
-use Rattle.vsl_tags.specs.Tags.{IsTag, end_tag, vsl_tag}
+use Rattle.vsl_tags.specs.Tags.{end_tag, vsl_tag}
 use Rattle.vsl_record.specs.declared.mark.Mark.{Mark}
 use Rattle.vsl_record.specs.declared.record_type.Record.{Record}
 use Rattle.vsl_record.specs.Payload.{IsPayload}
 use Rattle.vsl_record.specs.Unit.{vxid_end, IsRecordOf}
-use Rattle.vsl_record.specs.Words.{IsUnit}
 use Rattle.txn_rows.specs.declared.group.Grouping.{Grouping}
 use Rattle.txn_rows.specs.declared.group.GroupOptions.{GroupOptions}
 use Rattle.txn_rows.specs.declared.group.Kind.{Kind}
@@ -23,14 +22,13 @@ use Rattle.txn_rows.specs.declared.group.Reason.TheVariants as reasons
 use Rattle.txn_rows.specs.declared.group.Cause.{Cause}
 use Rattle.txn_rows.specs.declared.group.Cause.TheVariants.{Overflow, Timeout, Flush}
 use Rattle.txn_rows.specs.declared.group.Member.{Member}
-use Rattle.txn_rows.specs.declared.group.Group.{Group}
 use Rattle.txn_rows.specs.declared.claim.Claim.{Claim}
 use Rattle.txn_rows.specs.declared.which.Which.{Which}
 use Rattle.txn_rows.specs.Claim.{claim_from, claim_of, kind_named, named, reason_named, vxid_named}
 use Rattle.txn_rows.specs.Store.{test_of}
 use Rattle.txn_rows.specs.Transaction.{Transaction, cause_text, empty_transaction, is_open, is_unknown, newest, with_newest, claimed_kind, ended, forced, first_mark, oldest, with_oldest}
 use Rattle.txn_rows.specs.Links.{with_parent, can_join, children, root_of, tree_of, path_of, preorder, member_of, group_of}
-use Rattle.txn_rows.specs.Grouping.{Taken, TakenUnit, Missed, State, Leaving, no_state, nothing_left, then_left, with_new, with_transaction, raised, timed, left_by, forced_one, after_end, ended_one, flush, with_all_told, taken_steps, left_of, raw_group}
+use Rattle.txn_rows.specs.Grouping.{Taken, TakenUnit, Missed, State, Leaving, no_state, nothing_left, with_new, with_transaction, raised, timed, left_by, forced_one, after_end, ended_one, flush, with_all_told, taken_steps, left_of, raw_group}
 use Rattle.txn_rows.proofs.LineLemmas.{by_cases, either}
 use Rattle.txn_rows.proofs.KeepLemmas.{HoldsOn, flush_holds}
 use Rattle.txn_rows.proofs.ChangeLemmas.{newest_one, oldest_one}

@@ -1,6 +1,6 @@
 -- Which records name the children of a group (vsl(7), "Begin" and "Link"; which claims give a parent is this project's
 -- choice).
-use Rattle.std.specs.Prelude.{◌≡◌, ◌≢◌, ℕ, ◌+◌, ◌⊎◌, true, List, [], ◌∷◌, ◌++◌, Option, Some}
+use Rattle.std.specs.Prelude.{◌≡◌, ◌≢◌, ℕ, ◌+◌, ◌⊎◌, true, List, [], ◌∷◌, ◌++◌, Some}
 use Rattle.std.specs.List.{Contains}
 use Rattle.vsl_tags.specs.Tags.{begin_tag, link_tag}
 use Rattle.vsl_record.specs.declared.record_type.Record.{Record}

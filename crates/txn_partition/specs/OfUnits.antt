@@ -1,6 +1,6 @@
 -- Groups whose records units can have: what is written of them to a log file is units (varnishlog(1), "-w"; what a unit
 -- must meet is this project's choice).
-use Rattle.std.specs.Prelude.{ℕ, ◌<◌, List, ⊤}
+use Rattle.std.specs.Prelude.{◌<◌, List, ⊤}
 use Rattle.std.specs.List.{All}
 use Rattle.vsl_record.specs.declared.record_type.Record.{Record}
 use Rattle.vsl_record.specs.Unit.{vxid_end, IsRecordOf}
