@@ -50,7 +50,7 @@ use Rattle.job_runs.specs.Sources.{CameOf, StopsOf}
 use Rattle.varnish_tools.specs.declared.outcome.Outcome.{Outcome}
 use Rattle.varnish_tools.specs.Theorem.{IsFaithful, StatedRan}
 use Rattle.varnish_tools.proofs.FoundLemmas.{found_feeds, found_file}
-use Rattle.varnish_tools.proofs.PartLemmas.{counters_found, feeds_found, group_parts, passed_alone}
+use Rattle.varnish_tools.proofs.PartLemmas.{counter_parts, feeds_found, group_parts, passed_alone}
 use Rattle.varnish_tools.proofs.QuietLemmas.{rose_within}
 
 -- the count that a fault speaks of rose: of files that couldn't be opened or created, of reads or of writes that failed
@@ -146,7 +146,7 @@ opened_named false name h calls s t is opens input did =
 -- the log that a job's steps found is given, and has the name of its file; for feeds and counters there is none
 log_named : (b c : Bool) (job : Job) (found : List Found) (calls : List Call) (h : ℕ) (s t : Seen) → is_counting job.tool ≡ b → is_some job.file ≡ c → HasStreams s → Passed Passes Stops (steps_of (Ok job)) found calls → Did calls s t → IsOneOf h (logs_of found)
     → IsNamed h (file_of job) t
-log_named true c job found calls h s t counts is streams passed did one = absurd (subst (λ (hs : List ℕ). IsOneOf h hs) (counters_found job found calls counts passed) one)
+log_named true c job found calls h s t counts is streams passed did one = absurd (subst (λ (hs : List ℕ). IsOneOf h hs) (counter_parts job found calls s t counts passed did).so.logs_are one)
 log_named false true job found calls h s t groups is streams passed did one =
     let g = group_parts job found calls s t groups passed did in
     let log = passed_alone (OpenLog (file_of job)) g.inputs g.own (subst (λ (b : Bool). Passed Passes Stops (if b then OpenLog (file_of job) ∷ [] else feed_steps job) g.inputs g.own) is g.passed_own) in

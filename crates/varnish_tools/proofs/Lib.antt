@@ -4,7 +4,9 @@ mod WorkLemmas
 mod SaidLemmas
 mod PartLemmas
 mod OutLemmas
+mod PrintedLemmas
 mod ToldLemmas
+mod FedLemmas
 mod PartedLemmas
 mod QuietLemmas
 mod CountedLemmas

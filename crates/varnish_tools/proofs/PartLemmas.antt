@@ -1,6 +1,7 @@
 -- The steps of a job that passed, by parts, and what each part found.
 use Rattle.std.proofs.Common.{◌≡◌, ℕ, ◌+◌, Bool, true, false, if◌then◌else◌, List, [], ◌∷◌, ◌++◌, map, Some, Ok, refl, sym, ap, subst, ◌∙◌, append_assoc, codes}
 use Rattle.std.proofs.lemmas.List.{append-nil}
+use Rattle.vio.specs.declared.world.TheConstants.{OUTPUT}
 use Rattle.vio.specs.World.{Seen}
 use Rattle.vio.specs.Touches.{Touches}
 use Rattle.vio.specs.Calls.{Call, Did}
@@ -10,7 +11,7 @@ use Rattle.vio.proofs.CallLemmas.{did_apart}
 use Rattle.vio.proofs.StepLemmas.{passed_one}
 use Rattle.vio.proofs.TouchLemmas.{did_touch}
 use Rattle.traffic_feed.specs.declared.listing.Listing.{Listing}
-use Rattle.feed_files.specs.Feeds.{Feed}
+use Rattle.feed_files.specs.Feeds.{Feed, FeedPasses, FeedStops, feeds_from}
 use Rattle.tool_words.specs.declared.job.Job.{Job}
 use Rattle.tool_words.specs.declared.job.QueryText.{QueryText}
 use Rattle.job_steps.specs.Jobs.{format_text, is_counting, write_of}
@@ -19,7 +20,7 @@ use Rattle.job_steps.proofs.BegunLemmas.{read_create}
 use Rattle.job_steps.proofs.GoodLemmas.{text_kept, text_told}
 use Rattle.job_steps.proofs.TookLemmas.{opens_alone}
 use Rattle.varnish_tools.specs.Told.{AreTexts}
-use Rattle.varnish_tools.proofs.FoundLemmas.{found_behind, found_counting}
+use Rattle.varnish_tools.proofs.FoundLemmas.{CountingSo, found_behind, found_counting}
 
 -- ---- steps that passed, by parts
 
@@ -58,12 +59,14 @@ passed_alone x (u ∷ v ∷ us) calls p = absurd p.4
 
 -- ---- what feeds and queries found
 
--- the steps of feeds found their listings
-pub feeds_found : (reclen seg : ℕ) (feeds : List Feed) (found : List Found) (calls : List Call) → Passed Passes Stops (map (ReadFeed reclen seg) feeds) found calls → (listings : List Listing) × (found ≡ map FoundListing listings)
-feeds_found reclen seg [] [] calls p = ([], refl)
+-- the steps of feeds found their listings, and read them so
+pub feeds_found : (reclen seg : ℕ) (feeds : List Feed) (found : List Found) (calls : List Call) → Passed Passes Stops (map (ReadFeed reclen seg) feeds) found calls
+    → (listings : List Listing) × (found ≡ map FoundListing listings) × Passed (FeedPasses reclen seg) FeedStops feeds listings calls
+feeds_found reclen seg [] [] calls p = ([], refl, p)
 feeds_found reclen seg [] (u ∷ us) calls p = absurd p
 feeds_found reclen seg (feed ∷ feeds) [] calls p = absurd p
-feeds_found reclen seg (feed ∷ feeds) (u ∷ us) calls p = let rest = feeds_found reclen seg feeds us p.1 p.4 in (p.3.0 ∷ rest.0, (λ i. p.3.1 i ∷ rest.1 i))
+feeds_found reclen seg (feed ∷ feeds) (u ∷ us) calls p =
+    let rest = feeds_found reclen seg feeds us p.1 p.4 in (p.3.0 ∷ rest.0, (λ i. p.3.1 i ∷ rest.1 i), (p.0, p.1, p.2, p.3.2, rest.2))
 
 -- texts that are told behind calls that keep files are told before them
 texts_before : (s t : Seen) (queries : List QueryText) (texts : List (List ℕ)) → ((n bytes : List ℕ) → s.held n ≡ Some bytes → t.held n ≡ Some bytes) → AreTexts t queries texts → AreTexts s queries texts
@@ -164,13 +167,32 @@ group_parts job found calls s t groups passed did =
 
 -- ---- the steps of counters
 
--- they found no log
-pub counters_found : (job : Job) (found : List Found) (calls : List Call) → is_counting job.tool ≡ true → Passed Passes Stops (steps_of (Ok job)) found calls → logs_of found ≡ []
-counters_found job [] calls counts p = absurd p
-counters_found job (u ∷ us) calls counts p =
+-- they passed, by parts: the listings that they found, with the calls by which they were read; what they write is standard output
+pub record CounterParts (job : Job) (found : List Found) (s t : Seen) : Type 0 where
+  pub listings : List Listing
+  pub empty : Bool
+  pub so : CountingSo found listings OUTPUT empty
+  pub own : List Call
+  pub at : Seen
+  pub read : Passed (FeedPasses job.reclen job.seg) FeedStops (feeds_from 0 job.feeds) listings own
+  pub did : Did own s at
+
+pub counter_parts : (job : Job) (found : List Found) (calls : List Call) (s t : Seen) → is_counting job.tool ≡ true → Passed Passes Stops (steps_of (Ok job)) found calls → Did calls s t → CounterParts job found s t
+counter_parts job [] calls s t counts p did = absurd p
+counter_parts job (u ∷ us) calls s t counts p did =
     let later : Passed Passes Stops (counter_steps job) us p.1 = subst (λ (b : Bool). Passed Passes Stops (if b then counter_steps job else group_steps job) us p.1) counts p.4 in
     let a = passed_apart (feed_steps job) (MakeSink false (codes "-") ∷ []) us p.1 later in
-    let fed = feeds_found job.reclen job.seg _ a.found_first a.first a.passed_first in
+    let fed = feeds_found job.reclen job.seg (feeds_from 0 job.feeds) a.found_first a.first a.passed_first in
     let one = passed_alone (MakeSink false (codes "-")) a.found_last a.last a.passed_last in
     let us_are : us ≡ map FoundListing fed.0 ++ FoundSink one.2.0 one.2.1 ∷ [] = a.found_are ∙ (λ i. fed.1 i ++ (one.1 ∙ ap (λ (v : Found). v ∷ []) one.2.2) i) in
-    (found_counting fed.0 (u ∷ us) one.2.0 one.2.1 (λ i. p.3.0 i ∷ us_are i)).logs_are
+    let are : calls ≡ a.first ++ a.last = p.2 ∙ ap (λ (cs : List Call). cs ++ p.1) p.3.1 ∙ a.are in
+    let parts = did_apart a.first a.last s t (subst (λ (cs : List Call). Did cs s t) are did) in
+    record {
+      listings = fed.0;
+      empty = one.2.1;
+      so = subst (λ (h : ℕ). CountingSo (u ∷ us) fed.0 h one.2.1) one.2.3.0 (found_counting fed.0 (u ∷ us) one.2.0 one.2.1 (λ i. p.3.0 i ∷ us_are i));
+      own = a.first;
+      at = parts.0;
+      read = fed.2;
+      did = parts.1;
+    }

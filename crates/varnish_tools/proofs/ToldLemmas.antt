@@ -39,11 +39,10 @@ use Rattle.job_runs.specs.Told.{WritesOf}
 use Rattle.varnish_tools.specs.declared.outcome.Outcome.{Outcome}
 use Rattle.varnish_tools.specs.Faults.{fault_message}
 use Rattle.varnish_tools.specs.Theorem.{IsFaithful, StatedRan, WorksOff}
-use Rattle.varnish_tools.specs.Told.{PrintsLog, TellsInput}
+use Rattle.varnish_tools.specs.Told.{PrintsLog, TellsInput, WasStopped}
 use Rattle.varnish_tools.proofs.FoundLemmas.{FoundSo, found_feeds, found_file}
-use Rattle.varnish_tools.proofs.PartLemmas.{GroupParts, counters_found, early, feeds_found, group_parts, passed_alone}
-use Rattle.varnish_tools.proofs.OutLemmas.{out_by, sink_apart}
-use Rattle.varnish_tools.proofs.TouchLemmas.{says_on}
+use Rattle.varnish_tools.proofs.PartLemmas.{GroupParts, counter_parts, early, feeds_found, group_parts, passed_alone}
+use Rattle.varnish_tools.proofs.PrintedLemmas.{items_printed, ran_over}
 
 -- ---- a log that is told
 
@@ -94,50 +93,22 @@ abbrev pub TellsWrites : Type 0
 TellsWrites = (job : Job) (ask : Ask) (h : ℕ) (others : List ℕ) (sink : ℕ) (empty : Bool) (units : Log) (ending : FileEnding) (fault : Option ToolFault) (recorded : RunRecord) (calls : List Call) (before now : Seen) → TellsLog h units ending before → Did calls before now
     → RanFor (h ∷ others) (FileCame h) (λ why cs met. FileStopped h why cs met now) (RecordsCount recorded) sink (job_due job ask empty) (end_answer job) fault calls → WritesOf sink (job_due job ask empty) fault (unit_items units) (is_whole ending) calls
 
-same_one : {A : Type 0} (x y : A) → x ∷ [] ≡ y ∷ [] → x ≡ y
-same_one x y same = cc
-
 module _ (writes_told : TellsWrites) (job : Job) (units : Log) (ending : FileEnding) (groups : is_counting job.tool ≡ false) (file : is_some job.file ≡ true) where
-  work_prints : (message : List ℕ) (fault : Option ToolFault) (recorded : RunRecord) (s t : Seen) → HasStreams s → TellsInput job units ending s → WorksOff (Says message) (Ok job) fault recorded s t → (recorded ≡ Nothing) ⊎ PrintsLog job fault units ending s t
+  work_prints : (message : List ℕ) (fault : Option ToolFault) (recorded : RunRecord) (s t : Seen) → HasStreams s → TellsInput job units ending s → WorksOff (Says message) (Ok job) fault recorded s t → WasStopped fault recorded ⊎ PrintsLog job fault units ending s t
   work_prints message fault recorded s t streams tells q = elim q.works [
-    | inl early ↦ inl early.none
+    | inl early ↦ inl (ap (λ (o : Option ToolFault). is_some o) early.is, early.none)
     | inr ran ↦
         let parts = did_apart ran.first ran.last s q.at (subst (λ (cs : List Call). Did cs s q.at) ran.are q.did) in
         let of = log_found job units ending ran.found ran.first s parts.0 groups file streams tells ran.passed parts.1 in
         let out = of.parts in
-        let h = of.h in
-        let sink = out.sink in
-        let g = subst (λ (b : Bool). MatchBool b (PrintsCounters job fault recorded ran.found ran.last) (PrintsGroups job q.at fault recorded ran.found ran.last)) groups ran.ran in
-        let same : (g.1, g.2) ≡ (sink, out.empty) = same_one (g.1, g.2) (sink, out.empty) (sym (g.3).is_sink ∙ of.so.sinks_are) in
-        let over = subst (λ (logs : List ℕ). RanFor logs (CameOf logs job (listings_of ran.found) recorded) (StopsOf logs q.at) (RecordsOf logs job recorded) sink (job_due job g.0 out.empty) (end_answer job) fault ran.last) of.so.logs_are
-        (subst (λ (z : ℕ × Bool). RanFor (logs_of ran.found) (CameOf (logs_of ran.found) job (listings_of ran.found) recorded) (StopsOf (logs_of ran.found) q.at) (RecordsOf (logs_of ran.found) job recorded) z.0 (job_due job g.0 z.1) (end_answer job) fault ran.last) same g.4) in
-        let so = writes_told job g.0 h [] sink out.empty units ending fault recorded ran.last parts.0 q.at of.tells parts.2 over in
-        let apart = sink_apart (bytes_eq (write_of job) (codes "-")) job.append (write_of job) sink out.empty out.made out.at parts.0 out.is_made out.did_made in
-        let gained = promised_gain Passes Stops (StatedRan (Ok job)) Nothing (Says message) (steps_of (Ok job)) fault recorded sink s t (λ calls says. said_other sink message calls apart says) q in
-        let within = passed_within (steps_of (Ok job)) ran.found ran.first ran.passed in
-        let last : written_by sink q.work ≡ written_by sink ran.last =
-        ap (λ (cs : List Call). written_by sink cs) ran.are ∙ written_append sink ran.first ran.last ∙ ap (λ (xs : List ℕ). xs ++ written_by sink ran.last) (within.writes sink) in
-        let touches = did_touch [] [] (opens_of (steps_of (Ok job))) (creates_of (steps_of (Ok job))) ran.first s parts.0 within.within parts.1 in
-        let silent : written_by sink (ran.last ++ q.said) ≡ written_by sink ran.last = written_append sink ran.last q.said ∙ ap (λ (xs : List ℕ). written_by sink ran.last ++ xs) (said_other sink message q.said apart q.says) ∙ append-nil (written_by sink ran.last) in
-        inr (record {
-          ask = g.0;
-          sink = sink;
-          empty = out.empty;
-          texts = out.texts;
-          are_texts = out.are_texts;
-          asked = subst (λ (texts : List (List ℕ)). AreAsked job.caseless None texts g.0) of.so.texts_are (g.3).asked;
-          text = written_by sink ran.last;
-          is_out = out_by job.append (write_of job) sink out.empty (h ∷ []) (written_by sink ran.last) (ran.last ++ q.said) s out.at parts.0 t out.touches (touches.names Writing ERRORS (write_of job) streams.error_given)
-              (on_append (h ∷ []) (ERRORS ∷ sink ∷ []) ran.last q.said over.on (says_on (h ∷ []) (sink ∷ []) message q.said q.says)) (did_then ran.last q.said parts.0 q.at t parts.2 q.told) silent (bytes_eq (write_of job) (codes "-")) out.made out.is_made out.did_made;
-          part = so.part;
-          done = so.done;
-          gains = subst (λ (text : List ℕ). Gains (s.written sink) (t.written sink) text) last gained;
-        })
+        let g = ran_over job ran.found out.texts (of.h ∷ []) [] out.sink out.empty q.at fault recorded ran.last groups of.so ran.ran in
+        inr (items_printed job message fault recorded s t (unit_items units) (is_whole ending) (of.h ∷ []) [] streams q ran parts.0 parts.1 parts.2 out of.so g
+        (writes_told job g.ask of.h [] out.sink out.empty units ending fault recorded ran.last parts.0 q.at of.tells parts.2 g.over))
   ]
 
 -- what was written of a log that was told
 pub log_printed : TellsWrites → (words : List (List ℕ)) (outcome : Outcome) (job : Job) (units : Log) (ending : FileEnding) (before now : Seen) → job_of words ≡ Ok job → is_some job.file ≡ true → is_counting job.tool ≡ false → HasStreams before → TellsInput job units ending before
-    → IsFaithful words outcome before now → (outcome.run ≡ Nothing) ⊎ PrintsLog job outcome.fault units ending before now
+    → IsFaithful words outcome before now → WasStopped outcome.fault outcome.run ⊎ PrintsLog job outcome.fault units ending before now
 log_printed writes_told words outcome job units ending before now states file groups streams tells p =
     work_prints writes_told job units ending groups file (fault_message words outcome.fault) outcome.fault outcome.run before now streams tells
     (subst (λ (stated : Result Job UsageFault). WorksOff (Says (fault_message words outcome.fault)) stated outcome.fault outcome.run before now) states p.works)
@@ -165,7 +136,7 @@ none_found h logs none is = subst (λ (hs : List ℕ). IsOneOf h hs) none is
 -- a log that was told to be whole stops no run; there is none for feeds and for counters
 log_stops : WholeRuns → (b c : Bool) (job : Job) (found : List Found) (first last : List Call) (h : ℕ) (fault : ToolFault) (r s t : Seen) → is_counting job.tool ≡ b → is_some job.file ≡ c → HasStreams r → TellsWhole job r → Passed Passes Stops (steps_of (Ok job)) found first
     → Did first r s → Did last s t → IsOneOf h (logs_of found) → StoppedByLog h (file_of job) fault last t → ⊥
-log_stops whole true c job found first last h fault r s t counts is streams tells passed did more one stopped = none_found h (logs_of found) (counters_found job found first counts passed) one
+log_stops whole true c job found first last h fault r s t counts is streams tells passed did more one stopped = none_found h (logs_of found) (counter_parts job found first r s counts passed did).so.logs_are one
 log_stops whole false true job found first last h fault r s t groups is streams tells passed did more one stopped =
     let told = tells is groups in
     let of = log_found job told.0 Whole found first r s groups is streams told.1 passed did in

@@ -1,12 +1,20 @@
--- Where the world tells what the log of a job holds: what the main theorem comes to (this project's choice).
-use Rattle.std.specs.Prelude.{◌≡◌, ℕ, ◌==◌, Bool, true, false, List, [], ◌∷◌, ◌++◌, length, Option, Some, None, codes}
+-- Where the world tells what the log or the feeds of a job hold: what the main theorem comes to (this project's choice).
+use Rattle.std.specs.Prelude.{◌≡◌, ℕ, ◌==◌, Bool, true, false, is_some, List, [], ◌∷◌, ◌++◌, length, Option, Some, None, codes}
 use Rattle.std.specs.Bool.{MatchBool}
 use Rattle.std.specs.Str.{bytes_eq}
+use Rattle.log_model.specs.Interleaving.{IsInterleaving}
 use Rattle.log_model.specs.Prefix.{IsPrefix}
 use Rattle.vio.specs.declared.world.TheConstants.{ERRORS, INPUT, OUTPUT}
 use Rattle.vio.specs.World.{Seen, Gains, Writing, begins_with}
-use Rattle.vsl_record.specs.Unit.{Log}
+use Rattle.vsl_record.specs.Unit.{LogUnit, Log}
+use Rattle.vsl_record.specs.Words.{unit_words}
+use Rattle.ring_layout.specs.declared.history.HistoryItem.{HistoryItem}
+use Rattle.ring_layout.specs.declared.item.Item.{Item}
+use Rattle.ring_layout.specs.History.{IsReadHistory, ReachesTail}
+use Rattle.ring_layout.specs.Items.{items_of}
+use Rattle.log_ring.specs.Closed.{ClosedState}
 use Rattle.vsl_file.specs.File.{FileEnding, IsFile, is_whole}
+use Rattle.traffic_feed.specs.declared.listing.Listing.{Listing}
 use Rattle.txn_partition.specs.Partition.{partition}
 use Rattle.tool_words.specs.declared.job.Job.{Job}
 use Rattle.tool_words.specs.declared.job.QueryText.{QueryText}
@@ -14,11 +22,15 @@ use Rattle.run_sources.specs.Sources.{unit_items}
 use Rattle.text_printer.specs.Ends.{whole}
 use Rattle.job_steps.specs.declared.fault.ToolFault.{ToolFault}
 use Rattle.job_steps.specs.Good.{TellsText}
-use Rattle.job_steps.specs.Jobs.{file_of, write_of}
+use Rattle.job_steps.specs.Jobs.{file_of, units_of, with_made, write_of}
 use Rattle.job_steps.specs.Queries.{Ask, AreAsked, chosen}
 use Rattle.tool_consumers.specs.Output.{head_text, output_of}
 use Rattle.vsl_dispatch.specs.Groups.{kept}
+use Rattle.job_runs.specs.declared.record.RunRecord.{RunRecord}
+use Rattle.job_runs.specs.declared.record.RunRecord.TheVariants.{Closed, Nothing}
+use Rattle.job_runs.specs.Counters.{ArePut, counters_text}
 use Rattle.job_runs.specs.Rows.{job_due}
+use Rattle.job_runs.specs.Sources.{AreFed}
 
 -- the world tells that the log of a job has these units and ends so: its file holds them, or standard input has them left
 pub record TellsInput (job : Job) (units : Log) (ending : FileEnding) (before : Seen) : Type 0 where
@@ -46,8 +58,12 @@ pub record IsFileSink (append : Bool) (name : List ℕ) (h : ℕ) (empty : Bool)
 abbrev pub IsOut : Job → ℕ → Bool → List ℕ → Seen → Seen → Type 0
 IsOut job h empty text before now = MatchBool (bytes_eq (write_of job) (codes "-")) ((h ≡ OUTPUT) × (empty ≡ true)) (IsFileSink job.append (write_of job) h empty text before now)
 
--- what was written of a log of these units, for what the queries ask: a part of what is due of it, and without a fault all of it
-pub record PrintsLog (job : Job) (fault : Option ToolFault) (units : Log) (ending : FileEnding) (before now : Seen) : Type 0 where
+-- the job was stopped before its run: it has a fault, and nothing was taken
+abbrev pub WasStopped : Option ToolFault → RunRecord → Type 0
+WasStopped fault recorded = (is_some fault ≡ true) × (recorded ≡ Nothing)
+
+-- what was written of items, which are all or not, for what the queries ask: a part of what is due of them, and without a fault all of it
+pub record PrintsItems (job : Job) (fault : Option ToolFault) (every : List Item) (ended : Bool) (before now : Seen) : Type 0 where
   pub ask : Ask
   pub sink : ℕ
   pub empty : Bool
@@ -56,9 +72,39 @@ pub record PrintsLog (job : Job) (fault : Option ToolFault) (units : Log) (endin
   pub asked : AreAsked job.caseless None texts ask
   pub text : List ℕ
   pub is_out : IsOut job sink empty text before now
-  pub part : IsPrefix text (whole (job_due job ask empty) (unit_items units) (is_whole ending))
-  pub done : fault ≡ None → text ≡ whole (job_due job ask empty) (unit_items units) (is_whole ending)
+  pub part : IsPrefix text (whole (job_due job ask empty) every ended)
+  pub done : fault ≡ None → text ≡ whole (job_due job ask empty) every ended
   pub gains : Gains (before.written sink) (now.written sink) text
+
+-- what was written of a log of these units that ends so
+abbrev pub PrintsLog : Job → Option ToolFault → Log → FileEnding → Seen → Seen → Type 0
+PrintsLog job fault units ending before now = PrintsItems job fault (unit_items units) (is_whole ending) before now
+
+-- what was written of listings that are fed in the order that a job states: of all that a reader meets of them
+abbrev pub PrintsFeeds : Job → Option ToolFault → List Listing → Seen → Seen → Type 0
+PrintsFeeds job fault listings before now = (log : Log) × (history : List (HistoryItem LogUnit)) × AreFed job listings log history × PrintsItems job fault (items_of history) true before now
+
+-- what was written of listings that threads put: of all that the one reader of the ring took, which is recorded; that goes up to the log's tail where it had ended
+pub record PrintsRing (job : Job) (fault : Option ToolFault) (recorded : RunRecord) (listings : List Listing) (before now : Seen) : Type 0 where
+  pub ring : ClosedState
+  pub is : recorded ≡ Closed ring
+  pub interleaved : IsInterleaving ring.log (units_of (with_made job listings))
+  pub history : List (HistoryItem LogUnit)
+  pub only : ring.histories ≡ history ∷ []
+  pub read : IsReadHistory unit_words job.seg ring.log history
+  pub ended : Bool
+  pub tail : ended ≡ true → ReachesTail ring.log history
+  pub prints : PrintsItems job fault (items_of history) ended before now
+
+-- what varnishstat wrote of listings that are fed, and that nobody reads: a part of what is printed of their counters, and without a fault all of it
+pub record PrintsCounted (job : Job) (fault : Option ToolFault) (listings : List Listing) (before now : Seen) : Type 0 where
+  pub log : Log
+  pub waits : ℕ
+  pub put : ArePut job listings log waits
+  pub text : List ℕ
+  pub part : IsPrefix text (counters_text job listings log waits)
+  pub done : fault ≡ None → text ≡ counters_text job listings log waits
+  pub gains : Gains (before.written OUTPUT) (now.written OUTPUT) text
 
 -- what is written of the groups of a log's partition: behind the header, where one is due, of those that are asked for, at most as many as are kept
 abbrev pub parted_text : Job → Ask → Bool → Log → List ℕ

@@ -6,6 +6,8 @@ ghost use Rattle.vio.specs.World.{CallKind, Creating, HasStreams, Opening, Readi
 ghost use Rattle.vio.specs.Calls.{none_failed};
 ghost use Rattle.vsl_record.specs.Unit.{Log};
 ghost use Rattle.vsl_file.specs.File.{FileEnding, Whole};
+ghost use Rattle.traffic_feed.specs.declared.listing.Listing.{Listing};
+ghost use Rattle.feed_files.specs.Feeds.{AreListings, FeedsHold};
 ghost use Rattle.txn_rows.specs.Grouping.{is_raw};
 ghost use Rattle.txn_partition.specs.Partition.{Regular, Calm};
 ghost use Rattle.tool_words.specs.declared.job.Job.{Job};
@@ -14,27 +16,56 @@ ghost use Rattle.job_steps.specs.declared.fault.ToolFault.TheVariants.{NoOpen, R
 ghost use Rattle.job_steps.specs.Good.{AreGoodSteps};
 ghost use Rattle.run_sources.specs.Sources.{unit_items};
 ghost use Rattle.text_printer.specs.Ends.{whole};
-ghost use Rattle.job_steps.specs.Jobs.{is_counting, options_of};
+ghost use Rattle.job_steps.specs.Jobs.{is_counting, is_on_threads, options_of};
 ghost use Rattle.job_steps.specs.Queries.{Ask};
 ghost use Rattle.job_steps.specs.Steps.{steps_of};
-ghost use Rattle.job_runs.specs.declared.record.RunRecord.TheVariants.{Nothing};
 ghost use Rattle.job_runs.specs.Rows.{job_due};
 ghost use Rattle.varnish_tools.specs.declared.outcome.Outcome.{Outcome};
 ghost use Rattle.varnish_tools.specs.Theorem.{IsFaithful};
-ghost use Rattle.varnish_tools.specs.Told.{PrintsLog, TellsInput, parted_text};
+ghost use Rattle.varnish_tools.specs.Told.{PrintsCounted, PrintsFeeds, PrintsLog, PrintsRing, TellsInput, WasStopped, parted_text};
 
-use job_runs::{faults_have_failed_calls, told_logs_are_written};
+use feed_files::{feeds_are_listings_or_have_a_fault, told_feeds_are_read};
+use job_runs::{faults_have_failed_calls, feeds_are_written, told_logs_are_written};
 use job_steps::good_steps_pass;
 use txn_partition::groups_are_the_partition;
 
 /// Where the world told what the log of a job holds, OUT gained a part of what is due of that log, and without a fault all of it; or
-/// nothing was taken.
+/// a step stopped the job.
 pub fn told_logs_are_printed()
     ensures { (words : List (List ℕ)) (outcome : Outcome) (job : Job) (units : Log) (ending : FileEnding) (before now : Seen) →
         job_of words ≡ Ok job → is_some job.file ≡ true → is_counting job.tool ≡ false → HasStreams before → TellsInput job units ending before →
-        IsFaithful words outcome before now → (outcome.run ≡ Nothing) ⊎ PrintsLog job outcome.fault units ending before now }
+        IsFaithful words outcome before now → WasStopped outcome.fault outcome.run ⊎ PrintsLog job outcome.fault units ending before now }
 {
     told_logs_are_written();
+}
+
+/// Where the world told what the feeds of a job hold, OUT gained a part of what is due of all that a reader meets of their
+/// listings in the order that the job states, and without a fault all of it; on threads of all that the one reader of the ring
+/// took; or a step stopped the job.
+pub fn told_feeds_are_printed()
+    ensures stated { (words : List (List ℕ)) (outcome : Outcome) (job : Job) (contents : List (List ℕ)) (listings : List Listing) (before now : Seen) →
+        job_of words ≡ Ok job → is_some job.file ≡ false → is_counting job.tool ≡ false → is_on_threads job ≡ false → HasStreams before →
+        FeedsHold before job.feeds contents → AreListings job.reclen job.seg contents listings →
+        IsFaithful words outcome before now → WasStopped outcome.fault outcome.run ⊎ PrintsFeeds job outcome.fault listings before now }
+    ensures live { (words : List (List ℕ)) (outcome : Outcome) (job : Job) (contents : List (List ℕ)) (listings : List Listing) (before now : Seen) →
+        job_of words ≡ Ok job → is_some job.file ≡ false → is_counting job.tool ≡ false → is_on_threads job ≡ true → HasStreams before →
+        FeedsHold before job.feeds contents → AreListings job.reclen job.seg contents listings →
+        IsFaithful words outcome before now → WasStopped outcome.fault outcome.run ⊎ PrintsRing job outcome.fault outcome.run listings before now }
+{
+    feeds_are_listings_or_have_a_fault();
+    told_feeds_are_read();
+    feeds_are_written();
+}
+
+/// Where the world told what the feeds of varnishstat hold, standard output gained a part of the counters of their listings, and
+/// without a fault all of it; or a step stopped the job.
+pub fn told_counters_are_printed()
+    ensures { (words : List (List ℕ)) (outcome : Outcome) (job : Job) (contents : List (List ℕ)) (listings : List Listing) (before now : Seen) →
+        job_of words ≡ Ok job → is_counting job.tool ≡ true → FeedsHold before job.feeds contents → AreListings job.reclen job.seg contents listings →
+        IsFaithful words outcome before now → WasStopped outcome.fault outcome.run ⊎ PrintsCounted job outcome.fault listings before now }
+{
+    feeds_are_listings_or_have_a_fault();
+    told_feeds_are_read();
 }
 
 /// Words whose job needs nothing that it doesn't have, over a whole log or over feeds, have no fault where no call failed.

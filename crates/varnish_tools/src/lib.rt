@@ -17,7 +17,8 @@ mod tools;
 pub use job_runs::RunRecord;
 pub use job_steps::ToolFault;
 pub use laws::{
-    faults_are_counted, good_words_have_no_fault, regular_logs_are_parted, told_logs_are_printed,
+    faults_are_counted, good_words_have_no_fault, regular_logs_are_parted,
+    told_counters_are_printed, told_feeds_are_printed, told_logs_are_printed,
 };
 pub use outcome::Outcome;
 pub use tools::{run_alone, run_tools};
