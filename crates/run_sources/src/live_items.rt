@@ -1,7 +1,7 @@
 //! What a reader's pass meets of a ring that threads share.
 
-ghost use Rattle.std.specs.Prelude.{◌≡◌, [], false, IfSome, IfNone, None};
-ghost use Rattle.log_ring.specs.Readers.{IsAnswer};
+ghost use Rattle.std.specs.Prelude.{◌≡◌, ℕ, [], false, IsSome, IfSome, IfNone, None};
+ghost use Rattle.log_ring.specs.Readers.{IsAnswer, IsSought};
 ghost use Rattle.run_sources.specs.Live.{LiveGave, met_by};
 
 use log_model::Halt;
@@ -60,6 +60,8 @@ fn step(ring: &Ring, pass: &mut ReaderPass) -> Option<Step>
     ensures same { pass.new.ring ≡ pass.old.ring }
     ensures answer { IfSome result (λ step. IsAnswer pass.old step pass.new) }
     ensures sought { IfNone result (met_by pass.new ≡ met_by pass.old) }
+    ensures seeks { IsSome pass.old.reader.lost → IfSome result (λ step. (at seen : ℕ) × (step ≡ Step.Lost at seen) × IsSought pass.old (Sought.Lost at seen) pass.new) }
+    ensures goes_on { IsSome pass.old.reader.lost → IfNone result ((segment place : ℕ) × IsSought pass.old (Sought.At segment place) pass.new) }
 {
     if !pass.is_lost() {
         return Some(pass.next(ring));

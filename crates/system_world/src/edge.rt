@@ -1,11 +1,12 @@
 //! What the system's calls answer, as answers of a world. Beside these functions nothing is decided
 //! about an answer: each other function at the edge makes one call.
 
-ghost use Rattle.std.specs.Prelude.{◌≡◌, ◌≤◌, ◌+◌, ◌++◌, ◌∷◌, [], ◌↔◌, length, is_err, IfOk, IfErr, OnOk, OnErr, IsErr};
+ghost use Rattle.std.specs.Prelude.{◌≡◌, ◌==◌, ◌≤◌, ◌+◌, ◌++◌, ◌∷◌, [], ◌↔◌, length, is_err, IfOk, IfErr, OnOk, OnErr, IsErr};
+ghost use Rattle.std.specs.Fs.{metadata_len};
 ghost use Rattle.std.specs.Result.{IsErrOf};
 ghost use Rattle.system_world.specs.inside.Edge.{counted, answer_to_write, creates};
 
-use std::fs::{File, OpenOptions};
+use std::fs::{File, Metadata, OpenOptions};
 use std::io;
 use vio::{Created, Failed, WorldFault};
 
@@ -78,6 +79,13 @@ pub fn how_to_create(append: bool) -> OpenOptions
         .append(append)
         .truncate(!append);
     how
+}
+
+/// Whether a file of which the system says this has no bytes.
+pub fn has_no_bytes(about: &Metadata) -> bool
+    ensures { result ≡ (metadata_len about.now == 0) }
+{
+    about.len() == 0
 }
 
 /// What creating a file answers: its handle, and whether it has no bytes, or a failure where the system

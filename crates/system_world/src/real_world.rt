@@ -4,7 +4,7 @@ ghost use Rattle.std.specs.Prelude.{◌≡◌, true, false, ◌+◌, ◌-◌, �
 ghost use Rattle.system_world.specs.RealWorld.{seen_after, real_seen, HasStreams-real};
 
 use crate::edge::{
-    FIRST_FILE, create_answer, how_to_create, open_answer, read_answer, write_answer,
+    FIRST_FILE, create_answer, has_no_bytes, how_to_create, open_answer, read_answer, write_answer,
 };
 use std::alloc::Global;
 use std::fs::File;
@@ -52,7 +52,7 @@ impl RealWorld {
         ensures emptied { append ≡ false → IfOk result (λ made. made.1 ≡ true) }
     {
         let file = how_to_create(append).open(&self.rt, name)?;
-        let empty = !append || file.metadata()?.len() == 0;
+        let empty = !append || has_no_bytes(&file.metadata()?);
         Ok((file, empty))
     }
 
