@@ -17,7 +17,7 @@ mod number;
 mod tag_set;
 
 pub use called::tag_called;
-pub use laws::{names_differ, stars_stand_for_any_bytes};
+pub use laws::{constants_are_named, constants_of_tag, names_differ, stars_stand_for_any_bytes};
 pub use names::{name_columns, name_of, tag_of};
 pub use number::Tag;
 pub use tag_set::{TagFault, TagSet};
