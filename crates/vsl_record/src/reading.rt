@@ -51,8 +51,7 @@ pub(crate) fn second_word(bytes: &[u8]) -> u32
     requires { 2 ≤ length (words_in bytes.now) }
     ensures { slice_index (words_in bytes.now) 1 ≡ result }
 {
-    let (_, behind) = bytes.split_at(4);
-    header_word(behind)
+    u32::from_le_bytes([bytes[4], bytes[5], bytes[6], bytes[7]])
 }
 
 /// How many whole words the bytes are.
