@@ -9,12 +9,14 @@
 
 mod history;
 mod item;
+mod laws;
 mod shape;
 mod steps;
 mod words;
 
 pub use history::{HistoryItem, Run};
 pub use item::Item;
+pub use laws::constants_are_defined;
 pub use shape::{Placed, Shape, place_after, segment_of};
 pub use steps::{PutFault, Sought, Step};
 pub use words::{WORD, copy_words, read_word, write_unit, write_word};
