@@ -17,7 +17,8 @@ use Rattle.regex_syntax.specs.declared.error.ErrorKind.TheVariants.{OutOfMemory,
 use Rattle.regex.proofs.ForCallers.{is_match_alike}
 use Rattle.regex.specs.Bytes.{regex_source, regex_pattern}
 use Rattle.regex.specs.declared.bytes.regex.Regex.{Regex}
-use Rattle.vsl_pattern.specs.inside.Options.{options, IsReadUnder}
+use Rattle.vsl_pattern.specs.Options.{options}
+use Rattle.vsl_pattern.specs.inside.Reading.{IsReadUnder}
 use Rattle.vsl_pattern.specs.Patterns.{is_good_pattern, is_match}
 
 -- what the grammar read, or nothing

@@ -4,7 +4,7 @@ use Rattle.std.specs.Str.{is_utf8}
 use Rattle.regex_hir.specs.Find.{find}
 use Rattle.regex_syntax.specs.Grammar.{read}
 use Rattle.regex.specs.Bytes.{regex_source}
-pub use Rattle.vsl_pattern.specs.inside.Options.{options}
+use Rattle.vsl_pattern.specs.Options.{options}
 use Rattle.vsl_pattern.specs.declared.pattern.Pattern.{Pattern}
 use Rattle.vsl_pattern.specs.declared.pattern.Matching.{Matching}
 

@@ -3,7 +3,7 @@
 ghost use Rattle.std.specs.Prelude.{◌≡◌, true, false, IfOk, OnOk};
 ghost use Rattle.log_model.specs.Halts.{IfFault};
 ghost use Rattle.regex.specs.Bytes.{regex_pattern, matcher_pattern};
-ghost use Rattle.vsl_pattern.specs.inside.Options.{IsReadUnder};
+ghost use Rattle.vsl_pattern.specs.inside.Reading.{IsReadUnder};
 
 use log_model::Halt;
 use regex::bytes::{Matcher, Regex};
