@@ -2,7 +2,7 @@
 use Rattle.std.proofs.Common.{◌≡◌, ◌+◌, ◌<◌, ◌≤◌, ⊎_elim, inl, inr, ℕ, zero, suc, Bool, Some, None, List, [], ◌∷◌, ◌++◌, length, map, take, get_or, refl, ap, sym, ◌∙◌, arith}
 use Rattle.std.specs.Prelude.{slice_get}
 use Rattle.std.specs.Option.{option_map}
-use Rattle.std.proofs.lemmas.List.{length-map, get_or-map, map_more}
+use Rattle.std.proofs.lemmas.List.{length-map, get_or-map, map_more, take_all}
 use Rattle.std.proofs.lemmas.Option.{slice_get-map, slice_get-get_or}
 use Rattle.vsl_record.specs.declared.record_type.Record.{Record}
 use Rattle.txn_rows.specs.declared.group.Group.{Group}
@@ -70,13 +70,7 @@ answers_more all group i a truths truth within is told so_far =
     ∙ ap (λ (b : Bool). map holds (take i (map asker_query all)) ++ b ∷ []) (told ∙ ap holds (sym here))
     ∙ sym (map_more holds (map asker_query all) i (asker_query a) inside)
 
-take_all : (queries : List Query) (i : ℕ) → length queries ≤ i → take i queries ≡ queries
-take_all [] zero past = refl
-take_all [] (suc i) past = refl
-take_all (q ∷ queries) zero past = absurd (omega (arith, past))
-take_all (q ∷ queries) (suc i) past = ap (λ (qs : List Query). q ∷ qs) (take_all queries i (omega (arith, past)))
-
 pub answers_whole : (all : List Asker) (group : Group) (i : ℕ) (truths : List Bool) → length all ≤ i →
     truths ≡ map (λ query. is_held query group) (take i (map asker_query all)) → truths ≡ map (λ query. is_held query group) (map asker_query all)
 answers_whole all group i truths past so_far =
-    so_far ∙ ap (map (λ (query : Query). is_held query group)) (take_all (map asker_query all) i (omega (arith, past, length-map all asker_query)))
+    so_far ∙ ap (map (λ (query : Query). is_held query group)) (take_all i (map asker_query all) (omega (arith, past, length-map all asker_query)))

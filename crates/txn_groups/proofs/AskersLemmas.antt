@@ -1,11 +1,15 @@
 -- The marks of each of several queries.
-use Rattle.std.proofs.Common.{◌≡◌, ◌<◌, ◌≤◌, ⊎_elim, inl, ℕ, zero, suc, ◌+◌, ◌⊎◌, Some, None, List, [], ◌∷◌, ◌++◌, Bool, length, map, take, set, get_or, refl, ap, sym, ◌∙◌, add-one, arith}
+use Rattle.std.proofs.Common.{◌≡◌, ◌==◌, ◌<◌, ◌≤◌, ⊎_elim, inl, true, ℕ, zero, suc, ◌+◌, ◌⊎◌, Some, None, List, [], ◌∷◌, ◌++◌, Bool, length, map, take, set, get_or, refl, ap, sym, ◌∙◌, add-one, arith}
 use Rattle.std.specs.Prelude.{slice_get}
-use Rattle.std.proofs.lemmas.List.{length-map, get_or-map, map_more, take_more}
+use Rattle.std.specs.List.{list_all, list_any}
+use Rattle.std.proofs.lemmas.Bool.{and_parts, eqb-true}
+use Rattle.std.proofs.lemmas.List.{length-map, get_or-map, map_more, nil_from_length, take_more}
 use Rattle.std.proofs.Math.Seq.{map-set_same}
 use Rattle.vsl_record.specs.declared.record_type.Record.{Record}
 use Rattle.query_parser.specs.declared.query.Query.{Query}
-use Rattle.query_eval.specs.Marks.{marks_of}
+use Rattle.query_parser.specs.declared.test.Test.{Test}
+use Rattle.query_eval.specs.Meaning.{record_marks}
+use Rattle.query_eval.specs.Marks.{marks_of, tests_in}
 use Rattle.txn_groups.specs.inside.Marked.{marks_for, AreMarksOf}
 
 -- an asker stays one of its query
@@ -128,3 +132,17 @@ marks_read queries query place records kept none marks asked are none_is found =
 pub marks_some : (queries : List Query) (query : Query) (place : ℕ) (none : List (List Bool)) → slice_get queries place ≡ Some query → none ≡ marks_for queries [] → slice_get none place ≡ None → ⊥
 marks_some queries query place none asked none_is missing =
     let e : Some (marks_of query []) ≡ None = sym (of_some queries query [] place asked) ∙ sym (ap (λ (l : List (List Bool)). slice_get l place) none_is) ∙ missing in cc
+
+testless_query : (query : Query) (records : List Record) → (length query.steps.items == 0) ≡ true → marks_of query records ≡ marks_of query []
+testless_query query records none =
+    let empty : query.steps.items ≡ [] = nil_from_length query.steps.items (eqb-true (length query.steps.items) 0 none) in
+    let marks : List Record → List Test → List Bool = λ rs tests. map (λ test. list_any (record_marks test) rs) tests in
+    ap (λ steps. marks records (tests_in steps)) empty ∙ sym (ap (λ steps. marks [] (tests_in steps)) empty)
+
+-- where no query has a test, marks of any records are those of none
+pub testless_marks : (queries : List Query) (records : List Record) → list_all (λ query. length query.steps.items == 0) queries ≡ true → marks_for queries records ≡ marks_for queries []
+testless_marks [] records are = refl
+testless_marks (query ∷ queries) records are =
+    let parts = and_parts _ _ are in
+    let here : marks_of query records ≡ marks_of query [] = testless_query query records parts.0 in
+    ap (λ (marks : List Bool). marks ∷ marks_for queries records) here ∙ ap (λ (all : List (List Bool)). marks_of query [] ∷ all) (testless_marks queries records parts.1)

@@ -13,6 +13,7 @@ mod add;
 mod add_to;
 mod answers;
 mod askers;
+mod asking;
 mod claim;
 mod end;
 mod end_row;

@@ -3,7 +3,7 @@ use Rattle.vsl_record.specs.declared.record_type.Record.{Record}
 use Rattle.query_eval.specs.Asker.{asker_query}
 use Rattle.txn_groups.specs.inside.Marked.{marks_for}
 use Rattle.txn_groups.proofs.AskersLemmas.{marked_to}
-use Rattle.txn_groups.proofs.askers.add_to_each.Given as goal
+use Rattle.txn_groups.proofs.asking.add_to_each.Given as goal
 
 -- the queries are the same, and what comes was added for those before the index
 abbrev pub invariant-loop-i : goal.invariant-loop-i

@@ -1,7 +1,7 @@
 use Rattle.std.proofs.Common.{◌≡◌, [], map, take}
 use Rattle.query_eval.specs.Asker.{asker_query}
 use Rattle.query_eval.specs.Marks.{marks_of}
-use Rattle.txn_groups.proofs.askers.no_marks.Given as goal
+use Rattle.txn_groups.proofs.asking.no_marks.Given as goal
 
 -- those of the queries before the index were made
 abbrev pub invariant-loop-i : goal.invariant-loop-i

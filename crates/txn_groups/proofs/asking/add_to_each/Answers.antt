@@ -2,7 +2,7 @@ use Rattle.std.proofs.Common.{◌≤◌, length, map, ◌∙◌, arith}
 use Rattle.std.proofs.lemmas.List.{length-map}
 use Rattle.query_eval.specs.Asker.{asker_query}
 use Rattle.txn_groups.proofs.AskersLemmas.{same_queries, marked_step, marked_whole}
-use Rattle.txn_groups.proofs.askers.add_to_each.Goals as goal
+use Rattle.txn_groups.proofs.asking.add_to_each.Goals as goal
 
 pub returns-in_err-add-clause-same : goal.returns-in_err-add-clause-same
 returns-in_err-add-clause-same g c = same_queries asker_query _ _ c.loop-i.i c.index-askers-i.result _ c.loop-i.invariant.same c.add.ensures.same

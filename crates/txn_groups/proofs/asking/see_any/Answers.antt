@@ -1,7 +1,7 @@
 use Rattle.std.proofs.Common.{◌∙◌, arith}
 use Rattle.query_eval.specs.Asker.{asker_query}
 use Rattle.txn_groups.proofs.AskersLemmas.{same_queries, unseen_next}
-use Rattle.txn_groups.proofs.askers.see_any.Goals as goal
+use Rattle.txn_groups.proofs.asking.see_any.Goals as goal
 
 pub returns-in_err-sees-clause-same : goal.returns-in_err-sees-clause-same
 returns-in_err-sees-clause-same g c = same_queries asker_query _ _ c.loop-i.i c.index-askers-i.result _ c.loop-i.invariant.same c.sees.ensures.same

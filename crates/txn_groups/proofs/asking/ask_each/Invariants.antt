@@ -1,7 +1,7 @@
 use Rattle.std.proofs.Common.{◌≡◌, map, take}
 use Rattle.query_eval.specs.Asker.{asker_query}
 use Rattle.query_eval.specs.Meaning.{is_held}
-use Rattle.txn_groups.proofs.askers.ask_each.Given as goal
+use Rattle.txn_groups.proofs.asking.ask_each.Given as goal
 
 -- the queries are the same, and those before the index were asked
 abbrev pub invariant-loop-i : goal.invariant-loop-i

@@ -2,7 +2,7 @@ use Rattle.std.proofs.Common.{◌∙◌, arith}
 use Rattle.query_eval.specs.Asker.{asker_query}
 use Rattle.query_eval.specs.Meaning.{is_held}
 use Rattle.txn_groups.proofs.AskersLemmas.{same_queries, asked_more}
-use Rattle.txn_groups.proofs.askers.ask_each.Goals as goal
+use Rattle.txn_groups.proofs.asking.ask_each.Goals as goal
 
 pub returns-in_err-holds-clause-same : goal.returns-in_err-holds-clause-same
 returns-in_err-holds-clause-same c = same_queries asker_query _ _ c.loop-i.i c.index-askers-i.result _ c.loop-i.invariant.same c.holds.ensures.same
