@@ -2,7 +2,7 @@
 
 ghost use Rattle.std.specs.Prelude.{◌≡◌, ℕ, [], false, IsSome, IfSome, IfNone, None};
 ghost use Rattle.log_ring.specs.Readers.{IsAnswer, IsSought};
-ghost use Rattle.run_sources.specs.Live.{LiveGave, met_by};
+ghost use Rattle.run_sources.specs.Live.{HasSought, LiveGave, met_by};
 
 use log_model::Halt;
 use log_ring::{ReaderPass, Ring};
@@ -61,6 +61,7 @@ fn step(ring: &Ring, pass: &mut ReaderPass) -> Option<Step>
     ensures answer { IfSome result (λ step. IsAnswer pass.old step pass.new) }
     ensures sought { IfNone result (met_by pass.new ≡ met_by pass.old) }
     ensures seeks { IsSome pass.old.reader.lost → IfSome result (λ step. (at seen : ℕ) × (step ≡ Step.Lost at seen) × IsSought pass.old (Sought.Lost at seen) pass.new) }
+    ensures behind { HasSought pass.old → HasSought pass.new }
     ensures goes_on { IsSome pass.old.reader.lost → IfNone result ((segment place : ℕ) × IsSought pass.old (Sought.At segment place) pass.new) }
 {
     if !pass.is_lost() {
