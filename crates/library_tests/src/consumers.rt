@@ -9,7 +9,7 @@ use std::alloc::Global;
 use std::process::Abort;
 use std::test::Fail;
 use txn_rows::{Group, Kind, Member, Members, Reason};
-use vsl_dispatch::{Consumer, Dispatch, Go};
+use vsl_dispatch::{Consumer, Dispatch, Go, Received};
 use vsl_record::{Mark, Records, Unit};
 use vsl_tags::Tag;
 use vsl_top::TopConsumer;
@@ -137,5 +137,15 @@ fn records_of_a_unit_are_taken_at_once_by_one_that_keeps_all(rt: HostRuntime) ->
     let mut one = top(alloc, Some(1))?;
     same(&rt, one.records(&unit)?, false);
     same(&rt, one.group(&group_of(alloc, b"a")?)?, Go::Done);
+    Ok(())
+}
+
+#[test]
+fn groups_are_counted_where_a_limit_is_given(rt: HostRuntime) -> Result<(), Fail> {
+    let (mut all, mut two) = (Received::new(None), Received::new(Some(2)));
+    same(&rt, (all.count, two.count), (0, 0));
+    same(&rt, (all.add_one()?, two.add_one()?), (Go::More, Go::More));
+    same(&rt, (all.add_one()?, two.add_one()?), (Go::More, Go::Done));
+    same(&rt, (all.count, two.count), (0, 2));
     Ok(())
 }

@@ -21,7 +21,7 @@ const CACHE_HIT: u32 = 2;
 
 const CACHE_MISS: u32 = 5;
 
-/// Two passes to counters, of which one adds.
+/// What counters with one pass come to.
 fn values_of(alloc: Global, hits: u64, misses: u64) -> Result<Values, Fail> {
     let mut open = Counters::new(alloc, 1)?;
     let mut pass = open.passes.pop().ok_or("there is one pass")?;
@@ -61,6 +61,29 @@ fn a_pass_adds_2_to_the_56_and_no_more(rt: HostRuntime) -> Result<(), Fail> {
     let values = close(alloc, open.counters, passes)?;
     same(&rt, values.get(CACHE_HIT), CEILING);
     same(&rt, values.get(CACHE_MISS), 0);
+    Ok(())
+}
+
+#[test]
+fn a_pass_is_told_what_another_added(rt: HostRuntime) -> Result<(), Fail> {
+    let alloc = rt.alloc();
+    let mut open = Counters::new(alloc, 2)?;
+    let mut first = open.passes.pop().ok_or("there are two passes")?;
+    let mut second = open.passes.pop().ok_or("there are two passes")?;
+    first.add(&open.counters, CACHE_HIT, 2)?;
+    second.add(&open.counters, CACHE_HIT, 3)?;
+    same(&rt, load(&open.counters, &mut first, CACHE_HIT), 5);
+    same(&rt, load(&open.counters, &mut second, CACHE_HIT), 5);
+    same(&rt, load(&open.counters, &mut second, CACHE_MISS), 0);
+    second.add(&open.counters, CACHE_MISS, CEILING)?;
+    first.add(&open.counters, CACHE_MISS, 7)?;
+    same(
+        &rt,
+        load(&open.counters, &mut first, CACHE_MISS),
+        CEILING + 7,
+    );
+    let passes = Vec::from_array(alloc, [first, second])?;
+    same(&rt, close(alloc, open.counters, passes)?.get(CACHE_HIT), 5);
     Ok(())
 }
 

@@ -12,6 +12,8 @@ mod consumers;
 #[cfg(test)]
 mod counters;
 #[cfg(test)]
+mod faults;
+#[cfg(test)]
 mod groups;
 #[cfg(test)]
 mod rings;

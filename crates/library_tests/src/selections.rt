@@ -4,7 +4,7 @@ use crate::support::{no_sides, record_of, same};
 use std::alloc::Global;
 use std::test::Fail;
 use vsl_select::{RuleText, SelectFault, Selection, Text};
-use vsl_tags::Tag;
+use vsl_tags::{Tag, TagSet};
 
 /// A rule that includes, whose text is the word 2.
 fn rule(alloc: Global, regex: bool, text: &str) -> Result<RuleText, Fail> {
@@ -50,5 +50,14 @@ fn a_rule_with_a_pattern_shows_what_matches(rt: HostRuntime) -> Result<(), Fail>
     same(&rt, shown.shows(&first.view())?, true);
     same(&rt, shown.shows(&second.view())?, false);
     same(&rt, shown.shows(&third.view())?, false);
+    Ok(())
+}
+
+#[test]
+fn sets_of_the_same_tags_are_equal(rt: HostRuntime) -> Result<(), Fail> {
+    let set = TagSet::from_list("ReqURL,End")?;
+    same(&rt, TagSet::from_list("End,ReqURL,end")? == set, true);
+    same(&rt, TagSet::from_list("ReqURL")? == set, false);
+    same(&rt, TagSet::from_list("ReqURL,End,Begin")? == set, false);
     Ok(())
 }

@@ -42,6 +42,20 @@ fn a_text_over_the_limit_is_too_large(rt: HostRuntime) -> Result<(), Fail> {
 }
 
 #[test]
+fn standard_input_is_told_whole_whatever_was_read_of_it(rt: HostRuntime) -> Result<(), Fail> {
+    let mut world = MemWorld::new(rt.alloc())?;
+    assert!(&rt; world.content(INPUT).is_empty());
+    world.file("-", TEXT)?;
+    assert_eq!(&rt; world.content(INPUT), TEXT);
+    let mut buf = [0; 3];
+    for read in [3, 2, 0] {
+        same(&rt, world.read(INPUT, &mut buf), Ok(read));
+        assert_eq!(&rt; world.content(INPUT), TEXT);
+    }
+    Ok(())
+}
+
+#[test]
 fn other_names_and_handles_are_refused(rt: HostRuntime) -> Result<(), Fail> {
     let mut world = MemWorld::new(rt.alloc())?;
     world.file("f", TEXT)?;
