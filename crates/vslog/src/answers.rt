@@ -30,10 +30,11 @@ Reads Varnish's binary log, as its varnishlog -w writes it, from FILE, or from
 standard input without it, and writes a log file that vtools reads with -r, to
 standard output. What has come is written before more is read, so that
 
-  varnishlog -g raw -w - | vslog | vtools varnishncsa -r -
+  varnishlog -g raw -w - | vslog | vtools varnishncsa -T 1000000 -r -
 
-prints the lines of a request when its records have come. It ends with its
-input; nothing is held back, and nothing grows.
+prints the line of a request when its records have come. It ends with its input;
+nothing is held back, and nothing grows. -T 1000000 keeps vtools from cutting
+in two what comes first after a quiet time.
 
   -t        reads a text, as varnishlog -g raw prints it
   -w OUT    writes to OUT, which is emptied; - is standard output

@@ -25,6 +25,7 @@ records, and prints each once with its count when the log has ended. They take
 all records, or those that are chosen. In place of a log file they take feeds:
 texts of records, as Varnish's own varnishlog -g raw prints them, or requests
 that are made up. varnishstat prints counters of feeds, and takes no log file.
+vslog --help says how the log of a running Varnish becomes a log file.
 
   -r FILE           reads the log file FILE; - is standard input
   -g vxid           groups records by transaction; this is the default
