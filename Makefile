@@ -36,7 +36,7 @@ fmt: ## lays out every crate
 	set -e; for crate in crates/*; do (cd $$crate && rt fmt); done
 
 docs: ## checks the documents, and the tables and the completion that are made
-	tools/check docs definitions options byte_table completion
+	tools/check docs definitions derives options byte_table completion
 
 definitions: ## makes docs/DEFINITIONS.md, which isn't committed, from specs/ and src/
 	tools/definitions.py --write

@@ -59,15 +59,17 @@ def run_over(words, folder, stdin, out, errors, most):
 
 
 def limited(streams, memory=None, most=None):
-    """What a program does before it begins: it closes streams, and limits itself.
+    """What a program does before it begins: it closes streams, and limits itself; None where it does nothing.
 
     It has so many KiB of address space, and a file that it writes so many bytes at most, past which a write fails.
     """
+    closed = [number for number, stream in enumerate(streams) if stream is CLOSED]
+    if not closed and memory is None and most is None:
+        return None
 
     def before():
-        for number, stream in enumerate(streams):
-            if stream is CLOSED:
-                os.close(number)
+        for number in closed:
+            os.close(number)
         if memory is not None:
             resource.setrlimit(resource.RLIMIT_AS, (memory << 10, memory << 10))
         if most is not None:

@@ -42,14 +42,12 @@ def of_log(tool, *words, log):
 
 
 def groups(draw, _):
-    """A hostile log under each grouping: all of its groups, those that queries take, and a report."""
-    log = Log(logs.hostile(draw))
-    for grouping in GROUPINGS:
-        options = [*limits(draw), "-g", grouping]
-        queries = asked(texts.of_query(draw, 4) for _ in range(draw.choice([1, 1, 2])))
-        yield of_log("varnishlog", *draw.choice([[], ["-v"]]), *options, log=log)
-        yield of_log("varnishlog", *options, *queries, log=log)
-        yield of_log("varnishtop", *options, *draw.choice([[], queries]), log=log)
+    """A hostile log under a grouping: all of its groups, those that queries take, or a report."""
+    log, options = Log(logs.hostile(draw)), [*limits(draw), "-g", draw.choice(GROUPINGS)]
+    queries = asked(texts.of_query(draw, 4) for _ in range(draw.choice([1, 1, 2])))
+    listed = ("varnishlog", draw.choice([[], ["-v"]]))
+    tool, more = draw.choice([listed, ("varnishlog", queries), ("varnishtop", draw.choice([[], queries]))])
+    yield of_log(tool, *options, *more, log=log)
 
 
 def growing(draw, count):
@@ -194,7 +192,7 @@ def parted(draw, _):
 
 
 KINDS = {
-    "groups": Kind("hostile logs under all groupings, with queries and small limits", groups, 300),
+    "groups": Kind("hostile logs under all groupings, with queries and small limits", groups, 3600),
     "growing": Kind("each prefix of a long hostile log under all groupings", growing, PREFIXES, PREFIXES),
     "regular": Kind("regular logs", regular),
     "cut": Kind("log files that are cut, or have changed bytes", cut),
