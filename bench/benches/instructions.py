@@ -23,7 +23,7 @@ KINDS = {
     "memory": r"malloc|free|realloc|unlink_chunk|rattle_alloc|consolidate",
     "copies": r"memcpy|memmove|memset",
     "reading": r"vsl_record::reading|vsl_file::(reader|filling|steps)",
-    "asking": r"query_eval|txn_groups::(marking|askers|answers)",
+    "asking": r"query_eval|txn_groups::(marking|askers|asking|answers)",
     "grouping": r"Printer::take|txn_|records::Records|vsl_decimal|hash",
     "output": r"vsl_select|vsl_file|ncsa_format|vsl_top|ToolConsumer|vsl_tags|sort|cmp|scan",
     "rest": "",
