@@ -1,6 +1,6 @@
 # Short names for the commands of this repository. `make help` lists them.
 
-.PHONY: help check crate edits plant gate fmt docs definitions build run install uninstall demo
+.PHONY: help check crate edits plant test gate fmt docs definitions build run install uninstall demo
 
 PREFIX ?= /usr/local
 ZSH_FOLDER ?= share/zsh/site-functions
@@ -12,7 +12,7 @@ files := $(foreach page,$(notdir $(wildcard docs/man/*.1)),docs/man/$(page):shar
   $(foreach name,$(programs),completion/$(name).fish:share/fish/vendor_completions.d/$(name).fish) \
   completion/_vtools:$(ZSH_FOLDER)/_vtools \
   $(foreach file,$(wildcard examples/queries/* examples/json.* examples/*.service examples/*.logrotate),\
-    $(file):share/doc/vtools/$(file))
+    $(file):share/doc/vtools/$(file)) LICENSE:share/doc/vtools/copyright
 
 help: ## prints this list
 	@sed -n 's/^\([a-z]*\):.*## /\1\t/p' $(MAKEFILE_LIST)
@@ -29,7 +29,10 @@ edits: ## tries the must-fail edits of one crate, or of all: NAME=vtools
 plant: ## tries wrong bodies in one crate: NAME=vtools
 	cd crates/$(NAME) && rt plant
 
-gate: ## the merge gate: proofs, edits, tests, programs, documents and command lines
+test: ## runs all tests, cases and examples in minutes, over programs that are built without a proof
+	@tools/test
+
+gate: ## the merge gate: tests, proofs, edits, programs, documents and command lines
 	.ci/run
 
 fmt: ## lays out every crate

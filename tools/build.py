@@ -4,9 +4,9 @@
 Each is a call of `rt lib`, once all below it are built, and at most one a processor. Each may use all processors, and
 where these don't suffice, those come first for which the longest chain of others waits. rt keeps others out of a
 crate's folder and of those below it, so each call is in one of as many copies of the crates, in a temporary folder; rt
-lends what was built in one to the others, and at last to this repository. A line tells when each begins, and one how
-long it took; what a call printed is shown where it fails, and then the status is 1. What an earlier call proved is
-kept. Usage: tools/build.py CRATE ..
+lends what was built in one to the others, and at last to this repository. A line tells when each begins, and one behind
+it how many of them all are done; what a call printed is shown where it fails, and then the status is 1. What an earlier
+call proved is kept. Usage: tools/build.py CRATE ..
 """
 import os
 import pathlib
@@ -79,15 +79,15 @@ def build_all(below, rooms):
         while left or running:
             for it in [it for it in left if built.issuperset(below[it])][:lanes - len(running)]:
                 left.remove(it)
-                print(f"{len(below) - len(left)} of {len(below)}: {it} ..", flush=True)
+                print(f"{it} ..", flush=True)
                 running.add(pool.submit(build, it, rooms, lanes, nice[it]))
             done, running = wait(running, return_when=FIRST_COMPLETED)
             for name, status, said, seconds in (it.result() for it in done):
-                print(f"{name}: {lasted(seconds)}", flush=True)
                 if status:
-                    print(said, flush=True)
+                    print(f"{name}: not built\n{said}", flush=True)
                     return False
                 built.add(name)
+                print(f"{len(built)} of {len(below)} crates are done: {name} took {lasted(seconds)}", flush=True)
     return True
 
 

@@ -1,12 +1,12 @@
 #!/usr/bin/env python3
-"""Prints crates/acceptance/src/byte_table.rt: what single-byte changes do to a log file.
+"""Prints crates/acceptance_support/src/byte_table.rt: what single-byte changes do to a log file.
 
 The file has two units: a backend's (VXID 3: Begin `bereq 2 fetch`, End) and a client's (VXID 2:
 Begin `req 1 rxreq`, Link `bereq 3 fetch`, End). For each of its 100 places and each of the 256
 values there, tools/reference/vslog.py, which follows the rules of the format alone, says whether
 the file is whole and how many units it has; no output of the program is used.
 
-    tools/byte_table.py >crates/acceptance/src/byte_table.rt
+    tools/byte_table.py >crates/acceptance_support/src/byte_table.rt
 """
 
 import pathlib

@@ -84,8 +84,10 @@ def table_rows(source, start, row):
 def variants(enum):
     """The variants of an enum of FORMATTERS: for each its text, and what it is by the line above it, or by its name."""
     body = re.search(rf"^pub enum {enum} \{{\n(.*?)^\}}", FORMATTERS.read_text(), re.M | re.S)[1]
-    found = re.findall(r"^    /// `([^`]+)`(?:, (.*))?\.\n    (\w+)", body, re.M)
-    return [(text, does or re.sub("(?<=[a-z])(?=[A-Z])", " ", name).lower()) for text, does, name in found]
+    found = re.findall(r"^    /// (?:`([^`]+)`(?:, (.*))?|A text with directives)\.\n    (\w+)", body, re.M)
+    if [name for _, _, name in found] != re.findall(r"^    (\w+)", body, re.M):
+        sys.exit(f"completion: a variant of {enum} has not its text in the line above it")
+    return [(text, does or re.sub("(?<=[a-z])(?=[A-Z])", " ", name).lower()) for text, does, name in found if text]
 
 
 def formatters():
@@ -95,7 +97,7 @@ def formatters():
     for text, does in variants("Formatter"):
         if text == "%{X}t":
             found |= {f"%{{{form}}}t": of_form for form, of_form in variants("TimeForm") if form.islower()}
-        elif "X" in text:
+        elif "{X}" in text:
             found |= {text.replace("X", header): does for header, letter in headers if letter == text[-1]}
         elif re.search(":(key|tag)", text):
             found[re.sub("(key|tag).*", "", text)] = does

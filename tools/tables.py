@@ -90,29 +90,43 @@ def rows_of(heads, rows):
     return options.table_of(heads, rows)
 
 
-def tag_names():
-    """The single names of tags, and the endings of a message's."""
+def tags():
+    """All tags: what stands for their names in the definition of all, each a name, or a message with its endings."""
     text = read("vsl_tags/specs/Tags.antt")
-    return [re.findall(r'codes "(\w+)"', body(name, text)) for name in ("single_names", "message_endings")]
+    single, endings = (re.findall(r'codes "(\w+)"', body(name, text)) for name in ("single_names", "message_endings"))
+    found = []
+    for term in re.split(r"\s*\+\+\s*", body("tag_names", text).strip()):
+        message, names = re.fullmatch(r'message_names \(codes "(\w+)"\)', term), re.fullmatch(r'\(?((?:codes "\w+" ∷ )+)\[\]\)?', term)
+        if term == "single_names":
+            found += single
+        elif message:
+            found += [(message[1], ending) for ending in endings]
+        elif names:
+            found += re.findall(r'"(\w+)"', names[1])
+        else:
+            refuse(f"tag_names has a part that is neither names nor a message: {term}")
+    if str(len(found)) != body("last_tag", text).strip():
+        refuse(f"tag_names has {len(found)} names, and last_tag is another number")
+    return list(enumerate(found, 1)), endings
 
 
 def tags_table():
     """The tags that are of no message, each behind its number."""
-    cells = [f"{number} {name}" for number, name in enumerate(tag_names()[0], 1)]
+    cells = [f"{number} {name}" for number, name in tags()[0] if isinstance(name, str)]
     cells += [""] * (-len(cells) % IN_A_ROW)
     return rows_of([""] * IN_A_ROW, [cells[at : at + IN_A_ROW] for at in range(0, len(cells), IN_A_ROW)])
 
 
 def message_tags_table():
     """The tags of messages: a row for each message, a column for each ending."""
-    single, endings = tag_names()
-    named = re.findall(r'message_names \(codes "(\w+)"\)', body("tag_names", read("vsl_tags/specs/Tags.antt")))
-    if tuple(named) != MESSAGES:
+    found, endings = tags()
+    rows = {}
+    for number, name in found:
+        if not isinstance(name, str):
+            rows.setdefault(name[0], []).append(str(number))
+    if tuple(rows) != MESSAGES:
         refuse(f"the messages of tags are not {', '.join(MESSAGES)}")
-    first = len(single) + 1
-    width = len(endings)
-    numbers = [range(first + at * width, first + (at + 1) * width) for at in range(len(named))]
-    return rows_of(["", *endings], [[name, *map(str, row)] for name, row in zip(named, numbers)])
+    return rows_of(["", *endings], [[name, *row] for name, row in rows.items()])
 
 
 def counters_table():

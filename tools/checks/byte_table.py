@@ -1,8 +1,8 @@
-"""Compares the table of changed bytes in the tests of `acceptance` with what tools/byte_table.py prints."""
+"""Compares the table of changed bytes of the tests with what tools/byte_table.py prints."""
 
 from checks.running import TOP, made_by, same_text
 
-TABLE = "crates/acceptance/src/byte_table.rt"
+TABLE = "crates/acceptance_support/src/byte_table.rt"
 
 
 def check(_):

@@ -3,6 +3,7 @@
 import functools
 import re
 
+import completion
 import definitions
 import options
 import tables
@@ -277,6 +278,18 @@ def messages():
     return len(texts) + len(of_vslog)
 
 
+def formatters():
+    """Each formatter of an access line has a row in FORMATS and one on the page of varnishncsa."""
+    rows = set(found(r"^\| `(%[^`]+)` \|", read(f"{FORMATS_PAGES}/access-lines.md")))
+    lines = found(r"^\.TP\n\.BI? (%.*)$", read("docs/man/vtools-varnishncsa.1"))
+    on_page = {line.replace(" ", "").replace("\\-", "-") for line in lines}
+    named = [text.replace("[field]", "[n]") for text, _ in completion.variants("Formatter")]
+    for name in named:
+        if name not in rows or name not in on_page:
+            raise Failed(f"the formatter {name} has no row in {FORMATS_PAGES}/access-lines.md, or none in vtools-varnishncsa.1")
+    return len(named)
+
+
 def edits():
     """Each file that an edit of a wrong body changes is there."""
     files = [edit for top in ("crates", "wrong") for edit in (TOP / top).rglob("*.edit")]
@@ -320,8 +333,9 @@ def check(_):
     made()
     proof = read("docs/PROOF.md")
     cited = cited_definitions(proof) + promises(proof) + changes() + paths()
-    counts = documents(), sections(), links(), crates(), cited, version(), messages(), edits(), choices(), citations()
+    counts = documents(), sections(), links(), crates(), cited, version(), messages(), formatters(), edits()
+    counts += choices(), citations()
     return (
         "%d documents, %d sections of formats, %d links, %d crates, %d names, %d places of the version, %d messages, "
-        "%d edits, %d choices, %d files" % counts
+        "%d formatters, %d edits, %d choices, %d files" % counts
     )

@@ -1,6 +1,6 @@
 //! Feeds that workers put.
 
-use crate::support::{Answer, Ending, Took, expect_run, refused};
+use acceptance_support::{Answer, Ending, Took, differs, refused};
 use std::test::Fail;
 use vio::MemWorld;
 
@@ -17,5 +17,6 @@ fn a_feed_that_a_worker_puts_is_printed_and_leaves_a_closed_ring(
         output: line,
         ..refused(Ending::Done)
     };
-    expect_run(&rt, rt.alloc(), words, &mut world, &want, "feeds", 1)
+    assert_eq!(rt; differs(&rt, rt.alloc(), words, &mut world, &want)?, "");
+    Ok(())
 }

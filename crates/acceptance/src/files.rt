@@ -2,10 +2,10 @@
 
 ghost use Rattle.std.specs.Prelude.{◌<◌};
 
-use crate::byte_table::{ALSO_WHOLE, ENDS_EARLY, FIRST_WHOLE, LAST_WHOLE, REQUEST_WITH_FETCH};
-use crate::support::{
-    Answer, Ending, FETCH, FETCH_GROUPS, FETCH_TO_FILE, HEADER, Log, ONE_PING, OPEN_GROUPS,
-    OPEN_TO_FILE, PING_TO_FILE, PRINT_F, expect_run, read_content, taken, world_with,
+use acceptance_support::{
+    ALSO_WHOLE, Answer, ENDS_EARLY, Ending, FETCH, FETCH_GROUPS, FETCH_TO_FILE, FIRST_WHOLE,
+    HEADER, LAST_WHOLE, Log, ONE_PING, OPEN_GROUPS, OPEN_TO_FILE, PING_TO_FILE, PRINT_F,
+    REQUEST_WITH_FETCH, differs, taken, world_with,
 };
 use std::alloc::Global;
 use std::process::Abort;
@@ -13,7 +13,7 @@ use std::sync::Wait;
 use std::test::Fail;
 use std::thread::Threads;
 use vio::World;
-use vsl_file::{FileFault, FileReader, put_header, put_unit};
+use vsl_file::{FileFault, FileReader, FileStep, put_header, put_unit};
 use vsl_record::{Mark, Record, Unit};
 use vsl_tags::Tag;
 
@@ -72,7 +72,8 @@ fn expect_cuts<R: Abort + Threads + Wait + Sync>(
         let want = answer_of_units(log, units, ending, &mut text)?;
         let mut world = world_with(alloc, &log.bytes[..cut])?;
         world.piece(piece);
-        expect_run(rt, alloc, log.words, &mut world, &want, log.name, cut)?;
+        let differs = differs(rt, alloc, log.words, &mut world, &want)?;
+        assert_eq!(rt; differs, "", "{}, {cut}", log.name);
     }
     Ok(())
 }
@@ -105,7 +106,29 @@ fn a_file_of_more_than_16_mebibytes_is_read_as_far_as_it_is_a_log(
     let (_, line, _) = ONE_PING.units[0];
     let want = taken(Ending::Damaged(28), 1, line);
     let mut world = world_with(rt.alloc(), &bytes)?;
-    expect_run(&rt, rt.alloc(), PRINT_F, &mut world, &want, "zeros", 0)
+    assert_eq!(rt; differs(&rt, rt.alloc(), PRINT_F, &mut world, &want)?, "");
+    Ok(())
+}
+
+/// How many units the file of these bytes has, at most 1,000, and why no more are there, if it isn't whole. It
+/// is read in pieces of so many bytes.
+fn read_content(
+    alloc: Global,
+    bytes: &[u8],
+    piece: usize,
+) -> Result<(usize, Option<FileFault>), Fail> {
+    let mut world = world_with(alloc, bytes)?;
+    world.piece(piece);
+    let handle = world.open("f")?;
+    let mut reader = FileReader::new(alloc, handle)?;
+    for units in 0..1000 {
+        match reader.next(&mut world) {
+            Ok(FileStep::Unit(_)) => {}
+            Ok(FileStep::End) => return Ok((units, None)),
+            Err(fault) => return Ok((units, Some(fault))),
+        }
+    }
+    Ok((1000, None))
 }
 
 /// How many units the file has with this value at this place, and why no more, if it isn't whole.
@@ -178,7 +201,8 @@ fn expect_changes<R: Abort + Threads + Wait + Sync>(
             let want = answer_of_units(log, units, ending, &mut text)?;
             let mut world = world_with(alloc, &bytes)?;
             world.piece(piece);
-            expect_run(rt, alloc, log.words, &mut world, &want, log.name, place)?;
+            let differs = differs(rt, alloc, log.words, &mut world, &want)?;
+            assert_eq!(rt; differs, "", "{}, {place}", log.name);
         }
     }
     Ok(())

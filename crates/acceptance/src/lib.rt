@@ -1,5 +1,6 @@
-//! What no contract says and no command line shows: tests of the top call over a world in memory. Whole command lines
-//! are data, in `cases/`, and the libraries' own tests stand in `library_tests`.
+//! Whole runs of the top call over a world in memory: log files that are cut, changed and large, and a feed that a worker
+//! puts. Whole command lines are data, in `cases/`; calls that fail are those of `fault_tests`, threads those of
+//! `live_tests`, and the libraries' own tests stand in `library_tests`.
 //!
 //! A contract here speaks of a call that had its memory. So a program that always answers want of
 //! memory meets every contract; the cases refuse it, and so does each test here, which has ample memory, and
@@ -10,14 +11,6 @@
 #![tactic(auto)]
 
 #[cfg(test)]
-mod byte_table;
-#[cfg(test)]
-mod faults;
-#[cfg(test)]
 mod feeds;
 #[cfg(test)]
 mod files;
-#[cfg(test)]
-mod live;
-#[cfg(test)]
-mod support;

@@ -28,6 +28,8 @@ mod trees;
 #[cfg(test)]
 mod units;
 #[cfg(test)]
+mod varnish_logs;
+#[cfg(test)]
 mod words;
 #[cfg(test)]
 mod world;

@@ -1,10 +1,9 @@
 //! What comes of feeds whatever the schedule is: runs over feeds of some dozens of units, over rings that no reader is
 //! overrun in, compared with the same job in a stated order.
 
-use crate::live::gates::UnevenGate;
-use crate::live::support::{Left, expect_done, run_feeds};
-use crate::live::texts::{Kept, have_same_parts, lines_of_feed};
-use crate::live::traffic::listings_of;
+use crate::comparing::{holds, same};
+use crate::support::{Left, expect_done, run_feeds};
+use acceptance_support::{Kept, UnevenGate, have_same_parts, lines_of_feed, listings_of};
 use std::alloc::Global;
 use std::process::Abort;
 use std::sync::Wait;
@@ -66,7 +65,7 @@ fn is_as_stated(
     }
     match kept {
         Kept::FeedLines => are_in_order(alloc, listings, live, stated),
-        _ => have_same_parts(alloc, kept, live, stated),
+        _ => Ok(have_same_parts(alloc, kept, live, stated)?),
     }
 }
 
@@ -99,10 +98,11 @@ fn expect_ring<R: Threads + Wait + Sync + Abort>(
 ) -> Result<(), Fail> {
     let listings = listings_of(alloc, feeds, requests)?;
     let stated = run_feeds(rt, alloc, &listings, ring.stated, tool, &OpenGate)?;
-    assert_eq!(rt; stated.status, 0, "{what}");
-    assert!(rt;
+    same(rt, stated.status, 0, what);
+    holds(
+        rt,
         stated.errors.is_empty() && !stated.output.is_empty(),
-        "{what}"
+        what,
     );
     let left = run_feeds(rt, alloc, &listings, ring.words, tool, &OpenGate)?;
     expect_as_stated(rt, alloc, kept, &listings, &left, &stated, what)?;

@@ -1,7 +1,7 @@
 //! Workers run at the same time, and beside the reading.
 
-use crate::live::gates::{Hold, HoldingGate, Step};
-use crate::live::support::{expect_done, run_feeds, run_over, world_of};
+use crate::support::{expect_done, expect_held, run_feeds, run_over, world_of};
+use acceptance_support::{Hold, HoldingGate, Step};
 use std::alloc::Global;
 use std::test::Fail;
 
@@ -79,7 +79,7 @@ fn workers_run_together_beside_the_reading(rt: HostRuntime) -> Result<(), Fail> 
     let listings = listings_of(alloc, &TWO_FEEDS)?;
     let gate = HoldingGate::new(TOGETHER);
     let left = run_feeds(&rt, alloc, &listings, &[], RAW, &gate)?;
-    assert!(rt; !gate.has_failed(&rt), "a step was held to the last turn");
+    expect_held(&rt, &gate);
     expect_done(&rt, &left, "two feeds", 2);
     let mut lines = Vec::new(alloc);
     for line in left
@@ -102,7 +102,7 @@ fn the_tool_prints_before_the_last_unit_is_put(rt: HostRuntime) -> Result<(), Fa
     let listings = listings_of(alloc, &[feed])?;
     let gate = HoldingGate::new(ONE_AHEAD);
     let left = run_feeds(&rt, alloc, &listings, &[], RAW, &gate)?;
-    assert!(rt; !gate.has_failed(&rt), "a step was held to the last turn");
+    expect_held(&rt, &gate);
     expect_done(&rt, &left, "a feed", 1);
     let listing = listings.first().ok_or("a listing")?;
     assert_eq!(rt; left.output.as_slice(), listing.as_slice());
@@ -111,7 +111,7 @@ fn the_tool_prints_before_the_last_unit_is_put(rt: HostRuntime) -> Result<(), Fa
     world.fail(4)?;
     let gate = HoldingGate::new(NOT_AHEAD);
     let left = run_over(&rt, alloc, &mut world, 1, &[], RAW, &gate)?;
-    assert!(rt; !gate.has_failed(&rt), "a step was held to the last turn");
+    expect_held(&rt, &gate);
     assert_eq!(rt; left.status, 1);
     assert!(rt; left.output.is_empty());
     assert!(rt;

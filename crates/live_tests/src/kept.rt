@@ -1,8 +1,7 @@
 //! Runs that end before all was met.
 
-use crate::live::support::{expect_done, run_feeds};
-use crate::live::texts::{ends_line, feed_of, groups_of, lines_of_feed};
-use crate::live::traffic::listings_of;
+use crate::support::{expect_done, run_feeds};
+use acceptance_support::{ends_line, feed_of, groups_of, lines_of_feed, listings_of};
 use std::test::Fail;
 use varnish_tools::OpenGate;
 

@@ -1,5 +1,6 @@
 //! Live runs over a world in memory, and what they leave.
 
+use acceptance_support::HoldingGate;
 use std::alloc::Global;
 use std::process::Abort;
 use std::sync::Wait;
@@ -83,7 +84,11 @@ pub fn run_feeds<R: Threads + Wait + Sync, G: Gate>(
 
 /// A run over threads ended without a fault and a message. `what` and `number` tell it from others.
 pub fn expect_done(rt: &impl Abort, left: &Left, what: &str, number: usize) {
-    assert_eq!(rt; left.status, 0, "{what}, {number}");
-    assert!(rt; left.closed, "{what}, {number}");
-    assert!(rt; left.errors.is_empty(), "{what}, {number}");
+    let is_done = left.status == 0 && left.closed && left.errors.is_empty();
+    assert!(rt; is_done, "{what}, {number}");
+}
+
+/// No step was held to its last turn.
+pub fn expect_held<R: Abort + Wait>(rt: &R, gate: &HoldingGate) {
+    assert!(rt; !gate.has_failed(rt), "a step was held to the last turn");
 }

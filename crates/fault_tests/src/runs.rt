@@ -1,10 +1,12 @@
 //! Runs in which calls fail, and what each has to answer and to leave.
 
-use crate::faults::tables::{Content, Input, NAMES, Order, Tool};
-use crate::faults::watched::{Call, Deed, STDERR, WatchedWorld, moved_of};
-use crate::live::gates::{Hold, HoldingGate, Step};
-use crate::live::texts::{Kept, are_first_lines, has_parts_of};
-use crate::support::{Ending, Took, expect_fault, message_of, run_words, status_of, took_of};
+use crate::comparing::{holds, same};
+use crate::tables::{Content, Input, NAMES, Order, Tool};
+use crate::watched::{Call, Deed, STDERR, WatchedWorld, moved_of};
+use acceptance_support::{
+    Ending, Hold, HoldingGate, Kept, Step, Took, are_first_lines, has_parts_of, is_fault_of,
+    message_of, run_words, status_of, took_of,
+};
 use std::alloc::Global;
 use std::process::Abort;
 use std::sync::Wait;
@@ -114,11 +116,11 @@ fn run_in<R: Abort + Threads + Wait + Sync>(
         words.extend_from_slice(part)?;
     }
     if input.order != Order::Late {
-        return run_words(rt, alloc, &words, world, &OpenGate);
+        return Ok(run_words(rt, alloc, &words, world, &OpenGate)?);
     }
     let gate = HoldingGate::new(LATE);
     let outcome = run_words(rt, alloc, &words, world, &gate)?;
-    assert!(rt; !gate.has_failed(rt), "a step was held to the last turn");
+    holds(rt, !gate.has_failed(rt), "a step was held to the last turn");
     Ok(outcome)
 }
 
@@ -166,10 +168,10 @@ fn name_of(alloc: Global, input: &Input, tool: &Tool, failing: &[usize]) -> Resu
 
 /// Nothing was written but to the sink, behind what was there, and to standard error.
 fn expect_sink(rt: &impl Abort, tool: &Tool, left: &Left, what: &str) {
-    assert!(rt; left.text.as_slice().starts_with(tool.there), "{what}");
+    holds(rt, left.text.as_slice().starts_with(tool.there), what);
     for call in left.calls.iter() {
         let is_known = call.object == tool.sink || call.object == STDERR;
-        assert!(rt; is_known || call.deed != Deed::Write, "{what}");
+        holds(rt, is_known || call.deed != Deed::Write, what);
     }
 }
 
@@ -183,17 +185,17 @@ fn expect_whole(
 ) -> Result<(), Fail> {
     let what = name_of(alloc, input, tool, &[])?;
     let message = message_of(alloc, input.ending)?;
-    expect_fault(rt, &left.outcome.fault, input.ending, &what);
-    assert_eq!(rt; left.outcome.status, status_of(input.ending), "{what}");
+    holds(rt, is_fault_of(&left.outcome.fault, input.ending), &what);
+    same(rt, left.outcome.status, status_of(input.ending), &what);
     expect_sink(rt, tool, left, &what);
     let told = if tool.groups { input.overruns } else { b"" };
-    assert!(rt; left.errors.as_slice().starts_with(told), "{what}");
-    assert!(rt; left.errors.as_slice().ends_with(&message), "{what}");
+    holds(rt, left.errors.as_slice().starts_with(told), &what);
+    holds(rt, left.errors.as_slice().ends_with(&message), &what);
     let is_done = matches!(input.ending, Ending::Done);
-    assert!(rt; !is_done || left.text.len() > tool.there.len(), "{what}");
+    holds(rt, !is_done || left.text.len() > tool.there.len(), &what);
     if input.order != Order::Late {
         let size = told.len().saturating_add(message.len());
-        assert_eq!(rt; left.errors.len(), size, "{what}");
+        same(rt, left.errors.len(), size, &what);
     }
     Ok(())
 }
@@ -237,16 +239,16 @@ fn expect_message(
     let (bytes, calls) = written;
     let first = left.calls.get(..at).unwrap_or(&[]);
     let said = moved_of(first, Deed::Write, STDERR);
-    assert_eq!(rt; left.errors.get(said..), message.get(..bytes), "{what}");
+    same(rt, left.errors.get(said..), message.get(..bytes), what);
     let behind = at.saturating_add(1);
-    assert_eq!(rt; left.calls.len(), behind.saturating_add(calls), "{what}");
+    same(rt, left.calls.len(), behind.saturating_add(calls), what);
     for call in left.calls.iter().skip(behind) {
-        assert_eq!(rt; call.deed, Deed::Write, "{what}");
-        assert_eq!(rt; call.object, STDERR, "{what}");
+        same(rt, call.deed, Deed::Write, what);
+        same(rt, call.object, STDERR, what);
     }
     if row.input.order == Order::Same {
         let told = left.errors.get(..said);
-        assert_eq!(rt; told, row.whole.errors.get(..said), "{what}");
+        same(rt, told, row.whole.errors.get(..said), what);
     }
 }
 
@@ -263,24 +265,25 @@ fn expect_text(
     let first = left.calls.get(..at).ok_or("the calls before")?;
     let size = moved_of(first, Deed::Write, row.tool.sink);
     let there = row.tool.there.len();
-    assert_eq!(rt; left.text.len(), there.saturating_add(size), "{what}");
+    same(rt, left.text.len(), there.saturating_add(size), what);
     if row.input.order == Order::Same {
-        assert_eq!(rt; Some(first), row.whole.calls.get(..at), "{what}");
-        assert!(rt; row.whole.text.as_slice().starts_with(&left.text), "{what}");
+        same(rt, Some(first), row.whole.calls.get(..at), what);
+        holds(rt, row.whole.text.as_slice().starts_with(&left.text), what);
         return Ok(());
     }
     let kept = row.tool.kept;
     if row.input.order == Order::Late && matches!(kept, Kept::Whole | Kept::Counters) {
         return Ok(());
     }
-    assert!(rt;
+    holds(
+        rt,
         has_parts_of(alloc, kept, &left.text, &row.whole.text)?,
-        "{what}"
+        what,
     );
     if row.input.order == Order::Threads && matches!(kept, Kept::FeedLines) {
         let a = file_of(alloc, row.input, "a")?;
         let b = file_of(alloc, row.input, "b")?;
-        assert!(rt; are_first_lines(&left.text, &a, &b), "{what}");
+        holds(rt, are_first_lines(&left.text, &a, &b), what);
     }
     Ok(())
 }
@@ -307,15 +310,15 @@ fn expect_taken(rt: &impl Abort, row: &Row<'_>, left: &Left, at: usize, what: &s
     let calls = left.calls.get(..at.saturating_add(1)).unwrap_or(&[]);
     let took = took_of(&left.outcome.run);
     if !has_begun(row, calls, at) {
-        assert_eq!(rt; took, Took::Nothing, "{what}");
+        same(rt, took, Took::Nothing, what);
     } else if row.input.is_log {
         let log = row.input.behind.last().copied().unwrap_or("");
         let read = moved_of(calls, Deed::Read, log);
         let ends = row.input.ends.iter();
         let units = ends.filter(|end| **end <= read).count();
-        assert_eq!(rt; took, Took::Counted(units as u64, 1), "{what}");
+        same(rt, took, Took::Counted(units as u64, 1), what);
     } else if row.input.order != Order::Same && row.tool.groups {
-        assert_eq!(rt; took, Took::Closed, "{what}");
+        same(rt, took, Took::Closed, what);
     }
 }
 
@@ -330,14 +333,14 @@ fn expect_cut(
     let what = name_of(alloc, row.input, row.tool, failing)?;
     let at = failing.first().copied().unwrap_or(1).saturating_sub(1);
     let call = *left.calls.get(at).ok_or("the call that failed")?;
-    assert!(rt; call.moved.is_none(), "{what}");
+    holds(rt, call.moved.is_none(), &what);
     let ending = if at < row.work {
         call.ending()
     } else {
         row.input.ending
     };
-    expect_fault(rt, &left.outcome.fault, ending, &what);
-    assert_eq!(rt; left.outcome.status, status_of(ending), "{what}");
+    holds(rt, is_fault_of(&left.outcome.fault, ending), &what);
+    same(rt, left.outcome.status, status_of(ending), &what);
     expect_sink(rt, row.tool, left, &what);
     let message = message_of(alloc, ending)?;
     let written = written_behind(row, at, failing.len() > 1, &message);

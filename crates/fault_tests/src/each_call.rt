@@ -1,11 +1,7 @@
-//! Calls of the world that fail: each call of a run in turn, alone and with the one behind it, for each tool.
+//! Each call of a run fails in turn, alone and with the one behind it, for each tool and input.
 
-mod runs;
-mod tables;
-mod watched;
-
-use crate::faults::runs::{count_calls, expect_faults};
-use crate::faults::tables::{
+use crate::runs::{count_calls, expect_faults};
+use crate::tables::{
     ASKED, FAULTS, FEEDS, Input, LATE_READER, LOG, MADE, MORE_UNITS, ONE_ON_A_THREAD, OPEN,
     OVERRUN, OVERRUN_IN_TURNS, PING, RAW, RAW_UNITS, STREAM, TOOLS, TRANSACTION_UNITS,
     TRANSACTIONS, TURNS, TWO_ON_THREADS, Tool,

@@ -1,8 +1,6 @@
 //! What runs read, and what they write of it: each tool is a row, and so is each input.
 
-use crate::byte_table::REQUEST_WITH_FETCH;
-use crate::live::texts::Kept;
-use crate::support::{Ending, OPEN_BYTES, PING_BYTES};
+use acceptance_support::{Ending, Kept, OPEN_BYTES, PING_BYTES, REQUEST_WITH_FETCH};
 
 /// The names that files may have.
 pub const NAMES: &[&str] = &["-", "a", "b", "f", "q", "out"];
@@ -176,7 +174,7 @@ pub const LOG: Input = Input {
     behind: &["-r", "f"],
     is_log: true,
     ends: &[44, 100],
-    piece: 7,
+    piece: 16,
     order: Order::Same,
     ending: Ending::Done,
     overruns: b"",

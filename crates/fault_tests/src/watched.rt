@@ -3,7 +3,7 @@
 ghost use Rattle.vio.specs.Memory.{memory_seen};
 ghost use Rattle.vio.specs.Streams.{HasStreams-memory};
 
-use crate::support::Ending;
+use acceptance_support::Ending;
 use std::alloc::Global;
 use std::test::Fail;
 use vio::{Created, ERRORS, Failed, INPUT, MemWorld, OUTPUT, World, WorldFault};

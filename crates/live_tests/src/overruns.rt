@@ -1,9 +1,11 @@
 //! Feeds that overrun the reader of a small ring.
 
-use crate::live::gates::{Hold, HoldingGate, Step, UnevenGate};
-use crate::live::support::{Left, expect_done, run_feeds};
-use crate::live::texts::{ends_line, lines_of, lines_of_feed, read_overrun};
-use crate::live::traffic::{listings_of, twelve_units};
+use crate::comparing::{holds, same};
+use crate::support::{Left, expect_done, expect_held, run_feeds};
+use acceptance_support::{
+    Hold, HoldingGate, Step, UnevenGate, ends_line, lines_of, lines_of_feed, listings_of,
+    read_overrun, twelve_units,
+};
 use std::alloc::Global;
 use std::process::Abort;
 use std::sync::Wait;
@@ -80,8 +82,8 @@ fn expect_told(
     held: bool,
     what: &str,
 ) -> Result<(), Fail> {
-    assert_eq!(rt; left.status, 0, "{what}");
-    assert!(rt; left.closed, "{what}");
+    same(rt, left.status, 0, what);
+    holds(rt, left.closed, what);
     let overruns = told_overruns(rt, &left.errors)?;
     let mut size: usize = 0;
     let mut gaps: usize = 0;
@@ -92,12 +94,13 @@ fn expect_told(
         printed = printed.saturating_add(lines.len());
         size = size.saturating_add(listing.len());
     }
-    assert_eq!(rt; printed, left.output.len(), "{what}");
-    assert_eq!(rt; overruns == 0, printed == size, "{what}");
-    assert!(rt; !held || overruns > 0, "{what}");
-    assert!(rt;
+    same(rt, printed, left.output.len(), what);
+    same(rt, overruns == 0, printed == size, what);
+    holds(rt, !held || overruns > 0, what);
+    holds(
+        rt,
         listings.len() > 1 || gaps <= overruns && (gaps > 0) == (overruns > 0),
-        "{what}"
+        what,
     );
     Ok(())
 }
@@ -119,7 +122,7 @@ fn expect_overruns<R: Threads + Wait + Sync + Abort>(
     }
     let gate = HoldingGate::new(LATE);
     let left = run_feeds(rt, alloc, &listings, SMALLEST, raw, &gate)?;
-    assert!(rt; !gate.has_failed(rt), "a step was held to the last turn");
+    expect_held(rt, &gate);
     expect_told(rt, alloc, &listings, &left, true, "the reader held")
 }
 
@@ -145,7 +148,7 @@ fn overruns_of_groups_and_reports_are_told(rt: HostRuntime) -> Result<(), Fail> 
         for tool in tools {
             let gate = HoldingGate::new(LATE);
             let left = run_feeds(&rt, alloc, &listings, SMALLEST, tool, &gate)?;
-            assert!(rt; !gate.has_failed(&rt), "a step was held to the last turn");
+            expect_held(&rt, &gate);
             assert_eq!(rt; left.status, 0);
             assert!(rt; left.closed && !left.output.is_empty());
             assert!(rt; told_overruns(&rt, &left.errors)? > 0);
@@ -161,7 +164,7 @@ fn a_reader_that_is_overrun_goes_on_four_segments_behind(rt: HostRuntime) -> Res
     let gate = HoldingGate::new(BEHIND_ELEVEN);
     let raw = &["varnishlog", "-g", "raw"];
     let left = run_feeds(&rt, alloc, &listings, SMALLEST, raw, &gate)?;
-    assert!(rt; !gate.has_failed(&rt), "a step was held to the last turn");
+    expect_held(&rt, &gate);
     assert_eq!(rt; left.status, 0);
     // the tail is 768 in segment 12 when the reader is at 0; it goes on in segment 8, where the eighth unit starts
     let told = b"vtools: log overrun at segment 0, counter 12\n";

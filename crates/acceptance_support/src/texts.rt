@@ -1,8 +1,8 @@
 //! Texts that tools print, in parts: lines, or groups, each of which ends with a blank line.
 
-use crate::live::traffic::VXIDS;
+use crate::traffic::VXIDS;
 use std::alloc::Global;
-use std::test::Fail;
+use vio::NoMemory;
 
 /// What a schedule leaves as it is of a text.
 #[derive(Clone, Copy)]
@@ -27,7 +27,7 @@ pub fn ends_line(byte: &u8) -> bool {
 }
 
 /// The groups of a text, each with its lines. A last one that no blank line ends is a part of a group.
-pub fn groups_of(alloc: Global, text: &[u8]) -> Result<Vec<Vec<u8>>, Fail> {
+pub fn groups_of(alloc: Global, text: &[u8]) -> Result<Vec<Vec<u8>>, NoMemory> {
     let mut groups = Vec::new(alloc);
     let mut group = Vec::new(alloc);
     for line in text.split_inclusive(ends_line) {
@@ -44,7 +44,7 @@ pub fn groups_of(alloc: Global, text: &[u8]) -> Result<Vec<Vec<u8>>, Fail> {
 }
 
 /// The lines of a text.
-pub fn lines_of(alloc: Global, text: &[u8]) -> Result<Vec<&[u8]>, Fail> {
+pub fn lines_of(alloc: Global, text: &[u8]) -> Result<Vec<&[u8]>, NoMemory> {
     let mut lines = Vec::new(alloc);
     for line in text.split_inclusive(ends_line) {
         lines.push(line)?;
@@ -76,7 +76,7 @@ fn size_of_unit(text: &[u8]) -> usize {
 }
 
 /// The header of a log file, and its units. A last one whose bytes aren't all there is a part of one.
-fn units_of(alloc: Global, text: &[u8]) -> Result<Vec<Vec<u8>>, Fail> {
+fn units_of(alloc: Global, text: &[u8]) -> Result<Vec<Vec<u8>>, NoMemory> {
     let mut units = Vec::new(alloc);
     let mut rest = text;
     let mut size: usize = 8;
@@ -92,7 +92,7 @@ fn units_of(alloc: Global, text: &[u8]) -> Result<Vec<Vec<u8>>, Fail> {
 }
 
 /// The parts of a text that a schedule leaves as they are.
-fn parts_of(alloc: Global, kept: Kept, text: &[u8]) -> Result<Vec<Vec<u8>>, Fail> {
+fn parts_of(alloc: Global, kept: Kept, text: &[u8]) -> Result<Vec<Vec<u8>>, NoMemory> {
     let mut parts = Vec::new(alloc);
     match kept {
         Kept::Groups => return groups_of(alloc, text),
@@ -109,7 +109,12 @@ fn parts_of(alloc: Global, kept: Kept, text: &[u8]) -> Result<Vec<Vec<u8>>, Fail
 }
 
 /// Whether two texts have the same parts, in any order.
-pub fn have_same_parts(alloc: Global, kept: Kept, one: &[u8], other: &[u8]) -> Result<bool, Fail> {
+pub fn have_same_parts(
+    alloc: Global,
+    kept: Kept,
+    one: &[u8],
+    other: &[u8],
+) -> Result<bool, NoMemory> {
     let mut ours = parts_of(alloc, kept, one)?;
     let mut theirs = parts_of(alloc, kept, other)?;
     ours.sort_unstable();
@@ -118,7 +123,12 @@ pub fn have_same_parts(alloc: Global, kept: Kept, one: &[u8], other: &[u8]) -> R
 }
 
 /// Whether a text has parts of another one alone, of which one may be cut.
-pub fn has_parts_of(alloc: Global, kept: Kept, text: &[u8], whole: &[u8]) -> Result<bool, Fail> {
+pub fn has_parts_of(
+    alloc: Global,
+    kept: Kept,
+    text: &[u8],
+    whole: &[u8],
+) -> Result<bool, NoMemory> {
     let cut = match kept {
         Kept::Counters => whole_lines(text),
         _ => text,
@@ -173,7 +183,7 @@ pub fn feed_of(line: &[u8]) -> usize {
 }
 
 /// The raw lines of a feed, of those of all.
-pub fn lines_of_feed(alloc: Global, text: &[u8], feed: usize) -> Result<Vec<u8>, Fail> {
+pub fn lines_of_feed(alloc: Global, text: &[u8], feed: usize) -> Result<Vec<u8>, NoMemory> {
     let mut lines = Vec::new(alloc);
     for line in text.split_inclusive(ends_line) {
         if feed_of(line) == feed {
@@ -184,7 +194,7 @@ pub fn lines_of_feed(alloc: Global, text: &[u8], feed: usize) -> Result<Vec<u8>,
 }
 
 /// The lines of all counters but those of waits for another writer and of laps of the ring.
-pub fn without_waits_and_wraps(alloc: Global, text: &[u8]) -> Result<Vec<u8>, Fail> {
+pub fn without_waits_and_wraps(alloc: Global, text: &[u8]) -> Result<Vec<u8>, NoMemory> {
     let mut lines = Vec::new(alloc);
     for line in text.split_inclusive(ends_line) {
         if !line.starts_with(b"MAIN.shm_cont ") && !line.starts_with(b"MAIN.shm_cycles ") {
