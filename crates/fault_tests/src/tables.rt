@@ -292,6 +292,7 @@ pub const MADE: [Input; 2] = [
         name: "made requests",
         files: &[],
         before: &["--ring", "1024", "--gen", "2,7", "--feed-first"],
+        piece: 150,
         ..FEEDS
     },
     Input {
@@ -300,6 +301,7 @@ pub const MADE: [Input; 2] = [
         before: &[
             "--ring", "1024", "--feed", "a", "--gen", "1,7", "--turns", "5",
         ],
+        piece: 150,
         ..FEEDS
     },
 ];
