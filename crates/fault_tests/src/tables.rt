@@ -174,7 +174,7 @@ pub const LOG: Input = Input {
     behind: &["-r", "f"],
     is_log: true,
     ends: &[44, 100],
-    piece: 20,
+    piece: 40,
     order: Order::Same,
     ending: Ending::Done,
     overruns: b"",
@@ -274,7 +274,7 @@ pub const FEEDS: Input = Input {
     behind: &[],
     is_log: false,
     ends: &[],
-    piece: 64,
+    piece: 120,
     order: Order::Same,
     ending: Ending::Done,
     overruns: b"",
@@ -292,7 +292,7 @@ pub const MADE: [Input; 2] = [
         name: "made requests",
         files: &[],
         before: &["--ring", "1024", "--gen", "2,7", "--feed-first"],
-        piece: 300,
+        piece: 600,
         ..FEEDS
     },
     Input {
@@ -301,7 +301,7 @@ pub const MADE: [Input; 2] = [
         before: &[
             "--ring", "1024", "--feed", "a", "--gen", "1,7", "--turns", "5",
         ],
-        piece: 300,
+        piece: 600,
         ..FEEDS
     },
 ];
@@ -310,7 +310,7 @@ pub const OVERRUN: Input = Input {
     name: "a feed, and then a reader that it overran",
     files: &[("a", Content::LongRequests(100))],
     before: &["--ring", "64", "--feed", "a", "--feed-first"],
-    piece: 500,
+    piece: 1000,
     overruns: b"vtools: log overrun at segment 0, counter 13\n",
     ..FEEDS
 };
@@ -322,7 +322,7 @@ pub const OVERRUN_IN_TURNS: Input = Input {
         ("b", Content::LongRequests(200)),
     ],
     before: &["--ring", "64", "--feed", "a", "--feed", "b", "--turns", "3"],
-    piece: 500,
+    piece: 1000,
     overruns: b"vtools: log overrun at segment 3, counter 9\nvtools: log overrun at segment 5, counter 13\nvtools: log overrun at segment 10, counter 17\nvtools: log overrun at segment 13, counter 21\nvtools: log overrun at segment 18, counter 25\n",
     ..FEEDS
 };
@@ -345,7 +345,7 @@ pub const LATE_READER: Input = Input {
     name: "a feed on a thread that overruns its reader",
     files: &[("a", Content::LongRequests(100))],
     before: &["--ring", "64", "--feed", "a"],
-    piece: 500,
+    piece: 1000,
     order: Order::Late,
     overruns: b"vtools: log overrun at segment 0, counter 1",
     ..FEEDS
