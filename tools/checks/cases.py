@@ -15,7 +15,8 @@ CASES = TOP / "cases"
 PROGRAM = "program"  # the file of a subject that names the program of its cases
 FIRST_PROGRAM = "vtools"  # without that file
 WORDS = {"args", "args.nul", "rows"}
-OF_ALL = WORDS | {"links", "made", "hex", "data", "also_on_threads"}
+EMPTY = {"also_on_threads", "large"}  # files that say something by being there
+OF_ALL = WORDS | EMPTY | {"links", "made", "hex", "data"}
 OF_NO_ROWS = {"stdout", "stderr", "status", "stdin", "files"}
 DEFAULTS = {"stdout": None, "stderr": b"", "status": b"0\n"}
 # The words of a row, its status and its message; the words may be none.
@@ -69,8 +70,9 @@ class Case:
         has_rows = "rows" in self.kinds
         if len(self.kinds & WORDS) != 1:
             self.tell("has not one of args, args.nul and rows")
-        if self.files.get("also_on_threads"):
-            self.tell("also_on_threads is not empty")
+        for name in sorted(EMPTY):
+            if self.files.get(name):
+                self.tell(f"{name} is not empty")
         for name, default in DEFAULTS.items():
             if not has_rows and name not in self.kinds and default is None:
                 self.tell(f"{name} is missing")
@@ -180,9 +182,10 @@ def programs_of(folders, programs):
     return [found[folder.parent] for folder in folders]
 
 
-def check(programs, subjects):
-    """Checks the cases of these subjects, or of all where none is named."""
+def check(programs, subjects, quick):
+    """Checks the cases of these subjects, or of all where none is named; quickly without those that are large."""
     folders = [folder for folder in all_cases() if not subjects or folder.parent.name in subjects]
+    folders = [folder for folder in folders if not (quick and (folder / "large").exists())]
     cases, paths = [Case(folder) for folder in folders], programs_of(folders, programs)
     with ThreadPoolExecutor(os.cpu_count()) as pool:
         list(pool.map(Case.run, cases, paths))
