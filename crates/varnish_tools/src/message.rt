@@ -128,6 +128,12 @@ pub fn status_of(fault: &Option<ToolFault>) -> u8
         Some(ToolFault::BadPattern { .. }) => 2,
         Some(ToolFault::BadQuery { .. }) => 2,
         Some(ToolFault::BadFormat { .. }) => 2,
-        Some(_) => 1,
+        Some(ToolFault::BadListing { .. }) => 1,
+        Some(ToolFault::NoOpen { .. }) => 1,
+        Some(ToolFault::ReadFault { .. }) => 1,
+        Some(ToolFault::WriteFault { .. }) => 1,
+        Some(ToolFault::NotALog { .. }) => 1,
+        Some(ToolFault::Damaged { .. }) => 1,
+        Some(ToolFault::TooLarge { .. }) => 1,
     }
 }
