@@ -82,7 +82,7 @@ fn expect_cuts<R: Abort + Threads + Wait + Sync>(
 fn a_cut_file_prints_its_whole_units_and_a_whole_one_its_flush(
     rt: HostRuntime,
 ) -> Result<(), Fail> {
-    for piece in [1, 3, 1000] {
+    for piece in [3, 1000] {
         for log in [
             ONE_PING,
             FETCH,
@@ -160,15 +160,13 @@ fn content_of_changed(place: usize, value: u8) -> (usize, Option<FileFault>)
 
 #[test]
 fn a_changed_byte_is_seen_where_it_matters(rt: HostRuntime) -> Result<(), Fail> {
-    for piece in [1, 3, 1000] {
-        for place in 0..REQUEST_WITH_FETCH.len() {
-            for value in 0..=255 {
-                let mut bytes = REQUEST_WITH_FETCH;
-                bytes[place] = value;
-                let content = read_content(rt.alloc(), &bytes, piece)?;
-                let want = content_of_changed(place, value);
-                assert_eq!(rt; content, want, "{value} at {place}");
-            }
+    for place in 0..REQUEST_WITH_FETCH.len() {
+        for value in 0..=255 {
+            let mut bytes = REQUEST_WITH_FETCH;
+            bytes[place] = value;
+            let content = read_content(rt.alloc(), &bytes, 64)?;
+            let want = content_of_changed(place, value);
+            assert_eq!(rt; content, want, "{value} at {place}");
         }
     }
     Ok(())
@@ -210,11 +208,9 @@ fn expect_changes<R: Abort + Threads + Wait + Sync>(
 
 #[test]
 fn a_changed_file_prints_the_units_before_the_changed_one(rt: HostRuntime) -> Result<(), Fail> {
-    for piece in [1, 3, 1000] {
-        for log in [FETCH, FETCH_GROUPS, FETCH_TO_FILE] {
-            for value in [0, 128, 255] {
-                expect_changes(&rt, rt.alloc(), &log, value, piece)?;
-            }
+    for log in [FETCH, FETCH_GROUPS, FETCH_TO_FILE] {
+        for (value, piece) in [(0, 3), (128, 64), (255, 1000)] {
+            expect_changes(&rt, rt.alloc(), &log, value, piece)?;
         }
     }
     Ok(())
