@@ -4,7 +4,6 @@
 
 use crate::support::same;
 use std::test::Fail;
-use system_world::RealWorld;
 use vio::{
     Created, ERRORS, Failed, INPUT, MemWorld, OUTPUT, WholeFault, World, WorldFault, read_whole,
     write_all,
@@ -171,10 +170,4 @@ fn an_opened_file_keeps_its_bytes_while_its_name_is_emptied(rt: HostRuntime) -> 
     let bytes = bytes.unwrap_or(Vec::new(alloc));
     same(&rt, bytes.as_slice(), TEXT);
     Ok(())
-}
-
-#[test]
-fn a_name_that_the_system_does_not_have_is_a_failed_call(rt: HostRuntime) {
-    let mut world = RealWorld::new(rt.alloc(), rt);
-    assert_eq!(rt; world.open("no such file"), Err(WorldFault::Failed));
 }

@@ -120,3 +120,15 @@ impl World for RealWorld {
         write_answer(given, piece, &mut self.faults)
     }
 }
+
+#[cfg(test)]
+mod tests {
+    use super::*;
+
+    #[test]
+    fn counts_a_missing_name(rt: HostRuntime) {
+        let mut world = RealWorld::new(rt.alloc(), rt);
+        assert_eq!(rt; world.open("no such file"), Err(WorldFault::Failed));
+        assert_eq!(rt; world.faults, 1);
+    }
+}
