@@ -85,6 +85,52 @@ def changes(data, backend):
     return first, last, also, early
 
 
+# The kinds of bytes, in the order of the table.
+KINDS = [
+    "what is the same in each file: its header, and the mark of a unit's header",
+    "the low byte of the words that a unit's header counts",
+    "the low byte of the length of a payload",
+    "the other bytes of such a count or length",
+    "a tag",
+    "a VXID",
+    "the mark of a record, in the byte of its VXID's highest bits",
+    "a payload",
+    "what fills its last word",
+]
+
+
+def kinds_of(data):
+    """The kind of each byte of a log file, by its place in KINDS."""
+    kinds = [0] * len(HEADER)
+    while len(kinds) < len(data):
+        count = int.from_bytes(data[len(kinds) : len(kinds) + 3], "little")
+        end = len(kinds) + 4 * count
+        kinds += [1, 3, 3, 0]
+        while len(kinds) < end:
+            length = int.from_bytes(data[len(kinds) : len(kinds) + 3], "little")
+            kinds += [2, 3, 3, 4, 5, 5, 5, 6] + [7] * length + [8] * (-length % 4)
+    assert len(kinds) == len(data)
+    return kinds
+
+
+def print_kinds(data):
+    """Prints the places of each kind."""
+    kinds = kinds_of(data)
+    print("/// The places of each kind of byte.")
+    print("pub const KINDS: [&[usize]; %d] = [" % len(KINDS))
+    for kind, name in enumerate(KINDS):
+        print("    // %s" % name)
+        places = [str(place) for place, of in enumerate(kinds) if of == kind]
+        line = "    &[%s]," % ", ".join(places)
+        if len(line) <= 99:
+            print(line)
+            continue
+        print("    &[")
+        print(textwrap.fill(", ".join(places) + ",", 99, initial_indent=" " * 8, subsequent_indent=" " * 8))
+        print("    ],")
+    print("];")
+
+
 def main():
     backend = unit(3, "b", [("Begin", b"bereq 2 fetch"), ("End", b"")])
     client = unit(2, "c", [("Begin", b"req 1 rxreq"), ("Link", b"bereq 3 fetch"), ("End", b"")])
@@ -95,6 +141,8 @@ def main():
 
     print(HEAD)
     print_bytes("REQUEST_WITH_FETCH", data, "0x%02x")
+    print()
+    print_kinds(data)
     print()
     print("/// For each place of the file the least value of the range round its own byte with which it stays")
     print("/// whole and has two units.")

@@ -1,7 +1,7 @@
 //! Why feeds aren't read.
 
+use log_model::Text;
 use thiserror::Error;
-use vsl_select::Text;
 
 /// Why feeds aren't read: what is wrong with the first that has a fault.
 #[derive(Debug, Drop, Error)]

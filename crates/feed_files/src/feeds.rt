@@ -8,11 +8,11 @@ ghost use Rattle.feed_files.specs.Feeds.{FeedPasses, FeedStops, feeds_from};
 ghost use Rattle.feed_files.specs.inside.Answers.{TookFeed, file_fault};
 
 use crate::fault::FeedFault;
+use log_model::Text;
 use ring_layout::Shape;
 use std::alloc::{AllocError, Global};
 use traffic_feed::{ListFault, Listing, read_listing};
 use vio::{Halt, NamedFault, World, read_named};
-use vsl_select::Text;
 
 /// The most bytes of a feed that are read.
 const FEED_LIMIT: u64 = 16_777_216;

@@ -1,15 +1,16 @@
 -- What a job reads and writes, opened and created.
-use Rattle.std.proofs.Common.{◌≡◌, ℕ, Bool, true, false, List, [], ◌∷◌, Ok, refl, ap, arith, codes}
+use Rattle.std.proofs.Common.{◌≡◌, ℕ, Bool, true, false, List, [], ◌∷◌, Ok, Err, refl, ap, arith}
 use Rattle.std.specs.Bool.{MatchBool}
-use Rattle.std.specs.Str.{bytes_eq}
-use Rattle.log_model.specs.Faults.{HasNewFault}
 use Rattle.log_model.specs.declared.fault.Halt.TheVariants.{Fault}
+use Rattle.log_model.specs.declared.text.Text.{Text}
+use Rattle.vio.specs.declared.fault.WorldFault.TheVariants as world
 use Rattle.vio.specs.declared.world.Created.{Created}
-use Rattle.vio.specs.World.{Seen, Opening, Creating, Opened, FileCreated, OnlyCounts}
-use Rattle.vio.specs.Calls.{Call, Called, Open, Create, Refuse, Lack, OnlyOpen, none_failed, last_failed}
+use Rattle.vio.specs.World.{Seen}
+use Rattle.vio.specs.Calls.{Call, Called, Lack, OnlyOpen, none_failed, last_failed}
 use Rattle.vio.specs.Steps.{Halted, TookSteps}
+use Rattle.vio.specs.Streams.{CreatesStream, OpensStream}
 use Rattle.vio.proofs.StepLemmas.{passed_one, stopped_one}
-use Rattle.vsl_select.specs.declared.text.Text.{Text}
+use Rattle.vio.proofs.StreamLemmas.{made_none, opened_none}
 use Rattle.job_steps.specs.declared.fault.ToolFault.{ToolFault}
 use Rattle.job_steps.specs.declared.fault.ToolFault.TheVariants.{NoOpen}
 use Rattle.job_steps.specs.Steps.{Step, OpenLog, MakeSink, Found, FoundLog, FoundSink, Passes, Stops, file_named}
@@ -25,38 +26,44 @@ took_one IsSo opened step u x calls p so fail = record { found = u ∷ []; is = 
 pub halted_one : (opened : List (List ℕ)) (step : Step) (fault : ToolFault) (calls : List Call) → Stops step fault calls → last_failed calls ≡ true → Halted Passes Stops opened (step ∷ []) (Fault fault) calls
 halted_one opened step fault calls p fail = (stopped_one Passes Stops step fault calls p, fail)
 
--- ---- a file
+-- ---- what is read and written by name
 
 pub file_so : (b : Bool) (P Q : Type 0) → b ≡ false → Q → MatchBool b P Q
 file_so true P Q e q = absurd cc
 file_so false P Q e q = q
 
-pub called_open : {name : List ℕ} {h : ℕ} {s t : Seen} → bytes_eq name (codes "-") ≡ false → Opened name h s t → Called (TookSteps Passes Stops (λ handle found. found ≡ FoundLog handle ∷ []) (file_named name) (OpenLog name ∷ []) (Ok h)) s t
-called_open {name = name} {h = h} {t = t} file opened = record {
-  calls = Open name h ∷ [];
-  did = (t, opened, refl);
-  is = took_one (λ handle found. found ≡ FoundLog handle ∷ []) (file_named name) (OpenLog name) (FoundLog h) h (Open name h ∷ []) (h, refl, file_so (bytes_eq name (codes "-")) _ _ file refl) refl refl;
+-- the log was opened, or couldn't be
+pub took_open : (name : List ℕ) (h : ℕ) (s t : Seen) → Called (OpensStream name (Ok h)) s t → Called (TookSteps Passes Stops (λ handle found. found ≡ FoundLog handle ∷ []) (file_named name) (OpenLog name ∷ []) (Ok h)) s t
+took_open name h s t p = record {
+  calls = p.calls;
+  did = p.did;
+  is = took_one (λ handle found. found ≡ FoundLog handle ∷ []) (file_named name) (OpenLog name) (FoundLog h) h p.calls (h, refl, p.is) refl (opened_none name h p.calls p.is);
 }
 
-pub called_unopened : {name : List ℕ} {copy : Text} {s t : Seen} → copy ≡ name → bytes_eq name (codes "-") ≡ false → OnlyCounts s t → HasNewFault (s.faults Opening name) (t.faults Opening name)
-    → Called (Halted Passes Stops (file_named name) (OpenLog name ∷ []) (Fault (NoOpen copy))) s t
-called_unopened {name = name} {copy = copy} {t = t} same file only rose =
-    record { calls = Refuse Opening name ∷ []; did = (t, (only, rose), refl); is = halted_one (file_named name) (OpenLog name) (NoOpen copy) (Refuse Opening name ∷ []) (file, refl, ap NoOpen same) refl }
+pub halted_open : (name : List ℕ) (copy : Text) (s t : Seen) → copy ≡ name → Called (OpensStream name (Err world.Failed)) s t → Called (Halted Passes Stops (file_named name) (OpenLog name ∷ []) (Fault (NoOpen copy))) s t
+halted_open name copy s t same p =
+    record { calls = p.calls; did = p.did; is = halted_one (file_named name) (OpenLog name) (NoOpen copy) p.calls (p.is.0, p.is.1, ap NoOpen same) (ap last_failed p.is.1) }
 
-pub called_create : {append : Bool} {name : List ℕ} {sink : Created} {s t : Seen} → bytes_eq name (codes "-") ≡ false → FileCreated append name sink.handle sink.empty s t
+-- what is written was created, or couldn't be
+pub took_create : (append : Bool) (name : List ℕ) (sink : Created) (s t : Seen) → Called (CreatesStream append name (Ok sink)) s t
     → Called (TookSteps Passes Stops (λ sink found. found ≡ FoundSink sink.handle sink.empty ∷ []) [] (MakeSink append name ∷ []) (Ok sink)) s t
-called_create {append = append} {name = name} {sink = sink} {t = t} file created = record {
-  calls = Create append name sink.handle sink.empty ∷ [];
-  did = (t, created, refl);
-  is = took_one (λ made found. found ≡ FoundSink made.handle made.empty ∷ []) [] (MakeSink append name) (FoundSink sink.handle sink.empty) sink (Create append name sink.handle sink.empty ∷ [])
-      (sink.handle, sink.empty, refl, file_so (bytes_eq name (codes "-")) _ _ file refl) refl refl;
+took_create append name sink s t p = record {
+  calls = p.calls;
+  did = p.did;
+  is = took_one (λ made found. found ≡ FoundSink made.handle made.empty ∷ []) [] (MakeSink append name) (FoundSink sink.handle sink.empty) sink p.calls (sink.handle, sink.empty, refl, p.is) refl
+      (made_none append name sink.handle sink.empty p.calls p.is);
 }
 
-pub called_uncreated : {append : Bool} {name : List ℕ} {copy : Text} {s t : Seen} → copy ≡ name → bytes_eq name (codes "-") ≡ false → OnlyCounts s t → HasNewFault (s.faults Creating name) (t.faults Creating name)
-    → Called (Halted Passes Stops [] (MakeSink append name ∷ []) (Fault (NoOpen copy))) s t
-called_uncreated {append = append} {name = name} {copy = copy} {t = t} same file only rose =
-    record { calls = Refuse Creating name ∷ []; did = (t, (only, rose), refl); is = halted_one [] (MakeSink append name) (NoOpen copy) (Refuse Creating name ∷ []) (file, refl, ap NoOpen same) refl }
+pub halted_create : (append : Bool) (name : List ℕ) (copy : Text) (s t : Seen) → copy ≡ name → Called (CreatesStream append name (Err world.Failed)) s t → Called (Halted Passes Stops [] (MakeSink append name ∷ []) (Fault (NoOpen copy))) s t
+halted_create append name copy s t same p =
+    record { calls = p.calls; did = p.did; is = halted_one [] (MakeSink append name) (NoOpen copy) p.calls (p.is.0, p.is.1, ap NoOpen same) (ap last_failed p.is.1) }
 
 -- there was no memory for the one call
-pub called_lack : {opened : List (List ℕ)} {s t : Seen} → OnlyCounts s t → Called (OnlyOpen opened) s t
-called_lack {opened = opened} {t = t} only = record { calls = Lack ∷ []; did = (t, only, refl); is = ((tt, tt), omega arith) }
+lack_opens : (opened : List (List ℕ)) (calls : List Call) → calls ≡ Lack ∷ [] → OnlyOpen opened calls
+lack_opens opened calls e = rw e ((tt, tt), omega arith)
+
+pub lacked_open : (opened : List (List ℕ)) (name : List ℕ) (s t : Seen) → Called (OpensStream name (Err world.NoMemory)) s t → Called (OnlyOpen opened) s t
+lacked_open opened name s t p = record { calls = p.calls; did = p.did; is = lack_opens opened p.calls p.is }
+
+pub lacked_create : (append : Bool) (name : List ℕ) (s t : Seen) → Called (CreatesStream append name (Err world.NoMemory)) s t → Called (OnlyOpen []) s t
+lacked_create append name s t p = record { calls = p.calls; did = p.did; is = lack_opens [] p.calls p.is }

@@ -7,8 +7,9 @@ use Rattle.vio.specs.declared.world.TheConstants.{INPUT, OUTPUT}
 use Rattle.vio.specs.declared.fault.NamedFault.{NamedFault}
 use Rattle.vio.specs.declared.fault.NamedFault.TheVariants as named
 use Rattle.vio.specs.World.{Opening, Creating}
-use Rattle.vio.specs.Calls.{Call, Open, Create, Refuse}
+use Rattle.vio.specs.Calls.{Call, Refuse}
 use Rattle.vio.specs.Named.{IsReadBy, IsRefusedBy}
+use Rattle.vio.specs.Streams.{IsMadeBy, IsOpenedBy}
 use Rattle.query_grammar.specs.Scanner.{Fault}
 use Rattle.query_grammar.specs.Scanner as scanner
 use Rattle.query_parser.specs.declared.fault.QueryFault.{QueryFault}
@@ -109,15 +110,6 @@ most_query_bytes = 65536
 -- file like others: a run has one standard input, and the log is read from it
 abbrev pub IsTextBy : QueryText → List ℕ → List Call → Type 0
 IsTextBy query text calls = MatchBool query.file (IsReadBy most_query_bytes query.text text calls) ((text ≡ query.text) × (calls ≡ []))
-
--- the log of this name has this handle
-abbrev pub IsOpenedBy : List ℕ → ℕ → List Call → Type 0
-IsOpenedBy name h calls = MatchBool (bytes_eq name (codes "-")) ((h ≡ INPUT) × (calls ≡ [])) (calls ≡ Open name h ∷ [])
-
--- what is written under this name has this handle, and is empty or not. Nothing can be asked of standard output, so it
--- counts as empty
-abbrev pub IsMadeBy : Bool → List ℕ → ℕ → Bool → List Call → Type 0
-IsMadeBy append name h empty calls = MatchBool (bytes_eq name (codes "-")) ((h ≡ OUTPUT) × (empty ≡ true) × (calls ≡ [])) (calls ≡ Create append name h empty ∷ [])
 
 -- a step passes by these calls, and finds this
 abbrev pub Passes : Step → Found → List Call → Type 0

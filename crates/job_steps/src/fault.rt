@@ -1,8 +1,8 @@
 //! Why a tool stops early.
 
+use log_model::Text;
 use query_parser::QueryFault;
 use tool_words::UsageFault;
-use vsl_select::Text;
 
 /// Why a tool stops early; each has a message and a status. A name is that of a file, or `-` for standard input
 /// or output.
@@ -46,7 +46,7 @@ pub enum ToolFault {
     },
     /// A write failed.
     WriteFault {
-        /// The name of what was written, or `stderr` where that was the message of an overrun.
+        /// The name of what was written, or `stderr` where that was a message of an overrun.
         name: Text,
     },
     /// The input is no log file.

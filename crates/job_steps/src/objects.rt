@@ -8,24 +8,17 @@ ghost use Rattle.vio.specs.Steps.{TookSteps};
 ghost use Rattle.job_steps.specs.Steps.{FoundLog, FoundSink, MakeSink, OpenLog, Passes, Stops, file_named};
 
 use crate::fault::ToolFault;
-use log_model::Halt;
+use log_model::{Halt, Text};
 use std::alloc::Global;
-use vio::{Created, INPUT, OUTPUT, World, WorldFault};
-use vsl_select::Text;
-
-/// The name of standard input and of standard output on a command line.
-const STREAM: &str = "-";
+use vio::{Created, World, WorldFault, create_stream, open_stream};
 
 /// Opens the log of this name: a file, or standard input.
 pub fn open_log<W: World>(alloc: Global, name: &str, world: &mut W) -> Result<u32, Halt<ToolFault>>
     ensures took { Called (TookSteps Passes Stops (λ handle found. found ≡ FoundLog handle ∷ [])
         (file_named name.now) (OpenLog name.now ∷ []) result) (W.seen world.old) (W.seen world.new) }
 {
-    if name == STREAM {
-        return Ok(INPUT);
-    }
     let copy = Text::new(alloc, name)?;
-    match world.open(name) {
+    match open_stream(world, name) {
         Ok(handle) => Ok(handle),
         Err(WorldFault::Failed) => Err(Halt::Fault(ToolFault::NoOpen { name: copy })),
         Err(WorldFault::NoMemory) => Err(Halt::NoMemory),
@@ -44,14 +37,8 @@ pub fn make_sink<W: World>(
     ensures named { IfOk result (λ sink. (W.seen world.new).names Writing sink.handle name.now ≡ true) }
     ensures apart { IfOk result (λ sink. sink.handle ≢ ERRORS) }
 {
-    if name == STREAM {
-        return Ok(Created {
-            handle: OUTPUT,
-            empty: true,
-        });
-    }
     let copy = Text::new(alloc, name)?;
-    match world.create(name, append) {
+    match create_stream(world, name, append) {
         Ok(sink) => Ok(sink),
         Err(WorldFault::Failed) => Err(Halt::Fault(ToolFault::NoOpen { name: copy })),
         Err(WorldFault::NoMemory) => Err(Halt::NoMemory),

@@ -15,12 +15,11 @@ ghost use Rattle.job_steps.specs.Steps.{Passes, Stops, TakeQuery, named_answer, 
 ghost use Rattle.job_steps.specs.inside.Tasks.{HasAsk, QueryMeans, QueriesAsk};
 
 use crate::fault::ToolFault;
-use log_model::{Halt, NoMemory};
+use log_model::{Halt, NoMemory, Text};
 use query_parser::{Query, QueryFault, parse_query};
 use std::alloc::Global;
 use tool_words::{Job, QueryText};
 use vio::{NamedFault, World, read_named};
-use vsl_select::Text;
 
 /// The most bytes of a query's file that are read.
 const QUERY_LIMIT: u64 = 65_536;

@@ -14,11 +14,11 @@ ghost use Rattle.job_steps.specs.Steps.{Passes, Stops, word_steps};
 ghost use Rattle.job_steps.specs.inside.Tasks.{IsRuleHalt};
 
 use crate::fault::ToolFault;
-use log_model::{Halt, NoMemory};
+use log_model::{Halt, NoMemory, Text};
 use std::alloc::Global;
 use tool_words::{Job, Order, Tool, UsageFault, WordsFault, read_words};
 use txn_rows::GroupOptions;
-use vsl_select::{RuleText, SelectFault, Selection, Text};
+use vsl_select::{RuleText, SelectFault, Selection};
 
 /// Whether the tool prints counters.
 pub fn is_counting(tool: Tool) -> bool

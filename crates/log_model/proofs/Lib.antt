@@ -1,3 +1,4 @@
 pub mod PrefixLemmas
 pub mod SumLemmas
 pub mod AddingLemmas
+mod EscapingLemmas

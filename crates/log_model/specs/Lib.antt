@@ -1,4 +1,5 @@
 pub mod Adding
+pub mod Escaping
 pub mod Faults
 pub mod Halts
 pub mod Interleaving

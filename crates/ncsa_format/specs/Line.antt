@@ -1,7 +1,8 @@
 -- The lines of an access log (varnishncsa(1)). Escapes, whose transactions are logged without -b, -c and -E, and that a restarted one has no line are this project's choice.
-use Rattle.std.specs.Prelude.{ℕ, ◌/◌, ◌%◌, ◌==◌, ◌&&◌, ◌||◌, not, nat_lt, if◌then◌else◌, Bool, true, false, List, [], ◌∷◌, ◌++◌, Option, Some, None, codes}
+use Rattle.std.specs.Prelude.{ℕ, ◌==◌, ◌&&◌, ◌||◌, not, nat_lt, if◌then◌else◌, Bool, true, false, List, [], ◌∷◌, ◌++◌, Option, Some, None, codes}
 use Rattle.std.specs.List.{flat_map, filter, list_any}
 use Rattle.std.specs.Str.{bytes_eq}
+use Rattle.log_model.specs.Escaping.{hex_escape}
 use Rattle.vsl_tags.specs.declared.named.TheConstants.{VCL_RETURN}
 use Rattle.vsl_record.specs.declared.mark.Mark.TheVariants.{Plain}
 use Rattle.vsl_record.specs.declared.record_type.Record.{Record}
@@ -9,7 +10,6 @@ use Rattle.txn_rows.specs.declared.group.Kind.{Kind}
 use Rattle.txn_rows.specs.declared.group.Kind.TheVariants as kinds
 use Rattle.txn_rows.specs.declared.group.Member.{Member}
 use Rattle.txn_rows.specs.declared.group.Group.{Group}
-use Rattle.vsl_select.specs.RawLine.{hex_digit}
 use Rattle.vsl_select.specs.Shown.{has_sides, shows_kind}
 use Rattle.vsl_select.specs.declared.rule_text.Sides.{Sides}
 use Rattle.ncsa_format.specs.declared.formatter.Piece.{Piece}
@@ -24,7 +24,7 @@ quoted_byte b =
     (if b == 10 then codes "\\n" else
     (if b == 13 then codes "\\r" else
     (if b == 9 then codes "\\t" else
-    (if nat_lt b 32 || nat_lt 126 b then codes "\\x" ++ hex_digit (b / 16) ∷ hex_digit (b % 16) ∷ [] else b ∷ []))))
+    (if nat_lt b 32 || nat_lt 126 b then hex_escape b else b ∷ []))))
 
 -- a value as it is printed. So a value has no line feed and ends no quotes, and can be read back
 abbrev pub quoted : List ℕ → List ℕ

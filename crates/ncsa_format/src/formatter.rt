@@ -2,9 +2,9 @@
 
 ghost use Rattle.std.specs.Prelude.{◌≡◌, IfOk};
 
+use log_model::Listed;
 use std::alloc::{AllocError, Global};
 use std::marker::Model;
-use vsl_select::Listed;
 use vsl_tags::Tag;
 
 /// A name in a format. Contracts see its bytes.

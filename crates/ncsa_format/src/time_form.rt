@@ -6,9 +6,8 @@ ghost use Rattle.ncsa_format.specs.inside.Read.{parts_from, read_of};
 
 use crate::formatter::{TimeForm, TimePart};
 use crate::reading::Read;
-use log_model::NoMemory;
+use log_model::{Listed, NoMemory};
 use std::alloc::Global;
-use vsl_select::Listed;
 
 /// The part of a time that a letter behind a percent sign names.
 fn part_named(letter: u8) -> Option<TimePart>

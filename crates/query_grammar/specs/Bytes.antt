@@ -1,5 +1,8 @@
 -- The bytes of a query (vsl-query(7), "Record selection criteria" and "Operand").
 use Rattle.std.specs.Prelude.{ℕ, Bool, ◌&&◌, ◌||◌, ◌==◌, nat_le}
+pub use Rattle.vsl_decimal.specs.Decimal.{minus}
+pub use Rattle.vsl_decimal.specs.Prefix.{colon}
+pub use Rattle.vsl_tags.specs.TagSet.{comma}
 use Rattle.query_grammar.specs.declared.lex.Quote.{Quote}
 use Rattle.query_grammar.specs.declared.lex.Quote.TheVariants.{Double, Single}
 
@@ -30,18 +33,6 @@ close_brace = 125
 -- behind the digits of a level: that or more
 abbrev pub plus : ℕ
 plus = 43
-
--- behind the digits of a level: that or less
-abbrev pub minus : ℕ
-minus = 45
-
--- between two names
-abbrev pub comma : ℕ
-comma = 44
-
--- before a prefix
-abbrev pub colon : ℕ
-colon = 58
 
 -- the bracket that opens a field
 abbrev pub open_bracket : ℕ

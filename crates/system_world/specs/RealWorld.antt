@@ -1,7 +1,7 @@
 -- What the system's files and streams tell: no bytes, and one count for all faults (this project's choice).
 use Rattle.std.specs.Prelude.{refl, ℕ, ◌+◌, true, false, None, nat_lt, length}
 use Rattle.std.proofs.Common.{lit<}
-use Rattle.vio.specs.Streams.{below_more_than_three}
+use Rattle.vio.specs.MemoryStreams.{below_more_than_three}
 use Rattle.vio.specs.World.{Seen, HasStreams}
 use Rattle.system_world.specs.declared.real_world.RealWorld.{RealWorld}
 

@@ -22,3 +22,4 @@ pub mod TableLemmas
 pub mod OrderLemmas
 pub mod NumberLemmas
 pub mod WalkLemmas
+pub mod RawLemmas

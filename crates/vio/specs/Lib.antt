@@ -5,7 +5,9 @@ pub mod Named
 pub mod Sources
 pub mod Plan
 pub mod Memory
+pub mod MemoryStreams
 pub mod Streams
 pub mod Calls
+pub mod Alone
 pub mod Steps
 pub mod inside

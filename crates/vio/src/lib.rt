@@ -3,7 +3,8 @@
 //! `World` has the calls that the tools make, with all rules that an implementation keeps. A world
 //! counts its faults by kind of call and by name, so that a caller who answers a fault can show its
 //! cause. `MemWorld` keeps files in memory, for tests. `write_all` and `read_whole` move a whole text,
-//! and `read_named` reads a whole file by its name.
+//! and `read_named` reads a whole file by its name. `open_stream` and `create_stream` take `-` for a
+//! standard stream.
 //!
 //! A world never says what a file holds unless it wants to: every byte that it tells is optional.
 //! Start with `specs/World.antt`. All rules are this project's choice.
@@ -14,6 +15,7 @@ mod file;
 mod laws;
 mod memory;
 mod named;
+mod streams;
 mod whole;
 mod world;
 
@@ -24,5 +26,6 @@ pub use laws::{
 pub use log_model::{Halt, NoMemory};
 pub use memory::MemWorld;
 pub use named::read_named;
+pub use streams::{STREAM, create_stream, open_stream};
 pub use whole::{read_whole, write_all};
 pub use world::{Created, ERRORS, INPUT, OUTPUT, World};

@@ -170,7 +170,7 @@ impl World for MemWorld {
     ghost use Rattle.log_model.specs.Faults.{HasNewFault};
     ghost use Rattle.vio.specs.Memory.{memory_seen, MemOpens, MemCreates, MemReads, MemWrites};
     ghost use Rattle.vio.specs.World.{Opening, Creating, Reading, Writing, Opened, FileCreated, Read, Wrote, OnlyCounts, FaultsRose, NoNewFaults, IsAtEnd};
-    ghost use Rattle.vio.specs.Streams.{HasStreams-memory};
+    ghost use Rattle.vio.specs.MemoryStreams.{HasStreams-memory};
 
     ghost seen = { memory_seen };
 

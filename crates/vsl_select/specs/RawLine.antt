@@ -1,6 +1,7 @@
 -- The text of one record, with its VXID (varnishlog(1), "-g raw"; escapes are this project's choice).
-use Rattle.std.specs.Prelude.{ℕ, ◌+◌, ◌-◌, ◌/◌, ◌%◌, ◌==◌, ◌||◌, nat_lt, if◌then◌else◌, List, [], ◌∷◌, ◌++◌, length, replicate, codes, decimal}
+use Rattle.std.specs.Prelude.{ℕ, ◌-◌, ◌==◌, ◌||◌, nat_lt, if◌then◌else◌, Bool, List, [], ◌∷◌, ◌++◌, length, replicate, codes, decimal}
 use Rattle.std.specs.List.{flat_map}
+use Rattle.log_model.specs.Escaping.{hex_escape}
 use Rattle.vsl_tags.specs.Tags.{tag_name}
 use Rattle.vsl_record.specs.declared.mark.Mark.{Mark}
 use Rattle.vsl_record.specs.declared.mark.Mark.TheVariants.{Client, Backend, Plain}
@@ -15,14 +16,14 @@ at_right columns text = replicate (columns - length text) 32 ++ text
 abbrev pub at_left : ℕ → List ℕ → List ℕ
 at_left columns text = text ++ replicate (columns - length text) 32
 
--- a hexadecimal digit in lower case
-abbrev pub hex_digit : ℕ → ℕ
-hex_digit n = if nat_lt n 10 then 48 + n else 87 + n
+-- whether a byte is below 32, or 127
+abbrev pub is_control : ℕ → Bool
+is_control b = nat_lt b 32 || (b == 127)
 
 -- a byte below 32 and the byte 127 are printed as `\x` and two digits, every other byte as it is. So a record is one
 -- line, and a payload of the four bytes `\x09` and one of a tab print alike: a raw line can't always be read back
 abbrev pub escaped_byte : ℕ → List ℕ
-escaped_byte b = if nat_lt b 32 || (b == 127) then codes "\\x" ++ hex_digit (b / 16) ∷ hex_digit (b % 16) ∷ [] else b ∷ []
+escaped_byte b = if is_control b then hex_escape b else b ∷ []
 
 -- a payload as it is printed
 abbrev pub escaped : List ℕ → List ℕ

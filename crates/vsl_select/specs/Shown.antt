@@ -5,6 +5,7 @@ use Rattle.std.specs.List.{filter, find, list_all, position_or_len}
 use Rattle.std.specs.Option.{option_map, option_or}
 use Rattle.std.specs.Char.{is_ascii_alphanumeric}
 use Rattle.vsl_tags.specs.TagSet.{first_fault, is_selected}
+use Rattle.vsl_decimal.specs.Prefix.{colon}
 use Rattle.vsl_pattern.specs.Patterns.{is_good_pattern, is_match}
 use Rattle.vsl_record.specs.declared.mark.Mark.{Mark}
 use Rattle.vsl_record.specs.declared.mark.Mark.TheVariants as marks
@@ -23,10 +24,6 @@ use Rattle.vsl_select.specs.declared.rule_text.SelectFault.{SelectFault}
 use Rattle.vsl_select.specs.declared.rule_text.SelectFault.TheVariants.{BadTags, BadPattern}
 
 -- ---- rules
-
--- the byte between a taglist and a pattern, `:`
-abbrev pub colon : ℕ
-colon = 58
 
 -- a byte of a taglist: a letter, a digit, `_`, `*` or `,`
 abbrev pub is_list_byte : ℕ → Bool

@@ -15,7 +15,6 @@ mod raw;
 mod rule;
 mod rule_text;
 mod selection;
-mod text;
 mod vxid_columns;
 
 pub use columns::{put_left, put_right};
@@ -24,4 +23,3 @@ pub use lines::group_text;
 pub use raw::{raw_line, raw_lines, tag_line};
 pub use rule_text::{RuleText, SelectFault, Sides};
 pub use selection::Selection;
-pub use text::{Listed, Text};

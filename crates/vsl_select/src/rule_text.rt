@@ -1,6 +1,6 @@
 //! What decides what is shown, as it was given.
 
-use crate::text::Text;
+use log_model::Text;
 use thiserror::Error;
 
 /// Whose transactions are shown (varnishlog(1), `-b`, `-c`, `-E`).

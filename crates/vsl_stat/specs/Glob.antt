@@ -1,10 +1,7 @@
 -- Globs of counters (varnishstat(1), "-f"; that a star is the one byte with a meaning of its own is this project's choice).
 use Rattle.std.specs.Prelude.{ℕ, ◌==◌, ◌&&◌, ◌||◌, if◌then◌else◌, Bool, true, false, List, [], ◌∷◌, length}
 use Rattle.std.specs.List.{list_any}
-
--- the byte that stands for any bytes, `*`
-abbrev pub star : ℕ
-star = 42
+pub use Rattle.vsl_tags.specs.Glob.{star}
 
 -- a name, or what is left of it after some of its bytes, passes a test
 abbrev pub at_some_place : (List ℕ → Bool) → List ℕ → Bool

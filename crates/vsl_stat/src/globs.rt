@@ -6,8 +6,8 @@ ghost use Rattle.vsl_stat.specs.Glob as spec;
 ghost use Rattle.vsl_stat.specs.Glob.{is_selected};
 
 use crate::glob::glob_matches;
+use log_model::Text;
 use std::marker::Model;
-use vsl_select::Text;
 
 /// Globs that select names: all, where there are no globs. Contracts see the list of their texts.
 ///

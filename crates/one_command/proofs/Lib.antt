@@ -1,0 +1,2 @@
+pub mod PromiseLemmas
+mod SaidLemmas
