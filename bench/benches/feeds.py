@@ -24,6 +24,7 @@ FEEDS = 4
 # How far the VXIDs of a feed are behind those of the one before.
 VXIDS = 100_000_000
 OVERRUN = re.compile(r"vtools: log overrun at segment \d+, counter \d+")
+MISSED = re.compile(r"vtools: missed \d+ units")
 RAW = ["varnishlog", "-g", "raw"]
 
 
@@ -33,9 +34,10 @@ def run_fed(words):
         taken = run(words, errors=errors)
         errors.seek(0)
         told = errors.read().decode().splitlines()
-    if not all(OVERRUN.fullmatch(line) for line in told):
+    overruns = sum(bool(OVERRUN.fullmatch(line)) for line in told)
+    if overruns + sum(bool(MISSED.fullmatch(line)) for line in told) < len(told):
         sys.exit(f"{words[0]}: {told[-1]}")
-    return taken, len(told)
+    return taken, overruns
 
 
 def run_in_turn(commands):

@@ -3,7 +3,8 @@ in all about ten million units; and far fewer of them under valgrind, if there i
 
 Each unit tells its writer and number and has the sum of its words. The program checks that no unit is torn, that each
 writer's units come in their order, none twice, and none missing between two overruns, that no overrun came at a
-distance below six, that all readers agree which unit follows which, and that they end with the writers' last units.
+distance below six, that all readers agree which unit follows which, that they end with the writers' last units, that the
+units of a run have numbers one after the other, and that what a reader took and what it missed are all units.
 Status 1 and a message where one of these fails.
 """
 
@@ -26,7 +27,7 @@ SECONDS = 600
 
 
 def check(runner, program, writers, readers, seg, units):
-    """Runs one ring, and answers the units put and taken, the overruns, and the readers that were never overrun."""
+    """Runs one ring: the units put and taken, the overruns, the readers that were never overrun, the units missed."""
     most = min(seg - 6, MOST)
     pace = (writers + readers) % 2  # in every other ring the writers let others run after each unit
     words = [*runner, program, "check", *map(str, (writers, readers, pace, seg, units, most))]
@@ -36,10 +37,12 @@ def check(runner, program, writers, readers, seg, units):
         sys.exit(f"{' '.join(words)}: not done after {SECONDS} seconds")
     if done.returncode != 0:
         sys.exit(f"{' '.join(words)}: status {done.returncode}\n{done.stdout}{done.stderr}")
-    _, put, taken, overruns, whole = map(int, done.stdout.split())
+    _, put, taken, overruns, whole, missed = map(int, done.stdout.split())
     if put != writers * units:
         sys.exit(f"{' '.join(words)}: {put} units were put")
-    return put, taken, overruns, whole
+    if taken + missed != readers * put:
+        sys.exit(f"{' '.join(words)}: {taken} units taken and {missed} missed by {readers} readers of {put}")
+    return put, taken, overruns, whole, missed
 
 
 def sweep(label, runner, program, all_writers, all_readers, segments, total):
@@ -52,12 +55,12 @@ def sweep(label, runner, program, all_writers, all_readers, segments, total):
             for writers in all_writers
             for readers in all_readers
         ]
-        put, taken, overruns, whole = map(sum, zip(*runs))
+        put, taken, overruns, whole, missed = map(sum, zip(*runs))
         seconds = time.perf_counter() - begin
         readers = sum(all_readers) * len(all_writers)
         print(
-            f"{label}segments of {seg:5}: {len(runs)} rings, {put} units put, {taken} taken, {overruns} overruns, "
-            f"{whole} of {readers} readers never overrun, {seconds:.1f} s",
+            f"{label}segments of {seg:5}: {len(runs)} rings, {put} units put, {taken} taken, {missed} missed in "
+            f"{overruns} overruns, {whole} of {readers} readers never overrun, {seconds:.1f} s",
             flush=True,
         )
 

@@ -52,15 +52,18 @@ def order(seed):
 
 def check(program):
     feeds = [schedules.read_listing(listing, RECLEN, SEG)[0] for listing in listings().values()]
-    seeds, overruns = [*range(LAST_SEED + 1), None], 0
+    seeds, overruns, missed = [*range(LAST_SEED + 1), None], 0, 0
     words = [*(word for name in NAMES for word in ("--feed", name)), "--ring", str(SEG)]
     with temporary_folder() as folder:
         write_tree(folder, listings())
         for seed in seeds:
-            _, history = schedules.replayed(feeds, SEG, seed)
+            ring, history = schedules.replayed(feeds, SEG, seed)
+            if sum(schedules.taken_and_missed(history)) != len(ring.units):
+                raise Failed(f"seed {seed}: what was taken and what was missed aren't all units")
             lines, told = schedules.raw_lines(history), schedules.messages(history).encode()
             compare(program, [*words, *order(seed), "varnishlog", "-g", "raw"], lines, told, folder=folder)
             overruns += sum(isinstance(item, schedules.Overrun) for item in history)
+            missed += schedules.taken_and_missed(history)[1]
     if overruns == 0:
         raise Failed("no reader was overrun")
-    return f"{len(seeds)} of them, with {overruns} overruns"
+    return f"{len(seeds)} of them, with {overruns} overruns, which cost {missed} units"

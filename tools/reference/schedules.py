@@ -122,11 +122,19 @@ class Ring:
 
 @dataclasses.dataclass
 class Run:
-    """Units that a reader took one after the other, since it began in a segment; `first` is the number of the first."""
+    """Units that a reader took one after the other, since it began in a segment.
+
+    `first` is the number of the first, and `missed` how many of the log were missed before it.
+    """
 
     segment: int
     first: int
+    missed: int
     units: list
+
+    def behind(self):
+        """The number of the unit behind the last."""
+        return self.first + len(self.units)
 
 
 class Overrun(typing.NamedTuple):
@@ -140,7 +148,7 @@ class Reader:
     """A cursor, which stands where the last unit that it took ends, and its history of runs and overruns."""
 
     def __init__(self, ring):
-        self.ring, self.place, self.history = ring, 0, [Run(0, 0, [])]
+        self.ring, self.place, self.history = ring, 0, [Run(0, 0, 0, [])]
 
     def next(self):
         """Answers "overrun", "took", "ended" or "not yet". After an overrun the reader goes on nearer to the tail."""
@@ -148,7 +156,9 @@ class Reader:
         at, seen = ring.segment(self.place), ring.segment(ring.tail)
         if seen >= at + OVERRUN_DISTANCE:
             self.place = ring.segment_start(seen - SEEK_DISTANCE)
-            self.history += [Overrun(at, seen), Run(seen - SEEK_DISTANCE, ring.next_unit(self.place), [])]
+            first = ring.next_unit(self.place)
+            missed = first - self.history[-1].behind()
+            self.history += [Overrun(at, seen), Run(seen - SEEK_DISTANCE, first, missed, [])]
             return "overrun"
         if self.place == ring.tail:
             return "not yet" if ring.writers > 0 else "ended"
@@ -222,7 +232,19 @@ def raw_lines(history):
     return b"".join(raw_line(unit.vxid, unit.mark, *record) for unit in units for record in unit.records)
 
 
+def message(item):
+    """The message of an overrun, or of how many units were missed before a run."""
+    if isinstance(item, Overrun):
+        return f"vtools: log overrun at segment {item.at}, counter {item.seen}\n"
+    return f"vtools: missed {item.missed} units\n"
+
+
 def messages(history):
-    """The messages of all overruns."""
-    overruns = [item for item in history if isinstance(item, Overrun)]
-    return "".join(f"vtools: log overrun at segment {at}, counter {seen}\n" for at, seen in overruns)
+    """The messages of all overruns, and of the runs that follow them: all but the first."""
+    return "".join(message(item) for item in history[1:])
+
+
+def taken_and_missed(history):
+    """How many units were taken, and how many missed."""
+    runs = [item for item in history if isinstance(item, Run)]
+    return sum(len(run.units) for run in runs), sum(run.missed for run in runs)

@@ -132,7 +132,7 @@ class Run:
         return listings
 
     def items(self, job):
-        """The units that are taken, and overruns between them."""
+        """The units that are taken, and between them each overrun and the run that follows it."""
         if "-r" in job.values:
             name = job.values["-r"]
             return self.units(name, self.stdin if name == "-" else self.bytes_of(name))
@@ -141,7 +141,7 @@ class Run:
         if job.order is None and (words >= SAFE_SEGMENTS * seg or len(listings) > 1 and not is_same_in_any_order(job)):
             raise NotClaimed
         _, history = schedules.replayed(listings, seg, seed_of(job))
-        return (item for part in history for item in (part.units if isinstance(part, schedules.Run) else [part]))
+        return met_of(history)
 
     def units(self, name, data):
         try:
@@ -185,8 +185,10 @@ class Run:
         """The groups that each item completes, and at the end those of the flush."""
         for item in items:
             if isinstance(item, schedules.Overrun):
-                self.stderr.write(schedules.messages([item]).encode())
+                self.stderr.write(schedules.message(item).encode())
                 yield from table.flush()
+            elif isinstance(item, schedules.Run):
+                self.stderr.write(schedules.message(item).encode())
             else:
                 yield from table.take_unit(*item)
         yield from table.flush()
@@ -202,6 +204,15 @@ class Run:
         values = counters.replayed_values(listings, job.values.get("--ring", RING), seed_of(job))
         printed = counters.json_text if "j" in job.flags else counters.text_lines
         self.stdout.write(printed(values, job.globs).encode())
+
+
+def met_of(history):
+    """What a reader meets, one after the other: units, overruns, and each run that follows an overrun, before its units."""
+    yield from history[0].units
+    for part in history[1:]:
+        yield part
+        if isinstance(part, schedules.Run):
+            yield from part.units
 
 
 def is_same_in_any_order(job):

@@ -7,7 +7,9 @@ use Rattle.vsl_record.specs.Words.{unit_words}
 use Rattle.ring_layout.specs.declared.history.HistoryItem.{HistoryItem}
 use Rattle.ring_layout.specs.declared.history.HistoryItem.TheVariants.{UnitRun, Overrun}
 use Rattle.feed_schedule.specs.Unread.{IsUnread}
-use Rattle.feed_schedule.specs.Schedule.{Stage, Reading, Reads, Waits, Ended, first_stage, count_writers, after_turns, IsScheduled, events_of, TookUnit, WasOverrun}
+use Rattle.ring_layout.specs.declared.item.Item.TheVariants as items
+use Rattle.ring_layout.specs.Items.{items_of}
+use Rattle.feed_schedule.specs.Schedule.{Stage, Reading, Reads, Waits, Ended, first_stage, count_writers, after_turns, IsScheduled}
 
 -- a unit of one record of a client, with tag VCL_Log
 abbrev told : ℕ → List ℕ → LogUnit
@@ -47,18 +49,18 @@ the_turns = refl
 who_leaves_first : (drawn_stage 6).writers ≡ Some (a2 ∷ []) ∷ None ∷ []
 who_leaves_first = refl
 
-drawn : IsScheduled 65536 (Some 7) feeds (b1 ∷ a1 ∷ a2 ∷ []) (UnitRun (record { segment = 0; first = 0; units = b1 ∷ a1 ∷ a2 ∷ [] }) ∷ [])
+drawn : IsScheduled 65536 (Some 7) feeds (b1 ∷ a1 ∷ a2 ∷ []) (UnitRun (record { segment = 0; first = 0; missed = 0; units = b1 ∷ a1 ∷ a2 ∷ [] }) ∷ [])
 drawn = (10, refl, refl, refl)
 
 -- feed after feed, and then the reader
-fed_first : IsScheduled 65536 None feeds (a1 ∷ a2 ∷ b1 ∷ []) (UnitRun (record { segment = 0; first = 0; units = a1 ∷ a2 ∷ b1 ∷ [] }) ∷ [])
+fed_first : IsScheduled 65536 None feeds (a1 ∷ a2 ∷ b1 ∷ []) (UnitRun (record { segment = 0; first = 0; missed = 0; units = a1 ∷ a2 ∷ b1 ∷ [] }) ∷ [])
 fed_first = (9, refl, refl, refl)
 
 -- with no units, or no feeds, the run of segment 0 is empty
-nothing_fed : IsScheduled 64 None ([] ∷ [] ∷ []) [] (UnitRun (record { segment = 0; first = 0; units = [] }) ∷ [])
+nothing_fed : IsScheduled 64 None ([] ∷ [] ∷ []) [] (UnitRun (record { segment = 0; first = 0; missed = 0; units = [] }) ∷ [])
 nothing_fed = (3, refl, refl, refl)
 
-nobody_feeds : IsScheduled 64 (Some 7) [] [] (UnitRun (record { segment = 0; first = 0; units = [] }) ∷ [])
+nobody_feeds : IsScheduled 64 (Some 7) [] [] (UnitRun (record { segment = 0; first = 0; missed = 0; units = [] }) ∷ [])
 nobody_feeds = (1, refl, refl, refl)
 
 -- so many times the letter x
@@ -78,26 +80,26 @@ abbrev twelve : Log
 twelve = map long (1 ∷ 2 ∷ 3 ∷ 4 ∷ 5 ∷ 6 ∷ 7 ∷ 8 ∷ 9 ∷ 10 ∷ 11 ∷ 12 ∷ [])
 
 abbrev twelve_read : List (HistoryItem LogUnit)
-twelve_read = UnitRun (record { segment = 0; first = 0; units = [] }) ∷ Overrun 0 13 ∷ UnitRun (record { segment = 9; first = 8; units = map long (9 ∷ 10 ∷ 11 ∷ 12 ∷ []) }) ∷ []
+twelve_read = UnitRun (record { segment = 0; first = 0; missed = 0; units = [] }) ∷ Overrun 0 13 ∷ UnitRun (record { segment = 9; first = 8; missed = 8; units = map long (9 ∷ 10 ∷ 11 ∷ 12 ∷ []) }) ∷ []
 
 overrun : IsScheduled 64 None (twelve ∷ []) twelve twelve_read
 overrun = (19, refl, refl, refl)
 
-what_was_met : events_of twelve_read ≡ WasOverrun 0 13 ∷ TookUnit (long 9) ∷ TookUnit (long 10) ∷ TookUnit (long 11) ∷ TookUnit (long 12) ∷ []
+what_was_met : items_of twelve_read ≡ items.Overrun 0 13 ∷ items.Missed 8 ∷ items.Unit (long 9) ∷ items.Unit (long 10) ∷ items.Unit (long 11) ∷ items.Unit (long 12) ∷ []
 what_was_met = refl
 
 -- five segments ahead of the reader the writers don't overrun it, six ahead they do
-five_ahead : IsScheduled 64 None (map long (1 ∷ 2 ∷ 3 ∷ 4 ∷ 5 ∷ []) ∷ []) (map long (1 ∷ 2 ∷ 3 ∷ 4 ∷ 5 ∷ [])) (UnitRun (record { segment = 0; first = 0; units = map long (1 ∷ 2 ∷ 3 ∷ 4 ∷ 5 ∷ []) }) ∷ [])
+five_ahead : IsScheduled 64 None (map long (1 ∷ 2 ∷ 3 ∷ 4 ∷ 5 ∷ []) ∷ []) (map long (1 ∷ 2 ∷ 3 ∷ 4 ∷ 5 ∷ [])) (UnitRun (record { segment = 0; first = 0; missed = 0; units = map long (1 ∷ 2 ∷ 3 ∷ 4 ∷ 5 ∷ []) }) ∷ [])
 five_ahead = (12, refl, refl, refl)
 
 six_ahead : IsScheduled 64 None (map long (1 ∷ 2 ∷ 3 ∷ 4 ∷ 5 ∷ 6 ∷ []) ∷ []) (map long (1 ∷ 2 ∷ 3 ∷ 4 ∷ 5 ∷ 6 ∷ []))
-    (UnitRun (record { segment = 0; first = 0; units = [] }) ∷ Overrun 0 6 ∷ UnitRun (record { segment = 2; first = 2; units = map long (3 ∷ 4 ∷ 5 ∷ 6 ∷ []) }) ∷ [])
+    (UnitRun (record { segment = 0; first = 0; missed = 0; units = [] }) ∷ Overrun 0 6 ∷ UnitRun (record { segment = 2; first = 2; missed = 2; units = map long (3 ∷ 4 ∷ 5 ∷ 6 ∷ []) }) ∷ [])
 six_ahead = (13, refl, refl, refl)
 
 -- three writers, whose turns seed 5 draws, overrun the reader twice; the eighth unit wraps
 overrun_twice : IsScheduled 64 (Some 5) (map long (1 ∷ 2 ∷ 3 ∷ []) ∷ map long (4 ∷ 5 ∷ 6 ∷ []) ∷ map long (7 ∷ 8 ∷ 9 ∷ []) ∷ []) (map long (4 ∷ 5 ∷ 6 ∷ 7 ∷ 8 ∷ 9 ∷ 1 ∷ 2 ∷ 3 ∷ []))
-    (UnitRun (record { segment = 0; first = 0; units = map long (4 ∷ []) }) ∷ Overrun 1 7 ∷ UnitRun (record { segment = 3; first = 3; units = map long (7 ∷ []) }) ∷
-    Overrun 4 10 ∷ UnitRun (record { segment = 6; first = 6; units = map long (1 ∷ 2 ∷ 3 ∷ []) }) ∷ [])
+    (UnitRun (record { segment = 0; first = 0; missed = 0; units = map long (4 ∷ []) }) ∷ Overrun 1 7 ∷ UnitRun (record { segment = 3; first = 3; missed = 2; units = map long (7 ∷ []) }) ∷
+    Overrun 4 10 ∷ UnitRun (record { segment = 6; first = 6; missed = 2; units = map long (1 ∷ 2 ∷ 3 ∷ []) }) ∷ [])
 overrun_twice = (20, refl, refl, refl)
 
 -- ---- where nobody reads

@@ -4,7 +4,7 @@ pub mod TurnLemmas
 pub mod ReaderLemmas
 pub mod StageLemmas
 pub mod ScheduleLemmas
-pub mod EventLemmas
+pub mod ItemLemmas
 mod WaitingLemmas
 pub mod PuttingLemmas
 mod TakingLemmas

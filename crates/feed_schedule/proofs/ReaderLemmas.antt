@@ -11,7 +11,7 @@ use Rattle.vsl_record.specs.Words.{unit_words}
 use Rattle.ring_layout.specs.declared.history.HistoryItem.{HistoryItem}
 use Rattle.ring_layout.specs.declared.history.HistoryItem.TheVariants.{UnitRun, Overrun}
 use Rattle.ring_layout.specs.Places.{start_at, end_at, if_some, first_in, tail_from, tail, segment_start, AreFit}
-use Rattle.ring_layout.specs.History.{last_seen, with_unit, starts_below, first_number, UnitStarts, MayFollow, IsReadBack}
+use Rattle.ring_layout.specs.History.{last_seen, next_number, with_unit, starts_below, first_number, UnitStarts, MayFollow, IsReadBack}
 use Rattle.ring_layout.specs.Copied.{IsDueAt}
 use Rattle.ring_layout.proofs.PushLemmas.{start_push, tail_push}
 use Rattle.ring_layout.proofs.EntriesLemmas.{at_stay, at_wrap, wrap_last, start_there}
@@ -19,12 +19,19 @@ use Rattle.ring_layout.proofs.TakenLemmas.{start_above, starts_stays, back_stays
 use Rattle.ring_layout.proofs.AgreedLemmas.{div_up, tail_above}
 use Rattle.ring_layout.proofs.ReadingLemmas.{start_leads}
 use Rattle.ring_layout.proofs.ItemsLemmas.{run_more, run_begins}
+use Rattle.ring_layout.proofs.NumberLemmas.{number_behind}
 
 -- the newest item is a run that ends before this unit; where it has none yet, the place is its segment's start
 abbrev pub EndsBefore : ℕ → Log → ℕ → ℕ → List (HistoryItem LogUnit) → Type 0
 EndsBefore seg log number place [] = ⊥
 EndsBefore seg log number place (UnitRun r ∷ items) = (number ≡ r.first + length r.units) × (length r.units ≡ 0 → segment_start unit_words seg log r.segment ≡ Some place)
 EndsBefore seg log number place (Overrun at seen ∷ items) = ⊥
+
+-- the number behind it is that unit's
+next_is : (seg : ℕ) (log : Log) (number place : ℕ) (history : List (HistoryItem LogUnit)) → EndsBefore seg log number place history → next_number history ≡ number
+next_is seg log number place [] h = absurd h
+next_is seg log number place (UnitRun r ∷ items) h = sym h.0
+next_is seg log number place (Overrun at seen ∷ items) h = absurd h
 
 -- where a reader stands: this unit is due at this place, and the items, the newest first, may have been taken, the newest a run that ends before it
 pub record StandsAt (seg : ℕ) (log : Log) (number place : ℕ) (history : List (HistoryItem LogUnit)) : Type 0 where
@@ -72,10 +79,10 @@ module _ (seg : ℕ) (pos : 0 < seg) where
   }
 
   -- at first
-  pub stands_first : StandsAt seg [] 0 0 (UnitRun (record { segment = 0; first = 0; units = [] }) ∷ [])
+  pub stands_first : StandsAt seg [] 0 0 (UnitRun (record { segment = 0; first = 0; missed = 0; units = [] }) ∷ [])
   stands_first = let below : 0 / seg < 1 = div_below 0 seg 1 pos (omega arith) in record {
     due = (omega arith, inl refl);
-    back = (record { units = refl; inside = omega arith; segment = omega arith }, (refl, refl), tt);
+    back = (record { units = refl; inside = omega arith; segment = omega arith }, (refl, refl, refl), tt);
     newest = (omega arith, λ e. ap (λ (b : Bool). option_or (if_some b 0) None) (eq-eqb (0 / seg) 0 (omega arith)));
   }
 
@@ -112,11 +119,13 @@ module _ (seg : ℕ) (pos : 0 < seg) where
   -- an overrun is met, and the reader goes on
   pub stands_overrun : (log : Log) (number place : ℕ) (history : List (HistoryItem LogUnit)) → AreFit unit_words seg log → place / seg + 6 ≤ tail unit_words seg log / seg → StandsAt seg log number place history
       → StandsAt seg log (first_number unit_words seg log (tail unit_words seg log / seg - 4)) (unwrap_or (segment_start unit_words seg log (tail unit_words seg log / seg - 4)) 0)
-      (UnitRun (record { segment = tail unit_words seg log / seg - 4; first = first_number unit_words seg log (tail unit_words seg log / seg - 4); units = [] }) ∷ Overrun (place / seg) (tail unit_words seg log / seg) ∷ history)
+      (UnitRun (record { segment = tail unit_words seg log / seg - 4; first = first_number unit_words seg log (tail unit_words seg log / seg - 4); missed = first_number unit_words seg log (tail unit_words seg log / seg - 4) - number; units = [] }) ∷ Overrun (place / seg) (tail unit_words seg log / seg) ∷ history)
   stands_overrun log number place history fit far h = let last : ℕ = tail unit_words seg log / seg in let first : ℕ = first_number unit_words seg log (last - 4) in
       let start = start_there unit_words seg log (last - 4) pos fit (omega arith) in
       let met : IsReadBack unit_words seg last log (Overrun (place / seg) last ∷ history) = (far, le_refl last, last_seen_most seg last log history h.back, may_overrun log number place history h.due h.newest, h.back) in
-      let begun = run_begins unit_words seg last log (place / seg) last (last - 4) history (omega arith) (omega arith) met in record {
+      let behind = number_behind unit_words seg pos last log (place / seg) last (last - 4) history fit met (omega arith) in
+      let ends = next_is seg log number place history h.newest in
+      let begun = run_begins unit_words seg last log (place / seg) last (last - 4) (first - number) history (omega arith) (omega arith) (omega arith) (omega arith) met in record {
         due = subst (λ (p : ℕ). IsDueAt unit_words seg log first p) (sym (ap (λ (o : Option ℕ). unwrap_or o 0) start.1)) (let i = begun.0.inside in omega arith, start_leads unit_words seg pos log (last - 4) start.0 fit start.1);
         back = begun;
         newest = (omega arith, λ none. start.1 ∙ ap (λ (o : Option ℕ). Some (unwrap_or o 0)) (sym start.1));

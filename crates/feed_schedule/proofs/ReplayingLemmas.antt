@@ -11,13 +11,16 @@ use Rattle.ring_plain.specs.Ring.{IsRingOf}
 use Rattle.ring_plain.specs.Cursor.{Stands}
 use Rattle.traffic_feed.specs.Turns.{first_draw}
 use Rattle.ring_layout.specs.History.{HasRun}
+use Rattle.ring_layout.specs.declared.item.Item.{Item}
+use Rattle.ring_layout.specs.declared.item.Item.TheVariants as items
+use Rattle.ring_layout.specs.Items.{items_of}
 use Rattle.feed_schedule.specs.declared.replay.Advanced.{Advanced}
 use Rattle.feed_schedule.specs.declared.replay.Advanced.TheVariants.{Took, Overrun, Ended}
-use Rattle.feed_schedule.specs.Schedule.{Event, TookUnit, WasOverrun, Reads, Stage, first_stage, has_ended, after_turn, after_turns, IsScheduled, events_of, met}
+use Rattle.feed_schedule.specs.Schedule.{Reads, Stage, first_stage, has_ended, after_turn, after_turns, IsScheduled, met}
 use Rattle.feed_schedule.specs.Replaying.{ReplayState, IsAt, IsToCome, Represents, Meets, count_feed_words}
 use Rattle.feed_schedule.specs.inside.Turning.{IsSteady, Leads}
 use Rattle.feed_schedule.proofs.TurnLemmas.{turns_after_end}
-use Rattle.feed_schedule.proofs.EventLemmas.{turn_later, events_go_on}
+use Rattle.feed_schedule.proofs.ItemLemmas.{turn_later, items_go_on}
 use Rattle.feed_schedule.proofs.PuttingLemmas.{counts_first, at_first}
 
 -- ---- at first
@@ -61,58 +64,58 @@ steady_new r active seg seed feeds h many = record {
 }
 
 -- what comes is what the schedule's history comes to
-pub new_to_come : (r : ReplayState) (active seg : ℕ) (seed : Option ℕ) (feeds : List Log) (log : Log) (history : List (HistoryItem LogUnit)) → IsNew r active seg seed feeds → IsScheduled seg seed feeds log history → Represents r (events_of history)
+pub new_to_come : (r : ReplayState) (active seg : ℕ) (seed : Option ℕ) (feeds : List Log) (log : Log) (history : List (HistoryItem LogUnit)) → IsNew r active seg seed feeds → IsScheduled seg seed feeds log history → Represents r (items_of history)
 new_to_come r active seg seed feeds log history h scheduled =
     let s : Stage = first_stage seed feeds in
-    (s, at_new r active seg seed feeds h, subst (λ (g : ℕ). IsToCome g s (events_of history)) (sym h.seg_is) (scheduled.0, scheduled.1, ap events_of (sym scheduled.3)))
+    (s, at_new r active seg seed feeds h, subst (λ (g : ℕ). IsToCome g s (items_of history)) (sym h.seg_is) (scheduled.0, scheduled.1, ap items_of (sym scheduled.3)))
 
 -- ---- after a turn
 
--- what is to come of a stage are the events of its turn, and then what is to come after it
-come_after : (n seg : ℕ) (s : Stage) (events : List Event) → HasRun s.history → has_ended s.reading ≡ false → has_ended (after_turns n seg s).reading ≡ true → met (after_turns n seg s) ≡ met s ++ events
-    → (rest : List Event) × IsToCome seg (after_turn seg s) rest × (met s ++ events ≡ met (after_turn seg s) ++ rest)
-come_after zero seg s events run before e is = cc (e, before)
-come_after (suc n) seg s events run before e is =
-    let p = events_go_on n seg (after_turn seg s) (turn_later seg s run).run in
+-- what is to come of a stage is what is met in its turn, and then what is to come after it
+come_after : (n seg : ℕ) (s : Stage) (more : List Item) → HasRun s.history → has_ended s.reading ≡ false → has_ended (after_turns n seg s).reading ≡ true → met (after_turns n seg s) ≡ met s ++ more
+    → (rest : List Item) × IsToCome seg (after_turn seg s) rest × (met s ++ more ≡ met (after_turn seg s) ++ rest)
+come_after zero seg s more run before e is = cc (e, before)
+come_after (suc n) seg s more run before e is =
+    let p = items_go_on n seg (after_turn seg s) (turn_later seg s run).run in
     (p.rest, (n, e, p.is), sym is ∙ p.is)
 
 -- at the end nothing is to come
-pub none_to_come : (seg : ℕ) (s : Stage) (events : List Event) → has_ended s.reading ≡ true → IsToCome seg s events → events ≡ []
-none_to_come seg s events ended c = append_cancel_left (met s) events [] (sym c.2 ∙ ap met (turns_after_end c.0 seg s ended) ∙ sym (append-nil (met s)))
+pub none_to_come : (seg : ℕ) (s : Stage) (more : List Item) → has_ended s.reading ≡ true → IsToCome seg s more → more ≡ []
+none_to_come seg s more ended c = append_cancel_left (met s) more [] (sym c.2 ∙ ap met (turns_after_end c.0 seg s ended) ∙ sym (append-nil (met s)))
 
 -- where the turn met nothing all is still to come, and else the rest of what was
-abbrev pub Goes : Option Advanced → List Event → ReplayState → Type 0
-Goes None events now = Represents now events
-Goes (Some answer) events now = Meets answer events now
+abbrev pub Goes : Option Advanced → List Item → ReplayState → Type 0
+Goes None more now = Represents now more
+Goes (Some answer) more now = Meets answer more now
 
 -- a turn from a stage to another goes on with what is to come
-goes_on : (answer : Option Advanced) (now : ReplayState) (s t : Stage) (events rest : List Event) → Leads answer now s t → IsToCome now.ring.seg t rest → met s ++ events ≡ met t ++ rest → Goes answer events now
-goes_on None now s t events rest leads c is =
-    let e : events ≡ rest = append_cancel_left (met s) events rest (is ∙ ap (λ (l : List Event). l ++ rest) leads.1) in
+goes_on : (answer : Option Advanced) (now : ReplayState) (s t : Stage) (more rest : List Item) → Leads answer now s t → IsToCome now.ring.seg t rest → met s ++ more ≡ met t ++ rest → Goes answer more now
+goes_on None now s t more rest leads c is =
+    let e : more ≡ rest = append_cancel_left (met s) more rest (is ∙ ap (λ (l : List Item). l ++ rest) leads.1) in
     subst (Represents now) (sym e) (t, leads.0, c)
-goes_on (Some Took) now s t events rest leads c is =
+goes_on (Some Took) now s t more rest leads c is =
     let adds = leads.1 in
-    let e : events ≡ TookUnit adds.0 ∷ rest = append_cancel_left (met s) events (TookUnit adds.0 ∷ rest) (is ∙ ap (λ (l : List Event). l ++ rest) adds.1 ∙ append_assoc (met s) (TookUnit adds.0 ∷ []) rest) in
+    let e : more ≡ items.Unit adds.0 ∷ rest = append_cancel_left (met s) more (items.Unit adds.0 ∷ rest) (is ∙ ap (λ (l : List Item). l ++ rest) adds.1 ∙ append_assoc (met s) (items.Unit adds.0 ∷ []) rest) in
     (adds.0, rest, e, (t, leads.0, c), adds.2)
-goes_on (Some (Overrun at seen)) now s t events rest leads c is =
-    let e : events ≡ WasOverrun at seen ∷ rest = append_cancel_left (met s) events (WasOverrun at seen ∷ rest) (is ∙ ap (λ (l : List Event). l ++ rest) leads.1 ∙ append_assoc (met s) (WasOverrun at seen ∷ []) rest) in
+goes_on (Some (Overrun at seen missed)) now s t more rest leads c is =
+    let e : more ≡ items.Overrun at seen ∷ items.Missed missed ∷ rest = append_cancel_left (met s) more (items.Overrun at seen ∷ items.Missed missed ∷ rest) (is ∙ ap (λ (l : List Item). l ++ rest) leads.1 ∙ append_assoc (met s) (items.Overrun at seen ∷ items.Missed missed ∷ []) rest) in
     (rest, e, (t, leads.0, c))
-goes_on (Some Ended) now s t events rest leads c is =
-    let e : events ≡ rest = append_cancel_left (met s) events rest (is ∙ ap (λ (l : List Event). l ++ rest) leads.1.0) in
+goes_on (Some Ended) now s t more rest leads c is =
+    let e : more ≡ rest = append_cancel_left (met s) more rest (is ∙ ap (λ (l : List Item). l ++ rest) leads.1.0) in
     let none : rest ≡ [] = none_to_come now.ring.seg t rest (sym (ap has_ended leads.0.reading) ∙ leads.1.1) c in
     (e ∙ none, subst (Represents now) none (t, leads.0, c))
 
 -- a turn before the end goes on with what is to come
-pub turn_goes_on : (answer : Option Advanced) (old new : ReplayState) (events : List Event) → has_ended old.reading ≡ false → new.ring.seg ≡ old.ring.seg → ((s : Stage) → IsAt old s → Leads answer new s (after_turn old.ring.seg s)) → Represents old events → Goes answer events new
-turn_goes_on answer old new events before same leads c =
+pub turn_goes_on : (answer : Option Advanced) (old new : ReplayState) (more : List Item) → has_ended old.reading ≡ false → new.ring.seg ≡ old.ring.seg → ((s : Stage) → IsAt old s → Leads answer new s (after_turn old.ring.seg s)) → Represents old more → Goes answer more new
+turn_goes_on answer old new more before same leads c =
     let s : Stage = c.0 in
     let h : IsAt old s = c.1 in
     let t : Stage = after_turn old.ring.seg s in
-    let a = come_after c.2.0 old.ring.seg s events h.newest (ap has_ended (sym h.reading) ∙ before) c.2.1 c.2.2 in
-    goes_on answer new s t events a.0 (leads s h) (subst (λ (g : ℕ). IsToCome g t a.0) (sym same) a.1) a.2
+    let a = come_after c.2.0 old.ring.seg s more h.newest (ap has_ended (sym h.reading) ∙ before) c.2.1 c.2.2 in
+    goes_on answer new s t more a.0 (leads s h) (subst (λ (g : ℕ). IsToCome g t a.0) (sym same) a.1) a.2
 
 -- a replay that has ended represents nothing
-pub end_represents : (r : ReplayState) (events : List Event) → has_ended r.reading ≡ true → Represents r events → Meets Ended events r
-end_represents r events ended c =
-    let none : events ≡ [] = none_to_come r.ring.seg c.0 events (sym (ap has_ended c.1.reading) ∙ ended) c.2 in
+pub end_represents : (r : ReplayState) (more : List Item) → has_ended r.reading ≡ true → Represents r more → Meets Ended more r
+end_represents r more ended c =
+    let none : more ≡ [] = none_to_come r.ring.seg c.0 more (sym (ap has_ended c.1.reading) ∙ ended) c.2 in
     (none, subst (Represents r) none c)

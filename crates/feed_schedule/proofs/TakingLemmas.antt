@@ -7,13 +7,15 @@ use Rattle.vsl_record.specs.Unit.{LogUnit, Log}
 use Rattle.vsl_record.specs.Words.{unit_words}
 use Rattle.ring_layout.specs.Places.{tail, segment_start}
 use Rattle.ring_layout.specs.History.{first_number}
+use Rattle.ring_layout.specs.declared.item.Item.TheVariants as items
 use Rattle.ring_plain.specs.Cursor.{CursorState, Stands, IsOverrun, TookUnit as CursorTook, StandsAtStart}
 use Rattle.feed_schedule.specs.declared.replay.Advanced.{Advanced}
 use Rattle.feed_schedule.specs.declared.replay.Advanced.TheVariants as answers
-use Rattle.feed_schedule.specs.Schedule.{WasOverrun, Reading, Waits, Ended, Stage, count_writers, after_taking, last_segment, is_overrun, after_overrun, after_reader, met}
+use Rattle.feed_schedule.specs.Schedule.{Reading, Waits, Ended, Stage, count_writers, after_taking, last_segment, is_overrun, after_overrun, after_reader, met}
 use Rattle.feed_schedule.specs.Replaying.{ReplayState, IsAt}
 use Rattle.feed_schedule.specs.inside.Turning.{IsSteady, Leads}
-use Rattle.feed_schedule.proofs.EventLemmas.{unit_keeps_run, unit_events, overrun_events}
+use Rattle.ring_layout.proofs.MetLemmas.{unit_met}
+use Rattle.feed_schedule.proofs.ItemLemmas.{unit_keeps_run, overrun_items}
 
 -- the place where the cursor stands lies in the segment of the stage's
 at_segment : (r : ReplayState) (s : Stage) → IsAt r s → r.cursor.place / r.cursor.seg ≡ s.place / r.ring.seg
@@ -58,32 +60,34 @@ at_took r cursor s h seg near took =
         waits = h.waits;
         newest = unit_keeps_run took.unit s.history h.newest;
       },
-      (took.unit, unit_events took.unit s.history h.newest, took.spells),
+      (took.unit, unit_met took.unit s.history h.newest, took.spells),
     )
 
 -- after the reader was overrun, and sought
-pub at_lost : (r : ReplayState) (cursor : CursorState) (at seen : ℕ) (s : Stage) → IsAt r s → cursor.seg ≡ r.cursor.seg → IsOverrun r.ring r.cursor → at ≡ r.cursor.place / r.cursor.seg → seen ≡ r.ring.counter → StandsAtStart cursor s.log (r.ring.counter - 4)
-    → Leads (Some (answers.Overrun at seen)) (record r { cursor = cursor }) s (after_reader r.ring.seg s)
-at_lost r cursor at seen s h seg far here last there =
+pub at_lost : (r : ReplayState) (cursor : CursorState) (at seen missed : ℕ) (s : Stage) → IsAt r s → cursor.seg ≡ r.cursor.seg → IsOverrun r.ring r.cursor → at ≡ r.cursor.place / r.cursor.seg → seen ≡ r.ring.counter → StandsAtStart cursor s.log (r.ring.counter - 4) → missed ≡ cursor.number - s.number
+    → Leads (Some (answers.Overrun at seen missed)) (record r { cursor = cursor }) s (after_reader r.ring.seg s)
+at_lost r cursor at seen missed s h seg far here last there cost =
     let same : cursor.seg ≡ r.ring.seg = seg ∙ h.same in
     let a : s.place / r.ring.seg ≡ at = sym (here ∙ at_segment r s h) in
     let b : last_segment r.ring.seg s ≡ seen = sym (last ∙ at_last r s h) in
     let from : r.ring.counter - 4 ≡ last_segment r.ring.seg s - 4 = ap (λ (n : ℕ). n - 4) (at_last r s h) in
     let start : segment_start unit_words r.ring.seg s.log (last_segment r.ring.seg s - 4) ≡ Some cursor.place = subst (λ (n : ℕ). segment_start unit_words r.ring.seg s.log n ≡ Some cursor.place) from
     (subst (λ (g : ℕ). segment_start unit_words g s.log (r.ring.counter - 4) ≡ Some cursor.place) same there.start) in
-    subst (Leads (Some (answers.Overrun at seen)) (record r { cursor = cursor }) s) (sym (reader_far r.ring.seg s (at_far r s h far))) (
+    let stands : Stands cursor s.log (first_number unit_words r.ring.seg s.log (last_segment r.ring.seg s - 4)) = subst (λ (n : ℕ). Stands cursor s.log (first_number unit_words r.ring.seg s.log n)) from (subst (λ (g : ℕ). Stands cursor s.log (first_number unit_words g s.log (r.ring.counter - 4))) same there.stands) in
+    let missed_is : first_number unit_words r.ring.seg s.log (last_segment r.ring.seg s - 4) - s.number ≡ missed = sym (cost ∙ ap (λ (n : ℕ). n - s.number) stands.number) in
+    subst (Leads (Some (answers.Overrun at seen missed)) (record r { cursor = cursor }) s) (sym (reader_far r.ring.seg s (at_far r s h far))) (
       record {
         wrote = h.wrote;
         writers = h.writers;
         drawn = h.drawn;
         same = same;
-        cursor = subst (λ (n : ℕ). Stands cursor s.log (first_number unit_words r.ring.seg s.log n)) from (subst (λ (g : ℕ). Stands cursor s.log (first_number unit_words g s.log (r.ring.counter - 4))) same there.stands);
+        cursor = stands;
         place = sym (ap (λ (o : Option ℕ). unwrap_or o 0) start);
         reading = h.reading;
         waits = h.waits;
         newest = tt;
       },
-      overrun_events r.ring.seg s ∙ ap (λ (n : ℕ). met s ++ WasOverrun n (last_segment r.ring.seg s) ∷ []) a ∙ ap (λ (n : ℕ). met s ++ WasOverrun at n ∷ []) b,
+      overrun_items r.ring.seg s ∙ (λ i. met s ++ items.Overrun (a i) (b i) ∷ items.Missed (missed_is i) ∷ []),
     )
 
 -- the reader meets the end of the log

@@ -11,7 +11,9 @@ use Rattle.traffic_feed.specs.Listing.{word_count}
 use Rattle.feed_schedule.specs.declared.replay.Advanced.{Advanced}
 use Rattle.feed_schedule.specs.declared.replay.Advanced.TheVariants.{Took, Overrun, Ended}
 use Rattle.ring_layout.specs.History.{HasRun}
-use Rattle.feed_schedule.specs.Schedule.{Event, TookUnit, WasOverrun, Reading, Waits, Stage, after_turns, count_writers, has_ended, met}
+use Rattle.ring_layout.specs.declared.item.Item.{Item}
+use Rattle.ring_layout.specs.declared.item.Item.TheVariants as items
+use Rattle.feed_schedule.specs.Schedule.{Reading, Waits, Stage, after_turns, count_writers, has_ended, met}
 
 -- how many words the units of feeds have
 abbrev pub count_feed_words : List Log → ℕ
@@ -53,16 +55,17 @@ pub record IsAt (r : ReplayState) (s : Stage) : Type 0 where
   pub waits : s.reading ≡ Waits → 0 < count_writers s.writers
   pub newest : HasRun s.history
 
--- what is still to come of a stage: the events of its turns, up to the reader's end
-abbrev pub IsToCome : ℕ → Stage → List Event → Type 0
-IsToCome seg s events = (n : ℕ) × (has_ended (after_turns n seg s).reading ≡ true) × (met (after_turns n seg s) ≡ met s ++ events)
+-- what is still to come of a stage: what the reader meets in its turns, up to its end
+abbrev pub IsToCome : ℕ → Stage → List Item → Type 0
+IsToCome seg s more = (n : ℕ) × (has_ended (after_turns n seg s).reading ≡ true) × (met (after_turns n seg s) ≡ met s ++ more)
 
--- these events are still to come
-abbrev pub Represents : ReplayState → List Event → Type 0
-Represents r events = (s : Stage) × IsAt r s × IsToCome r.ring.seg s events
+-- these items are still to come
+abbrev pub Represents : ReplayState → List Item → Type 0
+Represents r more = (s : Stage) × IsAt r s × IsToCome r.ring.seg s more
 
--- what the reader met was the first of the events that were to come, and the others still are; at the end none was to come. What was taken stands in the cursor
-abbrev pub Meets : Advanced → List Event → ReplayState → Type 0
-Meets Took events now = (u : LogUnit) × (rest : List Event) × (events ≡ TookUnit u ∷ rest) × Represents now rest × Spells now.cursor.words u
-Meets (Overrun at seen) events now = (rest : List Event) × (events ≡ WasOverrun at seen ∷ rest) × Represents now rest
-Meets Ended events now = (events ≡ []) × Represents now []
+-- what the reader met was the first of the items that were to come, and the others still are; at the end none was to come. What was taken stands in the cursor, and an
+-- overrun comes with how many units were missed
+abbrev pub Meets : Advanced → List Item → ReplayState → Type 0
+Meets Took more now = (u : LogUnit) × (rest : List Item) × (more ≡ items.Unit u ∷ rest) × Represents now rest × Spells now.cursor.words u
+Meets (Overrun at seen missed) more now = (rest : List Item) × (more ≡ items.Overrun at seen ∷ items.Missed missed ∷ rest) × Represents now rest
+Meets Ended more now = (more ≡ []) × Represents now []

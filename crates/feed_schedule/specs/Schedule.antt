@@ -9,12 +9,9 @@ use Rattle.ring_layout.specs.declared.history.HistoryItem.{HistoryItem}
 use Rattle.ring_layout.specs.declared.history.HistoryItem.TheVariants.{UnitRun, Overrun}
 use Rattle.ring_layout.specs.Places.{tail, segment_start}
 use Rattle.ring_layout.specs.History.{first_number, with_unit}
+use Rattle.ring_layout.specs.declared.item.Item.{Item}
+use Rattle.ring_layout.specs.Items.{items_of}
 use Rattle.traffic_feed.specs.Turns.{first_draw, next_draw}
-
--- what a reader met, in order: a unit that it took, or that it was overrun in a segment when the writers had come to another
-pub data Event : Type 0 where
-  TookUnit : LogUnit → Event
-  WasOverrun : ℕ → ℕ → Event
 
 -- what a reader is about
 pub data Reading : Type 0 where
@@ -48,7 +45,7 @@ first_stage order feeds = record {
   number = 0;
   place = 0;
   reading = Reads;
-  history = UnitRun (record { segment = 0; first = 0; units = [] }) ∷ [];
+  history = UnitRun (record { segment = 0; first = 0; missed = 0; units = [] }) ∷ [];
   drawn = option_map first_draw order;
 }
 
@@ -97,7 +94,7 @@ abbrev pub is_overrun : ℕ → Stage → Bool
 is_overrun seg s = nat_le (s.place / seg + 6) (last_segment seg s)
 
 -- the reader is overrun, and goes on with the first unit that starts in the segment four behind the writers', or later.
--- The ring has eight, so what it may take isn't written over yet, and it has room before it is overrun again
+-- The ring has eight, so what it may take isn't written over yet, and it has room before it is overrun again. It missed the units from the one that was due up to that
 abbrev pub after_overrun : ℕ → Stage → Stage
 after_overrun seg s =
     let from = last_segment seg s - 4 in
@@ -105,7 +102,7 @@ after_overrun seg s =
     record s {
       number = first;
       place = unwrap_or (segment_start unit_words seg s.log from) 0;
-      history = UnitRun (record { segment = from; first = first; units = [] }) ∷ Overrun (s.place / seg) (last_segment seg s) ∷ s.history;
+      history = UnitRun (record { segment = from; first = first; missed = first - s.number; units = [] }) ∷ Overrun (s.place / seg) (last_segment seg s) ∷ s.history;
     }
 
 -- the reader has a turn
@@ -159,12 +156,6 @@ IsScheduled seg order feeds log history =
     × (log ≡ (after_turns n seg (first_stage order feeds)).log)
     × (history ≡ reverse (after_turns n seg (first_stage order feeds)).history)
 
--- what a history's items come to, one after the other
-abbrev pub events_of : List (HistoryItem LogUnit) → List Event
-events_of [] = []
-events_of (UnitRun r ∷ items) = map TookUnit r.units ++ events_of items
-events_of (Overrun at seen ∷ items) = WasOverrun at seen ∷ events_of items
-
 -- what the reader met up to a stage
-abbrev pub met : Stage → List Event
-met s = events_of (reverse s.history)
+abbrev pub met : Stage → List Item
+met s = items_of (reverse s.history)

@@ -41,7 +41,8 @@ struct Counting {
 fn count_turn(writer: &Writer, cuts: u64, counts: &mut CounterPass, counters: &Counters)
     requires stays { IsSome writer.now }
     requires sound { IsSound counters.now (tally writer.now cuts counts.old) }
-    ensures { (after : Option Log) → without_next 0 (writer.now ∷ []) ≡ after ∷ [] → IsCounted counters.now (tally writer.now cuts counts.old) (tally after cuts counts.new) }
+    ensures { (after : Option Log) → without_next 0 (writer.now ∷ []) ≡ after ∷ [] →
+        IsCounted counters.now (tally writer.now cuts counts.old) (tally after cuts counts.new) }
 {
     match writer.next_unit() {
         Some(unit) => {
@@ -97,7 +98,8 @@ impl Counting {
         requires active { 0 < self.old.active }
         requires written { (seg : ℕ) × (order : Option ℕ) × (feeds : List Log) × HasWritten seg order feeds self.old }
         requires tallied { (listings : List Listing) × HasTallied listings self.old }
-        ensures written { (seg : ℕ) (order : Option ℕ) (feeds : List Log) → HasWritten seg order feeds self.old → HasWritten seg order feeds self.new }
+        ensures written { (seg : ℕ) (order : Option ℕ) (feeds : List Log) →
+            HasWritten seg order feeds self.old → HasWritten seg order feeds self.new }
         ensures tallied { (listings : List Listing) → HasTallied listings self.old → HasTallied listings self.new }
         ensures fewer { count_turns self.new.writers.items < count_turns self.old.writers.items }
     {
@@ -154,7 +156,9 @@ pub fn count_feeds(
     requires many { length listings.items ≤ most_passes }
     requires records { All (λ l. record_count l.units ≤ 4194304) listings.items }
     requires cuts { All (λ l. l.cuts ≤ record_count l.units) listings.items }
-    ensures { IfOk result (λ values. (log : Log) → IsUnread seed (map (λ l. l.units) listings.items) log → values ≡ counter_values listings.items (count_wraps shape log)) }
+    ensures { IfOk result (λ values. (log : Log) →
+        IsUnread seed (map (λ l. l.units) listings.items) log →
+        values ≡ counter_values listings.items (count_wraps shape log)) }
 {
     if listings.is_empty() {
         return no_counts(alloc);

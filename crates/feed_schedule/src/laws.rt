@@ -16,7 +16,9 @@ pub fn every_schedule_ends()
     ensures ends { (seg : ℕ) (order : Option ℕ) (feeds : List Log) → IsSegment seg → All (AreFit unit_words seg) feeds →
         (log : Log) × (history : List (HistoryItem LogUnit)) × IsScheduled seg order feeds log history }
     ensures one_way { (seg : ℕ) (order : Option ℕ) (feeds : List Log) (log other_log : Log) (history other_history : List (HistoryItem LogUnit)) →
-        IsScheduled seg order feeds log history → IsScheduled seg order feeds other_log other_history → (log ≡ other_log) × (history ≡ other_history) }
+        IsScheduled seg order feeds log history →
+        IsScheduled seg order feeds other_log other_history →
+        (log ≡ other_log) × (history ≡ other_history) }
 {}
 
 /// The law that the log is an interleaving of the feeds, and feed after feed it is the feeds in order; and that what the reader took, where their units are fit, is a read history of the whole log and reaches its tail.
@@ -25,9 +27,11 @@ pub fn schedules_are_read_whole()
         IsScheduled seg order feeds log history → IsInterleaving log feeds }
     ensures in_order { (seg : ℕ) (feeds : List Log) (log : Log) (history : List (HistoryItem LogUnit)) →
         IsScheduled seg None feeds log history → log ≡ flat_map (λ feed. feed) feeds }
-    ensures read { (seg : ℕ) (order : Option ℕ) (feeds : List Log) (log : Log) (history : List (HistoryItem LogUnit)) → IsSegment seg → All (AreFit unit_words seg) feeds →
+    ensures read { (seg : ℕ) (order : Option ℕ) (feeds : List Log) (log : Log)
+        (history : List (HistoryItem LogUnit)) → IsSegment seg → All (AreFit unit_words seg) feeds →
         IsScheduled seg order feeds log history → IsReadHistory unit_words seg log history }
-    ensures to_the_tail { (seg : ℕ) (order : Option ℕ) (feeds : List Log) (log : Log) (history : List (HistoryItem LogUnit)) → IsSegment seg → All (AreFit unit_words seg) feeds →
+    ensures to_the_tail { (seg : ℕ) (order : Option ℕ) (feeds : List Log) (log : Log)
+        (history : List (HistoryItem LogUnit)) → IsSegment seg → All (AreFit unit_words seg) feeds →
         IsScheduled seg order feeds log history → ReachesTail log history }
 {}
 

@@ -10,7 +10,9 @@ ghost use Rattle.ring_layout.specs.Places.{AreFit, last_tail};
 ghost use Rattle.ring_layout.specs.declared.history.HistoryItem.{HistoryItem};
 ghost use Rattle.ring_plain.specs.Ring.{IsRingOf, put_fault};
 ghost use Rattle.traffic_feed.specs.Turns.{first_draw, next_draw};
-ghost use Rattle.feed_schedule.specs.Schedule.{Event, Stage, count_writers, put_by, without_next, is_reading, has_ended, count_active, chosen_by, after_writer, after_reader, after_turn, IsScheduled, events_of};
+ghost use Rattle.feed_schedule.specs.Schedule.{Stage, count_writers, put_by, without_next, is_reading, has_ended, count_active, chosen_by, after_writer, after_reader, after_turn, IsScheduled};
+ghost use Rattle.ring_layout.specs.declared.item.Item.{Item};
+ghost use Rattle.ring_layout.specs.Items.{items_of};
 ghost use Rattle.feed_schedule.specs.Replaying.{IsAt, Meets, Represents, count_feed_words};
 ghost use Rattle.feed_schedule.specs.inside.Turning.{with_draw, turns_to_come, Leads};
 
@@ -33,6 +35,8 @@ pub enum Advanced {
         at: u64,
         /// The segment to which the writers had come.
         seen: u64,
+        /// How many units it missed.
+        missed: u64,
     },
     /// The end of the log, when all writers had left.
     Ended,
@@ -90,7 +94,13 @@ impl Model for Replay {
 
     ghost view = { λ r. record { ring = r.ring; cursor = r.cursor; writers = r.writers.items; reading = stated r.reading; drawn = r.turns } };
 
-    ghost invariant = { λ r. IsSteady r.active (record { ring = r.ring; cursor = r.cursor; writers = r.writers.items; reading = stated r.reading; drawn = r.turns }) };
+    ghost invariant = { λ r. IsSteady r.active (record {
+      ring = r.ring;
+      cursor = r.cursor;
+      writers = r.writers.items;
+      reading = stated r.reading;
+      drawn = r.turns;
+    }) };
 }
 
 impl Writer {
@@ -218,7 +228,9 @@ impl Replay {
         requires feeds { All (AreFit unit_words shape) (map (λ l. l.units) listings.items) }
         requires few { 2 * count_feed_words (map (λ l. l.units) listings.items) ≤ last_tail }
         requires many { length listings.items < 4294967295 }
-        ensures { IfOk result (λ r. (log : Log) (history : List (HistoryItem LogUnit)) → IsScheduled shape seed (map (λ l. l.units) listings.items) log history → Represents r (events_of history)) }
+        ensures { IfOk result (λ r. (log : Log) (history : List (HistoryItem LogUnit)) →
+            IsScheduled shape seed (map (λ l. l.units) listings.items) log history →
+            Represents r (items_of history)) }
     {
         let writers = writers_of(alloc, listings)?;
         let active = writers.len() as u32;
@@ -283,8 +295,11 @@ impl Replay {
                 Some(Advanced::Ended)
             }
             Step::Lost { at, seen } => {
+                let due = self.cursor.next_number();
                 self.cursor.seek(&self.ring);
-                Some(Advanced::Overrun { at, seen })
+                let goes_on = self.cursor.next_number();
+                let missed = goes_on.saturating_sub(due);
+                Some(Advanced::Overrun { at, seen, missed })
             }
         }
     }
@@ -307,7 +322,7 @@ impl Replay {
 
     /// Has turns until the reader meets something. It takes no memory.
     pub fn advance(&mut self) -> Advanced
-        ensures { (events : List Event) → Represents self.old events → Meets result events self.new }
+        ensures { (more : List Item) → Represents self.old more → Meets result more self.new }
     {
         if self.reading == Reading::Ended {
             return Advanced::Ended;

@@ -14,8 +14,12 @@ use Rattle.ring_layout.specs.History.{IsReadHistory, ReachesTail}
 use Rattle.traffic_feed.specs.declared.listing.Listing.{Listing}
 use Rattle.traffic_feed.specs.Batches.{IsWithin}
 use Rattle.traffic_feed.specs.Listing.{word_count}
-use Rattle.feed_schedule.specs.Schedule.{IsScheduled, events_of}
-use Rattle.feed_schedule.specs.Replaying.{ReplayState, Represents, count_feed_words}
+use Rattle.ring_layout.specs.Items.{items_of}
+use Rattle.ring_layout.proofs.NumberLemmas.{adds_up}
+use Rattle.feed_schedule.specs.Schedule.{IsScheduled}
+use Rattle.feed_schedule.specs.Replaying.{Represents, count_feed_words}
+use Rattle.run_sources.specs.declared.feed_items.FeedItems.{FeedItems}
+use Rattle.run_sources.specs.Sources.{owed}
 use Rattle.tool_words.specs.declared.job.Job.{Job}
 use Rattle.job_steps.specs.Fits.{FitsRing, HasFitFeeds}
 use Rattle.job_steps.specs.Jobs.{is_on_threads, is_threads, order_seed, units_of, with_made, made_listings}
@@ -71,9 +75,9 @@ IsRead = (seg : ℕ) (order : Option ℕ) (feeds : List Log) (log : Log) (histor
 abbrev IsToTheTail : Type 0
 IsToTheTail = (seg : ℕ) (order : Option ℕ) (feeds : List Log) (log : Log) (history : List (HistoryItem LogUnit)) → IsSegment seg → All (AreFit unit_words seg) feeds → IsScheduled seg order feeds log history → ReachesTail log history
 
-pub new_replay : EverySchedule → IsInterleaved → IsRead → IsToTheTail → (job : Job) (listings all : List Listing) (replay : ReplayState) → IsSegment job.seg → all ≡ with_made job listings → All (FitsRing job.seg) all
-    → ((log : Log) (history : List (HistoryItem LogUnit)) → IsScheduled job.seg (order_seed job.order) (units_of all) log history → Represents replay (events_of history)) → IsFed job listings replay
-new_replay ends interleaved read tail job listings all replay segment made fit new =
+pub new_replay : EverySchedule → IsInterleaved → IsRead → IsToTheTail → (job : Job) (listings all : List Listing) (feeds : FeedItems) → feeds.missed ≡ None → IsSegment job.seg → all ≡ with_made job listings → All (FitsRing job.seg) all
+    → ((log : Log) (history : List (HistoryItem LogUnit)) → IsScheduled job.seg (order_seed job.order) (units_of all) log history → Represents feeds.replay (items_of history)) → IsFed job listings feeds
+new_replay ends interleaved read tail job listings all feeds free segment made fit new =
     let seed = order_seed job.order in
     let fits : All (AreFit unit_words job.seg) (units_of (with_made job listings)) = subst (λ (ls : List Listing). All (AreFit unit_words job.seg) (units_of ls)) made (units_fit job.seg all fit) in
     let law = ends job.seg seed (units_of (with_made job listings)) segment fits in
@@ -84,8 +88,9 @@ new_replay ends interleaved read tail job listings all replay segment made fit n
         turns = λ stated. (law.2, tail job.seg seed (units_of (with_made job listings)) law.0 law.1 segment fits law.2);
         interleaved = interleaved job.seg seed (units_of (with_made job listings)) law.0 law.1 law.2;
         read = read job.seg seed (units_of (with_made job listings)) law.0 law.1 segment fits law.2;
+        adds_up = adds_up unit_words job.seg (omega (arith, segment.0)) law.0 law.1 (read job.seg seed (units_of (with_made job listings)) law.0 law.1 segment fits law.2);
       };
-      represents = new law.0 law.1 (subst (λ (ls : List Listing). IsScheduled job.seg seed (units_of ls) law.0 law.1) (sym made) law.2);
+      comes = (items_of law.1, sym (ap (λ (missed : Option ℕ). owed missed ++ items_of law.1) free), new law.0 law.1 (subst (λ (ls : List Listing). IsScheduled job.seg seed (units_of ls) law.0 law.1) (sym made) law.2));
     }
 
 -- ---- listings that workers may put

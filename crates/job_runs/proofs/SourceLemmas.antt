@@ -1,22 +1,19 @@
 -- What came of a log, and of feeds.
-use Rattle.std.proofs.Common.{◌≡◌, ℕ, Bool, true, false, List, [], ◌∷◌, ◌++◌, map, refl, sym, ap, subst, ◌∙◌}
-use Rattle.std.proofs.lemmas.List.{append-nil, map-append}
+use Rattle.std.proofs.Common.{◌≡◌, ℕ, Bool, true, false, List, [], ◌∷◌, ◌++◌, refl, sym, subst, ◌∙◌}
+use Rattle.std.proofs.lemmas.List.{append-nil}
 use Rattle.log_model.specs.Interleaving.{IsInterleaving}
 use Rattle.vio.specs.Calls.{Call}
 use Rattle.ring_layout.specs.declared.item.Item.{Item}
-use Rattle.ring_layout.specs.declared.item.Item.TheVariants as items
 use Rattle.ring_layout.specs.History.{IsReadHistory}
 use Rattle.ring_layout.specs.Items.{items_of}
 use Rattle.vsl_record.specs.Words.{unit_words}
 use Rattle.log_ring.specs.Closed.{ClosedState}
 use Rattle.live_run.specs.Runs.{LiveBegan, LiveCame, feeds_of}
 use Rattle.traffic_feed.specs.declared.listing.Listing.{Listing}
-use Rattle.feed_schedule.specs.Schedule.{Event, TookUnit, WasOverrun, events_of}
-use Rattle.feed_schedule.specs.Replaying.{ReplayState}
 use Rattle.run_sources.specs.declared.file_items.FileItems.{FileItems}
-use Rattle.run_sources.specs.Sources.{FileGave, FileBegins, FeedsGave, FeedsBegan, event_of}
+use Rattle.run_sources.specs.declared.feed_items.FeedItems.{FeedItems}
+use Rattle.run_sources.specs.Sources.{FileGave, FileBegins, FeedsGave, FeedsBegan}
 use Rattle.run_sources.proofs.FileLemmas.{file_came, came_begins}
-use Rattle.run_sources.proofs.FeedLemmas.{history_events}
 use Rattle.tool_words.specs.declared.job.Job.{Job}
 use Rattle.job_steps.specs.Jobs.{is_on_threads, units_of, with_made}
 use Rattle.job_runs.specs.declared.record.RunRecord.{RunRecord}
@@ -38,28 +35,18 @@ log_lacked h calls met p = record { begins = p; whole = λ e. absurd cc }
 
 -- ---- feeds
 
--- the item that a reader met
-abbrev item_of : Event → Item
-item_of (TookUnit u) = items.Unit u
-item_of (WasOverrun at seen) = items.Overrun at seen
-
-items_back : (met : List Item) → map item_of (map event_of met) ≡ met
-items_back [] = refl
-items_back (items.Unit u ∷ met) = ap (λ (rest : List Item). items.Unit u ∷ rest) (items_back met)
-items_back (items.Overrun at seen ∷ met) = ap (λ (rest : List Item). items.Overrun at seen ∷ rest) (items_back met)
-
-fed_came : (job : Job) (listings : List Listing) (replay : ReplayState) (met : List Item) (all : Bool) → (fed : IsFed job listings replay) → (stated : is_on_threads job ≡ false) → (rest : List Event) → events_of fed.history ≡ map event_of met ++ rest → (all ≡ true → rest ≡ []) → FedCame job listings met all
-fed_came job listings replay met all fed stated rest parts whole = record {
+fed_came : (job : Job) (listings : List Listing) (feeds : FeedItems) (met : List Item) (all : Bool) → (fed : IsFed job listings feeds) → (stated : is_on_threads job ≡ false) → (rest : List Item) → items_of fed.history ≡ met ++ rest → (all ≡ true → rest ≡ []) → FedCame job listings met all
+fed_came job listings feeds met all fed stated rest parts whole = record {
   log = fed.log;
   history = fed.history;
   fed = fed.fed;
-  rest = map item_of rest;
-  parts = sym (items_back (items_of fed.history)) ∙ ap (λ (events : List Event). map item_of events) (history_events fed.history ∙ parts) ∙ map-append item_of (map event_of met) rest ∙ ap (λ (first : List Item). first ++ map item_of rest) (items_back met);
-  whole = λ e. (ap (λ (events : List Event). map item_of events) (whole e), (fed.fed.turns stated).1);
+  rest = rest;
+  parts = parts;
+  whole = λ e. (whole e, (fed.fed.turns stated).1);
 }
 
-pub feeds_came : (job : Job) (listings : List Listing) (start now : ReplayState) (met : List Item) (all : Bool) → IsFed job listings start → is_on_threads job ≡ false → FeedsGave start now met all → FedCame job listings met all
-feeds_came job listings start now met all fed stated p = let came = p.came (events_of fed.history) fed.represents in fed_came job listings start met all fed stated came.0 came.1 came.3
+pub feeds_came : (job : Job) (listings : List Listing) (start now : FeedItems) (met : List Item) (all : Bool) → IsFed job listings start → is_on_threads job ≡ false → FeedsGave start now met all → FedCame job listings met all
+feeds_came job listings start now met all fed stated p = let came = p.came (items_of fed.history) fed.comes in fed_came job listings start met all fed stated came.0 came.1 came.3
 
 -- nothing is on threads and in a stated order
 pub never_both : (b : Bool) → b ≡ false → b ≡ true → ⊥
@@ -80,6 +67,7 @@ live_came job listings made seg ring recorded met all threads made_is seg_is is 
       turns = λ stated. absurd (never_both (is_on_threads job) stated threads);
       interleaved = subst (λ (ls : List Listing). IsInterleaving ring.log (units_of ls)) made_is p.interleaved;
       read = subst (λ (k : ℕ). IsReadHistory unit_words k ring.log p.history) seg_is p.read;
+      adds_up = p.adds_up;
     };
     rest = [];
     parts = p.are ∙ sym (append-nil met);
@@ -97,6 +85,7 @@ live_began job listings made seg met all threads made_is seg_is p = record {
     turns = λ stated. absurd (never_both (is_on_threads job) stated threads);
     interleaved = subst (λ (ls : List Listing). IsInterleaving p.log (units_of ls)) made_is p.interleaved;
     read = subst (λ (k : ℕ). IsReadHistory unit_words k p.log p.history) seg_is p.read;
+    adds_up = p.adds_up;
   };
   rest = p.rest;
   parts = p.parts;
@@ -107,5 +96,5 @@ pub feeds_late : (job : Job) (listings : List Listing) (met : List Item) (all : 
 feeds_late job listings met all p =
     record { log = p.log; history = p.history; fed = p.fed; rest = p.rest; parts = p.parts; whole = λ e. absurd cc }
 
-pub feeds_lacked : (job : Job) (listings : List Listing) (start : ReplayState) (met : List Item) → IsFed job listings start → is_on_threads job ≡ false → FeedsBegan start met → FedCame job listings met false
-feeds_lacked job listings start met fed stated p = let came = p (events_of fed.history) fed.represents in fed_came job listings start met false fed stated came.0 came.1 (λ e. absurd cc)
+pub feeds_lacked : (job : Job) (listings : List Listing) (start : FeedItems) (met : List Item) → IsFed job listings start → is_on_threads job ≡ false → FeedsBegan start met → FedCame job listings met false
+feeds_lacked job listings start met fed stated p = let came = p (items_of fed.history) fed.comes in fed_came job listings start met false fed stated came.0 came.1 (λ e. absurd cc)

@@ -1,7 +1,7 @@
 -- A run whose source is known to have certain items in all.
 use Rattle.std.proofs.Common.{◌≡◌, ◌⊎◌, ℕ, ◌||◌, Bool, true, false, List, [], ◌∷◌, ◌++◌, Option, Some, None, refl, sym, ap, subst, ◌∙◌, inl, inr}
 use Rattle.std.specs.Prelude.{filter}
-use Rattle.std.proofs.lemmas.List.{append-nil, map-append}
+use Rattle.std.proofs.lemmas.List.{append-nil}
 use Rattle.log_model.specs.Interleaving.{IsInterleaving}
 use Rattle.log_model.specs.Prefix.{IsPrefix}
 use Rattle.vio.specs.declared.world.TheConstants.{ERRORS}
@@ -9,7 +9,7 @@ use Rattle.vio.specs.World.{Seen}
 use Rattle.vio.specs.Calls.{Call, Did, written_by}
 use Rattle.vsl_record.specs.Unit.{LogUnit, Log}
 use Rattle.vsl_record.specs.Words.{unit_words}
-use Rattle.ring_layout.specs.History.{IsReadHistory, ReachesTail}
+use Rattle.ring_layout.specs.History.{IsReadHistory, ReachesTail, AddUp}
 use Rattle.txn_rows.specs.Grouping.{Taken, groups_of}
 use Rattle.ring_layout.specs.declared.history.HistoryItem.{HistoryItem}
 use Rattle.ring_layout.specs.declared.item.Item.{Item}
@@ -31,8 +31,8 @@ use Rattle.run_sources.proofs.ToldLemmas.{begun_are, whole_are, first_are, stopp
 use Rattle.text_printer.specs.Messages.{messages_of}
 use Rattle.text_printer.specs.declared.output.TextEnding.{TextEnding}
 use Rattle.text_printer.specs.declared.output.TextEnding.TheVariants as endings
-use Rattle.text_printer.specs.Ends.{Grows, TextEnded, TextShort, TextWritten, taken, taken_of, whole}
-use Rattle.text_printer.proofs.DueLemmas.{filled_on, text_filled, text_prefix}
+use Rattle.text_printer.specs.Ends.{Grows, TextEnded, TextShort, TextWritten, taken_of, whole}
+use Rattle.text_printer.proofs.DueLemmas.{filled_on, taken_append, text_filled, text_prefix}
 use Rattle.text_printer.proofs.EndLemmas.{ended_short, short_prefix, written_short}
 use Rattle.job_steps.specs.declared.fault.ToolFault.{ToolFault}
 use Rattle.job_steps.specs.declared.fault.ToolFault.TheVariants.{ReadFault, NotALog, Damaged, TooLarge}
@@ -52,19 +52,19 @@ module _ (job : Job) (ask : Ask) (empty : Bool) where
   -- it goes on where more items come
   job_grows : Grows (job_due job ask empty)
   job_grows met more all =
-      subst (λ (list : List Taken). IsPrefix ((job_due job ask empty).text met false) (output_of job (kept job.keep (filter (is_asked ask) (groups_of (options_of job) list all))) (all || is_filled job.keep (filter (is_asked ask) (groups_of (options_of job) list false))))) (sym (map-append taken met more))
+      subst (λ (list : List Taken). IsPrefix ((job_due job ask empty).text met false) (output_of job (kept job.keep (filter (is_asked ask) (groups_of (options_of job) list all))) (all || is_filled job.keep (filter (is_asked ask) (groups_of (options_of job) list false))))) (sym (taken_append met more))
       (text_prefix (output_of job) (job_output job) job.keep (is_asked ask) (options_of job) (taken_of met) (taken_of more) all)
 
   -- of items that complete as many groups as are kept, and more, it is the same
   job_filled : (met more : List Item) (ended : Bool) → fills job ask met ≡ true → whole (job_due job ask empty) met false ≡ whole (job_due job ask empty) (met ++ more) ended
   job_filled met more ended filled = ap (λ (text : List ℕ). (job_due job ask empty).head ++ text)
       (text_filled (output_of job) job.keep (is_asked ask) (options_of job) (taken_of met) (taken_of more) ended filled
-      ∙ ap (λ (list : List Taken). output_of job (kept job.keep (filter (is_asked ask) (groups_of (options_of job) list ended))) (ended || is_filled job.keep (filter (is_asked ask) (groups_of (options_of job) list false)))) (sym (map-append taken met more)))
+      ∙ ap (λ (list : List Taken). output_of job (kept job.keep (filter (is_asked ask) (groups_of (options_of job) list ended))) (ended || is_filled job.keep (filter (is_asked ask) (groups_of (options_of job) list false)))) (sym (taken_append met more)))
 
   -- and these complete as many too
   fills_more : (met more : List Item) → fills job ask met ≡ true → fills job ask (met ++ more) ≡ true
   fills_more met more filled =
-      ap (λ (list : List Taken). is_filled job.keep (filter (is_asked ask) (groups_of (options_of job) list false))) (map-append taken met more) ∙ filled_on job.keep (is_asked ask) (options_of job) (taken_of met) (taken_of more) filled
+      ap (λ (list : List Taken). is_filled job.keep (filter (is_asked ask) (groups_of (options_of job) list false))) (taken_append met more) ∙ filled_on job.keep (is_asked ask) (options_of job) (taken_of met) (taken_of more) filled
 
   module _ (sink : ℕ) (every : List Item) (ended : Bool) (calls : List Call) where
     -- a part of what is due of the items that came is one of what is due of all
@@ -233,6 +233,7 @@ module _ (job : Job) (ask : Ask) (sink : ℕ) (empty : Bool) (listings : List Li
         history = came.history;
         only = ring.only;
         read = subst (λ (l : Log). IsReadHistory unit_words job.seg l came.history) (sym ring.log_is) came.fed.read;
+        adds_up = subst (λ (l : Log). AddUp l came.history) (sym ring.log_is) came.fed.adds_up;
         ended = ran.all;
         tail = λ all. subst (λ (l : Log). ReachesTail l came.history) (sym ring.log_is) (came.whole all).1;
         writes = ended_of ending ran.done ran.last ran.all ran.all (items_of came.history) fault is (live_are job listings (ran.done ++ ran.last) ran.all came) e.5;

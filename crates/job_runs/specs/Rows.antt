@@ -69,15 +69,19 @@ end_answer job (ends.BySource why) = Some (stop_answer (file_of job) why)
 
 -- ---- a run that prints groups
 
--- of items that came so and a text that is due at a sink, a run came to this fault, and what it met is recorded so, by these calls
-pub record RanFor (reads : List ℕ) (came : List Call → List Item → Bool → Type 0) (stopped : FileStop → List Call → List Item → Type 0) (records : List Item → Type 0) (sink : ℕ) (d : Due) (answer : RunEnd TextEnding FileStop → Option ToolFault)
-    (fault : Option ToolFault) (calls : List Call) : Type 0 where
-  pub on : AreOn reads (ERRORS ∷ sink ∷ []) calls
-  pub end : RunEnd TextEnding FileStop
+-- of items that came so, and of an output that writes these handles and printed and ended so, a run came to this fault, and what it met is recorded so, by these calls
+pub record RanWith {E : Type 0} (reads writes : List ℕ) (came : List Call → List Item → Bool → Type 0) (stopped : FileStop → List Call → List Item → Type 0) (records : List Item → Type 0)
+    (printed : List Call → List Item → Type 0) (ended : E → List Call → List Item → List Item → Bool → Type 0) (answer : RunEnd E FileStop → Option ToolFault) (fault : Option ToolFault) (calls : List Call) : Type 0 where
+  pub on : AreOn reads writes calls
+  pub end : RunEnd E FileStop
   pub met : Met
-  pub ran : Ran came stopped (TextWritten sink d) (TextEnded sink d) (ERRORS ∷ sink ∷ []) end met calls
+  pub ran : Ran came stopped printed ended writes end met calls
   pub answers : fault ≡ answer end
   pub recorded : records (ran.done ++ ran.last)
+
+-- the same of a text that is due at one sink
+abbrev pub RanFor : List ℕ → (List Call → List Item → Bool → Type 0) → (FileStop → List Call → List Item → Type 0) → (List Item → Type 0) → ℕ → Due → (RunEnd TextEnding FileStop → Option ToolFault) → Option ToolFault → List Call → Type 0
+RanFor reads came stopped records sink d answer fault calls = RanWith reads (ERRORS ∷ sink ∷ []) came stopped records (TextWritten sink d) (TextEnded sink d) answer fault calls
 
 -- what the queries ask, and what was found to write to
 pub record IsAsked (job : Job) (found : List Found) (ask : Ask) (sink : ℕ) (empty : Bool) : Type 0 where

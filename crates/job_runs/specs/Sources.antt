@@ -7,7 +7,7 @@ use Rattle.vsl_record.specs.Unit.{LogUnit, Log}
 use Rattle.vsl_record.specs.Words.{unit_words}
 use Rattle.ring_layout.specs.declared.history.HistoryItem.{HistoryItem}
 use Rattle.ring_layout.specs.declared.item.Item.{Item}
-use Rattle.ring_layout.specs.History.{IsReadHistory, ReachesTail}
+use Rattle.ring_layout.specs.History.{IsReadHistory, ReachesTail, AddUp}
 use Rattle.ring_layout.specs.Items.{items_of, count_units, count_items}
 use Rattle.log_ring.specs.Closed.{ClosedState}
 use Rattle.traffic_feed.specs.declared.listing.Listing.{Listing}
@@ -20,11 +20,12 @@ use Rattle.job_runs.specs.declared.record.RunRecord.{RunRecord}
 use Rattle.job_runs.specs.declared.record.RunRecord.TheVariants.{Counted, Closed}
 
 -- the listings of feeds, with the requests that are made, are put: their log is an interleaving of them, and what a reader meets is a history of that log. Where a job states whose turn it
--- is, both are those of these turns, and the history goes up to the log's tail
+-- is, both are those of these turns, and the history goes up to the log's tail. Where it does, what the reader took and what it missed add up to the log's length
 pub record AreFed (job : Job) (listings : List Listing) (log : Log) (history : List (HistoryItem LogUnit)) : Type 0 where
   pub turns : is_on_threads job ≡ false → IsScheduled job.seg (order_seed job.order) (units_of (with_made job listings)) log history × ReachesTail log history
   pub interleaved : IsInterleaving log (units_of (with_made job listings))
   pub read : IsReadHistory unit_words job.seg log history
+  pub adds_up : AddUp log history
 
 -- these items came of feeds: the first of what a reader meets, or all, up to the log's tail
 pub record FedCame (job : Job) (listings : List Listing) (met : List Item) (all : Bool) : Type 0 where

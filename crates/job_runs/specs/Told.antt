@@ -8,7 +8,7 @@ use Rattle.vsl_record.specs.Unit.{LogUnit, Log}
 use Rattle.vsl_record.specs.Words.{unit_words}
 use Rattle.ring_layout.specs.declared.history.HistoryItem.{HistoryItem}
 use Rattle.ring_layout.specs.declared.item.Item.{Item}
-use Rattle.ring_layout.specs.History.{IsReadHistory, ReachesTail}
+use Rattle.ring_layout.specs.History.{IsReadHistory, ReachesTail, AddUp}
 use Rattle.ring_layout.specs.Items.{items_of}
 use Rattle.log_ring.specs.Closed.{ClosedState}
 use Rattle.traffic_feed.specs.declared.listing.Listing.{Listing}
@@ -36,7 +36,7 @@ abbrev pub WritesPart : Job → List Found → List Item → Bool → List Call 
 WritesPart job found every ended calls = (ask : Ask) × (sink : ℕ) × (empty : Bool) × IsAsked job found ask sink empty × TextShort sink (job_due job ask empty) calls every ended
 
 -- what a run wrote of feeds that threads put: the ring is recorded, its log is an interleaving of the listings, and this is of all that its only reader took; that goes up to the log's tail
--- where it had ended. Without a fault each overrun was told
+-- where it had ended, and then what it took and what it missed add up. Without a fault each overrun was told, and what it cost
 pub record WritesRing (job : Job) (listings : List Listing) (recorded : RunRecord) (sink : ℕ) (d : Due) (fault : Option ToolFault) (calls : List Call) : Type 0 where
   pub ring : ClosedState
   pub is : recorded ≡ Closed ring
@@ -44,6 +44,7 @@ pub record WritesRing (job : Job) (listings : List Listing) (recorded : RunRecor
   pub history : List (HistoryItem LogUnit)
   pub only : ring.histories ≡ history ∷ []
   pub read : IsReadHistory unit_words job.seg ring.log history
+  pub adds_up : AddUp ring.log history
   pub ended : Bool
   pub tail : ended ≡ true → ReachesTail ring.log history
   pub writes : WritesOf sink d fault (items_of history) ended calls

@@ -15,6 +15,7 @@ use counter_segments::Values;
 use feed_schedule::{count_feeds, every_writing_ends};
 use job_steps::{Counting, ToolFault, is_fed};
 use live_run::{CountEnded, count_live};
+use log_model::Text;
 use ring_layout::Shape;
 use std::alloc::Global;
 use std::sync::Wait;
@@ -22,7 +23,6 @@ use std::thread::Threads;
 use tool_words::{Job, StatMode};
 use traffic_feed::Gate;
 use vio::{NoMemory, World, WorldFault, write_all};
-use vsl_select::Text;
 use vsl_stat::{Globs, stat_json, stat_list, stat_text};
 
 /// The globs of a job.

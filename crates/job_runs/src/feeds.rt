@@ -19,6 +19,7 @@ ghost use Rattle.job_runs.specs.inside.Outputs.{IsFed};
 use crate::output::{answer, output_of};
 use crate::record::Ran;
 use feed_schedule::{Replay, every_schedule_ends, schedules_are_read_whole};
+use log_model::Text;
 use one_run::{RunEnd, RunEnded, run};
 use query_parser::Query;
 use ring_layout::Shape;
@@ -28,7 +29,6 @@ use tool_words::{Job, Order};
 use traffic_feed::{Listing, generate};
 use vio::{Created, NoMemory, World};
 use vsl_dispatch::Consumer;
-use vsl_select::Text;
 
 /// The seed from which an order's turns are drawn; feed after feed draws none, and neither do threads.
 pub fn order_seed(order: Order) -> Option<u32>
@@ -63,7 +63,7 @@ pub fn with_made(
 fn items_of(alloc: Global, job: &Job, listings: Vec<Listing>) -> Result<FeedItems, NoMemory>
     requires sound { IsSound job.now }
     requires fit { HasFitFeeds job.now listings.items }
-    ensures comes { IfOk result (λ feeds. IsFed job.now listings.items feeds.replay) }
+    ensures comes { IfOk result (λ feeds. IsFed job.now listings.items feeds) }
 {
     // Laws, which say that there is a log and a history, and what they are.
     every_schedule_ends();
@@ -73,7 +73,11 @@ fn items_of(alloc: Global, job: &Job, listings: Vec<Listing>) -> Result<FeedItem
     };
     let writers = with_made(alloc, job, listings, shape)?;
     let replay = Replay::new(alloc, writers, order_seed(job.order), shape)?;
-    Ok(FeedItems { alloc, replay })
+    Ok(FeedItems {
+        alloc,
+        replay,
+        missed: None,
+    })
 }
 
 /// Prints the groups of feeds, which are put in the order that a job states. The requests that are made up are made

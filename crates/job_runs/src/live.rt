@@ -18,6 +18,7 @@ use crate::feeds::with_made;
 use crate::output::{answer, output_of};
 use crate::record::{Ran, RunRecord};
 use live_run::{LiveEnded, run_live};
+use log_model::Text;
 use one_run::RunEnd;
 use query_parser::Query;
 use ring_layout::Shape;
@@ -28,7 +29,6 @@ use tool_words::Job;
 use traffic_feed::{Gate, Listing};
 use vio::{Created, NoMemory, World};
 use vsl_dispatch::Consumer;
-use vsl_select::Text;
 
 /// Prints the groups of feeds while workers put them, each on a thread of its own.
 pub fn print_live<R: Threads + Wait + Sync, W: World, C: Consumer, G: Gate>(

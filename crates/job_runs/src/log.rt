@@ -16,6 +16,7 @@ ghost use Rattle.job_runs.specs.Runs.{RanShort, RanSo};
 use crate::output::{answer, output_of};
 use crate::record::Ran;
 use job_steps::{ToolFault, file_name};
+use log_model::Text;
 use one_run::{RunEnd, RunEnded, run};
 use query_parser::Query;
 use run_sources::{FileItems, FileStop};
@@ -23,7 +24,6 @@ use std::alloc::Global;
 use tool_words::Job;
 use vio::{Created, NoMemory, World};
 use vsl_dispatch::Consumer;
-use vsl_select::Text;
 
 /// The most bytes of a log that are read: 2^40.
 const LOG_LIMIT: u64 = 1_099_511_627_776;

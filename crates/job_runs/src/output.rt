@@ -7,6 +7,7 @@ ghost use Rattle.job_runs.specs.Rows.{output_answer};
 ghost use Rattle.job_runs.specs.inside.Outputs.{IsJobOutput};
 
 use job_steps::{ToolFault, options_of, written_name};
+use log_model::Text;
 use query_parser::Query;
 use std::alloc::Global;
 use text_printer::{Printer, TextEnding, TextOutput};
@@ -14,7 +15,6 @@ use tool_consumers::head_of;
 use tool_words::Job;
 use vio::{Created, NoMemory};
 use vsl_dispatch::Consumer;
-use vsl_select::Text;
 
 /// The output of a job's consumer to what it writes, which printed nothing.
 pub fn output_of<'q, C: Consumer>(

@@ -19,7 +19,7 @@ pub enum RunRecord {
     Counted {
         /// How many units were taken; after a failed write, how many units' text was begun.
         units: u64,
-        /// How many items the history has: runs of units, with an overrun between two; over a file one run.
+        /// How many items the history has: a run of units, and each overrun, and each run that follows one; over a file one run.
         items: u64,
     },
     /// Workers put feeds on threads into this ring, which is closed. It holds no byte: contracts see its log, what was taken
@@ -42,7 +42,7 @@ impl Ran {
     {
         let run = RunRecord::Counted {
             units: met.units,
-            items: met.items(),
+            items: met.items,
         };
         Ran { fault, run }
     }

@@ -7,7 +7,7 @@ use Rattle.vsl_record.specs.Words.{unit_words}
 use Rattle.ring_layout.specs.Places.{last_tail}
 use Rattle.ring_layout.specs.declared.history.HistoryItem.{HistoryItem}
 use Rattle.ring_layout.specs.declared.item.Item.{Item}
-use Rattle.ring_layout.specs.History.{IsReadHistory, ReachesTail}
+use Rattle.ring_layout.specs.History.{IsReadHistory, ReachesTail, AddUp}
 use Rattle.ring_layout.specs.Items.{items_of}
 use Rattle.ring_plain.specs.Ring.{count_wraps}
 use Rattle.log_ring.specs.Ring.{most_writers}
@@ -37,13 +37,14 @@ pub record MayBePut (seg : ℕ) (listings : List Listing) : Type 0 where
 -- ---- what was read
 
 -- these items came of a ring that is closed now and had one reader: its log is an interleaving of the feeds, and the items are all that the reader took of it, in order; where they are all
--- that there is, up to the log's tail. Workers run to their end, also where the reader stopped: nobody tells them, and
+-- that there is, up to the log's tail. What it took and what it missed add up. Workers run to their end, also where the reader stopped: nobody tells them, and
 -- they wait for no reader
 pub record LiveCame (seg : ℕ) (feeds : List Log) (closed : ClosedState) (met : List Item) (all : Bool) : Type 0 where
   pub interleaved : IsInterleaving closed.log feeds
   pub history : List (HistoryItem LogUnit)
   pub only : closed.histories ≡ history ∷ []
   pub read : IsReadHistory unit_words seg closed.log history
+  pub adds_up : AddUp closed.log history
   pub are : items_of history ≡ met
   pub tail : all ≡ true → ReachesTail closed.log history
 
@@ -53,6 +54,7 @@ pub record LiveBegan (seg : ℕ) (feeds : List Log) (met : List Item) (all : Boo
   pub interleaved : IsInterleaving log feeds
   pub history : List (HistoryItem LogUnit)
   pub read : IsReadHistory unit_words seg log history
+  pub adds_up : AddUp log history
   pub rest : List Item
   pub parts : items_of history ≡ met ++ rest
   pub whole : all ≡ true → (rest ≡ []) × ReachesTail log history

@@ -1,5 +1,5 @@
--- Readers that took units at one number of one log.
-use Rattle.std.proofs.Common.{◌≡◌, ℕ, ◌+◌, ◌/◌, ◌≤◌, List, [], ◌∷◌, length, take, drop, get_or, slice_get, sym, ap, ◌∙◌, subst, ⊎_elim, arith, Some}
+-- What readers took of one log: what two took at one number is the same unit, and what one took and missed adds up.
+use Rattle.std.proofs.Common.{◌≡◌, ℕ, ◌+◌, ◌/◌, ◌<◌, ◌≤◌, List, [], ◌∷◌, length, take, drop, get_or, slice_get, map, sym, ap, ◌∙◌, subst, ⊎_elim, arith, Some}
 use Rattle.std.specs.List.{AllByRecursion}
 use Rattle.std.proofs.lemmas.List.{get_or-take, get_or-drop, reverse-reverse}
 use Rattle.std.proofs.lemmas.Option.{slice_get_within, get_or_from_slice_get, slice_get-get_or}
@@ -9,9 +9,10 @@ use Rattle.ring_layout.specs.declared.history.Run.{Run}
 use Rattle.ring_layout.specs.declared.history.HistoryItem.{HistoryItem}
 use Rattle.ring_layout.specs.declared.history.HistoryItem.TheVariants.{UnitRun, Overrun}
 use Rattle.ring_layout.specs.Places.{tail}
-use Rattle.ring_layout.specs.History.{IsReadBack}
+use Rattle.ring_layout.specs.History.{IsReadBack, AddUp}
 use Rattle.ring_layout.proofs.CopiesLemmas.{some_is}
-use Rattle.log_ring.specs.Readers.{ReaderState}
+use Rattle.ring_layout.proofs.NumberLemmas.{adds_up}
+use Rattle.log_ring.specs.Readers.{ReaderState, history_taken}
 use Rattle.log_ring.specs.Closed.{IsDoneWith, HasTaken, AgreesWith}
 
 run_has : (log : Log) (r : Run LogUnit) (i : ℕ) (u : LogUnit) → r.units ≡ take (length r.units) (drop r.first log) → r.first + length r.units ≤ length log → slice_get r.units i ≡ Some u → slice_get log (r.first + i) ≡ Some u
@@ -40,3 +41,7 @@ module _ (seg : ℕ) (log : Log) where
   pub all_agree : (rs qs : List ReaderState) → AllByRecursion (IsDoneWith seg log) rs → AllByRecursion (IsDoneWith seg log) qs → AllByRecursion (λ (r : ReaderState). AllByRecursion (AgreesWith r) qs) rs
   all_agree [] qs done all = tt
   all_agree (r ∷ rs) qs done all = (agree_one r qs done.0 all, all_agree rs qs done.1 all)
+
+  pub all_add_up : 0 < seg → (rs : List ReaderState) → AllByRecursion (IsDoneWith seg log) rs → AllByRecursion (AddUp log) (map history_taken rs)
+  all_add_up pos [] done = tt
+  all_add_up pos (r ∷ rs) done = (adds_up unit_words seg pos log (history_taken r) done.0.history, all_add_up pos rs done.1)

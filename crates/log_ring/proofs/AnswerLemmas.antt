@@ -1,16 +1,16 @@
 -- What a reader answers after a check.
-use Rattle.std.proofs.Common.{◌≡◌, ℕ, ◌+◌, ◌*◌, ◌/◌, ◌%◌, ◌<◌, ◌≤◌, List, [], ◌∷◌, ◌++◌, length, take, drop, sym, refl, ap, ◌∙◌, subst, ⊎_elim, inl, inr, arith, Option, Some, None, le-leb}
+use Rattle.std.proofs.Common.{◌≡◌, ℕ, ◌+◌, ◌*◌, ◌/◌, ◌%◌, ◌<◌, ◌≤◌, List, [], ◌∷◌, ◌++◌, length, take, drop, sym, refl, ap, ◌∙◌, subst, ⊎_elim, inl, inr, arith, Option, Some, None, le-leb, length-append}
 use Rattle.std.proofs.lemmas.Nat.{mod-mul-add}
-use Rattle.std.proofs.lemmas.List.{take_at}
+use Rattle.std.proofs.lemmas.List.{length-take-le, take_at}
 use Rattle.vsl_record.specs.Words.{unit_words, words_in}
 use Rattle.vsl_record.proofs.WordLemmas.{words_in-take}
 use Rattle.vsl_record.specs.Unit.{LogUnit}
 use Rattle.ring_layout.specs.declared.history.HistoryItem.{HistoryItem}
-use Rattle.ring_layout.specs.declared.history.HistoryItem.TheVariants.{Overrun}
+use Rattle.ring_layout.specs.declared.history.HistoryItem.TheVariants.{UnitRun, Overrun}
 use Rattle.ring_layout.specs.declared.steps.Step.{Step}
 use Rattle.ring_layout.specs.declared.steps.Step.TheVariants.{Took, NotYet, Ended, Lost}
-use Rattle.ring_layout.specs.Places.{end_mark}
-use Rattle.ring_layout.specs.History.{HasRun, with_unit}
+use Rattle.ring_layout.specs.Places.{end_mark, last_tail}
+use Rattle.ring_layout.specs.History.{HasRun, next_number, with_unit}
 use Rattle.log_ring.specs.declared.rule.RingKey.{RingKey}
 use Rattle.log_ring.specs.declared.rule.ReaderView.{ReaderView}
 use Rattle.log_ring.specs.declared.rule.Observation.{Observation}
@@ -79,30 +79,54 @@ pub front_words : (buffer items : List ℕ) (len count : ℕ) → length buffer 
 front_words buffer items len count same room = ap (λ (z : List ℕ). words_in (take (4 * count) z)) (take_at buffer (drop (length buffer) items) len same) ∙ words_in-take count buffer
 
 -- the cursor took the unit that it copied
-pub took_answer : (key : RingKey) (x at : ℕ) (mid : ReaderView) (old new : ReaderState) → Checks (FindsUnit unit_words) key x mid new.reader → at ≡ mid.place / key.seg → x < at + 6 → old.ring.seg ≡ key.seg → mid.items ≡ old.reader.items → mid.lost ≡ None → new.words ≡ unchecked_words mid.unchecked
+pub took_answer : (key : RingKey) (x at : ℕ) (mid : ReaderView) (old new : ReaderState) → Checks (FindsUnit unit_words) key x mid new.reader → at ≡ mid.place / key.seg → x < at + 6 → old.ring.seg ≡ key.seg → mid.items ≡ old.reader.items → mid.lost ≡ None → new.words ≡ unchecked_words mid.unchecked → new.taken ≡ mid.number
     → IsAnswer old Took new
-took_answer key x at mid old new told is near seg items free words_are =
-    let before : ReaderState = record { ring = old.ring; reader = mid; words = old.words } in
+took_answer key x at mid old new told is near seg items free words_are number =
+    let before : ReaderState = record { ring = old.ring; reader = mid; words = old.words; taken = old.taken } in
     let t = near_told (FindsUnit unit_words) key x at before new told is near in
-    let loaded : new.reader.loaded ≡ x = ap (λ (r : ReaderView). r.loaded) t.4 in
+    let loaded : new.reader.loaded ≡ x = ap (λ (r : ReaderView). r.loaded) t.5 in
     let same : mid.place / key.seg ≡ mid.place / old.ring.seg = ap (λ (z : ℕ). mid.place / z) (sym seg) in record {
       reads_on = subst (λ (l : List (HistoryItem LogUnit)). HasRun l) items t.3;
       unit = t.0;
       spells = record { unit = t.1; spelled = words_are ∙ t.2 };
-      items = ap (λ (r : ReaderView). r.items) t.4 ∙ ap (with_unit t.0) items;
-      not_lost = ap (λ (r : ReaderView). r.lost) t.4 ∙ free;
+      items = ap (λ (r : ReaderView). r.items) t.5 ∙ ap (with_unit t.0) items;
+      number = number ∙ (t.4 ∙ ap next_number items);
+      not_lost = ap (λ (r : ReaderView). r.lost) t.5 ∙ free;
       start = mid.place;
-      behind = ap (λ (r : ReaderView). r.place) t.4;
+      behind = ap (λ (r : ReaderView). r.place) t.5;
       near = omega arith;
     }
+
+-- the next number is one more with a unit more
+unit_number : (u : LogUnit) (items : List (HistoryItem LogUnit)) → HasRun items → next_number (with_unit u items) ≡ next_number items + 1
+unit_number u [] h = absurd h
+unit_number u (UnitRun r ∷ is) h = omega (arith, length-append r.units (u ∷ []))
+unit_number u (Overrun a b ∷ is) h = absurd h
+
+-- so the cursor's place and number are those of its reader, once it took a unit of so many words, and are none above the last tail
+pub took_kept : (key : RingKey) (x at place n count : ℕ) (buffer : List ℕ) (mid after : ReaderView) → Checks (FindsUnit unit_words) key x mid after → at ≡ mid.place / key.seg → x < at + 6 → place ≡ mid.place → n ≡ mid.number → unchecked_words mid.unchecked ≡ take count buffer → count ≤ length buffer
+    → (place + count ≡ after.place) × (place + count ≤ last_tail) × (n + 1 ≡ after.number) × (n + 1 ≤ last_tail) × (n + 1 ≡ next_number after.items)
+took_kept key x at place n count buffer mid after told is near place_is number copied room = ⊎_elim
+    (λ (t : (mid.place / key.seg + 6 ≤ x) × (after ≡ overrun_at (mid.place / key.seg) x mid)). let far = t.0 in absurd (omega arith))
+    (λ (t : (x < mid.place / key.seg + 6) × FindsUnit unit_words key x mid after).
+    let found = t.1 in
+    let size : length (unit_words found.0) ≡ count = ap (λ (l : List ℕ). length l) (sym found.2 ∙ copied) ∙ length-take-le count buffer room in
+    let due = found.4 in
+    let more = unit_number found.0 mid.items found.3 in
+    let behind : after.place ≡ mid.place + length (unit_words found.0) = ap (λ (r : ReaderView). r.place) found.5 in
+    let next : after.number ≡ mid.number + 1 = ap (λ (r : ReaderView). r.number) found.5 in
+    let low = found.6 in
+    let few = found.7 in
+    let at_next : n + 1 ≡ next_number (with_unit found.0 mid.items) = omega arith in
+    (omega arith, omega arith, omega arith, omega arith, at_next ∙ ap next_number (sym (ap (λ (r : ReaderView). r.items) found.5)))) told
 
 -- the cursor stands behind the unit that it took
 pub took_place : (key : RingKey) (x at p : ℕ) (mid : ReaderView) (old new : ReaderState) → Checks (FindsUnit unit_words) key x mid new.reader → at ≡ mid.place / key.seg → x < at + 6 → mid.place ≡ p → new.words ≡ unchecked_words mid.unchecked
     → new.reader.place ≡ p + length new.words
 took_place key x at p mid old new told is near place words_are =
-    let t = near_told (FindsUnit unit_words) key x at (record { ring = old.ring; reader = mid; words = old.words }) new told is near in
+    let t = near_told (FindsUnit unit_words) key x at (record { ring = old.ring; reader = mid; words = old.words; taken = old.taken }) new told is near in
     let long : length new.words ≡ length (unit_words t.0) = ap (λ (l : List ℕ). length l) (words_are ∙ t.2) in
-    let end : new.reader.place ≡ mid.place + length (unit_words t.0) = ap (λ (r : ReaderView). r.place) t.4 in omega arith
+    let end : new.reader.place ≡ mid.place + length (unit_words t.0) = ap (λ (r : ReaderView). r.place) t.5 in omega arith
 
 nothing_as : (old mid new : ReaderState) (p : ℕ) → TookNothing p mid new → mid.reader.items ≡ old.reader.items → mid.ring ≡ old.ring → TookNothing p old new
 nothing_as old mid new p a items ring = record { place_is = a.place_is; items = a.items ∙ items; not_lost = a.not_lost; near = subst (λ (r : RingSet). new.reader.loaded < p / r.seg + 6) ring a.near }
@@ -114,6 +138,7 @@ answer_as old mid new Took a items ring = record {
   unit = a.unit;
   spells = a.spells;
   items = a.items ∙ ap (with_unit a.unit) items;
+  number = a.number ∙ ap next_number items;
   not_lost = a.not_lost;
   start = a.start;
   behind = a.behind;
@@ -152,7 +177,7 @@ module _ (key : RingKey) (x : ℕ) (old new : ReaderState) where
   nothing_checked told = checked_so FindsNothing key x old.reader old new told refl refl (λ e. absurd e)
 
   pub unit_checked : (mid : ReaderView) → Checks (FindsUnit unit_words) key x mid new.reader → mid.observed ≡ old.reader.observed → mid.finished_seen ≡ old.reader.finished_seen → HasChecked old new
-  unit_checked mid told observed finished_seen = checked_so (FindsUnit unit_words) key x mid old new told observed finished_seen (λ e. (ap (λ (r : ReaderView). r.observed) e.4, ap (λ (r : ReaderView). r.loaded) e.4, ap (λ (r : ReaderView). r.finished_seen) e.4))
+  unit_checked mid told observed finished_seen = checked_so (FindsUnit unit_words) key x mid old new told observed finished_seen (λ e. (ap (λ (r : ReaderView). r.observed) e.5, ap (λ (r : ReaderView). r.loaded) e.5, ap (λ (r : ReaderView). r.finished_seen) e.5))
 
 -- a cursor that was overrun loads the counter once
 pub lost_observed : (old new : ReaderState) (at seen : ℕ) → new.reader ≡ overrun_at at seen old.reader → HasFound old (Lost at seen) new

@@ -20,13 +20,13 @@ use Rattle.log_ring.specs.declared.rule.Progress.TheVariants.{Free, Storing, Sto
 use Rattle.log_ring.specs.declared.rule.ReaderView.{ReaderView}
 use Rattle.log_ring.specs.declared.rule.View.{View}
 use Rattle.log_ring.specs.Closed.{AreObserved, entries_from, IsDone}
-use Rattle.log_ring.specs.inside.Rule.{KnowsToken, PutAll, IsWithout, AreApart, IsNext, IsOverrunAt, IsReader, IsUnderWay, HoldsOneLog, writers_of, HasNumber, IsSeated}
+use Rattle.log_ring.specs.inside.Rule.{KnowsToken, PutAll, IsWithout, AreApart, IsNext, IsReader, IsUnderWay, HoldsOneLog, writers_of, HasNumber, IsSeated}
 use Rattle.log_ring.specs.inside.Closing.{units_of, entries_in, Settles}
 use Rattle.log_model.proofs.SumLemmas.{rest_zero}
 use Rattle.log_ring.proofs.EntryLemmas.{entries_long}
 use Rattle.log_ring.proofs.SeatLemmas.{all_map, some_at}
 use Rattle.log_ring.proofs.WordLemmas.{ent, word}
-use Rattle.log_ring.proofs.RuleLemmas.{M, St, storing_free, stored_free, looks}
+use Rattle.log_ring.proofs.RuleLemmas.{M, St, storing_free, stored_free, overrun_item, looks}
 
 -- which of these writers has a number
 abbrev place : List WriterView → ℕ → ℕ
@@ -127,10 +127,6 @@ module _ (words : LogUnit → List ℕ) (key : RingKey) where
   next_item : (k : ℕ) (items : List (HistoryItem LogUnit)) → IsNext k items → 0 < length items
   next_item k [] h = absurd h
   next_item k (x ∷ xs) h = omega arith
-
-  overrun_item : (at : ℕ) (items : List (HistoryItem LogUnit)) → IsOverrunAt at items → 0 < length items
-  overrun_item at [] h = absurd h
-  overrun_item at (x ∷ xs) h = omega arith
 
   lost_or : (r : ReaderView) (lost : Option ℕ) → r.lost ≡ lost → (c finished : ℕ) (log : Log) → IsReader words key log c finished r → 0 < length r.items
   lost_or r None e c finished log h = next_item r.number r.items (h.reading e).next

@@ -5,6 +5,7 @@ mod ReaderLemmas
 mod RuleLemmas
 mod TokenLemmas
 mod StoreLemmas
+mod CountLemmas
 mod PublishLemmas
 mod SeatingLemmas
 mod CloseLemmas

@@ -12,17 +12,18 @@ use Rattle.ring_layout.proofs.PushLemmas.{tail_push}
 use Rattle.ring_layout.proofs.EntriesLemmas.{two_ahead}
 use Rattle.ring_layout.proofs.TakenLemmas.{start_above}
 use Rattle.ring_layout.proofs.AgreedLemmas.{Set, announced, published}
+use Rattle.ring_layout.proofs.NumberedLemmas.{numbers_published}
 use Rattle.log_ring.specs.declared.rule.RingKey.{RingKey}
 use Rattle.log_ring.specs.declared.rule.WriterView.{WriterView}
 use Rattle.log_ring.specs.declared.rule.Put.{Put}
 use Rattle.log_ring.specs.declared.rule.Progress.TheVariants.{Free, Storing, Stored}
 use Rattle.log_ring.specs.declared.rule.View.{View}
-use Rattle.log_ring.specs.inside.Rule.{SharedState, KnowsToken, IsToken, PutAll, AreApart, IsReader, HoldsOneLog, finished_of, writers_of, HasNumber, IsSeated}
+use Rattle.log_ring.specs.inside.Rule.{SharedState, KnowsToken, IsToken, IsCount, PutAll, AreApart, IsReader, HoldsOneLog, finished_of, writers_of, HasNumber, IsSeated}
 use Rattle.log_ring.specs.inside.Writing.{going_on, with_stored, with_entry, after_announce, after_publish, after_leave, Makes}
 use Rattle.log_model.proofs.SumLemmas.{sums_lt}
 use Rattle.log_ring.proofs.SeatLemmas.{all_map, all_push, inside_at}
 use Rattle.log_ring.proofs.EntryLemmas.{entry_here, entry_else}
-use Rattle.log_ring.proofs.WordLemmas.{ent, word, beside, word_set, holds_as, stored_as}
+use Rattle.log_ring.proofs.WordLemmas.{ent, num, word, beside, word_set, holds_as, numbers_as, numbering_as, stored_as}
 use Rattle.log_ring.proofs.ReaderLemmas.{reader_higher, reader_longer}
 use Rattle.log_ring.proofs.RuleLemmas.{M, St, storing_free, others_stay, changed, owners_stay, acts}
 use Rattle.log_ring.proofs.TokenLemmas.{are_beside}
@@ -56,6 +57,9 @@ module _ (words : LogUnit → List ℕ) (key : RingKey) where
         finished = get_or-set_other s.words 8 17 x 0 (λ e. omega arith) ∙ a.finished;
         holds = holds_as words key.seg w.log x (ent s.words) (ent (set s.words 8 x)) (word s.words) (word (set s.words 8 x)) same.ents same.words (announced words key.seg (positive key r.segment) w.log w.counter x (ent s.words) (word s.words) (omega arith) a.holds);
         under_way = (h.tail, refl, inr (new, let two = two_ahead key.seg p.tail (length (words p.unit)) (positive key r.segment) fits in omega arith), let low = h.start in omega arith, stored_as words key.seg w.log p.unit p.start p.word p.mark (ent s.words) (ent (set s.words 8 x)) (word s.words) (word (set s.words 8 x)) same.ents same.words h.stored);
+        count = get_or-set_other s.words 8 1 x 0 (λ e. omega arith) ∙ h.count;
+        numbers = λ j l m. same.nums (j % 8) (mod-lt j (omega arith)) ∙ a.numbers j l (omega arith);
+        numbering = numbering_as words key.seg w.log (Storing p) (num s.words) (num (set s.words 8 x)) same.nums (h.units, h.numbered);
         narrow = λ j. subst (λ (y : ℕ). y < 2 ^ 32) (sym (same.words j)) (a.narrow j);
         fit = a.fit;
         units = a.units;
@@ -91,10 +95,10 @@ module _ (words : LogUnit → List ℕ) (key : RingKey) where
 
   -- the word at the old tail: the unit enters the log
   pub publishes : (slots id i x : ℕ) (p : Put) (y : WriterView) (me : M words key) → 0 < key.seg → IsUnit p.unit → me.0.progress ≡ Storing p → me.0.writers ≡ y ∷ [] → me.0.finished ≡ 0
-      → p.counter ≡ end_at key.seg p.tail (length (words p.unit)) / key.seg → p.counter < p.start → p.word ≡ length (words p.unit) → p.mark ≡ 1
-      → 0 < length (words p.unit) → length (words p.unit) ≤ key.seg → end_at key.seg p.tail (length (words p.unit)) ≤ last_tail → i ≡ 24 + p.tail % (8 * key.seg) → x ≡ last_word words key.seg p.tail p.unit → x < 2 ^ 32
+      → p.counter ≡ end_at key.seg p.tail (length (words p.unit)) / key.seg → p.counter < p.start → p.counter < p.numbered → p.word ≡ length (words p.unit) → p.mark ≡ 1 → p.counted ≡ 1
+      → 0 < length (words p.unit) → length (words p.unit) ≤ key.seg → end_at key.seg p.tail (length (words p.unit)) ≤ last_tail → i ≡ 32 + p.tail % (8 * key.seg) → x ≡ last_word words key.seg p.tail p.unit → x < 2 ^ 32
       → Allows (HoldsOneLog words key) slots id me i (λ _. x) (λ _. Makes (λ _. after_publish) (step slots i x 0 none) me x)
-  publishes slots id i x p y me pos unit is one here new all whole marked some_word fits upto at x_is small = acts words key slots id i me (λ _. x) (λ _. after_publish) (λ s r there tiny.
+  publishes slots id i x p y me pos unit is one here new all every whole marked counted some_word fits upto at x_is small = acts words key slots id i me (λ _. x) (λ _. after_publish) (λ s r there tiny.
       let seg : ℕ = key.seg in
       let o = r.seats id me.0 there in
       let w = r.shared in
@@ -136,6 +140,9 @@ module _ (words : LogUnit → List ℕ) (key : RingKey) where
         finished = get_or-set_other ws i 17 x 0 (λ e. omega arith) ∙ a.finished;
         holds = holds_as words seg log' w.counter (ent ws) (ent (set ws i x)) (word (set ws i x)) (word (set ws i x)) same (λ _. refl) holds;
         under_way = (push ∙ ap (λ (z : ℕ). end_at seg z n) (sym t_is), level ∙ ap (λ (z : ℕ). z / seg) (sym push));
+        count = get_or-set_other ws i 1 x 0 (λ e. omega arith) ∙ (let count = h.count in omega (arith, length-append w.log (u ∷ [])));
+        numbers = numbers_as words seg log' w.counter (num ws) (num (set ws i x)) (λ k l. get_or-set_other ws i (18 + k) x 0 (λ e. omega arith)) (numbers_published words seg pos w.log u w.counter p.numbered (num ws) level (omega arith) a.numbers h.numbered);
+        numbering = tt;
         narrow = subst (λ (z : ℕ). (k : ℕ) → word (set ws z x) k < 2 ^ 32) (sym at) (narrow_set words key ws q x small (omega arith) a.narrow);
         fit = fit_push seg w.log u a.fit some_word fits;
         units = all_push IsUnit w.log u a.units unit;
@@ -184,7 +191,8 @@ module _ (words : LogUnit → List ℕ) (key : RingKey) where
       let higher = reader_higher words key w.log w.counter w.counter w.finished (w.finished + 1) (le_refl w.counter) (omega arith) in
       changed words key s r w' (set s.words 17 x') id me.0 (after_leave me.0) at
       (are_beside words key w w' s.words 17 x' (inr refl) refl refl a (subst (λ (z : ℕ). IsToken words key.seg w.log w.progress z) (sym (get_or-set_other s.words 17 0 x' 0 (λ e. omega arith))) a.token)
-      (get_or-set_other s.words 17 8 x' 0 (λ e. omega arith) ∙ a.counter) (get_or-set_same s.words 17 x' 0 (omega arith) ∙ plain) a.under_way)
+      (get_or-set_other s.words 17 8 x' 0 (λ e. omega arith) ∙ a.counter) (get_or-set_same s.words 17 x' 0 (omega arith) ∙ plain) a.under_way
+      (subst (λ (z : ℕ). IsCount words w.log w.progress z) (sym (get_or-set_other s.words 17 1 x' 0 (λ e. omega arith))) a.count) a.numbering)
       r.one_each
       record { ring = o.ring; put = o.put; apart = o.apart; token = o.token; found = o.found; finished = omega arith; idle = λ _. free; readers = all_map (IsReader words key w.log w.counter w.finished) (IsReader words key w.log w.counter (w.finished + 1)) me.0.readers higher o.readers }
       (λ j u ne q. record { ring = q.ring; put = q.put; apart = q.apart; token = q.token; found = q.found; finished = q.finished; idle = q.idle; readers = all_map (IsReader words key w.log w.counter w.finished) (IsReader words key w.log w.counter (w.finished + 1)) u.readers higher q.readers })

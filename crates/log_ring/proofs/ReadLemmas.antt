@@ -13,27 +13,28 @@ use Rattle.ring_layout.specs.declared.history.HistoryItem.TheVariants.{UnitRun, 
 use Rattle.ring_layout.specs.Places.{last_tail, stays, start_at, end_at, tail_from, tail, word_at, segment_start, AreFit, end_mark, wrap_mark}
 use Rattle.ring_layout.specs.Content.{HoldsLog}
 use Rattle.ring_layout.specs.Copied.{IsDueAt, AreCopied}
-use Rattle.ring_layout.specs.History.{HasRun, last_seen, first_number, UnitStarts, MayFollow, IsReadBack, with_unit}
+use Rattle.ring_layout.specs.History.{HasRun, last_seen, next_number, first_number, UnitStarts, MayFollow, IsReadBack, with_unit}
 use Rattle.ring_layout.proofs.EntriesLemmas.{at_stay, at_wrap, start_there}
 use Rattle.ring_layout.proofs.LapLemmas.{in_stretch}
 use Rattle.ring_layout.proofs.TakenLemmas.{get_inside}
 use Rattle.ring_layout.proofs.AgreedLemmas.{tail_above}
 use Rattle.ring_layout.proofs.ReadingLemmas.{wrap_word, start_leads}
 use Rattle.ring_layout.proofs.ItemsLemmas.{run_more, run_begins, below_few, next_place}
+use Rattle.ring_layout.proofs.NumberLemmas.{units_short, number_behind}
 use Rattle.ring_layout.proofs.CopiesLemmas.{some_is, around, there, has_word, unit_word, reads_first, reads_next}
 use Rattle.log_ring.specs.declared.rule.RingKey.{RingKey}
 use Rattle.log_ring.specs.declared.rule.Progress.{Progress}
 use Rattle.log_ring.specs.declared.rule.Progress.TheVariants.{Free, Storing, Stored}
-use Rattle.log_ring.specs.declared.rule.Unchecked.TheVariants.{Words, Start}
-use Rattle.log_ring.specs.declared.rule.Observation.TheVariants.{CounterSeen, FinishedSeen, WordSeen, StartSeen}
+use Rattle.log_ring.specs.declared.rule.Unchecked.TheVariants.{Words, Start, Numbered}
+use Rattle.log_ring.specs.declared.rule.Observation.TheVariants.{CounterSeen, FinishedSeen, WordSeen, StartSeen, NumberSeen}
 use Rattle.log_ring.specs.declared.rule.ReaderView.{ReaderView}
 use Rattle.log_ring.specs.declared.rule.View.{View}
 use Rattle.log_ring.specs.Readers.{new_reader}
 use Rattle.log_ring.specs.Closed.{WasTail, AreObserved, CursorStands}
 use Rattle.log_ring.specs.inside.Rule.{SharedState, IsUnderWay, IsNext, IsOverrunAt, AreWords, IsUnchecked, IsReader, HoldsOneLog}
-use Rattle.log_ring.specs.inside.Reading.{with_finished, unchecked_words, with_head, with_copy, overrun_at, with_end, with_lap, with_taken, with_loaded, with_start_of, with_run, reader_of, Reads, LoadsFinished, LoadsHead, LoadsMore, Checks, FindsEnd, FindsLap, FindsUnit, FindsNothing, ChecksAgain, Looks, LoadsStart, unchecked_start, Seeks, Observes}
-use Rattle.log_ring.proofs.WordLemmas.{ent, word}
-use Rattle.log_ring.proofs.RuleLemmas.{looks}
+use Rattle.log_ring.specs.inside.Reading.{with_finished, unchecked_words, with_head, with_copy, overrun_at, with_end, with_lap, with_taken, with_loaded, with_start_of, with_number_of, with_run, reader_of, Reads, LoadsFinished, LoadsHead, LoadsMore, Checks, FindsEnd, FindsLap, FindsUnit, FindsNothing, ChecksAgain, Looks, LoadsStart, LoadsNumber, unchecked_start, unchecked_number, Seeks, Observes}
+use Rattle.log_ring.proofs.WordLemmas.{ent, num, word}
+use Rattle.log_ring.proofs.RuleLemmas.{overrun_item, looks}
 
 tail_of_some : {U : Type 0} (words : U → List ℕ) (seg : ℕ) → 0 < seg → (t k : ℕ) (us : List U) → tail_from words seg t (take k us) ≤ tail_from words seg t us
 tail_of_some words seg pos t zero us = tail_above words seg pos t us
@@ -146,7 +147,7 @@ module _ (key : RingKey) where
       (λ rest. ⊎_elim (λ (t : IsLap w r (x ∷ [])). absurd (let e = head_is t.0 in omega arith)) (λ (t : IsPart w r (x ∷ [])). absurd (let e = part_head w r (x ∷ []) t in omega arith)) rest) copied
 
   -- the first word at the cursor's place
-  pub loads_head : (slots id i : ℕ) (me : M) (r : ReaderView) → me.0.readers ≡ r ∷ [] → 0 < key.seg → r.lost ≡ None → i ≡ 24 + r.place % (8 * key.seg) → Allows (HoldsOneLog words key) slots id me i (λ x. x) (Reads LoadsHead (step slots i 0 0 none) me)
+  pub loads_head : (slots id i : ℕ) (me : M) (r : ReaderView) → me.0.readers ≡ r ∷ [] → 0 < key.seg → r.lost ≡ None → i ≡ 32 + r.place % (8 * key.seg) → Allows (HoldsOneLog words key) slots id me i (λ x. x) (Reads LoadsHead (step slots i 0 0 none) me)
   loads_head slots id i me r one pos free i_is = reads LoadsHead slots id i me r one (λ s k h.
       let x : ℕ = get_or s.words i 0 in
       let w = k.shared in
@@ -176,7 +177,7 @@ module _ (key : RingKey) where
 
   -- a further word of the unit
   pub loads_more : (slots id i : ℕ) (me : M) (r : ReaderView) (xs : List ℕ) → me.0.readers ≡ r ∷ [] → 0 < key.seg → r.lost ≡ None → r.unchecked ≡ Words xs
-      → 0 < length xs → get_or xs 0 0 ≢ end_mark → get_or xs 0 0 ≢ wrap_mark → header_mark + length xs < get_or xs 0 0 → i ≡ 24 + (r.place + length xs) % (8 * key.seg)
+      → 0 < length xs → get_or xs 0 0 ≢ end_mark → get_or xs 0 0 ≢ wrap_mark → header_mark + length xs < get_or xs 0 0 → i ≡ 32 + (r.place + length xs) % (8 * key.seg)
       → Allows (HoldsOneLog words key) slots id me i (λ x. x) (Reads LoadsMore (step slots i 0 0 none) me)
   loads_more slots id i me r xs one pos free unchecked some_word no_end no_wrap more i_is = reads LoadsMore slots id i me r one (λ s k h.
       let x : ℕ = get_or s.words i 0 in
@@ -258,11 +259,20 @@ module _ (key : RingKey) where
       let upto = tail_of_some words key.seg pos 0 (k + 1) w.log in
       let low = a.low in (omega arith, omega arith)
 
+  -- a log has no more units than words
+  units_low : (w : SharedState) (ws : List ℕ) → 0 < key.seg → AreWords words key.seg w ws → length w.log ≤ last_tail
+  units_low w ws pos a = let short = units_short words key.seg pos 0 w.log a.fit in let low = a.low in omega arith
+
   -- the newest run of a reader, with the unit that is due
   stands_start : (log : Log) (k p : ℕ) (items : List (HistoryItem LogUnit)) → IsNext k items → UnitStarts words key.seg log k p → CursorStands words key.seg log p items
   stands_start log k p [] next t = absurd next
   stands_start log k p (UnitRun q ∷ is) next t = inr (subst (λ (z : ℕ). UnitStarts words key.seg log z p) next t)
   stands_start log k p (Overrun a b ∷ is) next t = absurd next
+
+  next_is : (k : ℕ) (items : List (HistoryItem LogUnit)) → IsNext k items → k ≡ next_number items
+  next_is k [] next = absurd next
+  next_is k (UnitRun q ∷ is) next = next
+  next_is k (Overrun a b ∷ is) next = absurd next
 
   next_has_run : (k : ℕ) (items : List (HistoryItem LogUnit)) → IsNext k items → HasRun items
   next_has_run k [] next = absurd next
@@ -367,7 +377,8 @@ module _ (key : RingKey) where
       let low = starts_low w s.words r.number r.place part.1 pos k.are_words in
       let low0 = low.0 in
       let low1 = low.1 in
-      let inside = get_inside w.log r.number u kth in (
+      let inside = get_inside w.log r.number u kth in
+      let few = units_low w s.words pos k.are_words in (
         with_taken n u x r,
         record {
           history = taken_more w.counter w.log r.number r.items u kth g.next h.history;
@@ -384,7 +395,7 @@ module _ (key : RingKey) where
           finished_seen = h.finished_seen;
           ended = λ e. cc e;
         },
-        (u, kth_of IsUnit w.log r.number u k.are_words.units kth, copied ∙ xs_is, next_has_run r.number r.items g.next, refl, low.1),
+        (u, kth_of IsUnit w.log r.number u k.are_words.units kth, copied ∙ xs_is, next_has_run r.number r.items g.next, next_is r.number r.items g.next, refl, low.1, omega arith),
         refl,
       ))
 
@@ -478,6 +489,33 @@ module _ (key : RingKey) where
         inr (StartSeen n x, (i_is, refl), refl),
       ))
 
+  -- the number of its first unit
+  pub loads_number : (slots id i x0 : ℕ) (me : M) (r : ReaderView) → me.0.readers ≡ r ∷ [] → 0 < key.seg → r.unchecked ≡ Start (r.loaded - 4) x0 → i ≡ 18 + (r.loaded - 4) % 8 → Allows (HoldsOneLog words key) slots id me i (λ z. z) (Reads LoadsNumber (step slots i 0 0 none) me)
+  loads_number slots id i x0 me r one pos unchecked i_is = reads LoadsNumber slots id i me r one (λ s k h.
+      let x : ℕ = get_or s.words i 0 in
+      let w = k.shared in
+      let a = k.are_words in
+      let n : ℕ = r.loaded - 4 in
+      let holds : IsUnchecked words key w.log w.counter r (Start n x0) = subst (IsUnchecked words key w.log w.counter r) unchecked h.unchecked in
+      let start_is : unchecked_start r.unchecked ≡ x0 = ap unchecked_start unchecked in
+      let x_is : x ≡ num s.words (n % 8) = ap (λ (z : ℕ). get_or s.words z 0) i_is in
+      let number_is : w.counter < n + 8 → (n ≤ tail words key.seg w.log / key.seg) × (x ≡ first_number words key.seg w.log n) = λ c. let low = (holds.1 c).0 in (low, x_is ∙ a.numbers n low c) in (
+        with_number_of x r,
+        record {
+          history = h.history;
+          reading = λ e. let g = h.reading e in record { next = g.next; stands = g.stands; due = g.due };
+          overrun = h.overrun;
+          unchecked = (holds.0, λ c. ((holds.1 c).0, (holds.1 c).1 ∙ ap Some (sym start_is), (number_is c).1));
+          seen = h.seen;
+          loaded = h.loaded;
+          finished_seen = h.finished_seen;
+          observed = (number_is, h.observed);
+          ended = h.ended;
+        },
+        refl,
+        inr (NumberSeen n x, (i_is, refl), refl),
+      ))
+
   -- an overrun in the segment that is sought may follow the one before
   sought_follows : (log : Log) (at n : ℕ) (items : List (HistoryItem LogUnit)) → IsOverrunAt at items → last_seen items ≤ n + 4 → MayFollow words key.seg log n items
   sought_follows log at n [] o l = absurd o
@@ -485,11 +523,13 @@ module _ (key : RingKey) where
   sought_follows log at n (Overrun a b ∷ is) o l = inr l
 
   -- a run that begins there may follow it
-  sought_run : (most : ℕ) (log : Log) (at n : ℕ) (items : List (HistoryItem LogUnit)) → IsOverrunAt at items → last_seen items ≤ n + 4 → n ≤ tail words key.seg log / key.seg → IsReadBack words key.seg most log items
-      → IsReadBack words key.seg most log (UnitRun (record { segment = n; first = first_number words key.seg log n; units = [] }) ∷ items)
-  sought_run most log at n [] o l low h = absurd o
-  sought_run most log at n (UnitRun q ∷ is) o l low h = absurd o
-  sought_run most log at n (Overrun a b ∷ is) o l low h = run_begins words key.seg most log a b n is l low h
+  sought_run : 0 < key.seg → (most : ℕ) (log : Log) (at n : ℕ) (items : List (HistoryItem LogUnit)) → AreFit words key.seg log → IsOverrunAt at items → last_seen items ≤ n + 4 → n + 4 ≤ most → n ≤ tail words key.seg log / key.seg → IsReadBack words key.seg most log items
+      → (next_number items ≤ first_number words key.seg log n) × IsReadBack words key.seg most log (UnitRun (record { segment = n; first = first_number words key.seg log n; missed = first_number words key.seg log n - next_number items; units = [] }) ∷ items)
+  sought_run pos most log at n [] fit o l up low h = absurd o
+  sought_run pos most log at n (UnitRun q ∷ is) fit o l up low h = absurd o
+  sought_run pos most log at n (Overrun a b ∷ is) fit o l up low h =
+      let behind = number_behind words key.seg pos most log a b n is fit h l in
+      (behind, run_begins words key.seg most log a b n (first_number words key.seg log n - next_number is) is l up low (omega arith) h)
 
   -- a place at which a unit is due is none above the last
   due_low : (w : SharedState) (ws : List ℕ) (k p : ℕ) → 0 < key.seg → AreWords words key.seg w ws → IsDueAt words key.seg w.log k p → p ≤ last_tail
@@ -498,14 +538,14 @@ module _ (key : RingKey) where
       (λ (t : UnitStarts words key.seg w.log k p). let low = (starts_low w ws k p t pos a).1 in omega arith) due.1
 
   -- the check of a cursor that seeks
-  pub seeks : (slots id at x0 : ℕ) (me : M) (r : ReaderView) → me.0.readers ≡ r ∷ [] → 0 < key.seg → r.lost ≡ Some at → r.unchecked ≡ Start (r.loaded - 4) x0 → Allows (HoldsOneLog words key) slots id me 8 (λ z. z) (Reads Seeks (step slots 8 0 0 none) me)
-  seeks slots id at x0 me r one pos lost unchecked = reads Seeks slots id 8 me r one (λ s k h.
+  pub seeks : (slots id at x0 n0 : ℕ) (me : M) (r : ReaderView) → me.0.readers ≡ r ∷ [] → 0 < key.seg → r.lost ≡ Some at → r.unchecked ≡ Numbered (r.loaded - 4) x0 n0 → Allows (HoldsOneLog words key) slots id me 8 (λ z. z) (Reads Seeks (step slots 8 0 0 none) me)
+  seeks slots id at x0 n0 me r one pos lost unchecked = reads Seeks slots id 8 me r one (λ s k h.
       let x : ℕ = get_or s.words 8 0 in
       let w = k.shared in
       let a = k.are_words in
       let x_is : x ≡ w.counter = a.counter in
       let n : ℕ = r.loaded - 4 in
-      let holds : IsUnchecked words key w.log w.counter r (Start n x0) = subst (IsUnchecked words key w.log w.counter r) unchecked h.unchecked in
+      let holds : IsUnchecked words key w.log w.counter r (Numbered n x0 n0) = subst (IsUnchecked words key w.log w.counter r) unchecked h.unchecked in
       let four_behind = holds.0 in
       let seen = h.seen in
       let loaded = h.loaded in
@@ -519,10 +559,14 @@ module _ (key : RingKey) where
       let few = below_few words key.seg 0 w.log (n * key.seg) in
       let due : IsDueAt words key.seg w.log number x0 = (few, start_leads words key.seg pos w.log n x0 a.fit there.1) in
       let place_is : unchecked_start r.unchecked ≡ x0 = ap unchecked_start unchecked in
-      let low = due_low w s.words number x0 pos a due in (
-        with_run n (unchecked_start r.unchecked) number x r,
-        subst (λ (p : ℕ). IsIn w (with_run n p number x r)) (sym place_is) record {
-          history = sought_run w.counter w.log at n r.items o near there.0 h.history;
+      let number_is : unchecked_number r.unchecked ≡ number = ap unchecked_number unchecked ∙ there.2 in
+      let low = due_low w s.words number x0 pos a due in
+      let units = units_low w s.words pos a in
+      let far = again_far w at r.items o h.history in
+      let run = sought_run pos w.counter w.log at n r.items a.fit o near (omega arith) there.0 h.history in (
+        with_run n (unchecked_start r.unchecked) (unchecked_number r.unchecked) x r,
+        subst (λ (z : ℕ × ℕ). IsIn w (with_run n z.0 z.1 x r)) (λ i. (sym place_is i, sym number_is i)) record {
+          history = run.1;
           reading = λ _. record { next = omega arith; stands = inl ((λ _. there.1), λ z. absurd (omega arith)); due = due };
           overrun = λ z e. absurd (none_some e);
           unchecked = tt;
@@ -532,6 +576,6 @@ module _ (key : RingKey) where
           finished_seen = h.finished_seen;
           ended = λ e. cc e;
         },
-        inr (omega arith, (number, refl), subst (λ (p : ℕ). p ≤ last_tail) (sym place_is) low),
+        inr (omega arith, overrun_item at r.items o, subst (λ (z : ℕ). next_number r.items ≤ z) (sym number_is) run.0, refl, subst (λ (p : ℕ). p ≤ last_tail) (sym place_is) low, omega arith),
         inr (CounterSeen x, (refl, refl), refl),
       )))

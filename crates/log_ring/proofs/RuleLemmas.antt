@@ -7,6 +7,7 @@ use lib.Seq.{set-get_or}
 use Rattle.atomic_table.specs.Table.{State, Me, keeps, stepped, Allows}
 use Rattle.log_model.specs.Interleaving.{given_to}
 use Rattle.vsl_record.specs.Unit.{LogUnit, Log}
+use Rattle.ring_layout.specs.declared.history.HistoryItem.{HistoryItem}
 use Rattle.ring_layout.specs.Places.{tail}
 use Rattle.log_ring.specs.declared.rule.RingKey.{RingKey}
 use Rattle.log_ring.specs.declared.rule.WriterView.{WriterView}
@@ -16,7 +17,7 @@ use Rattle.log_ring.specs.declared.rule.Progress.TheVariants.{Free, Storing, Sto
 use Rattle.log_ring.specs.declared.rule.ReaderView.{ReaderView}
 use Rattle.log_ring.specs.declared.rule.View.{View}
 use Rattle.log_ring.specs.Closed.{entries_from}
-use Rattle.log_ring.specs.inside.Rule.{SharedState, writers_of, finished_of, HasNumber, IsSeated, KnowsToken, PutAll, AreWords, IsReader, IsSeat, HoldsOneLog}
+use Rattle.log_ring.specs.inside.Rule.{SharedState, writers_of, finished_of, HasNumber, IsSeated, KnowsToken, PutAll, IsOverrunAt, AreWords, IsReader, IsSeat, HoldsOneLog}
 use Rattle.log_model.proofs.SumLemmas.{sum_set}
 use Rattle.log_ring.proofs.SeatLemmas.{all_map, seats_stay, seated_on}
 
@@ -25,6 +26,11 @@ storing_free z = cc z
 
 pub stored_free : {p : Put} → Stored p ≡ Free → ⊥
 stored_free z = cc z
+
+-- who was overrun took an item
+pub overrun_item : (at : ℕ) (items : List (HistoryItem LogUnit)) → IsOverrunAt at items → 0 < length items
+overrun_item at [] h = absurd h
+overrun_item at (x ∷ xs) h = omega arith
 
 -- Another seat doesn't have the write token, where the seat id has it before and after, if one has
 token_stays : (held held' : Progress) (holder holder' id j : ℕ) → (held ≢ Free → holder ≡ id) → (held' ≢ Free → holder' ≡ id) → j ≢ id → (h : Progress) → KnowsToken held holder j h → KnowsToken held' holder' j h

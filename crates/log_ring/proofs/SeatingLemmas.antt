@@ -12,6 +12,7 @@ use Rattle.atomic_table.proofs.Lists.{set_here, set_else, at_longer}
 use Rattle.vsl_record.specs.Unit.{LogUnit, Log}
 use Rattle.ring_layout.specs.Places.{IsSegment, end_mark}
 use Rattle.ring_layout.proofs.StartLemmas.{first_start, empty_holds}
+use Rattle.ring_layout.proofs.NumberedLemmas.{empty_numbers}
 use Rattle.log_ring.specs.declared.rule.RingKey.{RingKey}
 use Rattle.log_ring.specs.declared.rule.WriterView.{WriterView}
 use Rattle.log_ring.specs.declared.rule.Progress.TheVariants.{Free}
@@ -83,7 +84,7 @@ module _ (words : LogUnit → List ℕ) where
   module _ (key : RingKey) where
     new_is_reader : 0 < key.seg → IsReader words key [] 0 0 new_reader
     new_is_reader pos = record {
-      history = (record { units = refl; inside = omega arith; segment = omega arith }, (refl, refl), tt);
+      history = (record { units = refl; inside = omega arith; segment = omega arith }, (refl, refl, refl), tt);
       reading = λ _. record { next = omega arith; stands = inl ((λ _. first_start words key.seg pos), λ z. absurd (omega arith)); due = (omega arith, inl refl) };
       overrun = λ at e. cc e;
       unchecked = tt;
@@ -118,7 +119,7 @@ module _ (words : LogUnit → List ℕ) where
     first_only pos (suc j) v e = absurd (some-ne-none v (sym e))
 
     -- words of zeros, but the write token and the end mark, hold no unit
-    pub opens : (ws : List ℕ) → IsSegment key.seg → key.writers ≤ most_writers → length ws ≡ 24 + 8 * key.seg → get_or ws 0 0 ≡ 1 → get_or ws 24 0 ≡ end_mark → ((i : ℕ) → i ≢ 0 → i ≢ 24 → get_or ws i 0 ≡ 0)
+    pub opens : (ws : List ℕ) → IsSegment key.seg → key.writers ≤ most_writers → length ws ≡ 32 + 8 * key.seg → get_or ws 0 0 ≡ 1 → get_or ws 32 0 ≡ end_mark → ((i : ℕ) → i ≢ 0 → i ≢ 32 → get_or ws i 0 ≡ 0)
         → HoldsOneLog words key (opening ws [] (first_view key))
     opens ws shape few wide token mark zeros =
         let pos : 0 < key.seg = (let l = shape.0 in omega arith) in record {
@@ -130,9 +131,12 @@ module _ (words : LogUnit → List ℕ) where
             token = token;
             counter = zeros 8 (λ e. omega arith) (λ e. omega arith);
             finished = zeros 17 (λ e. omega arith) (λ e. omega arith);
-            holds = empty_holds words key.seg pos (λ i. get_or ws (9 + i) 0) (λ i. get_or ws (24 + i) 0) (zeros 9 (λ e. omega arith) (λ e. omega arith)) mark;
+            holds = empty_holds words key.seg pos (λ i. get_or ws (9 + i) 0) (λ i. get_or ws (32 + i) 0) (zeros 9 (λ e. omega arith) (λ e. omega arith)) mark;
             under_way = let z = div_zero key.seg pos in sym z;
-            narrow = λ i. dite (ℕ_discrete (24 + i) 24) (λ e. subst (λ (y : ℕ). y < 2 ^ 32) (sym (ap (λ (z : ℕ). get_or ws z 0) e ∙ mark)) (omega arith)) (λ ne. subst (λ (y : ℕ). y < 2 ^ 32) (sym (zeros (24 + i) (λ e. omega arith) ne)) (omega arith));
+            count = zeros 1 (λ e. omega arith) (λ e. omega arith);
+            numbers = empty_numbers words key.seg pos (λ i. get_or ws (18 + i) 0) (zeros 18 (λ e. omega arith) (λ e. omega arith)) (div_zero key.seg pos);
+            numbering = tt;
+            narrow = λ i. dite (ℕ_discrete (32 + i) 32) (λ e. subst (λ (y : ℕ). y < 2 ^ 32) (sym (ap (λ (z : ℕ). get_or ws z 0) e ∙ mark)) (omega arith)) (λ ne. subst (λ (y : ℕ). y < 2 ^ 32) (sym (zeros (32 + i) (λ e. omega arith) ne)) (omega arith));
             fit = tt;
             units = tt;
             low = omega arith;
@@ -146,7 +150,7 @@ module _ (words : LogUnit → List ℕ) where
         }
 
     are_as : (w : SharedState) (f : ℕ → ℕ) (ws : List ℕ) → AreWords words key.seg w ws → AreWords words key.seg (record w { seat = f }) ws
-    are_as w f ws a = record { wide = a.wide; token = a.token; counter = a.counter; finished = a.finished; holds = a.holds; under_way = a.under_way; narrow = a.narrow; fit = a.fit; units = a.units; low = a.low }
+    are_as w f ws a = record { wide = a.wide; token = a.token; counter = a.counter; finished = a.finished; holds = a.holds; under_way = a.under_way; count = a.count; numbers = a.numbers; numbering = a.numbering; narrow = a.narrow; fit = a.fit; units = a.units; low = a.low }
 
     -- the first writer goes to a new seat
     pub splits : (id : ℕ) (v : View) (x : WriterView) (xs : List WriterView) → v.writers ≡ x ∷ xs → v.progress ≡ Free → v.finished ≡ 0 → Splits (HoldsOneLog words key) id v (without_writer v) (one_writer v)

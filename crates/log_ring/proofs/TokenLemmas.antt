@@ -1,5 +1,5 @@
 -- A writer takes the write token, and releases it.
-use Rattle.std.proofs.Common.{◌≡◌, ◌≢◌, ◌⊎◌, ℕ, suc, ◌+◌, ◌-◌, ◌/◌, ◌^◌, ◌<◌, ◌≤◌, Bool, cond, max, List, [], ◌∷◌, length, get_or, set, sym, refl, ap, ◌∙◌, subst, inl, arith, le_refl, eq-eqb, ne_eqb, length-set, get_or-set_same, get_or-set_other}
+use Rattle.std.proofs.Common.{◌≡◌, ◌≢◌, ◌⊎◌, ℕ, suc, ◌+◌, ◌-◌, ◌/◌, ◌^◌, ◌<◌, ◌≤◌, Bool, cond, max, List, [], ◌∷◌, length, get_or, set, sym, refl, ap, ◌∙◌, subst, inl, arith, le_refl, eq-eqb, ne_eqb, Some, None, length-set, get_or-set_same, get_or-set_other}
 use mathlib.Core.Logic.{dite}
 use mathlib.Core.Option.{none, some}
 use lib.ListN.{get_elem?}
@@ -10,10 +10,10 @@ use Rattle.atomic_table.specs.Table.{State, step, keeps, stepped, Allows}
 use Rattle.std.specs.List.{AllByRecursion}
 use Rattle.vsl_record.specs.Unit.{LogUnit, Log}
 use Rattle.vsl_record.specs.Words.{IsUnit}
-use Rattle.ring_layout.specs.Places.{last_tail, end_at, tail_from, tail, AreFit}
-use Rattle.ring_layout.specs.Content.{HoldsLog}
+use Rattle.ring_layout.specs.Places.{last_tail, end_at, tail, AreFit}
+use Rattle.ring_layout.specs.Content.{HoldsLog, HoldsNumbers}
 use Rattle.log_ring.specs.declared.rule.RingKey.{RingKey}
-use Rattle.ring_layout.proofs.TakenLemmas.{start_above}
+use Rattle.ring_layout.proofs.NumberLemmas.{units_short}
 use Rattle.log_model.specs.Interleaving.{given_to}
 use Rattle.log_ring.specs.declared.rule.WriterView.{WriterView}
 use Rattle.log_ring.specs.declared.rule.Put.{Put}
@@ -21,12 +21,15 @@ use Rattle.log_ring.specs.declared.rule.Progress.{Progress}
 use Rattle.log_ring.specs.declared.rule.Progress.TheVariants.{Free, Storing, Stored}
 use Rattle.log_ring.specs.declared.rule.View.{View}
 use Rattle.log_ring.specs.Closed.{entries_from}
-use Rattle.log_ring.specs.inside.Rule.{SharedState, KnowsToken, IsToken, IsUnderWay, AreWords, HoldsOneLog, PutAll, writers_of}
+use Rattle.log_ring.specs.inside.Rule.{SharedState, KnowsToken, IsToken, IsCount, IsUnderWay, IsNumbering, AreWords, HoldsOneLog, PutAll, writers_of}
 use Rattle.log_ring.specs.inside.Writing.{begun, after_acquire, after_release, Makes, Acquires, first_entries, no_view}
 use Rattle.log_ring.proofs.SeatLemmas.{inside_at, some_at}
 use Rattle.log_ring.proofs.EntryLemmas.{entries_long}
-use Rattle.log_ring.proofs.WordLemmas.{ent, word, beside, holds_as, under_way_as}
+use Rattle.log_ring.proofs.WordLemmas.{ent, num, word, beside, holds_as, numbers_as, numbering_as, under_way_as}
 use Rattle.log_ring.proofs.RuleLemmas.{M, others_stay, changed, owners_stay, looks, acts}
+
+none_some : {x : ℕ} → None ≡ Some x → ⊥
+none_some e = cc e
 
 module _ (words : LogUnit → List ℕ) (key : RingKey) where
   -- a write token that isn't 0 is free
@@ -39,14 +42,18 @@ module _ (words : LogUnit → List ℕ) (key : RingKey) where
   pub are_beside : (w w' : SharedState) (ws : List ℕ) (i x : ℕ) → (i < 9) ⊎ (i ≡ 17) → w'.log ≡ w.log → w'.counter ≡ w.counter → AreWords words key.seg w ws
       → IsToken words key.seg w'.log w'.progress (get_or (set ws i x) 0 0) → get_or (set ws i x) 8 0 ≡ w'.counter → get_or (set ws i x) 17 0 ≡ w'.finished
       → IsUnderWay words key.seg w'.log w'.counter w'.progress (ent ws) (word ws)
+      → IsCount words w'.log w'.progress (get_or (set ws i x) 1 0) → IsNumbering words key.seg w'.log w'.progress (num ws)
       → AreWords words key.seg w' (set ws i x)
-  are_beside w w' ws i x there logs counters a token counter finished way = let same = beside ws i x there in record {
+  are_beside w w' ws i x there logs counters a token counter finished way count numbering = let same = beside ws i x there in record {
     wide = length-set ws i x ∙ a.wide;
     token = token;
     counter = counter;
     finished = finished;
     holds = subst (λ (z : Log × ℕ). HoldsLog words key.seg z.0 z.1 (ent (set ws i x)) (word (set ws i x))) (λ j. (sym logs j, sym counters j)) (holds_as words key.seg w.log w.counter (ent ws) (ent (set ws i x)) (word ws) (word (set ws i x)) same.ents same.words a.holds);
     under_way = under_way_as words key.seg w'.log w'.counter w'.progress (ent ws) (ent (set ws i x)) (word ws) (word (set ws i x)) same.ents same.words way;
+    count = count;
+    numbers = subst (λ (z : Log × ℕ). HoldsNumbers words key.seg z.0 z.1 (num (set ws i x))) (λ j. (sym logs j, sym counters j)) (numbers_as words key.seg w.log w.counter (num ws) (num (set ws i x)) same.nums a.numbers);
+    numbering = numbering_as words key.seg w'.log w'.progress (num ws) (num (set ws i x)) same.nums numbering;
     narrow = λ j. subst (λ (y : ℕ). y < 2 ^ 32) (sym (same.words j)) (a.narrow j);
     fit = subst (λ (l : Log). AreFit words key.seg l) (sym logs) a.fit;
     units = subst (λ (l : Log). AllByRecursion IsUnit l) (sym logs) a.units;
@@ -56,6 +63,10 @@ module _ (words : LogUnit → List ℕ) (key : RingKey) where
   -- a put that begins has stored nothing
   nothing_stored : (log : Log) (c : ℕ) (u : LogUnit) (ws : List ℕ) → c ≡ tail words key.seg log / key.seg → IsUnderWay words key.seg log c (Storing (begun words key.seg (tail words key.seg log) u)) (ent ws) (word ws)
   nothing_stored log c u ws at = (refl, sym at, inl at, omega arith, record { segment_starts = λ s p l b. absurd (omega arith); stored = λ j l b. absurd (omega arith); marked = λ z. absurd (omega arith) })
+
+  -- and loaded and numbered nothing
+  nothing_numbered : (log : Log) (u : LogUnit) (ws : List ℕ) → IsNumbering words key.seg log (Storing (begun words key.seg (tail words key.seg log) u)) (num ws)
+  nothing_numbered log u ws = (λ n e. absurd (none_some e), λ s l b m. absurd (omega arith))
 
   pub acquires : (slots id : ℕ) (u : LogUnit) (me : M words key) → me.0.progress ≡ Free → me.0.finished < length me.0.writers
       → Allows (HoldsOneLog words key) slots id me 0 (λ _. 0) (Makes (after_acquire words u) (step slots 0 0 0 none) me)
@@ -74,6 +85,7 @@ module _ (words : LogUnit → List ℕ) (key : RingKey) where
       (λ got. subst (λ (b : Bool). HoldsOneLog words key (stepped s 0 0 id me.1 (cond b busy took) keeps)) (sym (ne_eqb x 0 got))
       (let none_yet : w.progress ≡ Free = free_progress w.log w.progress x a.token got in
       let found : x ≡ tail words key.seg w.log + 1 = subst (λ (z : Progress). IsToken words key.seg w.log z x) none_yet a.token in
+      let count : get_or s.words 1 0 ≡ length w.log = subst (λ (z : Progress). IsCount words w.log z (get_or s.words 1 0)) none_yet a.count in
       let level : w.counter ≡ tail words key.seg w.log / key.seg = subst (λ (z : Progress). IsUnderWay words key.seg w.log w.counter z (ent s.words) (word s.words)) none_yet a.under_way in
       let ring : me.0.ring ≡ key = o.ring (omega arith) in
       let t_is : x - 1 ≡ tail words key.seg w.log = omega arith in
@@ -83,7 +95,9 @@ module _ (words : LogUnit → List ℕ) (key : RingKey) where
       let top = o.found in
       changed words key s r w' (set s.words 0 0) id me.0 took at
       (are_beside w w' s.words 0 0 (inl (omega arith)) refl refl a (get_or-set_same s.words 0 0 0 (omega arith)) (get_or-set_other s.words 0 8 0 0 (λ e. omega arith) ∙ a.counter) (get_or-set_other s.words 0 17 0 0 (λ e. omega arith) ∙ a.finished)
-      (subst (λ (z : Progress). IsUnderWay words key.seg w.log w.counter z (ent s.words) (word s.words)) (sym h_is) (nothing_stored w.log w.counter u s.words level)))
+      (subst (λ (z : Progress). IsUnderWay words key.seg w.log w.counter z (ent s.words) (word s.words)) (sym h_is) (nothing_stored w.log w.counter u s.words level))
+      (let kept = get_or-set_other s.words 0 1 0 0 (λ e. omega arith) in omega arith)
+      (subst (λ (z : Progress). IsNumbering words key.seg w.log z (num s.words)) (sym h_is) (nothing_numbered w.log u s.words)))
       r.one_each
       record { ring = o.ring; put = o.put; apart = o.apart; token = (refl, refl); found = omega arith; finished = o.finished; idle = λ e. absurd (omega arith); readers = o.readers }
       (others_stay words key w w' id refl record { readers = λ _ q. q; tail = le_refl (tail words key.seg w.log); given = λ k _. refl; before = λ p. absurd (p none_yet); after = λ _. refl })
@@ -92,7 +106,7 @@ module _ (words : LogUnit → List ℕ) (key : RingKey) where
       refl refl)))
 
   -- the write token is given back, with the tail t
-  returns : (slots id x : ℕ) (me : M words key) → ((w : SharedState) (ws : List ℕ) → AreWords words key.seg w ws → KnowsToken w.progress w.holder id me.0.progress → (w.holder ≡ id) × (x ≡ tail words key.seg w.log + 1) × (w.counter ≡ tail words key.seg w.log / key.seg))
+  returns : (slots id x : ℕ) (me : M words key) → ((w : SharedState) (ws : List ℕ) → AreWords words key.seg w ws → KnowsToken w.progress w.holder id me.0.progress → (w.holder ≡ id) × (x ≡ tail words key.seg w.log + 1) × (w.counter ≡ tail words key.seg w.log / key.seg) × (get_or ws 1 0 ≡ length w.log))
       → Allows (HoldsOneLog words key) slots id me 0 (λ _. x) (λ _. Makes (λ _. after_release) (step slots 0 x 0 none) me x)
   returns slots id x me told = acts words key slots id 0 me (λ _. x) (λ _. after_release) (λ s r at small.
       let o = r.seats id me.0 at in
@@ -102,7 +116,7 @@ module _ (words : LogUnit → List ℕ) (key : RingKey) where
       let w' : SharedState = record w { progress = Free } in
       let wide = a.wide in
       changed words key s r w' (set s.words 0 x) id me.0 (after_release me.0) at
-      (are_beside w w' s.words 0 x (inl (omega arith)) refl refl a (get_or-set_same s.words 0 x 0 (omega arith) ∙ mine.1) (get_or-set_other s.words 0 8 x 0 (λ e. omega arith) ∙ a.counter) (get_or-set_other s.words 0 17 x 0 (λ e. omega arith) ∙ a.finished) mine.2)
+      (are_beside w w' s.words 0 x (inl (omega arith)) refl refl a (get_or-set_same s.words 0 x 0 (omega arith) ∙ mine.1) (get_or-set_other s.words 0 8 x 0 (λ e. omega arith) ∙ a.counter) (get_or-set_other s.words 0 17 x 0 (λ e. omega arith) ∙ a.finished) mine.2 (get_or-set_other s.words 0 1 x 0 (λ e. omega arith) ∙ mine.3) tt)
       r.one_each
       record { ring = o.ring; put = o.put; apart = o.apart; token = λ p e. p refl; found = o.found; finished = o.finished; idle = λ _. refl; readers = o.readers }
       (others_stay words key w w' id refl record { readers = λ _ q. q; tail = le_refl (tail words key.seg w.log); given = λ k _. refl; before = λ _. mine.0; after = λ p. absurd (p refl) })
@@ -116,15 +130,16 @@ module _ (words : LogUnit → List ℕ) (key : RingKey) where
   releases slots id x p me is at = returns slots id x me (λ w ws a token.
       let h : KnowsToken w.progress w.holder id (Stored p) = subst (KnowsToken w.progress w.holder id) is token in
       let way = subst (λ (z : Progress). IsUnderWay words key.seg w.log w.counter z (ent ws) (word ws)) (sym h.0) a.under_way in
-      (sym h.1, at ∙ ap (λ (z : ℕ). z + 1) (sym way.0), way.1))
+      (sym h.1, at ∙ ap (λ (z : ℕ). z + 1) (sym way.0), way.1, subst (λ (z : Progress). IsCount words w.log z (get_or ws 1 0)) (sym h.0) a.count))
 
   -- where the unit has no place
-  pub withdraws : (slots id x : ℕ) (p : Put) (me : M words key) → me.0.progress ≡ Storing p → p.counter ≡ p.tail / key.seg → x ≡ p.tail + 1
+  pub withdraws : (slots id x : ℕ) (p : Put) (me : M words key) → me.0.progress ≡ Storing p → p.counter ≡ p.tail / key.seg → p.counted ≡ 0 → x ≡ p.tail + 1
       → Allows (HoldsOneLog words key) slots id me 0 (λ _. x) (λ _. Makes (λ _. after_release) (step slots 0 x 0 none) me x)
-  withdraws slots id x p me is level at = returns slots id x me (λ w ws a token.
+  withdraws slots id x p me is level uncounted at = returns slots id x me (λ w ws a token.
       let h : KnowsToken w.progress w.holder id (Storing p) = subst (KnowsToken w.progress w.holder id) is token in
       let way = subst (λ (z : Progress). IsUnderWay words key.seg w.log w.counter z (ent ws) (word ws)) (sym h.0) a.under_way in
-      (sym h.1, at ∙ ap (λ (z : ℕ). z + 1) way.0, sym way.1 ∙ (level ∙ ap (λ (z : ℕ). z / key.seg) way.0)))
+      let count : get_or ws 1 0 ≡ length w.log + p.counted = subst (λ (z : Progress). IsCount words w.log z (get_or ws 1 0)) (sym h.0) a.count in
+      (sym h.1, at ∙ ap (λ (z : ℕ). z + 1) way.0, sym way.1 ∙ (level ∙ ap (λ (z : ℕ). z / key.seg) way.0), omega arith))
 
   -- no writer has more entries than the log has units, and the tail is no smaller
   given_short : {A : Type 0} (k : ℕ) (owners : List ℕ) (xs : List A) → length (given_to k owners xs) ≤ length xs
@@ -134,17 +149,13 @@ module _ (words : LogUnit → List ℕ) (key : RingKey) where
       (λ e. subst (λ (b : Bool). length (cond b (x ∷ given_to k os xs) (given_to k os xs)) ≤ suc (length xs)) (sym (eq-eqb o k e)) (omega arith))
       (λ n. subst (λ (b : Bool). length (cond b (x ∷ given_to k os xs) (given_to k os xs)) ≤ suc (length xs)) (sym (ne_eqb o k n)) (omega arith))
 
-  log_short : 0 < key.seg → (t : ℕ) (log : Log) → AreFit words key.seg log → t + length log ≤ tail_from words key.seg t log
-  log_short pos t [] fit = omega arith
-  log_short pos t (u ∷ us) fit = let above = start_above key.seg t (length (words u)) pos in let some = fit.0.0 in let rest = log_short pos (end_at key.seg t (length (words u))) us fit.1 in omega arith
-
   entries_short : (log : Log) (owners : List ℕ) (seat : ℕ → ℕ) (id : ℕ) (xs : List WriterView) → 0 < key.seg → AreFit words key.seg log → PutAll words key.seg log owners seat id xs → length (first_entries xs) ≤ tail words key.seg log
   entries_short log owners seat id [] pos fit h = omega arith
   entries_short log owners seat id (x ∷ xs) pos fit h =
       let same = ap (λ (l : List (ℕ × LogUnit)). length l) h.0.1 in
       let a = given_short x.number owners (entries_from words key.seg 0 log) in
       let b = entries_long words key.seg 0 log in
-      let c = log_short pos 0 log fit in omega arith
+      let c = units_short words key.seg pos 0 log fit in omega arith
 
   -- where a seat doesn't have the write token and another does, there are two writers
   more_writers : (s : State ℕ View) (r : HoldsOneLog words key s) (id : ℕ) (v : View) → get_elem? s.views id ≡ some v → v.progress ≡ Free → v.finished < length v.writers → r.shared.progress ≢ Free → 1 < key.writers

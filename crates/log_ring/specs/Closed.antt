@@ -5,9 +5,9 @@ use Rattle.vsl_record.specs.Words.{unit_words}
 use Rattle.ring_layout.specs.declared.history.HistoryItem.TheVariants.{UnitRun, Overrun}
 use Rattle.log_ring.specs.declared.rule.ReaderView.{ReaderView}
 use Rattle.log_ring.specs.declared.rule.Observation.{Observation}
-use Rattle.log_ring.specs.declared.rule.Observation.TheVariants.{CounterSeen, FinishedSeen, WordSeen, StartSeen}
+use Rattle.log_ring.specs.declared.rule.Observation.TheVariants.{CounterSeen, FinishedSeen, WordSeen, StartSeen, NumberSeen}
 use Rattle.ring_layout.specs.Places.{end_mark, end_at, tail, segment_start}
-use Rattle.ring_layout.specs.History.{RunStands, UnitStarts, IsReadHistory, ReachesTail}
+use Rattle.ring_layout.specs.History.{first_number, RunStands, UnitStarts, IsReadHistory, ReachesTail}
 use Rattle.ring_layout.specs.declared.history.HistoryItem.{HistoryItem}
 use Rattle.log_ring.specs.Writers.{WriterState}
 use Rattle.log_ring.specs.Readers.{ReaderState, history_of}
@@ -39,13 +39,14 @@ module _ (words : LogUnit → List ℕ) (seg : ℕ) (log : Log) where
   WasTail p = (k : ℕ) × (k ≤ length log) × (p ≡ tail words seg (take k log))
 
   -- what a reader's observations, the newest first, say of the log, where no counter above c had been announced when the newest was made. An end mark was found at what
-  -- was then the tail, and what was found as a segment's start is the start, unless the counter came eight segments ahead
+  -- was then the tail, and what was found as a segment's start, or as its first unit's number, is that, unless the counter came eight segments ahead
   abbrev pub AreObserved : ℕ → List Observation → Type 0
   AreObserved c [] = Unit {0}
   AreObserved c (CounterSeen x ∷ os) = (x ≤ c) × AreObserved x os
   AreObserved c (FinishedSeen n ∷ os) = AreObserved c os
   AreObserved c (WordSeen p x ∷ os) = (x ≡ end_mark → c < p / seg + 8 → WasTail p) × AreObserved c os
   AreObserved c (StartSeen s p ∷ os) = (c < s + 8 → segment_start words seg log s ≡ Some p) × AreObserved c os
+  AreObserved c (NumberSeen s n ∷ os) = (c < s + 8 → (s ≤ tail words seg log / seg) × (n ≡ first_number words seg log s)) × AreObserved c os
 
 -- a reader over the whole log: what it took and found is of the log, its cursor stands where its history ends, and where it ended, the log does
 pub record IsDone (words : LogUnit → List ℕ) (seg : ℕ) (log : Log) (r : ReaderView) : Type 0 where

@@ -13,25 +13,26 @@ use Rattle.ring_layout.specs.declared.history.HistoryItem.TheVariants.{UnitRun, 
 use Rattle.log_ring.specs.declared.rule.ReaderView.{ReaderView}
 use Rattle.log_ring.specs.declared.rule.Unchecked.TheVariants.{Nothing}
 use Rattle.log_ring.specs.declared.rule.Observation.{Observation}
-use Rattle.log_ring.specs.declared.rule.Observation.TheVariants.{CounterSeen, FinishedSeen, WordSeen, StartSeen}
+use Rattle.log_ring.specs.declared.rule.Observation.TheVariants.{CounterSeen, FinishedSeen, WordSeen, StartSeen, NumberSeen}
 use Rattle.ring_layout.specs.Places.{overrun_distance, seek_distance, end_mark}
-use Rattle.ring_layout.specs.History.{HasRun, with_unit}
+use Rattle.ring_layout.specs.History.{HasRun, next_number, with_unit}
 use Rattle.ring_layout.specs.declared.history.HistoryItem.{HistoryItem}
 use Rattle.log_ring.specs.Ring.{RingSet}
 
--- what contracts see of a reader: of which ring it is, where it stands and what it took (the newest first), and the words of the unit that it took last
+-- what contracts see of a reader: of which ring it is, where it stands and what it took (the newest first), and the words and the number of the unit that it took last
 pub record ReaderState : Type 0 where
   pub ring : RingSet
   pub reader : ReaderView
   pub words : List ℕ
+  pub taken : ℕ
 
 -- a reader that took nothing
 abbrev pub new_reader : ReaderView
-new_reader = record { place = 0; number = 0; lost = None; items = UnitRun (record { segment = 0; first = 0; units = [] }) ∷ []; unchecked = Nothing; loaded = 0; finished_seen = 0; observed = []; ended = false }
+new_reader = record { place = 0; number = 0; lost = None; items = UnitRun (record { segment = 0; first = 0; missed = 0; units = [] }) ∷ []; unchecked = Nothing; loaded = 0; finished_seen = 0; observed = []; ended = false }
 
 -- the pass of such a reader
 abbrev pub new_pass : RingSet → ReaderState
-new_pass ring = record { ring = ring; reader = new_reader; words = [] }
+new_pass ring = record { ring = ring; reader = new_reader; words = []; taken = 0 }
 
 -- so many of them
 abbrev pub new_passes : RingSet → ℕ → List ReaderState
@@ -63,6 +64,7 @@ pub record TookUnit (old new : ReaderState) : Type 0 where
   pub unit : LogUnit
   pub spells : Spells new.words unit
   pub items : new.reader.items ≡ with_unit unit old.reader.items
+  pub number : new.taken ≡ next_number old.reader.items
   pub not_lost : new.reader.lost ≡ None
   pub start : ℕ
   pub behind : new.reader.place ≡ start + length (unit_words unit)
@@ -112,22 +114,24 @@ pub record StaysLost (old : ReaderState) (step : Step) (new : ReaderState) : Typ
   pub again : (at : ℕ) → old.reader.lost ≡ Some at → step ≡ Lost at new.reader.loaded
   pub observed : (at : ℕ) → old.reader.lost ≡ Some at → new.reader.observed ≡ CounterSeen new.reader.loaded ∷ old.reader.observed
 
--- a call that seeks found a counter first, then a place as the start of the segment four behind it, and then another counter
-pub record HasLooked (segment place seen : ℕ) (old new : ReaderState) : Type 0 where
+-- a call that seeks found a counter first, then a place as the start of the segment four behind it, then the number of that segment's first unit, and then another counter
+pub record HasLooked (segment place number seen : ℕ) (old new : ReaderState) : Type 0 where
   pub counter : ℕ
   pub segment_is : segment ≡ counter - seek_distance
-  pub observed : new.reader.observed ≡ CounterSeen seen ∷ StartSeen segment place ∷ CounterSeen counter ∷ old.reader.observed
+  pub observed : new.reader.observed ≡ CounterSeen seen ∷ NumberSeen segment number ∷ StartSeen segment place ∷ CounterSeen counter ∷ old.reader.observed
 
--- a reader goes on at this place in this segment, to which no counter is six segments ahead yet, with a run of no unit
-pub record GoesOn (segment place : ℕ) (old new : ReaderState) : Type 0 where
-  pub looked : HasLooked segment place new.reader.loaded old new
+-- a reader goes on at this place in this segment, to which no counter is six segments ahead yet, with a run of no unit, which isn't its first. The run begins with the unit
+-- of this number, and tells how many were missed since the run before
+pub record GoesOn (segment place number : ℕ) (old new : ReaderState) : Type 0 where
+  pub looked : HasLooked segment place number new.reader.loaded old new
   pub near : new.reader.loaded < segment + overrun_distance
   pub place_is : new.reader.place ≡ place
   pub not_lost : new.reader.lost ≡ None
-  pub first : ℕ
-  pub items : new.reader.items ≡ UnitRun (record { segment = segment; first = first; units = [] }) ∷ old.reader.items
+  pub later : 0 < length old.reader.items
+  pub behind : next_number old.reader.items ≤ number
+  pub items : new.reader.items ≡ UnitRun (record { segment = segment; first = number; missed = number - next_number old.reader.items; units = [] }) ∷ old.reader.items
 
 -- where a reader that sought goes on: at the start of the segment four behind the counter that this call found first; or it was overrun there
 abbrev pub IsSought : ReaderState → Sought → ReaderState → Type 0
-IsSought old (sought.At s p) new = GoesOn s p old new
-IsSought old (sought.Lost at seen) new = WasOverrun at seen old new × ((p : ℕ) × HasLooked at p seen old new)
+IsSought old (sought.At s p n) new = GoesOn s p n old new
+IsSought old (sought.Lost at seen) new = WasOverrun at seen old new × ((p : ℕ) × ((n : ℕ) × HasLooked at p n seen old new))

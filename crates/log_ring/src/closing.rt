@@ -4,6 +4,7 @@ ghost use Rattle.std.specs.Prelude.{◌≡◌, ◌<◌, [], map, vec_len, sum_by
 ghost use Rattle.std.specs.List.{AllByRecursion};
 ghost use Rattle.log_model.specs.Interleaving.{IsInterleaving};
 ghost use Rattle.vsl_record.specs.Words.{unit_words};
+ghost use Rattle.ring_layout.specs.History.{AddUp};
 ghost use Rattle.log_ring.specs.Writers.{entries_of, units_put, busy_of, AreWritersOf};
 ghost use Rattle.log_ring.specs.Readers.{history_taken, AreReadersOf};
 ghost use Rattle.log_ring.specs.Closed.{entries_from, IsDoneWith, HasReached, AgreesWith};
@@ -70,7 +71,8 @@ fn join_readers(ring: &Ring, writers: Vec<LeftWriter>, mut readers: Vec<ReaderPa
 
 /// Closes a ring of which all writers left. The log is an interleaving of what they put, each in its order and at its
 /// tail, and what each reader took is a history of that log. The log reached each tail that a writer found, and what
-/// two readers took at one number is the same unit.
+/// two readers took at one number is the same unit. Where what a reader took reaches the tail, the units that it took and
+/// those that it missed, as its runs tell, add up to the log's length.
 pub fn close(ring: Ring, writers: Vec<LeftWriter>, readers: Vec<ReaderPass>) -> ClosedRing
     requires ours { AreWritersOf ring writers.items }
     requires all { vec_len writers ≡ ring.writers }
@@ -81,6 +83,7 @@ pub fn close(ring: Ring, writers: Vec<LeftWriter>, readers: Vec<ReaderPass>) -> 
     ensures histories { result.histories ≡ map history_taken readers.items }
     ensures found { AllByRecursion (HasReached ring.seg result.log) writers.items }
     ensures readers { AllByRecursion (IsDoneWith ring.seg result.log) readers.items }
+    ensures counted { AllByRecursion (AddUp result.log) result.histories }
     ensures alike { AllByRecursion (λ reader. AllByRecursion (AgreesWith reader) readers.items) readers.items }
 {
     let mut seat = join_readers(&ring, writers, readers);

@@ -3,17 +3,17 @@
 ghost use Rattle.std.specs.Prelude.{◌≡◌, ◌≢◌, ℕ, ◌+◌, ◌-◌, ◌*◌, ◌%◌, ◌^◌, ◌<◌, ◌≤◌, List, [], ◌∷◌, length, slice_index, Some, None};
 ghost use Rattle.vsl_record.specs.Words.{header_mark, unit_words};
 ghost use Rattle.ring_layout.specs.Places.{seek_distance, end_mark, wrap_mark};
-ghost use Rattle.log_ring.specs.declared.rule.Unchecked.TheVariants.{Words, Start};
+ghost use Rattle.log_ring.specs.declared.rule.Unchecked.TheVariants.{Words, Start, Numbered};
 ghost use Rattle.log_ring.specs.inside.Rule.{first_ring_word};
 ghost use Rattle.log_ring.specs.inside.Steps.{IsReaderOf, IsReadingOf};
-ghost use Rattle.log_ring.specs.inside.Reading.{reader_of, unchecked_words, unchecked_start, Becomes, LoadsFinished, LoadsHead, LoadsMore, Checks, FindsEnd, FindsLap, FindsUnit, FindsNothing, ChecksAgain, Looks, LoadsStart, Seeks};
+ghost use Rattle.log_ring.specs.inside.Reading.{reader_of, unchecked_words, unchecked_start, unchecked_number, Becomes, LoadsFinished, LoadsHead, LoadsMore, Checks, FindsEnd, FindsLap, FindsUnit, FindsNothing, ChecksAgain, Looks, LoadsStart, LoadsNumber, Seeks};
 
 use crate::reading_rule::{
     CheckingAgain, CheckingEnd, CheckingLap, CheckingNothing, CheckingUnit, LoadingFinished,
-    LoadingHead, LoadingMore, LoadingStart, Looking, Seeking,
+    LoadingHead, LoadingMore, LoadingNumber, LoadingStart, Looking, Seeking,
 };
 use crate::ring::{Ring, RingSeat};
-use crate::storing::{FINISHED_WRITERS, SEGMENT_COUNTER, SEGMENT_STARTS};
+use crate::storing::{FINISHED_WRITERS, SEGMENT_COUNTER, SEGMENT_NUMBERS, SEGMENT_STARTS};
 use ring_layout::SEGMENTS;
 
 impl Ring {
@@ -139,11 +139,25 @@ impl Ring {
         )
     }
 
+    /// The number of the first unit of a segment that is sought.
+    pub(crate) fn load_number(&self, seat: &mut RingSeat, segment: u64) -> u64
+        requires reader { IsReaderOf self.now seat.old.table_id seat.old.me }
+        requires segment { segment ≡ (reader_of seat.old.me.0).loaded - seek_distance }
+        requires unchecked { (reader_of seat.old.me.0).unchecked ≡ Start ((reader_of seat.old.me.0).loaded - seek_distance) (unchecked_start (reader_of seat.old.me.0).unchecked) }
+        ensures same { seat.new.table_id ≡ seat.old.table_id }
+        ensures loaded { Becomes LoadsNumber seat.old.me result seat.new.me }
+    {
+        self.table.shared.load::<LoadingNumber>(
+            seat,
+            SEGMENT_NUMBERS + (segment % SEGMENTS as u64) as usize,
+        )
+    }
+
     /// The counter of a cursor that seeks.
     pub(crate) fn check_start(&self, seat: &mut RingSeat, at: u64) -> u64
         requires reader { IsReaderOf self.now seat.old.table_id seat.old.me }
         requires lost { (reader_of seat.old.me.0).lost ≡ Some at }
-        requires unchecked { (reader_of seat.old.me.0).unchecked ≡ Start ((reader_of seat.old.me.0).loaded - seek_distance) (unchecked_start (reader_of seat.old.me.0).unchecked) }
+        requires unchecked { (reader_of seat.old.me.0).unchecked ≡ Numbered ((reader_of seat.old.me.0).loaded - seek_distance) (unchecked_start (reader_of seat.old.me.0).unchecked) (unchecked_number (reader_of seat.old.me.0).unchecked) }
         ensures same { seat.new.table_id ≡ seat.old.table_id }
         ensures checked { Becomes Seeks seat.old.me result seat.new.me }
     {

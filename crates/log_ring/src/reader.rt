@@ -5,6 +5,7 @@ ghost use Rattle.vsl_record.specs.Unit.{LogUnit};
 ghost use Rattle.vsl_record.specs.Views.{Spells};
 ghost use Rattle.vsl_record.specs.Words.{header_mark};
 ghost use Rattle.ring_layout.specs.Places.{end_mark, wrap_mark};
+ghost use Rattle.ring_layout.specs.History.{next_number};
 ghost use Rattle.log_ring.specs.declared.rule.Unchecked.TheVariants.{Words};
 ghost use Rattle.log_ring.specs.Readers.{new_reader, new_pass, IsSought, IsAnswer, HasFound, StaysLost};
 ghost use Rattle.log_ring.specs.inside.Reading.{reader_of};
@@ -23,27 +24,32 @@ use vsl_record::{HEADER_MARK, UnitView};
 pub struct ReaderPass {
     pub(crate) seat: RingSeat,
     place: u64,
+    /// How many units of the log start before the place.
+    number: u64,
     lost: Option<u64>,
     /// How many writers the ring has.
     writers: u64,
     bytes: Vec<u8>,
     /// How many of the bytes are the unit's.
     used: usize,
+    /// The number of the unit that was taken last.
+    taken: u64,
 }
 
 impl Model for ReaderPass {
     ghost use Rattle.std.specs.Prelude.{◌≡◌, ◌*◌, ◌≤◌, length, take};
     ghost use Rattle.vsl_record.specs.Words.{words_in};
     ghost use Rattle.ring_layout.specs.Places.{last_tail};
+    ghost use Rattle.ring_layout.specs.History.{next_number};
     ghost use Rattle.log_ring.specs.Readers.{ReaderState};
     ghost use Rattle.log_ring.specs.inside.Reading.{reader_of};
     ghost use Rattle.log_ring.specs.inside.Steps.{IsReaderSeat, reader_seen};
 
     ghost Value = { ReaderState };
 
-    ghost view = { λ p. reader_seen p.seat.table_id p.seat.me.0 (words_in (take p.used p.bytes.items)) };
+    ghost view = { λ p. reader_seen p.seat.table_id p.seat.me.0 (words_in (take p.used p.bytes.items)) p.taken };
 
-    ghost invariant = { λ p. IsReaderSeat p.seat.me × (p.place ≡ (reader_of p.seat.me.0).place) × (p.lost ≡ (reader_of p.seat.me.0).lost) × (p.writers ≡ p.seat.me.0.ring.writers) × (p.place ≤ last_tail) × (length p.bytes.items ≡ 4 * p.seat.me.0.ring.seg) × (p.used ≤ 4 * p.seat.me.0.ring.seg) };
+    ghost invariant = { λ p. IsReaderSeat p.seat.me × (p.place ≡ (reader_of p.seat.me.0).place) × (p.lost ≡ (reader_of p.seat.me.0).lost) × (p.writers ≡ p.seat.me.0.ring.writers) × (p.place ≤ last_tail) × (length p.bytes.items ≡ 4 * p.seat.me.0.ring.seg) × (p.used ≤ 4 * p.seat.me.0.ring.seg) × (p.number ≡ (reader_of p.seat.me.0).number) × (p.number ≤ last_tail) × (p.number ≡ next_number (reader_of p.seat.me.0).items) };
 }
 
 impl ReaderPass {
@@ -58,10 +64,12 @@ impl ReaderPass {
         ReaderPass {
             seat,
             place: 0,
+            number: 0,
             lost: None,
             writers,
             bytes,
             used: 0,
+            taken: 0,
         }
     }
 
@@ -73,14 +81,16 @@ impl ReaderPass {
     }
 
     /// Goes on at the start of the segment four behind the counter, or of the first segment: `At` says which segment
-    /// that is, and its place in words. `Lost` where the counter came six segments ahead of it meanwhile. The cursor was
-    /// overrun before. It takes no memory and never waits.
+    /// that is, its place in words, and how many units of the log start before it, so that a caller can say exactly how
+    /// many were missed. `Lost` where the counter came six segments ahead of it meanwhile. The cursor was overrun before.
+    /// It takes no memory and never waits.
     pub fn seek(&mut self, ring: &Ring) -> Sought
         requires ours { self.old.ring ≡ ring.now }
         requires lost { IsSome self.old.reader.lost }
         ensures sought { IsSought self.old result self.new }
         ensures same { self.new.ring ≡ self.old.ring }
         ensures words { self.new.words ≡ self.old.words }
+        ensures taken { self.new.taken ≡ self.old.taken }
     {
         self.seek_with(ring, &mut NoPause)
     }
@@ -92,6 +102,7 @@ impl ReaderPass {
         ensures sought { IsSought self.old result self.new }
         ensures same { self.new.ring ≡ self.old.ring }
         ensures words { self.new.words ≡ self.old.words }
+        ensures taken { self.new.taken ≡ self.old.taken }
     {
         let Some(before) = self.lost else {
             unreachable!();
@@ -103,14 +114,21 @@ impl ReaderPass {
         stop(pause, &mut step);
         let place = ring.load_start(&mut self.seat, segment);
         stop(pause, &mut step);
+        let number = ring.load_number(&mut self.seat, segment);
+        stop(pause, &mut step);
         let seen = ring.check_start(&mut self.seat, before);
         if seen >= OVERRUN_DISTANCE && segment <= seen - OVERRUN_DISTANCE {
             self.lost = Some(segment);
             return Sought::Lost { at: segment, seen };
         }
         self.place = place;
+        self.number = number;
         self.lost = None;
-        Sought::At { segment, place }
+        Sought::At {
+            segment,
+            place,
+            number,
+        }
     }
 
     /// Answers for a cursor that was overrun and didn't seek.
@@ -246,6 +264,8 @@ impl ReaderPass {
             return Step::Lost { at, seen };
         }
         self.place += count;
+        self.taken = self.number;
+        self.number += 1;
         Step::Took
     }
 
@@ -256,6 +276,24 @@ impl ReaderPass {
     {
         let (words, _) = self.bytes.split_at(self.used);
         UnitView::new(words)
+    }
+
+    /// The number of the unit that was taken last, from 0: how many units of the log stand before it. The first unit that
+    /// is taken after a `seek` has the number that `At` told, and each other one the next. It takes no memory.
+    pub fn number(&self) -> u64
+        requires { (u : LogUnit) × Spells self.now.words u }
+        ensures { result ≡ self.now.taken }
+    {
+        self.taken
+    }
+
+    /// The number of the unit that is due: the one behind the last that was taken, or the one that `At` told of where none
+    /// was taken since. It stays so where the cursor is overrun, so `At`'s number less this one is how many units were
+    /// missed. It takes no memory.
+    pub fn next_number(&self) -> u64
+        ensures { result ≡ next_number self.now.reader.items }
+    {
+        self.number
     }
 
     /// How many words the unit of this header has, if it is the header of a unit at the cursor's place.

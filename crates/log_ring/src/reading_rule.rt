@@ -94,6 +94,15 @@ impl Play<u64, View> for LoadingStart {
     ghost then = { Reads LoadsStart };
 }
 
+/// A load of the number of a segment's first unit.
+pub struct LoadingNumber;
+
+impl Play<u64, View> for LoadingNumber {
+    ghost use Rattle.log_ring.specs.inside.Reading.{Reads, LoadsNumber};
+
+    ghost then = { Reads LoadsNumber };
+}
+
 /// A check of a cursor that seeks.
 pub struct Seeking;
 

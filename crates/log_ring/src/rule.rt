@@ -30,14 +30,20 @@ pub struct Put {
     /// The tail that it found.
     pub tail: u64,
     pub unit: Unit,
+    /// How many units the log has, once that is loaded.
+    pub units: Option<u64>,
     /// The counter, as it stands.
     pub counter: u64,
     /// The segment whose start is stored next.
     pub start: u64,
+    /// The segment whose first unit's number is stored next.
+    pub numbered: u64,
     /// The number of the unit's word that is stored next.
     pub word: u64,
     /// 1 once the end mark is stored.
     pub mark: u64,
+    /// 1 once the unit is counted.
+    pub counted: u64,
 }
 
 /// How far a put has come.
@@ -57,6 +63,8 @@ pub enum Unchecked {
     Words(LinkedList<u64>),
     /// A segment, and the word that keeps its start.
     Start(u64, u64),
+    /// The same, and the word that keeps its first unit's number.
+    Numbered(u64, u64, u64),
 }
 
 /// What a load found.
@@ -69,6 +77,8 @@ pub enum Observation {
     WordSeen(u64, u64),
     /// A segment, and the word that keeps its start.
     StartSeen(u64, u64),
+    /// A segment, and the word that keeps its first unit's number.
+    NumberSeen(u64, u64),
 }
 
 /// One reader.
@@ -146,6 +156,15 @@ impl<N: Coming> Play<u64, View> for Acquiring<N> {
     ghost then = { Acquires unit_words N.unit };
 }
 
+/// A load of the number of units of the log.
+pub struct LoadingCount;
+
+impl Play<u64, View> for LoadingCount {
+    ghost use Rattle.log_ring.specs.inside.Writing.{LoadsCount};
+
+    ghost then = { LoadsCount };
+}
+
 /// A store of the counter.
 pub struct Announcing;
 
@@ -164,6 +183,15 @@ impl Play<u64, View> for Starting {
     ghost then = { Makes (λ _. after_start) };
 }
 
+/// A store of the number of a segment's first unit.
+pub struct Numbering;
+
+impl Play<u64, View> for Numbering {
+    ghost use Rattle.log_ring.specs.inside.Writing.{Makes, after_number};
+
+    ghost then = { Makes (λ _. after_number) };
+}
+
 /// A store of a word of the unit that isn't the last.
 pub struct Wording;
 
@@ -180,6 +208,15 @@ impl Play<u64, View> for Marking {
     ghost use Rattle.log_ring.specs.inside.Writing.{Makes, after_mark};
 
     ghost then = { Makes (λ _. after_mark) };
+}
+
+/// A store of the number of units of the log.
+pub struct CountingUnit;
+
+impl Play<u64, View> for CountingUnit {
+    ghost use Rattle.log_ring.specs.inside.Writing.{Makes, after_counting};
+
+    ghost then = { Makes (λ _. after_counting) };
 }
 
 /// The store of the word at the old tail: the unit enters the log.

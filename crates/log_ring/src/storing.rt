@@ -4,15 +4,17 @@ ghost use Rattle.std.specs.Prelude.{◌≡◌, ◌+◌, ◌*◌, ◌/◌, ◌%�
 ghost use Rattle.vsl_record.specs.Words.{IsUnit, unit_words};
 ghost use Rattle.ring_layout.specs.Places.{last_tail};
 ghost use Rattle.ring_layout.specs.Content.{first_word, last_word};
+ghost use Rattle.ring_layout.specs.inside.Numbers.{entered_number};
 ghost use Rattle.log_ring.specs.declared.rule.Progress.TheVariants.{Free, Storing, Stored};
 ghost use Rattle.log_ring.specs.inside.Rule.{first_ring_word};
 ghost use Rattle.log_ring.specs.inside.Writing.{begun, first_entries, after_acquire, after_publish, after_leave};
-ghost use Rattle.log_ring.specs.inside.Steps.{IsPlaced, IsPutAt, with_progress, announced, started, written, marked, first_of, first_writer_of, with_put};
+ghost use Rattle.log_ring.specs.inside.Steps.{IsPlaced, IsPutAt, with_progress, known, announced, starting, started, written, marked, counted, first_of, first_writer_of, with_put};
 
 use crate::pause::{Pause, stop};
 use crate::ring::{Ring, RingSeat};
 use crate::rule::{
-    Acquiring, Announcing, Coming, Leaving, Marking, Publishing, Releasing, Starting, Wording,
+    Acquiring, Announcing, Coming, CountingUnit, Leaving, LoadingCount, Marking, Numbering,
+    Publishing, Releasing, Starting, Wording,
 };
 use ring_layout::{END_MARK, Placed, SEGMENTS, WRAP_MARK, segment_of};
 use std::sync::Wait;
@@ -25,6 +27,9 @@ const PEEKS: u32 = 64;
 /// The word of the write token. Readers load none of the seven behind it, so that writers have a cache line alone.
 pub(crate) const WRITE_TOKEN: usize = 0;
 
+/// The word of the number of units of the log. Readers don't load it.
+const UNIT_COUNT: usize = 1;
+
 /// The word of the counter.
 pub(crate) const SEGMENT_COUNTER: usize = 8;
 
@@ -34,14 +39,19 @@ pub(crate) const SEGMENT_STARTS: usize = 9;
 /// The word that counts the writers that left.
 pub(crate) const FINISHED_WRITERS: usize = 17;
 
+/// The first of the words that keep the numbers of segments' first units.
+pub(crate) const SEGMENT_NUMBERS: usize = 18;
+
 /// The first of the ring's words.
-pub(crate) const FIRST: usize = 24;
+pub(crate) const FIRST: usize = 32;
 
 /// A unit, and where it is put at the tail that was found.
 #[derive(Drop)]
 pub(crate) struct PlacedUnit<'a> {
     pub(crate) unit: &'a Unit,
     pub(crate) tail: u64,
+    /// How many units stand before it.
+    pub(crate) count: u64,
     pub(crate) placed: Placed,
 }
 
@@ -110,6 +120,25 @@ impl Ring {
             .store::<Releasing>(seat, WRITE_TOKEN, tail + 1);
     }
 
+    /// The number of units of the log.
+    pub(crate) fn load_count<P: Pause>(
+        &self,
+        seat: &mut RingSeat,
+        tail: u64,
+        unit: &Unit,
+        pause: &mut P,
+        step: &mut u64,
+    ) -> u64
+        requires ours { seat.old.table_id ≡ self.now.table }
+        requires begun { seat.old.me.0.progress ≡ Storing (begun unit_words self.now.seg tail unit.now) }
+        ensures same { seat.new.table_id ≡ seat.old.table_id }
+        ensures known { seat.new.me ≡ (with_progress (Storing (known self.now.seg tail result unit.now)) seat.old.me.0, seat.old.me.1) }
+        ensures low { result ≤ last_tail }
+    {
+        stop(pause, step);
+        self.table.shared.load::<LoadingCount>(seat, UNIT_COUNT)
+    }
+
     /// Stores the counter where the unit ends in another segment than the tail's.
     fn announce<P: Pause>(
         &self,
@@ -119,9 +148,9 @@ impl Ring {
         step: &mut u64,
     )
         requires placed { IsPutAt self.now seat.old.table_id put.now.tail put.now.unit.now put.now.placed }
-        requires begun { seat.old.me.0.progress ≡ Storing (begun unit_words self.now.seg put.now.tail put.now.unit.now) }
+        requires known { seat.old.me.0.progress ≡ Storing (known self.now.seg put.now.tail put.now.count put.now.unit.now) }
         ensures same { seat.new.table_id ≡ seat.old.table_id }
-        ensures announced { seat.new.me ≡ (with_progress (Storing (announced self.now.seg put.now.tail put.now.unit.now)) seat.old.me.0, seat.old.me.1) }
+        ensures announced { seat.new.me ≡ (with_progress (Storing (announced self.now.seg put.now.tail put.now.count put.now.unit.now)) seat.old.me.0, seat.old.me.1) }
     {
         let counter = segment_of(self.shape, put.placed.tail);
         if counter > segment_of(self.shape, put.tail) {
@@ -132,7 +161,7 @@ impl Ring {
         }
     }
 
-    /// Stores the starts of the segments that the unit enters.
+    /// Stores the starts of the segments that the unit enters, and the numbers of their first units.
     fn store_starts<P: Pause>(
         &self,
         seat: &mut RingSeat,
@@ -141,9 +170,10 @@ impl Ring {
         step: &mut u64,
     )
         requires placed { IsPutAt self.now seat.old.table_id put.now.tail put.now.unit.now put.now.placed }
-        requires announced { seat.old.me.0.progress ≡ Storing (announced self.now.seg put.now.tail put.now.unit.now) }
+        requires announced { seat.old.me.0.progress ≡ Storing (announced self.now.seg put.now.tail put.now.count put.now.unit.now) }
+        requires low { put.now.count ≤ last_tail }
         ensures same { seat.new.table_id ≡ seat.old.table_id }
-        ensures started { seat.new.me ≡ (with_progress (Storing (started self.now.seg put.now.tail put.now.unit.now)) seat.old.me.0, seat.old.me.1) }
+        ensures started { seat.new.me ≡ (with_progress (Storing (started self.now.seg put.now.tail put.now.count put.now.unit.now)) seat.old.me.0, seat.old.me.1) }
     {
         let from = segment_of(self.shape, put.tail) + 1;
         let upto = segment_of(self.shape, put.placed.tail) + 1;
@@ -156,23 +186,47 @@ impl Ring {
             };
             stop(pause, step);
             self.store_start(seat, put, segment, place);
+            let number = if starts_here {
+                put.count
+            } else {
+                put.count + 1
+            };
+            stop(pause, step);
+            self.store_number(seat, put, segment, number);
         }
     }
 
     /// Stores the start of a segment that the unit enters.
     fn store_start(&self, seat: &mut RingSeat, put: &PlacedUnit<'_>, segment: u64, place: u64)
         requires placed { IsPutAt self.now seat.old.table_id put.now.tail put.now.unit.now put.now.placed }
-        requires started { seat.old.me.0.progress ≡ Storing (record (announced self.now.seg put.now.tail put.now.unit.now) { start = segment }) }
+        requires started { seat.old.me.0.progress ≡ Storing (starting self.now.seg put.now.tail put.now.count put.now.unit.now segment) }
         requires above { put.now.tail / self.now.seg < segment }
         requires upto { segment ≤ put.now.placed.tail / self.now.seg }
         requires place { place ≡ first_of segment self.now.seg put.now.placed.start put.now.placed.tail }
         ensures same { seat.new.table_id ≡ seat.old.table_id }
-        ensures stored { seat.new.me ≡ (with_progress (Storing (record (announced self.now.seg put.now.tail put.now.unit.now) { start = segment + 1 })) seat.old.me.0, seat.old.me.1) }
+        ensures stored { seat.new.me ≡ (with_progress (Storing (record (starting self.now.seg put.now.tail put.now.count put.now.unit.now segment) { start = segment + 1 })) seat.old.me.0, seat.old.me.1) }
     {
         self.table.shared.store::<Starting>(
             seat,
             SEGMENT_STARTS + (segment % SEGMENTS as u64) as usize,
             place,
+        );
+    }
+
+    /// Stores the number of the first unit of a segment that the unit enters.
+    fn store_number(&self, seat: &mut RingSeat, put: &PlacedUnit<'_>, segment: u64, number: u64)
+        requires placed { IsPutAt self.now seat.old.table_id put.now.tail put.now.unit.now put.now.placed }
+        requires started { seat.old.me.0.progress ≡ Storing (record (starting self.now.seg put.now.tail put.now.count put.now.unit.now segment) { start = segment + 1 }) }
+        requires above { put.now.tail / self.now.seg < segment }
+        requires upto { segment ≤ put.now.placed.tail / self.now.seg }
+        requires number { number ≡ entered_number self.now.seg put.now.count put.now.placed.start segment }
+        ensures same { seat.new.table_id ≡ seat.old.table_id }
+        ensures stored { seat.new.me ≡ (with_progress (Storing (starting self.now.seg put.now.tail put.now.count put.now.unit.now (segment + 1))) seat.old.me.0, seat.old.me.1) }
+    {
+        self.table.shared.store::<Numbering>(
+            seat,
+            SEGMENT_NUMBERS + (segment % SEGMENTS as u64) as usize,
+            number,
         );
     }
 
@@ -185,9 +239,9 @@ impl Ring {
         step: &mut u64,
     )
         requires placed { IsPutAt self.now seat.old.table_id put.now.tail put.now.unit.now put.now.placed }
-        requires started { seat.old.me.0.progress ≡ Storing (started self.now.seg put.now.tail put.now.unit.now) }
+        requires started { seat.old.me.0.progress ≡ Storing (started self.now.seg put.now.tail put.now.count put.now.unit.now) }
         ensures same { seat.new.table_id ≡ seat.old.table_id }
-        ensures written { seat.new.me ≡ (with_progress (Storing (written self.now.seg put.now.tail put.now.unit.now)) seat.old.me.0, seat.old.me.1) }
+        ensures written { seat.new.me ≡ (with_progress (Storing (written self.now.seg put.now.tail put.now.count put.now.unit.now)) seat.old.me.0, seat.old.me.1) }
     {
         let count = (put.placed.tail - put.placed.start) as usize;
         let at = self.word_of(put.placed.start);
@@ -216,13 +270,13 @@ impl Ring {
         word: u32,
     )
         requires placed { IsPutAt self.now seat.old.table_id put.now.tail put.now.unit.now put.now.placed }
-        requires started { seat.old.me.0.progress ≡ Storing (record (started self.now.seg put.now.tail put.now.unit.now) { word = place }) }
+        requires started { seat.old.me.0.progress ≡ Storing (record (started self.now.seg put.now.tail put.now.count put.now.unit.now) { word = place }) }
         requires inside { place < length (unit_words put.now.unit.now) }
         requires behind { first_word unit_words self.now.seg put.now.tail (length (unit_words put.now.unit.now)) ≤ place }
         requires at { at ≡ first_ring_word + (put.now.placed.start + place) % (8 * self.now.seg) }
         requires word { word ≡ slice_index (unit_words put.now.unit.now) place }
         ensures same { seat.new.table_id ≡ seat.old.table_id }
-        ensures stored { seat.new.me ≡ (with_progress (Storing (record (started self.now.seg put.now.tail put.now.unit.now) { word = place + 1 })) seat.old.me.0, seat.old.me.1) }
+        ensures stored { seat.new.me ≡ (with_progress (Storing (record (started self.now.seg put.now.tail put.now.count put.now.unit.now) { word = place + 1 })) seat.old.me.0, seat.old.me.1) }
     {
         self.table
             .shared
@@ -238,14 +292,34 @@ impl Ring {
         step: &mut u64,
     )
         requires placed { IsPutAt self.now seat.old.table_id put.now.tail put.now.unit.now put.now.placed }
-        requires written { seat.old.me.0.progress ≡ Storing (written self.now.seg put.now.tail put.now.unit.now) }
+        requires written { seat.old.me.0.progress ≡ Storing (written self.now.seg put.now.tail put.now.count put.now.unit.now) }
         ensures same { seat.new.table_id ≡ seat.old.table_id }
-        ensures marked { seat.new.me ≡ (with_progress (Storing (marked self.now.seg put.now.tail put.now.unit.now)) seat.old.me.0, seat.old.me.1) }
+        ensures marked { seat.new.me ≡ (with_progress (Storing (marked self.now.seg put.now.tail put.now.count put.now.unit.now)) seat.old.me.0, seat.old.me.1) }
     {
         stop(pause, step);
         self.table
             .shared
             .store::<Marking>(seat, self.word_of(put.placed.tail), u64::from(END_MARK));
+    }
+
+    /// Counts the unit.
+    fn count_unit<P: Pause>(
+        &self,
+        seat: &mut RingSeat,
+        put: &PlacedUnit<'_>,
+        pause: &mut P,
+        step: &mut u64,
+    )
+        requires placed { IsPutAt self.now seat.old.table_id put.now.tail put.now.unit.now put.now.placed }
+        requires marked { seat.old.me.0.progress ≡ Storing (marked self.now.seg put.now.tail put.now.count put.now.unit.now) }
+        requires low { put.now.count ≤ last_tail }
+        ensures same { seat.new.table_id ≡ seat.old.table_id }
+        ensures counted { seat.new.me ≡ (with_progress (Storing (counted self.now.seg put.now.tail put.now.count put.now.unit.now)) seat.old.me.0, seat.old.me.1) }
+    {
+        stop(pause, step);
+        self.table
+            .shared
+            .store::<CountingUnit>(seat, UNIT_COUNT, put.count + 1);
     }
 
     /// Stores the word at the tail: the unit enters the log.
@@ -257,7 +331,7 @@ impl Ring {
         step: &mut u64,
     )
         requires placed { IsPutAt self.now seat.old.table_id put.now.tail put.now.unit.now put.now.placed }
-        requires marked { seat.old.me.0.progress ≡ Storing (marked self.now.seg put.now.tail put.now.unit.now) }
+        requires counted { seat.old.me.0.progress ≡ Storing (counted self.now.seg put.now.tail put.now.count put.now.unit.now) }
         requires one { seat.old.me.0.writers ≡ first_writer_of seat.old.me.0 ∷ [] }
         requires stays { seat.old.me.0.finished ≡ 0 }
         ensures same { seat.new.table_id ≡ seat.old.table_id }
@@ -292,7 +366,7 @@ impl Ring {
         step: &mut u64,
     )
         requires placed { IsPutAt self.now seat.old.table_id put.now.tail put.now.unit.now put.now.placed }
-        requires stored { seat.old.me.0.progress ≡ Stored (marked self.now.seg put.now.tail put.now.unit.now) }
+        requires stored { seat.old.me.0.progress ≡ Stored (counted self.now.seg put.now.tail put.now.count put.now.unit.now) }
         ensures same { seat.new.table_id ≡ seat.old.table_id }
         ensures released { seat.new.me ≡ (with_progress Free seat.old.me.0, seat.old.me.1) }
     {
@@ -311,7 +385,8 @@ impl Ring {
         step: &mut u64,
     )
         requires placed { IsPutAt self.now seat.old.table_id put.now.tail put.now.unit.now put.now.placed }
-        requires begun { seat.old.me.0.progress ≡ Storing (begun unit_words self.now.seg put.now.tail put.now.unit.now) }
+        requires known { seat.old.me.0.progress ≡ Storing (known self.now.seg put.now.tail put.now.count put.now.unit.now) }
+        requires low { put.now.count ≤ last_tail }
         requires one { seat.old.me.0.writers ≡ first_writer_of seat.old.me.0 ∷ [] }
         requires stays { seat.old.me.0.finished ≡ 0 }
         ensures same { seat.new.table_id ≡ seat.old.table_id }
@@ -321,6 +396,7 @@ impl Ring {
         self.store_starts(seat, put, pause, step);
         self.store_words(seat, put, pause, step);
         self.store_mark(seat, put, pause, step);
+        self.count_unit(seat, put, pause, step);
         self.publish(seat, put, pause, step);
         self.release(seat, put, pause, step);
     }

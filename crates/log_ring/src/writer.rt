@@ -89,7 +89,13 @@ impl WriterPass {
             ring.withdraw(&mut self.seat, tail, unit, pause, &mut step);
             return Err(PutFault::Exhausted { tail });
         };
-        let put = PlacedUnit { unit, tail, placed };
+        let count = ring.load_count(&mut self.seat, tail, unit, pause, &mut step);
+        let put = PlacedUnit {
+            unit,
+            tail,
+            count,
+            placed,
+        };
         ring.store(&mut self.seat, &put, pause, &mut step);
         if placed.wraps {
             self.wraps += 1;

@@ -1,4 +1,2 @@
 pub mod CountLemmas
 pub mod RunLemmas
-pub mod PromiseLemmas
-mod SaidLemmas

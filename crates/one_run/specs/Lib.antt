@@ -1,4 +1,2 @@
 pub mod Counts
 pub mod Run
-pub mod Messages
-pub mod Promise

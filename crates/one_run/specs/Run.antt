@@ -3,20 +3,26 @@ use Rattle.std.specs.Prelude.{◌≡◌, ◌⊎◌, ℕ, ◌≤◌, Bool, true, 
 use Rattle.log_model.specs.declared.fault.Halt.{Halt}
 use Rattle.log_model.specs.declared.fault.Halt.TheVariants as halts
 use Rattle.vio.specs.World.{Seen}
-use Rattle.vio.specs.Calls.{Call, Did, AreOn, fails}
+use Rattle.vio.specs.Calls.{Call, Did, AreOn}
 use Rattle.ring_layout.specs.declared.item.Item.{Item}
 use Rattle.one_run.specs.declared.met.Met.{Met}
 use Rattle.one_run.specs.declared.pass.RunEnd.{RunEnd}
 use Rattle.one_run.specs.declared.pass.RunEnd.TheVariants as ends
+use Rattle.vio.specs.Alone.{fails_but}
 use Rattle.one_run.specs.Counts.{IsMet}
 
--- calls were made that read these handles and write these alone, and are so; none of them failed but perhaps the last, and none where it goes on
-pub record Made (go : Bool) (reads writes : List ℕ) (IsSo : List Call → Type 0) (before now : Seen) : Type 0 where
+-- calls were made that read these handles and write these alone, and are so; none of them failed but perhaps the last, and none where it goes on. What is written to the first handles stops
+-- alone: that such a write fails ends nothing else
+pub record MadeBut (alone : List ℕ) (go : Bool) (reads writes : List ℕ) (IsSo : List Call → Type 0) (before now : Seen) : Type 0 where
   pub calls : List Call
   pub did : Did calls before now
   pub on : AreOn reads writes calls
-  pub fail : fails go calls ≡ true
+  pub fail : fails_but alone go calls ≡ true
   pub is : IsSo calls
+
+-- the same where none stops alone
+abbrev pub Made : Bool → List ℕ → List ℕ → (List Call → Type 0) → Seen → Seen → Type 0
+Made = MadeBut []
 
 -- whether a source has answered without a fault
 abbrev pub has_come : {A E : Type 0} → Result A E → Bool

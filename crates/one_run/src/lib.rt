@@ -7,13 +7,11 @@
 //! Start with `specs/Run.antt`, over the calls of `vio`. What a run is is this project's choice.
 #![tactic(auto)]
 
-mod message;
 mod met;
 mod output;
 mod pass;
 mod source;
 
-pub use message::{numbered, say};
 pub use met::Met;
 pub use output::Output;
 pub use pass::{RunEnd, RunEnded, run};

@@ -3,7 +3,7 @@
 ghost use Rattle.std.specs.Prelude.{◌≡◌, ℕ, Bool, false, List, [], ◌++◌, Ok, None};
 ghost use Rattle.vio.specs.World.{Seen};
 ghost use Rattle.vio.specs.Calls.{Call, Did, AreOn};
-ghost use Rattle.one_run.specs.Run.{BeginTo, EndTo, ItemTo, Made, goes_on};
+ghost use Rattle.one_run.specs.Run.{BeginTo, EndTo, ItemTo, MadeBut, goes_on};
 ghost use Rattle.ring_layout.specs.declared.item.Item.{Item};
 
 use log_model::NoMemory;
@@ -30,6 +30,9 @@ pub trait Output: Drop {
     /// The handles that are written.
     ghost writes: { Self → List ℕ };
 
+    /// Those of them that stop alone: that a write to one fails doesn't end it.
+    ghost alone: { Self → List ℕ };
+
     /// It may be given an item, in a world.
     ghost is_ready: { Self → Seen → Type 0 };
 
@@ -37,7 +40,7 @@ pub trait Output: Drop {
     fn begin<W: World>(&mut self, world: &mut W) -> Result<Option<Self::Ending>, NoMemory>
         requires new { is_new self.old }
         requires ready { is_ready self.old (W.seen world.old) }
-        ensures begins { Made (goes_on result) [] (writes self.old) (λ calls. BeginTo (λ now. printed self.old self.new calls now) (λ ending now last all. ended self.old ending calls now last all) (λ now all. starved self.old calls now all) result) (W.seen world.old) (W.seen world.new) }
+        ensures begins { MadeBut (alone self.old) (goes_on result) [] (writes self.old) (λ calls. BeginTo (λ now. printed self.old self.new calls now) (λ ending now last all. ended self.old ending calls now last all) (λ now all. starved self.old calls now all) result) (W.seen world.old) (W.seen world.new) }
         ensures ready { result ≡ Ok None → is_ready self.new (W.seen world.new) };
 
     /// Prints an item; how it ended with it, or nothing where it goes on.
@@ -48,14 +51,14 @@ pub trait Output: Drop {
     ) -> Result<Option<Self::Ending>, NoMemory>
         requires ready { is_ready self.old (W.seen world.old) }
         ensures prints { (start : Self) (calls : List Call) (done : List Item) → printed start self.old calls done →
-            Made (goes_on result) [] (writes start) (λ more. ItemTo (λ now. printed start self.new (calls ++ more) now) (λ ending now last all. ended start ending (calls ++ more) now last all) (λ now all. starved start (calls ++ more) now all) result done item.now) (W.seen world.old) (W.seen world.new) }
+            MadeBut (alone start) (goes_on result) [] (writes start) (λ more. ItemTo (λ now. printed start self.new (calls ++ more) now) (λ ending now last all. ended start ending (calls ++ more) now last all) (λ now all. starved start (calls ++ more) now all) result done item.now) (W.seen world.old) (W.seen world.new) }
         ensures ready { result ≡ Ok None → is_ready self.new (W.seen world.new) };
 
     /// Prints the rest, after all items.
     fn end<W: World>(&mut self, world: &mut W) -> Result<Self::Ending, NoMemory>
         requires ready { is_ready self.old (W.seen world.old) }
         ensures prints { (start : Self) (calls : List Call) (done : List Item) → printed start self.old calls done →
-            Made false [] (writes start) (λ more. EndTo (λ ending now last all. ended start ending (calls ++ more) now last all) (λ now all. starved start (calls ++ more) now all) result done) (W.seen world.old) (W.seen world.new) };
+            MadeBut (alone start) false [] (writes start) (λ more. EndTo (λ ending now last all. ended start ending (calls ++ more) now last all) (λ now all. starved start (calls ++ more) now all) result done) (W.seen world.old) (W.seen world.new) };
 
     /// What is read changes nothing of what was printed.
     ghost stays: { (start now : Self) (calls more : List Call) (done : List Item) (reads : List ℕ) → printed start now calls done → AreOn reads [] more → printed start now (calls ++ more) done };

@@ -4,7 +4,7 @@ use Rattle.std.proofs.lemmas.List.{take_more, get_or-drop}
 use native.Mathlib.Decide.{dec_lt}
 use mathlib.Core.Logic.{dite}
 use Rattle.ring_layout.specs.Places.{start_at, end_at, tail}
-use Rattle.ring_layout.specs.History.{starts_below, first_number, MayBegin, IsReadBack}
+use Rattle.ring_layout.specs.History.{next_number, starts_below, first_number, MayBegin, IsReadBack}
 use Rattle.ring_layout.specs.declared.history.Run.{Run}
 use Rattle.ring_layout.specs.declared.history.HistoryItem.{HistoryItem}
 use Rattle.ring_layout.specs.declared.history.HistoryItem.TheVariants.{UnitRun, Overrun}
@@ -21,10 +21,15 @@ pub take_next : {U : Type 0} (xs : List U) (k : ℕ) (u : U) → slice_get xs k 
 take_next xs k u e = take_more xs k u (get_inside xs k u e) ∙ ap (λ y. take k xs ++ y ∷ []) (got xs k u u e)
 
 module _ {U : Type 0} (words : U → List ℕ) (seg : ℕ) where
-  begins_same : (log : List U) (r q : Run U) (is : List (HistoryItem U)) → r.segment ≡ q.segment → r.first ≡ q.first → MayBegin words seg log r is → MayBegin words seg log q is
-  begins_same log r q [] s f h = (sym s ∙ h.0, sym f ∙ h.1)
-  begins_same log r q (UnitRun p ∷ is) s f h = absurd h
-  begins_same log r q (Overrun a b ∷ is) s f h = (let z = h.0 in omega arith, sym f ∙ (h.1 ∙ ap (first_number words seg log) s))
+  begins_same : (most : ℕ) (log : List U) (r q : Run U) (is : List (HistoryItem U)) → r.segment ≡ q.segment → r.first ≡ q.first → r.missed ≡ q.missed → MayBegin words seg most log r is → MayBegin words seg most log q is
+  begins_same most log r q [] s f m h = (sym s ∙ h.0, sym f ∙ h.1, sym m ∙ h.2)
+  begins_same most log r q (UnitRun p ∷ is) s f m h = absurd h
+  begins_same most log r q (Overrun a b ∷ is) s f m h = record {
+    near = subst (λ (z : ℕ). b ≤ z + 4) s h.near;
+    announced = subst (λ (z : ℕ). z + 4 ≤ most) s h.announced;
+    number = sym f ∙ (h.number ∙ ap (first_number words seg log) s);
+    missed = ap (λ (z : ℕ). z + next_number is) (sym m) ∙ (h.missed ∙ f);
+  }
 
   -- the run of a reader gets the next unit
   pub run_more : (most : ℕ) (log : List U) (r : Run U) (is : List (HistoryItem U)) (u : U) → slice_get log (r.first + length r.units) ≡ Some u → IsReadBack words seg most log (UnitRun r ∷ is)
@@ -36,7 +41,7 @@ module _ {U : Type 0} (words : U → List ℕ) (seg : ℕ) where
           inside = omega arith;
           segment = h.0.segment;
         },
-        begins_same log r (record r { units = r.units ++ u ∷ [] }) is refl refl h.1,
+        begins_same most log r (record r { units = r.units ++ u ∷ [] }) is refl refl refl h.1,
         h.2,
       )
 
@@ -47,9 +52,9 @@ module _ {U : Type 0} (words : U → List ℕ) (seg : ℕ) where
       (λ g. subst (λ (b : Bool). cond b 1 0 + starts_below words seg n us p ≤ suc (length us)) (sym (le-ltb (start_at seg t (length (words u))) p (omega arith))) (omega arith))
 
   -- a run begins after a loss
-  pub run_begins : (most : ℕ) (log : List U) (a b s : ℕ) (is : List (HistoryItem U)) → b ≤ s + 4 → s ≤ tail words seg log / seg → IsReadBack words seg most log (Overrun a b ∷ is)
-      → IsReadBack words seg most log (UnitRun (record { segment = s; first = first_number words seg log s; units = [] }) ∷ Overrun a b ∷ is)
-  run_begins most log a b s is near low h = (record { units = refl; inside = let f = below_few 0 log (s * seg) in omega arith; segment = low }, (near, refl), h)
+  pub run_begins : (most : ℕ) (log : List U) (a b s missed : ℕ) (is : List (HistoryItem U)) → b ≤ s + 4 → s + 4 ≤ most → s ≤ tail words seg log / seg → missed + next_number is ≡ first_number words seg log s → IsReadBack words seg most log (Overrun a b ∷ is)
+      → IsReadBack words seg most log (UnitRun (record { segment = s; first = first_number words seg log s; missed = missed; units = [] }) ∷ Overrun a b ∷ is)
+  run_begins most log a b s missed is near announced low m h = (record { units = refl; inside = let f = below_few 0 log (s * seg) in omega arith; segment = low }, record { near = near; announced = announced; number = refl; missed = m }, h)
 
   -- the place after the unit that was taken
   pub next_place : (log : List U) (k : ℕ) (u : U) → slice_get log k ≡ Some u → tail words seg (take (k + 1) log) ≡ end_at seg (tail words seg (take k log)) (length (words u))

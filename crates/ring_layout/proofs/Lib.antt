@@ -9,3 +9,6 @@ pub mod ReadingLemmas
 pub mod ItemsLemmas
 pub mod CopiesLemmas
 mod BytesLemmas
+pub mod NumberLemmas
+pub mod NumberedLemmas
+pub mod MetLemmas

@@ -61,7 +61,7 @@ module _ {U : Type 0} (words : U → List ℕ) (seg : ℕ) (pos : 0 < seg) where
   back_stays most more log u up [] h = tt
   back_stays most more log u up (UnitRun r ∷ []) h = (run_stays log u r h.0, h.1, tt)
   back_stays most more log u up (UnitRun r ∷ UnitRun q ∷ is) h = absurd h.1
-  back_stays most more log u up (UnitRun r ∷ Overrun a b ∷ is) h = (run_stays log u r h.0, (h.1.0, h.1.1 ∙ sym (number_stays log u r.segment h.0.segment)), back_stays most more log u up (Overrun a b ∷ is) h.2)
+  back_stays most more log u up (UnitRun r ∷ Overrun a b ∷ is) h = (run_stays log u r h.0, record { near = h.1.near; announced = le_trans h.1.announced up; number = h.1.number ∙ sym (number_stays log u r.segment h.0.segment); missed = h.1.missed }, back_stays most more log u up (Overrun a b ∷ is) h.2)
   back_stays most more log u up (Overrun a b ∷ []) h = absurd h.3
   back_stays most more log u up (Overrun a b ∷ Overrun c d ∷ is) h = (h.0, le_trans h.1 up, h.2, h.3, back_stays most more log u up (Overrun c d ∷ is) h.4)
   back_stays most more log u up (Overrun a b ∷ UnitRun r ∷ is) h = (

@@ -24,6 +24,24 @@ with_unit u [] = []
 with_unit u (UnitRun r ∷ is) = UnitRun (record r { units = r.units ++ u ∷ [] }) ∷ is
 with_unit u (Overrun a b ∷ is) = Overrun a b ∷ is
 
+-- the number of the unit behind the newest run, or 0
+abbrev pub next_number : {U : Type 0} → List (HistoryItem U) → ℕ
+next_number [] = 0
+next_number (UnitRun r ∷ is) = r.first + length r.units
+next_number (Overrun a b ∷ is) = next_number is
+
+-- how many units were taken
+abbrev pub count_taken : {U : Type 0} → List (HistoryItem U) → ℕ
+count_taken [] = 0
+count_taken (UnitRun r ∷ is) = length r.units + count_taken is
+count_taken (Overrun a b ∷ is) = count_taken is
+
+-- how many units were missed, as the runs tell
+abbrev pub count_missed : {U : Type 0} → List (HistoryItem U) → ℕ
+count_missed [] = 0
+count_missed (UnitRun r ∷ is) = r.missed + count_missed is
+count_missed (Overrun a b ∷ is) = count_missed is
+
 module _ {U : Type 0} (words : U → List ℕ) (seg : ℕ) where
   -- how many units start below a place, of those behind a tail
   abbrev pub starts_below : ℕ → List U → ℕ → ℕ
@@ -55,16 +73,24 @@ module _ {U : Type 0} (words : U → List ℕ) (seg : ℕ) where
   MayFollow log a (UnitRun r ∷ is) = (p : ℕ) × (a ≡ p / seg) × (RunStands log r.segment r.first (length r.units) p ⊎ UnitStarts log (r.first + length r.units) p)
   MayFollow log a (Overrun a' b' ∷ is) = (a ≡ a') ⊎ (b' ≤ a + seek_distance)
 
-  -- a run may follow these items: the first begins with the first unit, and another after an overrun, with the first unit of a segment at most four behind
-  abbrev pub MayBegin : List U → Run U → List (HistoryItem U) → Type 0
-  MayBegin log r [] = (r.segment ≡ 0) × (r.first ≡ 0)
-  MayBegin log r (UnitRun q ∷ is) = ⊥
-  MayBegin log r (Overrun a b ∷ is) = (b ≤ r.segment + seek_distance) × (r.first ≡ first_number log r.segment)
+  -- a run goes on after these items, the newest of which is an overrun by the counter b: it begins four segments behind a counter that is no smaller, with the first unit
+  -- of its segment, and what it missed lies between the run before and itself
+  pub record RunGoesOn (most : ℕ) (log : List U) (r : Run U) (b : ℕ) (is : List (HistoryItem U)) : Type 0 where
+    pub near : b ≤ r.segment + seek_distance
+    pub announced : r.segment + seek_distance ≤ most
+    pub number : r.first ≡ first_number log r.segment
+    pub missed : r.missed + next_number is ≡ r.first
+
+  -- a run may follow these items: the first begins with the first unit, and another after an overrun
+  abbrev pub MayBegin : ℕ → List U → Run U → List (HistoryItem U) → Type 0
+  MayBegin most log r [] = (r.segment ≡ 0) × (r.first ≡ 0) × (r.missed ≡ 0)
+  MayBegin most log r (UnitRun q ∷ is) = ⊥
+  MayBegin most log r (Overrun a b ∷ is) = RunGoesOn most log r b is
 
   -- the items, the newest first, may have been taken while no counter was above this one
   abbrev pub IsReadBack : ℕ → List U → List (HistoryItem U) → Type 0
   IsReadBack most log [] = Unit {0}
-  IsReadBack most log (UnitRun r ∷ is) = IsRun log r × MayBegin log r is × IsReadBack most log is
+  IsReadBack most log (UnitRun r ∷ is) = IsRun log r × MayBegin most log r is × IsReadBack most log is
   IsReadBack most log (Overrun a b ∷ is) = (a + overrun_distance ≤ b) × (b ≤ most) × (last_seen is ≤ b) × MayFollow log a is × IsReadBack most log is
 
   -- the items, the oldest first, are what a reader may have taken of a whole log
@@ -77,3 +103,7 @@ pub record ReachesTail {U : Type 0} (log : List U) (items : List (HistoryItem U)
   pub run : Run U
   pub last : items ≡ before ++ UnitRun run ∷ []
   pub ends : run.first + length run.units ≡ length log
+
+-- where the items, the oldest first, reach the tail of a log, the units that were taken and those that were missed add up to the log's length
+abbrev pub AddUp : {U : Type 0} → List U → List (HistoryItem U) → Type 0
+AddUp log items = ReachesTail log items → count_taken items + count_missed items ≡ length log

@@ -4,3 +4,4 @@ pub mod History
 pub mod Items
 pub mod Copied
 pub mod Stretch
+pub mod inside

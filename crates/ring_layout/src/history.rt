@@ -8,6 +8,8 @@ pub struct Run<U> {
     pub segment: u64,
     /// The number of the first unit, from 0.
     pub first: u64,
+    /// How many units of the log were missed before it.
+    pub missed: u64,
     pub units: LinkedList<U>,
 }
 

@@ -29,6 +29,8 @@ pub enum Sought {
     At {
         segment: u64,
         place: u64,
+        /// How many units of the log start before it.
+        number: u64,
     },
     /// The writers came too near again.
     Lost {

@@ -5,12 +5,14 @@ use mathlib.Core.Logic.{dite}
 use native.Mathlib.Decide.{ℕ_discrete, dec_lt}
 use Rattle.std.specs.Option.{option_or}
 use Rattle.ring_layout.specs.Places.{stays, start_at, end_at, if_some, first_in, end_mark, wrap_mark}
-use Rattle.ring_layout.proofs.EntriesLemmas.{two_ahead}
+use Rattle.ring_layout.proofs.EntriesLemmas.{two_ahead, entered}
 use Rattle.ring_layout.proofs.LapLemmas.{in_lap, wrap_first, in_stretch}
 use Rattle.ring_layout.proofs.TakenLemmas.{start_above}
 use Rattle.ring_layout.proofs.AgreedLemmas.{free_place, free_segment, div_up, or_some, if_true, some_same}
 use Rattle.ring_layout.specs.Stretch.{with_words}
-use Rattle.ring_plain.specs.inside.Stores.{with_start, with_wrap, words_with}
+use Rattle.ring_layout.specs.inside.Numbers.{entered_number}
+use Rattle.ring_layout.proofs.NumberedLemmas.{IsNumbered}
+use Rattle.ring_plain.specs.inside.Stores.{with_kept, starts_with, numbers_with, with_wrap, words_with}
 use Rattle.ring_plain.proofs.PutLemmas.{IsPut}
 
 -- ---- an element that is set under a test
@@ -86,19 +88,27 @@ module _ (seg t : ℕ) (new words : List ℕ) (pos : 0 < seg) (fits : length new
 
 -- ---- the starts of segments
 
-start_there : (seg c p s : ℕ) (starts : List ℕ) → length starts ≡ 8 → c < s → p / seg ≡ s → get_or (with_start seg c p starts) (s % 8) 0 ≡ p
-start_there seg c p s starts eight above e =
+kept_there : (seg c p x s : ℕ) (kept : List ℕ) → length kept ≡ 8 → c < s → p / seg ≡ s → get_or (with_kept seg c p x kept) (s % 8) 0 ≡ x
+kept_there seg c p x s kept eight above e =
     let below : p / seg % 8 < 8 = mod-lt (p / seg) (omega arith) in
-    ap (λ (z : ℕ). get_or (with_start seg c p starts) (z % 8) 0) (sym e) ∙ set_here (ltb c (p / seg)) starts (p / seg % 8) p (lt-ltb c (p / seg) (omega arith)) (omega arith)
+    ap (λ (z : ℕ). get_or (with_kept seg c p x kept) (z % 8) 0) (sym e) ∙ set_here (ltb c (p / seg)) kept (p / seg % 8) x (lt-ltb c (p / seg) (omega arith)) (omega arith)
 
-start_else : (seg c p s : ℕ) (starts : List ℕ) → (c < p / seg → s % 8 ≢ p / seg % 8) → get_or (with_start seg c p starts) (s % 8) 0 ≡ get_or starts (s % 8) 0
-start_else seg c p s starts ne = set_else (ltb c (p / seg)) starts (p / seg % 8) p (s % 8) (λ e. ne (ltb-true c (p / seg) e))
+kept_else : (seg c p x s : ℕ) (kept : List ℕ) → (c < p / seg → s % 8 ≢ p / seg % 8) → get_or (with_kept seg c p x kept) (s % 8) 0 ≡ get_or kept (s % 8) 0
+kept_else seg c p x s kept ne = set_else (ltb c (p / seg)) kept (p / seg % 8) x (s % 8) (λ e. ne (ltb-true c (p / seg) e))
+
+-- two numbers are kept for a unit: what lies at other segments stays
+kept_others : (seg t w x y s : ℕ) (kept : List ℕ) → 0 < seg → s ≤ t / seg → end_at seg t w / seg < s + 8 → get_or (with_kept seg (t / seg) (start_at seg t w) x (with_kept seg (t / seg) (end_at seg t w) y kept)) (s % 8) 0 ≡ get_or kept (s % 8) 0
+kept_others seg t w x y s kept pos below near =
+    let st : ℕ = start_at seg t w in
+    let n : ℕ = end_at seg t w in
+    let up = div_up seg st n pos (omega arith) in
+    kept_else seg (t / seg) st x s (with_kept seg (t / seg) n y kept) (λ l. free_segment s (st / seg) (omega arith) (omega arith)) ∙ kept_else seg (t / seg) n y s kept (λ l. free_segment s (n / seg) (omega arith) (omega arith))
 
 module _ (seg t w : ℕ) (starts : List ℕ) (pos : 0 < seg) (fits : w ≤ seg) (eight : length starts ≡ 8) where
   abbrev kept : List ℕ
-  kept = with_start seg (t / seg) (end_at seg t w) starts
+  kept = with_kept seg (t / seg) (end_at seg t w) (end_at seg t w) starts
 
-  new_start : (s p : ℕ) → t / seg < s → first_in seg s (start_at seg t w ∷ end_at seg t w ∷ []) ≡ Some p → get_or (with_start seg (t / seg) (start_at seg t w) kept) (s % 8) 0 ≡ p
+  new_start : (s p : ℕ) → t / seg < s → first_in seg s (start_at seg t w ∷ end_at seg t w ∷ []) ≡ Some p → get_or (with_kept seg (t / seg) (start_at seg t w) (start_at seg t w) kept) (s % 8) 0 ≡ p
   new_start s p above e =
       let st : ℕ = start_at seg t w in
       let n : ℕ = end_at seg t w in
@@ -106,30 +116,45 @@ module _ (seg t w : ℕ) (starts : List ℕ) (pos : 0 < seg) (fits : w ≤ seg) 
       let two = two_ahead seg t w pos fits in
       let test : (b : Bool) → eqb (st / seg) s ≡ b → option_or (if_some b st) (first_in seg s (n ∷ [])) ≡ Some p = λ b q. ap (λ (z : Bool). option_or (if_some z st) (first_in seg s (n ∷ []))) (sym q) ∙ e in
       dite (ℕ_discrete (st / seg) s)
-      (λ h. start_there seg (t / seg) st s kept (length-set_if (ltb (t / seg) (n / seg)) starts (n / seg % 8) n ∙ eight) above h ∙ some_same (test true (eq-eqb (st / seg) s h)))
+      (λ h. kept_there seg (t / seg) st st s kept (length-set_if (ltb (t / seg) (n / seg)) starts (n / seg % 8) n ∙ eight) above h ∙ some_same (test true (eq-eqb (st / seg) s h)))
       (λ ne. ⊎_elim
       (λ h. let i = if_true h in
-      start_else seg (t / seg) st s kept (λ l x. free_segment (st / seg) s (omega arith) (let at = eqb-true (n / seg) s i.0 in omega arith) (sym x)) ∙ (start_there seg (t / seg) n s starts eight above (eqb-true (n / seg) s i.0) ∙ i.1))
+      kept_else seg (t / seg) st st s kept (λ l x. free_segment (st / seg) s (omega arith) (let at = eqb-true (n / seg) s i.0 in omega arith) (sym x)) ∙ (kept_there seg (t / seg) n n s starts eight above (eqb-true (n / seg) s i.0) ∙ i.1))
       (λ h. cc h)
       (or_some (test false (ne_eqb (st / seg) s ne))))
 
-  old_start : (s : ℕ) → s ≤ t / seg → end_at seg t w / seg < s + 8 → get_or (with_start seg (t / seg) (start_at seg t w) kept) (s % 8) 0 ≡ get_or starts (s % 8) 0
-  old_start s below near =
+-- ---- the numbers of their first units
+
+module _ (seg t w n : ℕ) (numbers : List ℕ) (pos : 0 < seg) (fits : w ≤ seg) (eight : length numbers ≡ 8) where
+  new_number : (s : ℕ) → t / seg < s → s ≤ end_at seg t w / seg → get_or (numbers_with seg (t / seg) t w n numbers) (s % 8) 0 ≡ entered_number seg n (start_at seg t w) s
+  new_number s above upto =
       let st : ℕ = start_at seg t w in
-      let n : ℕ = end_at seg t w in
-      let up = div_up seg st n pos (omega arith) in
-      start_else seg (t / seg) st s kept (λ l. free_segment s (st / seg) (omega arith) (omega arith)) ∙ start_else seg (t / seg) n s starts (λ l. free_segment s (n / seg) (omega arith) (omega arith))
+      let end : ℕ = end_at seg t w in
+      let kept : List ℕ = with_kept seg (t / seg) end (n + 1) numbers in
+      let up = div_up seg st end pos (omega arith) in
+      let two = two_ahead seg t w pos fits in
+      dite (ℕ_discrete (st / seg) s)
+      (λ h. kept_there seg (t / seg) st n s kept (length-set_if (ltb (t / seg) (end / seg)) numbers (end / seg % 8) (n + 1) ∙ eight) above h ∙ sym (ap (λ (b : Bool). cond b n (n + 1)) (eq-eqb (st / seg) s h)))
+      (λ ne.
+      let at : end / seg ≡ s = ⊎_elim (λ (z : st / seg ≡ s). absurd (ne z)) (λ (z : end / seg ≡ s). z) (entered seg t w s pos fits above upto) in
+      kept_else seg (t / seg) st n s kept (λ l x. free_segment (st / seg) s (omega arith) (omega arith) (sym x)) ∙ (kept_there seg (t / seg) end (n + 1) s numbers eight above at ∙ sym (ap (λ (b : Bool). cond b n (n + 1)) (ne_eqb (st / seg) s ne))))
 
 -- ---- all of it
 
 module _ {U : Type 0} (words : U → List ℕ) (seg : ℕ) where
   pub put_stored : (t : ℕ) (u : U) (starts ring : List ℕ) → 0 < seg → length (words u) ≤ seg → length starts ≡ 8 → length ring ≡ 8 * seg
-      → IsPut words seg t u (λ i. get_or starts i 0) (λ i. get_or (with_start seg (t / seg) (start_at seg t (length (words u))) (with_start seg (t / seg) (end_at seg t (length (words u))) starts)) i 0) (λ i. get_or ring i 0) (λ i. get_or (words_with seg t (words u) ring) i 0)
+      → IsPut words seg t u (λ i. get_or starts i 0) (λ i. get_or (starts_with seg (t / seg) t (length (words u)) starts) i 0) (λ i. get_or ring i 0) (λ i. get_or (words_with seg t (words u) ring) i 0)
   put_stored t u starts ring pos fits eight wide = record {
     starts = new_start seg t (length (words u)) starts pos fits eight;
-    other_starts = old_start seg t (length (words u)) starts pos fits eight;
+    other_starts = λ s below near. kept_others seg t (length (words u)) (start_at seg t (length (words u))) (end_at seg t (length (words u))) s starts pos below near;
     unit = unit_there seg t (words u) ring pos fits wide;
     ends = end_there seg t (words u) ring pos fits wide;
     wraps = wrap_there seg t (words u) ring pos fits wide;
     other_words = others_there seg t (words u) ring pos fits wide;
+  }
+
+  pub put_numbered : (pos : 0 < seg) (t n : ℕ) (u : U) (numbers : List ℕ) → length (words u) ≤ seg → length numbers ≡ 8 → IsNumbered words seg pos t n u (λ i. get_or numbers i 0) (λ i. get_or (numbers_with seg (t / seg) t (length (words u)) n numbers) i 0)
+  put_numbered pos t n u numbers fits eight = record {
+    entered = new_number seg t (length (words u)) n numbers pos fits eight;
+    others = λ s below near. kept_others seg t (length (words u)) n (n + 1) s numbers pos below near;
   }

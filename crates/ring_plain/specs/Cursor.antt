@@ -10,16 +10,20 @@ use Rattle.ring_layout.specs.History.{first_number}
 use Rattle.ring_layout.specs.Copied.{IsDueAt}
 use Rattle.ring_plain.specs.Ring.{RingState}
 
--- what contracts see of a cursor: how many words a segment has, the place where it stands, the segment where it was overrun, and the words that it copied last
+-- what contracts see of a cursor: how many words a segment has, the place where it stands, how many units of the log start below it, the segment where it was overrun, and
+-- the words and the number of the unit that it took last
 pub record CursorState : Type 0 where
   pub seg : ℕ
   pub place : ℕ
+  pub number : ℕ
   pub lost : Option ℕ
   pub words : List ℕ
+  pub taken : ℕ
 
 -- the cursor stands where the k-th unit of a log is due
 pub record Stands (cursor : CursorState) (log : Log) (k : ℕ) : Type 0 where
   pub not_lost : cursor.lost ≡ None
+  pub number : cursor.number ≡ k
   pub due : IsDueAt unit_words cursor.seg log k cursor.place
 
 -- the cursor is overrun: the tail's segment is so many ahead of its own, or more
@@ -38,6 +42,7 @@ pub record TookUnit (cursor : CursorState) (log : Log) (k : ℕ) : Type 0 where
   pub unit : LogUnit
   pub kth : slice_get log k ≡ Some unit
   pub spells : Spells cursor.words unit
+  pub number : cursor.taken ≡ k
   pub stands : Stands cursor log (k + 1)
   pub place : cursor.place ≡ tail unit_words cursor.seg (take (k + 1) log)
 

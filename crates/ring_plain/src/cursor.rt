@@ -19,10 +19,14 @@ use vsl_record::UnitView;
 pub struct PlainCursor {
     shape: Shape,
     place: u64,
+    /// How many units of the log start below the place.
+    number: u64,
     lost: Option<u64>,
     bytes: Vec<u8>,
     /// How many of the bytes are the unit's.
     used: usize,
+    /// The number of the unit that was taken last.
+    taken: u64,
 }
 
 impl Model for PlainCursor {
@@ -32,7 +36,7 @@ impl Model for PlainCursor {
 
     ghost Value = { CursorState };
 
-    ghost view = { λ c. record { seg = c.shape; place = c.place; lost = c.lost; words = words_in (take c.used c.bytes.items) } };
+    ghost view = { λ c. record { seg = c.shape; place = c.place; number = c.number; lost = c.lost; words = words_in (take c.used c.bytes.items); taken = c.taken } };
 
     ghost invariant = { λ c. (length c.bytes.items ≡ 4 * c.shape) × (c.used ≤ 4 * c.shape) };
 }
@@ -49,9 +53,11 @@ impl PlainCursor {
         Ok(PlainCursor {
             shape,
             place: 0,
+            number: 0,
             lost: None,
             bytes: vec![in alloc; 0; WORD * shape.seg() as usize]?,
             used: 0,
+            taken: 0,
         })
     }
 
@@ -95,6 +101,8 @@ impl PlainCursor {
         ring.copy(stretch.place, stretch.words, &mut self.bytes);
         self.used = WORD * stretch.words;
         self.place = stretch.place + stretch.words as u64;
+        self.taken = self.number;
+        self.number += 1;
         Step::Took
     }
 
@@ -102,16 +110,23 @@ impl PlainCursor {
     pub fn seek(&mut self, ring: &PlainRing) -> Sought
         requires lost { IsSome self.old.lost }
         requires shape { self.old.seg ≡ ring.now.seg }
-        ensures at { result ≡ Sought.At (ring.now.counter - seek_distance) self.new.place }
+        ensures at { result ≡ Sought.At (ring.now.counter - seek_distance) self.new.place self.new.number }
         ensures stands { (log : Log) → IsRingOf ring.now log → StandsAtStart self.new log (ring.now.counter - seek_distance) }
         ensures words { self.new.words ≡ self.old.words }
+        ensures taken { self.new.taken ≡ self.old.taken }
         ensures shape { self.new.seg ≡ self.old.seg }
     {
         let segment = ring.counter().saturating_sub(SEEK_DISTANCE);
         let place = ring.start_of(segment);
+        let number = ring.number_of(segment);
         self.place = place;
+        self.number = number;
         self.lost = None;
-        Sought::At { segment, place }
+        Sought::At {
+            segment,
+            place,
+            number,
+        }
     }
 
     /// Whether the cursor was overrun, and didn't seek.
@@ -119,6 +134,23 @@ impl PlainCursor {
         ensures { result ≡ is_some self.now.lost }
     {
         self.lost.is_some()
+    }
+
+    /// The number of the unit that was taken last, from 0: how many units of the log stand before it. The first unit that
+    /// is taken after a `seek` has the number that `At` told, and each other one the next. It takes no memory.
+    pub fn number(&self) -> u64
+        requires { (u : LogUnit) × Spells self.now.words u }
+        ensures { result ≡ self.now.taken }
+    {
+        self.taken
+    }
+
+    /// The number of the unit that is due: how many units of the log start below the cursor's place. It stays so where the
+    /// cursor is overrun, so `At`'s number less this one is how many units were missed. It takes no memory.
+    pub fn next_number(&self) -> u64
+        ensures { result ≡ self.now.number }
+    {
+        self.number
     }
 
     /// The unit that was taken last.

@@ -9,7 +9,7 @@ ghost use Rattle.ring_layout.specs.Copied.{IsDueAt};
 ghost use Rattle.ring_plain.specs.Ring.{IsRingOf, put_fault};
 ghost use Rattle.ring_layout.specs.Places.{overrun_distance};
 ghost use Rattle.ring_plain.specs.inside.Due.{unit_place, IsDue};
-ghost use Rattle.ring_plain.specs.inside.Stores.{with_start, words_with, ring_with};
+ghost use Rattle.ring_plain.specs.inside.Stores.{with_kept, words_with, ring_with};
 
 use log_model::NoMemory;
 use ring_layout::{
@@ -37,6 +37,10 @@ pub struct PlainRing {
     shape: Shape,
     bytes: Vec<u8>,
     starts: [u64; SEGMENTS],
+    /// How many units start before each segment's start.
+    numbers: [u64; SEGMENTS],
+    /// How many units were put.
+    units: u64,
     tail: u64,
     counter: u64,
     wraps: u64,
@@ -51,9 +55,9 @@ impl Model for PlainRing {
 
     ghost Value = { RingState };
 
-    ghost view = { λ r. record { seg = r.shape; starts = r.starts; words = words_in r.bytes.items; tail = r.tail; counter = r.counter; wraps = r.wraps; ended = r.ended } };
+    ghost view = { λ r. record { seg = r.shape; starts = r.starts; numbers = r.numbers; units = r.units; words = words_in r.bytes.items; tail = r.tail; counter = r.counter; wraps = r.wraps; ended = r.ended } };
 
-    ghost invariant = { λ r. IsSegment r.shape × (length r.bytes.items ≡ 32 * r.shape) × (length r.starts ≡ 8) × (r.wraps ≤ r.tail) };
+    ghost invariant = { λ r. IsSegment r.shape × (length r.bytes.items ≡ 32 * r.shape) × (length r.starts ≡ 8) × (length r.numbers ≡ 8) × (r.units ≤ r.tail) × (r.wraps ≤ r.tail) };
 }
 
 /// The number of the word in which a place lies.
@@ -73,14 +77,14 @@ fn empty_words(alloc: Global, shape: Shape) -> Result<Vec<u8>, NoMemory>
     Ok(bytes)
 }
 
-/// Keeps a place as the start of its segment, where that is behind the counter.
-fn store_start(starts: &mut [u64], shape: Shape, counter: u64, place: u64)
-    requires { length starts.old ≡ 8 }
-    ensures { starts.new ≡ with_start shape counter place starts.old }
+/// Keeps a number for the segment of a place, where that is behind the counter.
+fn keep(kept: &mut [u64], shape: Shape, counter: u64, place: u64, number: u64)
+    requires { length kept.old ≡ 8 }
+    ensures { kept.new ≡ with_kept shape counter place number kept.old }
 {
     let segment = segment_of(shape, place);
     if segment > counter {
-        starts[(segment % SEGMENTS as u64) as usize] = place;
+        kept[(segment % SEGMENTS as u64) as usize] = number;
     }
 }
 
@@ -113,6 +117,8 @@ impl PlainRing {
             shape,
             bytes: empty_words(alloc, shape)?,
             starts: [0; SEGMENTS],
+            numbers: [0; SEGMENTS],
+            units: 0,
             tail: 0,
             counter: 0,
             wraps: 0,
@@ -151,8 +157,19 @@ impl PlainRing {
         requires wraps { placed.wraps ≡ not (stays self.old.seg self.old.tail (length (unit_words unit.now))) }
         ensures { self.new ≡ ring_with self.old unit.now }
     {
-        store_start(&mut self.starts, self.shape, self.counter, placed.tail);
-        store_start(&mut self.starts, self.shape, self.counter, placed.start);
+        let Placed { start, tail, .. } = placed;
+        keep(&mut self.starts, self.shape, self.counter, tail, tail);
+        keep(&mut self.starts, self.shape, self.counter, start, start);
+        let after = self.units + 1;
+        keep(&mut self.numbers, self.shape, self.counter, tail, after);
+        keep(
+            &mut self.numbers,
+            self.shape,
+            self.counter,
+            start,
+            self.units,
+        );
+        self.units = after;
         store_words(&mut self.bytes, self.shape, self.tail, placed, unit);
         if placed.wraps {
             self.wraps += 1;
@@ -202,6 +219,13 @@ impl PlainRing {
         ensures { result ≡ slice_index self.now.starts (segment % 8) }
     {
         self.starts[(segment % SEGMENTS as u64) as usize]
+    }
+
+    /// How many units start before the start of a segment, as it is kept.
+    pub(crate) fn number_of(&self, segment: u64) -> u64
+        ensures { result ≡ slice_index self.now.numbers (segment % 8) }
+    {
+        self.numbers[(segment % SEGMENTS as u64) as usize]
     }
 
     /// The word at a place.

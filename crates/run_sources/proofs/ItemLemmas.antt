@@ -1,7 +1,6 @@
 -- What a pass met, when its history has one item more.
-use Rattle.std.proofs.Common.{◌≡◌, ◌+◌, ◌≤◌, ℕ, Bool, true, false, Option, Some, None, List, [], ◌∷◌, ◌++◌, map, reverse, sym, refl, ap, ◌∙◌, append_assoc, arith}
+use Rattle.std.proofs.Common.{◌≡◌, ◌+◌, ◌-◌, ◌≤◌, ℕ, Bool, true, false, Option, Some, None, List, [], ◌∷◌, ◌++◌, map, reverse, sym, refl, ap, ◌∙◌, append_assoc, arith}
 use Rattle.std.specs.Prelude.{if◌then◌else◌, is_some}
-use Rattle.std.proofs.lemmas.List.{append-nil, map-append, reverse-append}
 use Rattle.vio.specs.World.{Seen}
 use Rattle.vio.specs.Calls.{Call}
 use Rattle.vio.proofs.CallLemmas.{fails_late}
@@ -17,42 +16,25 @@ use Rattle.ring_layout.specs.declared.steps.Sought.{Sought}
 use Rattle.ring_layout.specs.declared.steps.Sought.TheVariants as soughts
 use Rattle.ring_layout.specs.Places.{end_mark}
 use Rattle.ring_layout.specs.Items.{items_of, count_overruns}
-use Rattle.ring_layout.specs.History.{HasRun, with_unit}
+use Rattle.ring_layout.specs.History.{HasRun, next_number, with_unit}
 use Rattle.log_ring.specs.declared.rule.Observation.{Observation}
-use Rattle.log_ring.specs.declared.rule.Observation.TheVariants.{CounterSeen, FinishedSeen, WordSeen, StartSeen}
+use Rattle.log_ring.specs.declared.rule.Observation.TheVariants.{CounterSeen, FinishedSeen, WordSeen, StartSeen, NumberSeen}
 use Rattle.log_ring.specs.Readers.{ReaderState, TookUnit, WasOverrun, GoesOn, FoundAt, HasFound, HasLooked, IsAnswer, IsSought}
+use Rattle.ring_layout.proofs.MetLemmas.{overrun_met, run_met, unit_met}
 use Rattle.one_run.specs.Run.{Made}
 use Rattle.run_sources.specs.Live.{met_by, count_seeks, HasSought, LiveGave, LiveStarved}
-
-items_append : (xs ys : List (HistoryItem LogUnit)) → items_of (xs ++ ys) ≡ items_of xs ++ items_of ys
-items_append [] ys = refl
-items_append (UnitRun r ∷ xs) ys = ap (λ (l : List Item). map items.Unit r.units ++ l) (items_append xs ys) ∙ sym (append_assoc (map items.Unit r.units) (items_of xs) (items_of ys))
-items_append (Overrun at seen ∷ xs) ys = ap (λ (l : List Item). items.Overrun at seen ∷ l) (items_append xs ys)
-
--- the newest item's are the last
-items_newest : (item : HistoryItem LogUnit) (history : List (HistoryItem LogUnit)) → items_of (reverse (item ∷ history)) ≡ items_of (reverse history) ++ items_of (item ∷ [])
-items_newest item history = ap items_of (reverse-append (item ∷ []) history) ∙ items_append (reverse history) (item ∷ [])
-
-run_items : (r : Run LogUnit) (history : List (HistoryItem LogUnit)) → items_of (reverse (UnitRun r ∷ history)) ≡ items_of (reverse history) ++ map items.Unit r.units
-run_items r history = items_newest (UnitRun r) history ∙ ap (λ (l : List Item). items_of (reverse history) ++ l) (append-nil (map items.Unit r.units))
-
-unit_items : (u : LogUnit) (taken : List (HistoryItem LogUnit)) → HasRun taken → items_of (reverse (with_unit u taken)) ≡ items_of (reverse taken) ++ items.Unit u ∷ []
-unit_items u [] h = absurd h
-unit_items u (UnitRun r ∷ history) h = run_items (record r { units = r.units ++ u ∷ [] }) history ∙ ap (λ (l : List Item). items_of (reverse history) ++ l) (map-append items.Unit r.units (u ∷ []))
-    ∙ sym (append_assoc (items_of (reverse history)) (map items.Unit r.units) (items.Unit u ∷ [])) ∙ ap (λ (l : List Item). l ++ items.Unit u ∷ []) (sym (run_items r history))
-unit_items u (Overrun at seen ∷ history) h = absurd h
 
 -- what a pass met, by what its calls answer
 
 pub took_items : (old new : ReaderState) (took : TookUnit old new) → met_by new ≡ met_by old ++ items.Unit took.unit ∷ []
-took_items old new took = ap (λ (taken : List (HistoryItem LogUnit)). items_of (reverse taken)) took.items ∙ unit_items took.unit old.reader.items took.reads_on
+took_items old new took = ap (λ (taken : List (HistoryItem LogUnit)). items_of (reverse taken)) took.items ∙ unit_met took.unit old.reader.items took.reads_on
 
 pub lost_items : (at seen : ℕ) (old new : ReaderState) → WasOverrun at seen old new → met_by new ≡ met_by old ++ items.Overrun at seen ∷ []
-lost_items at seen old new was = ap (λ (taken : List (HistoryItem LogUnit)). items_of (reverse taken)) was.items ∙ items_newest (Overrun at seen) old.reader.items
+lost_items at seen old new was = ap (λ (taken : List (HistoryItem LogUnit)). items_of (reverse taken)) was.items ∙ overrun_met at seen old.reader.items
 
-pub at_items : (segment place : ℕ) (old new : ReaderState) → GoesOn segment place old new → met_by new ≡ met_by old
-at_items segment place old new on =
-    ap (λ (taken : List (HistoryItem LogUnit)). items_of (reverse taken)) on.items ∙ (run_items (record { segment = segment; first = on.first; units = [] }) old.reader.items ∙ append-nil (met_by old))
+pub at_items : (segment place number : ℕ) (old new : ReaderState) → GoesOn segment place number old new → met_by new ≡ met_by old ++ items.Missed (number - next_number old.reader.items) ∷ []
+at_items segment place number old new on =
+    ap (λ (taken : List (HistoryItem LogUnit)). items_of (reverse taken)) on.items ∙ run_met segment number (number - next_number old.reader.items) old.reader.items on.later
 
 -- no call is made of the world
 pub quiet : {IsSo : List Call → Type 0} (go : Bool) (s : Seen) → IsSo [] → Made go [] [] IsSo s s
@@ -62,6 +44,7 @@ overruns_append : (xs ys : List Item) → count_overruns (xs ++ ys) ≡ count_ov
 overruns_append [] ys = omega arith
 overruns_append (items.Unit u ∷ xs) ys = overruns_append xs ys
 overruns_append (items.Overrun at seen ∷ xs) ys = omega (arith, overruns_append xs ys)
+overruns_append (items.Missed n ∷ xs) ys = overruns_append xs ys
 
 seeks_append : (xs ys : List Observation) → count_seeks (xs ++ ys) ≡ count_seeks xs + count_seeks ys
 seeks_append [] ys = omega arith
@@ -69,6 +52,7 @@ seeks_append (StartSeen segment place ∷ xs) ys = omega (arith, seeks_append xs
 seeks_append (CounterSeen counter ∷ xs) ys = seeks_append xs ys
 seeks_append (FinishedSeen count ∷ xs) ys = seeks_append xs ys
 seeks_append (WordSeen place word ∷ xs) ys = seeks_append xs ys
+seeks_append (NumberSeen segment number ∷ xs) ys = seeks_append xs ys
 
 -- a call that found more sought no less
 found_seeks : (first before old : List Observation) → count_seeks old ≤ count_seeks (first ++ (before ++ old))
@@ -111,20 +95,20 @@ next_sought old (Lost at seen) new reads answer found has =
     let more = found_seeks (CounterSeen seen ∷ []) found.before old.reader.observed in
     carried old new 1 (met_overrun at seen old new answer) (omega (arith, reads_on old reads, now, more, ap count_seeks found.observed)) has
 
-looked_more : (segment place seen : ℕ) (old new : ReaderState) → HasLooked segment place seen old new → count_seeks new.reader.observed ≡ 1 + count_seeks old.reader.observed
-looked_more segment place seen old new looked = ap count_seeks looked.observed
+looked_more : (segment place number seen : ℕ) (old new : ReaderState) → HasLooked segment place number seen old new → count_seeks new.reader.observed ≡ 1 + count_seeks old.reader.observed
+looked_more segment place number seen old new looked = ap count_seeks looked.observed
 
 -- and so has one that sought
 pub seek_sought : (old : ReaderState) (sought : Sought) (new : ReaderState) → is_some old.reader.lost ≡ true → IsSought old sought new → HasSought old → HasSought new
-seek_sought old (soughts.At segment place) new lost is has =
-    carried old new 0 (omega (arith, ap count_overruns (at_items segment place old new is))) (omega (arith, was_lost old lost, looked_more segment place new.reader.loaded old new is.looked)) has
+seek_sought old (soughts.At segment place number) new lost is has =
+    carried old new 0 (ap count_overruns (at_items segment place number old new is) ∙ overruns_append (met_by old) (items.Missed (number - next_number old.reader.items) ∷ [])) (omega (arith, was_lost old lost, looked_more segment place number new.reader.loaded old new is.looked)) has
 seek_sought old (soughts.Lost at seen) new lost is has =
     let now : lost_of new ≡ 1 = ap (λ (lost : Option ℕ). if is_some lost then 1 else 0) is.0.lost in
-    carried old new 1 (met_overrun at seen old new is.0) (omega (arith, was_lost old lost, now, looked_more at is.1.0 seen old new is.1.1)) has
+    carried old new 1 (met_overrun at seen old new is.0) (omega (arith, was_lost old lost, now, looked_more at is.1.0 is.1.1.0 seen old new is.1.1.1)) has
 
 -- what a pass gave from a start on, when it met one item more
 module _ (start old now new : ReaderState) (met : List Item) (was : now.ring ≡ old.ring) (meets : met_by now ≡ met_by old) (kept : HasSought old → HasSought now) (more_sought : HasSought now → HasSought new) (same : new.ring ≡ now.ring) (gave : LiveGave start old met false) where
-  gave_more : (item : Item) → met_by new ≡ met_by now ++ item ∷ [] → LiveGave start new (met ++ item ∷ []) false
+  pub gave_more : (item : Item) → met_by new ≡ met_by now ++ item ∷ [] → LiveGave start new (met ++ item ∷ []) false
   gave_more item more = record {
     same = same ∙ was ∙ gave.same;
     sought = λ was_so. more_sought (kept (gave.sought was_so));

@@ -6,7 +6,7 @@ use Rattle.ring_layout.specs.declared.item.Item.{Item}
 use Rattle.ring_layout.specs.declared.item.Item.TheVariants as items
 use Rattle.ring_layout.specs.Items.{items_of, count_overruns}
 use Rattle.log_ring.specs.declared.rule.Observation.{Observation}
-use Rattle.log_ring.specs.declared.rule.Observation.TheVariants.{CounterSeen, FinishedSeen, WordSeen, StartSeen}
+use Rattle.log_ring.specs.declared.rule.Observation.TheVariants.{CounterSeen, FinishedSeen, WordSeen, StartSeen, NumberSeen}
 use Rattle.log_ring.specs.Readers.{ReaderState, history_taken}
 
 -- the items that a pass met
@@ -20,6 +20,7 @@ count_seeks (StartSeen segment place ∷ observed) = 1 + count_seeks observed
 count_seeks (CounterSeen counter ∷ observed) = count_seeks observed
 count_seeks (FinishedSeen count ∷ observed) = count_seeks observed
 count_seeks (WordSeen place word ∷ observed) = count_seeks observed
+count_seeks (NumberSeen segment number ∷ observed) = count_seeks observed
 
 -- a pass sought behind each overrun that it met, but behind the last where it has yet to
 abbrev pub HasSought : ReaderState → Type 0

@@ -1,5 +1,5 @@
 -- Of what the items of a source came: the bytes of a log file, the turns of feeds over a ring, or units that are at hand (this project's choice).
-use Rattle.std.specs.Prelude.{◌≡◌, ℕ, ◌+◌, ◌<◌, ◌≤◌, Bool, true, false, List, [], ◌++◌, length, map, Some}
+use Rattle.std.specs.Prelude.{◌≡◌, ℕ, ◌+◌, ◌<◌, ◌≤◌, Bool, true, false, List, [], ◌∷◌, ◌++◌, length, map, Option, Some, None}
 use Rattle.std.specs.List.{AllByRecursion}
 use Rattle.log_model.specs.declared.fault.Halt.{Halt}
 use Rattle.log_model.specs.declared.fault.Halt.TheVariants as halts
@@ -14,9 +14,8 @@ use Rattle.vsl_file.specs.File.{FileEnding, NotALog, Damaged, TooLarge, Whole, I
 use Rattle.vsl_file.specs.ReaderState.{Represents, used}
 use Rattle.vsl_file.specs.declared.fault.FileFault.{FileFault}
 use Rattle.vsl_file.specs.declared.fault.FileFault.TheVariants as file_faults
-use Rattle.feed_schedule.specs.Schedule.{Event, TookUnit, WasOverrun}
-use Rattle.feed_schedule.specs.Replaying.{ReplayState}
 use Rattle.feed_schedule.specs.Replaying as replaying
+use Rattle.run_sources.specs.declared.feed_items.FeedItems.{FeedItems}
 use Rattle.run_sources.specs.declared.file_items.FileItems.{FileItems}
 use Rattle.run_sources.specs.declared.file_items.FileStop.{FileStop}
 use Rattle.run_sources.specs.declared.file_items.FileStop.TheVariants as stops
@@ -97,18 +96,22 @@ FileStopped h stops.ReadFault calls met now = FileUnread h calls met
 
 -- ---- feeds
 
--- an item, as the schedule of feeds has it
-abbrev pub event_of : Item → Event
-event_of (items.Unit u) = TookUnit u
-event_of (items.Overrun at seen) = WasOverrun at seen
+-- what an overrun cost, where that wasn't given yet
+abbrev pub owed : Option ℕ → List Item
+owed None = []
+owed (Some units) = items.Missed units ∷ []
+
+-- these items are still to come: what the last overrun cost, where that wasn't given yet, and what the reader meets in the turns that are left
+abbrev pub HasToCome : FeedItems → List Item → Type 0
+HasToCome feeds every = (rest : List Item) × (every ≡ owed feeds.missed ++ rest) × replaying.Represents feeds.replay rest
 
 -- of whatever was to come these items came first; all of them or not, and what is left is still to come
-pub record FeedsGave (start now : ReplayState) (met : List Item) (all : Bool) : Type 0 where
-  pub came : (every : List Event) → replaying.Represents start every → (rest : List Event) × (every ≡ map event_of met ++ rest) × replaying.Represents now rest × (all ≡ true → rest ≡ [])
+pub record FeedsGave (start now : FeedItems) (met : List Item) (all : Bool) : Type 0 where
+  pub came : (every : List Item) → HasToCome start every → (rest : List Item) × (every ≡ met ++ rest) × HasToCome now rest × (all ≡ true → rest ≡ [])
 
 -- of whatever was to come these items came first
-abbrev pub FeedsBegan : ReplayState → List Item → Type 0
-FeedsBegan start met = (every : List Event) → replaying.Represents start every → (rest : List Event) × (every ≡ map event_of met ++ rest)
+abbrev pub FeedsBegan : FeedItems → List Item → Type 0
+FeedsBegan start met = (every : List Item) → HasToCome start every → (rest : List Item) × (every ≡ met ++ rest)
 
 -- ---- units at hand
 

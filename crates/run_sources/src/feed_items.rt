@@ -12,33 +12,41 @@ use vio::World;
 pub struct FeedItems {
     pub alloc: Global,
     pub replay: Replay,
+    /// How many units the overrun that was given last cost, until that is given.
+    pub missed: Option<u64>,
 }
 
 impl Source for FeedItems {
     ghost use Rattle.std.specs.Prelude.{List, []};
-    ghost use Rattle.feed_schedule.specs.Schedule.{Event};
-    ghost use Rattle.feed_schedule.specs.Replaying.{Represents};
-    ghost use Rattle.run_sources.specs.Sources.{FeedsGave, FeedsBegan};
+    ghost use Rattle.ring_layout.specs.declared.item.Item.{Item};
+    ghost use Rattle.run_sources.specs.Sources.{FeedsGave, FeedsBegan, HasToCome};
 
     type Fault = Never;
 
-    ghost gave = { λ start now calls met all. FeedsGave start.replay now.replay met all };
+    ghost gave = { λ start now calls met all. FeedsGave start now met all };
 
     ghost stopped = { λ start fault calls met world. ⊥ };
 
-    ghost starved = { λ start now calls met. FeedsBegan start.replay met };
+    ghost starved = { λ start now calls met. FeedsBegan start met };
 
     ghost reads = { λ feeds. [] };
 
-    ghost is_ready = { λ feeds. (all : List Event) × Represents feeds.replay all };
+    ghost is_ready = { λ feeds. (all : List Item) × HasToCome feeds all };
 
     fn next<W: World>(&mut self, _world: &mut W) -> Result<Option<Item>, Halt<Never>> {
+        if let Some(units) = self.missed {
+            self.missed = None;
+            return Ok(Some(Item::Missed { units }));
+        }
         match self.replay.advance() {
             Advanced::Took => match self.replay.unit().to_unit(self.alloc) {
                 Ok(unit) => Ok(Some(Item::Unit(unit))),
                 Err(_) => Err(Halt::NoMemory),
             },
-            Advanced::Overrun { at, seen } => Ok(Some(Item::Overrun { at, seen })),
+            Advanced::Overrun { at, seen, missed } => {
+                self.missed = Some(missed);
+                Ok(Some(Item::Overrun { at, seen }))
+            }
             Advanced::Ended => Ok(None),
         }
     }

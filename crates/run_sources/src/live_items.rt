@@ -1,7 +1,7 @@
 //! What a reader's pass meets of a ring that threads share.
 
-ghost use Rattle.std.specs.Prelude.{◌≡◌, ℕ, [], false, IsSome, IfSome, IfNone, None};
-ghost use Rattle.log_ring.specs.Readers.{IsAnswer, IsSought};
+ghost use Rattle.std.specs.Prelude.{◌≡◌, [], ◌∷◌, ◌++◌, false, IsSome, is_some};
+ghost use Rattle.log_ring.specs.Readers.{IsAnswer};
 ghost use Rattle.run_sources.specs.Live.{HasSought, LiveGave, met_by};
 
 use log_model::Halt;
@@ -53,23 +53,31 @@ impl<'a, R, G> LiveItems<'a, R, G> {
     }
 }
 
-/// One call of a pass: it seeks where it was overrun, and else takes the next unit. None where it sought and goes on.
-#[tactic(auto, using(crate::proofs::ItemLemmas::at_items))]
-fn step(ring: &Ring, pass: &mut ReaderPass) -> Option<Step>
+/// A pass that wasn't overrun takes the next unit.
+fn take(ring: &Ring, pass: &mut ReaderPass) -> Step
     requires ours { pass.old.ring ≡ ring.now }
+    requires reads { is_some pass.old.reader.lost ≡ false }
     ensures same { pass.new.ring ≡ pass.old.ring }
-    ensures answer { IfSome result (λ step. IsAnswer pass.old step pass.new) }
-    ensures sought { IfNone result (met_by pass.new ≡ met_by pass.old) }
-    ensures seeks { IsSome pass.old.reader.lost → IfSome result (λ step. (at seen : ℕ) × (step ≡ Step.Lost at seen) × IsSought pass.old (Sought.Lost at seen) pass.new) }
+    ensures answer { IsAnswer pass.old result pass.new }
     ensures behind { HasSought pass.old → HasSought pass.new }
-    ensures goes_on { IsSome pass.old.reader.lost → IfNone result ((segment place : ℕ) × IsSought pass.old (Sought.At segment place) pass.new) }
 {
-    if !pass.is_lost() {
-        return Some(pass.next(ring));
-    }
+    pass.next(ring)
+}
+
+/// A pass that was overrun seeks: how many units it missed where it goes on, or that it was overrun again.
+fn seek(ring: &Ring, pass: &mut ReaderPass) -> Item
+    requires ours { pass.old.ring ≡ ring.now }
+    requires lost { IsSome pass.old.reader.lost }
+    ensures same { pass.new.ring ≡ pass.old.ring }
+    ensures met { met_by pass.new ≡ met_by pass.old ++ result ∷ [] }
+    ensures behind { HasSought pass.old → HasSought pass.new }
+{
+    let due = pass.next_number();
     match pass.seek(ring) {
-        Sought::At { .. } => None,
-        Sought::Lost { at, seen } => Some(Step::Lost { at, seen }),
+        Sought::At { number, .. } => Item::Missed {
+            units: number - due,
+        },
+        Sought::Lost { at, seen } => Item::Overrun { at, seen },
     }
 }
 
@@ -94,15 +102,17 @@ impl<'a, R: Wait, G: Gate> Source for LiveItems<'a, R, G> {
         for _ in rt.forever() {
             self.gate.before_read(rt, self.call);
             self.call = self.call.saturating_add(1);
-            match step(self.ring, &mut self.pass) {
-                None => {}
-                Some(Step::Took) => match self.pass.unit().to_unit(self.alloc) {
+            if self.pass.is_lost() {
+                return Ok(Some(seek(self.ring, &mut self.pass)));
+            }
+            match take(self.ring, &mut self.pass) {
+                Step::Took => match self.pass.unit().to_unit(self.alloc) {
                     Ok(unit) => return Ok(Some(Item::Unit(unit))),
                     Err(_) => return Err(Halt::NoMemory),
                 },
-                Some(Step::NotYet { .. }) => thread::yield_now(),
-                Some(Step::Ended) => return Ok(None),
-                Some(Step::Lost { at, seen }) => return Ok(Some(Item::Overrun { at, seen })),
+                Step::NotYet { .. } => thread::yield_now(),
+                Step::Ended => return Ok(None),
+                Step::Lost { at, seen } => return Ok(Some(Item::Overrun { at, seen })),
             }
         }
         unreachable!()

@@ -9,12 +9,22 @@ use Rattle.log_model.proofs.PrefixLemmas.{prefix_same}
 use Rattle.txn_rows.specs.declared.group.Group.{Group}
 use Rattle.txn_rows.specs.declared.group.GroupOptions.{GroupOptions}
 use Rattle.txn_rows.specs.declared.group.Grouping.{Grouping}
-use Rattle.txn_rows.specs.Grouping.{Taken, Missed, no_state, reported, taken_step, taken_steps, groups_of}
+use Rattle.txn_rows.specs.Grouping.{Taken, TakenUnit, Missed, no_state, reported, taken_step, taken_steps, groups_of}
 use Rattle.txn_rows.proofs.GroupingLemmas.{steps_append}
 use Rattle.query_eval.specs.Meaning.{is_held}
 use Rattle.vsl_dispatch.specs.Groups.{kept, is_filled}
 use Rattle.vsl_dispatch.proofs.GroupLemmas.{kept_none, kept_filled, kept_open, kept_goes_on, filled_more}
+use Rattle.ring_layout.specs.declared.item.Item.{Item}
+use Rattle.ring_layout.specs.declared.item.Item.TheVariants as items
 use Rattle.text_printer.specs.Printer.{Plan, IsOutput, due, has_all}
+use Rattle.text_printer.specs.Ends.{taken_of}
+
+-- items more are grouped behind the others
+pub taken_append : (xs ys : List Item) → taken_of (xs ++ ys) ≡ taken_of xs ++ taken_of ys
+taken_append [] ys = refl
+taken_append (items.Unit u ∷ xs) ys = ap (λ (list : List Taken). TakenUnit u ∷ list) (taken_append xs ys)
+taken_append (items.Overrun at seen ∷ xs) ys = ap (λ (list : List Taken). Missed ∷ list) (taken_append xs ys)
+taken_append (items.Missed units ∷ xs) ys = taken_append xs ys
 
 -- ---- groups that pass a test
 

@@ -1,6 +1,6 @@
 -- What an output of text gains is a prefix of what is due for all that its source has.
 use Rattle.std.proofs.Common.{◌≡◌, ℕ, Bool, true, false, List, [], ◌++◌, refl, sym, subst, inl, inr}
-use Rattle.std.proofs.lemmas.List.{append-nil, map-append}
+use Rattle.std.proofs.lemmas.List.{append-nil}
 use Rattle.std.proofs.lemmas.Grind.{flat_map-append}
 use Rattle.log_model.specs.Prefix.{IsPrefix}
 use Rattle.log_model.proofs.PrefixLemmas.{prefix_append, prefix_by, prefix_equal, prefix_after, prefix_then}
@@ -11,9 +11,9 @@ use Rattle.text_printer.specs.declared.output.TextEnding.{TextEnding}
 use Rattle.text_printer.specs.declared.output.TextEnding.TheVariants as endings
 use Rattle.text_printer.specs.Messages.{message_of, messages_of}
 use Rattle.text_printer.specs.Printer.{Plan, IsOutput, due}
-use Rattle.text_printer.specs.Ends.{Due, Grows, TextEnded, TextShort, TextWritten, taken, taken_of}
+use Rattle.text_printer.specs.Ends.{Due, Grows, TextEnded, TextShort, TextWritten, taken_of}
 use Rattle.text_printer.specs.Output.{due_of}
-use Rattle.text_printer.proofs.DueLemmas.{due_prefix}
+use Rattle.text_printer.proofs.DueLemmas.{due_prefix, taken_append}
 
 pub messages_append : (xs ys : List Item) → messages_of (xs ++ ys) ≡ messages_of xs ++ messages_of ys
 messages_append = flat_map-append message_of
@@ -24,7 +24,7 @@ messages_prefix xs ys = prefix_by (messages_of xs) (messages_of (xs ++ ys)) (mes
 
 -- what is due under a plan grows
 pub due_grows : (head : List ℕ) (p : Plan) → IsOutput p.writes → Grows (due_of head p)
-due_grows head p is met more all = subst (λ (list : List Taken). IsPrefix (due p (taken_of met) false) (due p list all)) (sym (map-append taken met more)) (due_prefix p is (taken_of met) (taken_of more) all)
+due_grows head p is met more all = subst (λ (list : List Taken). IsPrefix (due p (taken_of met) false) (due p list all)) (sym (taken_append met more)) (due_prefix p is (taken_of met) (taken_of more) all)
 
 -- ---- what was gained is no more than what is due
 

@@ -16,11 +16,11 @@ use Rattle.txn_rows.specs.Grouping.{Taken, TakenUnit, flush, unit_step, no_state
 use Rattle.txn_rows.specs.Grouping as taken_items
 use Rattle.txn_rows.specs.TableState.{TableState}
 use Rattle.txn_rows.proofs.GroupingLemmas.{steps_append}
+use Rattle.txn_rows.proofs.RawLemmas.{raw_groups_left}
 use Rattle.query_parser.specs.declared.query.Query.{Query}
 use Rattle.query_eval.specs.Meaning.{is_held}
 use Rattle.query_eval.specs.declared.chosen.Chosen.{Chosen}
 use Rattle.txn_groups.specs.Groups.{GroupsState, GroupsStepped, chosen}
-use Rattle.vsl_select.proofs.RawLemmas.{raw_groups_left}
 use Rattle.vsl_dispatch.specs.Groups.{raw_groups, kept, is_filled}
 use Rattle.vsl_dispatch.specs.Entries.{Stands, TextTaken, is_live}
 use Rattle.vsl_dispatch.specs.declared.entry.Entry.{Entry}

@@ -1,6 +1,6 @@
 -- What an output of text comes to, write by write.
 use Rattle.std.proofs.Common.{◌≡◌, ◌≢◌, ◌⊎◌, ℕ, Bool, true, false, List, [], ◌∷◌, ◌++◌, codes, Option, refl, sym, ap, subst, ◌∙◌, append_assoc, inl, inr}
-use Rattle.std.proofs.lemmas.List.{append-nil, map-append, flat_map_more}
+use Rattle.std.proofs.lemmas.List.{append-nil, flat_map_more}
 use Rattle.log_model.specs.Faults.{HasNewFault}
 use Rattle.log_model.specs.Prefix.{IsProperPrefix}
 use Rattle.log_model.proofs.PrefixLemmas.{prefix_append, prefix_equal, prefix_after, prefix_then, proper_after}
@@ -20,10 +20,10 @@ use Rattle.text_printer.specs.declared.output.TextOutput.{TextOutput}
 use Rattle.text_printer.specs.declared.printer.PrintFault.TheVariants.{WriteFault, NoMemory}
 use Rattle.text_printer.specs.Messages.{message_of, messages_of}
 use Rattle.text_printer.specs.Printer.{Plan, PrinterState, Represents, HasPrintCause, IsLeft, due, printer_state}
-use Rattle.text_printer.specs.Ends.{Due, Grows, InOrder, TextEnded, TextShort, TextWritten, taken, taken_of, whole}
+use Rattle.text_printer.specs.Ends.{Due, Grows, InOrder, TextEnded, TextShort, TextWritten, taken_of, whole}
 use Rattle.text_printer.specs.Laws.{order_still}
 use Rattle.text_printer.specs.Output.{CanPrint, IsNew, TextPrinted, due_of, output_due, output_plan}
-use Rattle.text_printer.proofs.DueLemmas.{due_none}
+use Rattle.text_printer.proofs.DueLemmas.{due_none, taken_append}
 
 -- ---- what one write adds
 
@@ -163,12 +163,12 @@ module _ {C : Type 0} (keep : C → Option ℕ) (output : C → List Group → B
 
   -- of an item that a printer may be given, and of the end
   module _ (head : List ℕ) (p : Plan) (q : PrinterState C) (calls : List Call) (done : List Item) {s : Seen} (can : CanPrint keep output represents q s) (printed : TextPrinted keep output represents head p q calls done) where
-    pub item_told : {t : Seen} (item : Item) → Wrote ERRORS (message_of item) s t → Makes true p.sink calls (Told p.sink (due_of head p) done (item ∷ []) false (due p (taken_of done ++ taken item ∷ []) false)) s t
+    pub item_told : {t : Seen} (item : Item) → Wrote ERRORS (message_of item) s t → Makes true p.sink calls (Told p.sink (due_of head p) done (item ∷ []) false (due p (taken_of done ++ taken_of (item ∷ [])) false)) s t
     item_told item wrote =
         let d = due_of head p in
         let apart = sink_apart can printed.represents_done in
         let b = says {go = true} p.sink d (whole d done false) (messages_of done) done calls apart (holds p.sink d calls done apart printed.wrote s) (message_of item) Went refl wrote tt in
-        made_so b (record { apart = apart; fewer = printed.wrote.fewer; is = ap (λ (list : List Taken). due p list false) (sym (map-append taken done (item ∷ []))); holds = order_more p.sink d done item (calls ++ b.calls) b.is.0 })
+        made_so b (record { apart = apart; fewer = printed.wrote.fewer; is = ap (λ (list : List Taken). due p list false) (sym (taken_append done (item ∷ []))); holds = order_more p.sink d done item (calls ++ b.calls) b.is.0 })
 
     pub end_told : Makes true p.sink calls (Told p.sink (due_of head p) done [] true (due p (taken_of done) true)) s s
     end_told =

@@ -1,5 +1,5 @@
 -- What an output of text gains, and how a run with it ends (this project's choice).
-use Rattle.std.specs.Prelude.{◌≡◌, ◌⊎◌, ℕ, Bool, true, false, List, [], ◌∷◌, ◌++◌, map, codes}
+use Rattle.std.specs.Prelude.{◌≡◌, ◌⊎◌, ℕ, Bool, true, false, List, [], ◌∷◌, ◌++◌, codes}
 use Rattle.log_model.specs.Prefix.{IsPrefix, IsProperPrefix}
 use Rattle.vio.specs.declared.world.TheConstants.{ERRORS}
 use Rattle.vio.specs.Touches.{IsOneOf}
@@ -11,14 +11,12 @@ use Rattle.text_printer.specs.declared.output.TextEnding.{TextEnding}
 use Rattle.text_printer.specs.declared.output.TextEnding.TheVariants as endings
 use Rattle.text_printer.specs.Messages.{messages_of}
 
--- an item, as it is grouped
-abbrev pub taken : Item → Taken
-taken (items.Unit u) = TakenUnit u
-taken (items.Overrun at seen) = Missed
-
--- items, as they are grouped
+-- items, as they are grouped. How many units an overrun cost is told, and groups nothing
 abbrev pub taken_of : List Item → List Taken
-taken_of met = map taken met
+taken_of [] = []
+taken_of (items.Unit u ∷ met) = TakenUnit u ∷ taken_of met
+taken_of (items.Overrun at seen ∷ met) = Missed ∷ taken_of met
+taken_of (items.Missed units ∷ met) = taken_of met
 
 -- what is due at an output: a text before all items; what is written of items behind that, where they are all or not; whether they complete as many groups as are kept; and the
 -- name that faults give the output

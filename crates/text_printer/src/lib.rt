@@ -2,8 +2,8 @@
 //!
 //! The items of a log go in. A `Printer` groups them, gives each group that is complete, and for which the query holds, to a
 //! consumer until that has as many as it keeps, and writes what the consumer hands out to a sink, after each item. A `TextOutput`
-//! is the output of a run over a printer: it writes a text before all items, and an overrun's message to standard error before
-//! the text that the overrun completes. No list of groups is kept, and nothing but the sink and standard error is written. The
+//! is the output of a run over a printer: it writes a text before all items, an overrun's message to standard error before the
+//! text that the overrun completes, and how many units it cost, once the reader goes on. No list of groups is kept, and nothing but the sink and standard error is written. The
 //! makers of messages are here for the crates above too.
 //!
 //! Start with `specs/Ends.antt`, and for the text that is due with `specs/Printer.antt`. Source: vsl-query(7), "Grouping" and
@@ -15,7 +15,6 @@ mod next;
 mod output;
 mod printer;
 
-pub use messages::{overrun_text, tell_both};
-pub use one_run::numbered;
+pub use messages::{missed_text, overrun_text, tell_both};
 pub use output::{TextEnding, TextOutput};
 pub use printer::{PrintFault, Printer};

@@ -1,9 +1,9 @@
 //! Lines for standard error, in pieces.
 
 ghost use Rattle.std.specs.Prelude.{◌≡◌, ◌++◌, IfOk};
-ghost use Rattle.text_printer.specs.Messages.{overrun_message, told};
+ghost use Rattle.text_printer.specs.Messages.{missed_message, overrun_message, told};
 
-use one_run::numbered;
+use one_command::numbered;
 use std::alloc::{AllocError, Global};
 
 /// A line of two texts, after the program's name.
@@ -23,4 +23,12 @@ pub fn overrun_text(alloc: Global, at: u64, seen: u64) -> Result<Vec<u8>, AllocE
 {
     let place = numbered(alloc, "log overrun at segment ", at, ", counter ")?;
     tell_both(alloc, &place, &numbered(alloc, "", seen, "")?)
+}
+
+/// The message of how many units were missed.
+pub fn missed_text(alloc: Global, units: u64) -> Result<Vec<u8>, AllocError>
+    ensures { IfOk result (λ v. v.items ≡ missed_message units) }
+{
+    let text = numbered(alloc, "missed ", units, " units")?;
+    tell_both(alloc, &text, b"")
 }

@@ -1,4 +1,4 @@
-//! An output of a run: a printer, with a text before all items, and the messages of overruns.
+//! An output of a run: a printer, with a text before all items, and the messages of overruns and of what they cost.
 
 ghost use Rattle.std.specs.Prelude.{◌≡◌, [], codes, OnOk, OnErr, IsErrOf};
 ghost use Rattle.log_model.specs.Faults.{HasNewFault};
@@ -7,14 +7,14 @@ ghost use Rattle.vio.specs.World.{Writing, Wrote};
 ghost use Rattle.vio.specs.Writes.{WroteOn};
 ghost use Rattle.text_printer.specs.Messages.{message_of};
 
-use crate::messages::overrun_text;
+use crate::messages::{missed_text, overrun_text};
 use crate::printer::{PrintFault, Printer};
+use log_model::Text;
 use one_run::Output;
 use ring_layout::Item;
 use std::alloc::Global;
 use vio::{ERRORS, NoMemory, World, WorldFault, write_all};
 use vsl_dispatch::{Consumer, Go};
-use vsl_select::Text;
 
 /// How a run ends with an output of text.
 #[derive(Debug, Drop)]
@@ -25,7 +25,7 @@ pub enum TextEnding {
     Kept,
     /// A write to the sink of this name failed.
     Unwritten(Text),
-    /// The message of an overrun couldn't be written.
+    /// The message of an overrun, or of how many units it cost, couldn't be written.
     Unreported,
 }
 
@@ -43,10 +43,16 @@ fn report<W: World>(alloc: Global, world: &mut W, item: &Item) -> Result<(), Wor
             };
             write_all(world, ERRORS, &text)
         }
+        Item::Missed { units } => {
+            let Ok(text) = missed_text(alloc, *units) else {
+                return Err(WorldFault::NoMemory);
+            };
+            write_all(world, ERRORS, &text)
+        }
     }
 }
 
-/// A printer, with a text that stands before all items, and the messages of overruns.
+/// A printer, with a text that stands before all items, and the messages of overruns and of what they cost.
 #[derive(Drop)]
 pub struct TextOutput<'q, C> {
     pub alloc: Global,
@@ -73,6 +79,8 @@ impl<'q, C: Consumer> Output for TextOutput<'q, C> {
     ghost is_new = { λ o. IsNew C.keep C.output C.represents o };
 
     ghost writes = { λ o. ERRORS ∷ (printer_state o.printer).sink ∷ [] };
+
+    ghost alone = { λ o. [] };
 
     ghost is_ready = { λ o world. CanPrint C.keep C.output C.represents (printer_state o.printer) world };
 

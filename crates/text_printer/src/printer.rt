@@ -10,6 +10,7 @@ ghost use Rattle.vsl_dispatch.specs.Entries.{is_live};
 ghost use Rattle.vsl_dispatch.specs.declared.entry.Entry.TheVariants.{Live};
 
 use crate::next::{Next, complete, give_all};
+use log_model::Text;
 use query_parser::Query;
 use ring_layout::Item;
 use std::alloc::Global;
@@ -19,7 +20,6 @@ use txn_rows::GroupOptions;
 use vio::{NoMemory, World, WorldFault, write_all};
 use vsl_dispatch::{Consumer, Entry, Go};
 use vsl_record::Unit;
-use vsl_select::Text;
 
 /// Why printing stopped.
 #[derive(Debug, Drop)]
@@ -77,7 +77,7 @@ pub struct Printer<'q, C> {
 
 impl<'q, C: Consumer> Printer<'q, C> {
     ghost use Rattle.text_printer.specs.Printer.{Plan, printer_state, Represents, IsSameSink, HasPrintCause, IsLeft, due, has_all, is_done};
-    ghost use Rattle.text_printer.specs.Ends.{taken};
+    ghost use Rattle.text_printer.specs.Ends.{taken_of};
     ghost use Rattle.text_printer.specs.inside.Next.{Advanced, due_with, is_end, item_of};
 
     /// A printer that was given nothing, and its consumer. It writes to the handle `sink`, whose name is `name`.
@@ -162,23 +162,24 @@ impl<'q, C: Consumer> Printer<'q, C> {
         self.sink.print(world, text)
     }
 
-    /// Takes an item: a unit, or an overrun, which completes what is pending. It writes what the consumer hands out of the groups that the
+    /// Takes an item: a unit, or an overrun, which completes what is pending; how many units were missed changes nothing. It writes what the consumer hands out of the groups that the
     /// item completed and for which the query holds. It is done with the item that completes the last group that is kept; no more may
     /// follow then.
     pub(crate) fn item<W: World>(&mut self, world: &mut W, item: &Item) -> Result<Go, PrintFault>
         requires named { IsTrue ((W.seen world.old).names Writing (printer_state self.old).sink (printer_state self.old).name) }
         ensures same { IsSameSink (printer_state self.old) (printer_state self.new) }
-        ensures takes { result ≡ Ok Go.More → (plan : Plan) (before : List Taken) → Represents C.keep C.output C.represents plan (printer_state self.old) before → Represents C.keep C.output C.represents plan (printer_state self.new) (before ++ taken item.now ∷ []) }
-        ensures done { IfOk result (λ go. (plan : Plan) (before : List Taken) → Represents C.keep C.output C.represents plan (printer_state self.old) before → has_all plan (before ++ taken item.now ∷ []) ≡ is_done go) }
+        ensures takes { result ≡ Ok Go.More → (plan : Plan) (before : List Taken) → Represents C.keep C.output C.represents plan (printer_state self.old) before → Represents C.keep C.output C.represents plan (printer_state self.new) (before ++ taken_of (item.now ∷ [])) }
+        ensures done { IfOk result (λ go. (plan : Plan) (before : List Taken) → Represents C.keep C.output C.represents plan (printer_state self.old) before → has_all plan before ≡ false → has_all plan (before ++ taken_of (item.now ∷ [])) ≡ is_done go) }
         ensures writes { OnOk result ((plan : Plan) (before : List Taken) → Represents C.keep C.output C.represents plan (printer_state self.old) before →
-            WroteOn plan.sink (due plan before false) (λ text. text ≡ due plan (before ++ taken item.now ∷ []) false) (W.seen world.old) (W.seen world.new)) }
+            WroteOn plan.sink (due plan before false) (λ text. text ≡ due plan (before ++ taken_of (item.now ∷ [])) false) (W.seen world.old) (W.seen world.new)) }
         ensures refused { IfErr result (λ f. (plan : Plan) (before : List Taken) → Represents C.keep C.output C.represents plan (printer_state self.old) before →
-            WroteOn plan.sink (due plan before false) (IsLeft f (due plan (before ++ taken item.now ∷ []) false)) (W.seen world.old) (W.seen world.new)) }
+            WroteOn plan.sink (due plan before false) (IsLeft f (due plan (before ++ taken_of (item.now ∷ [])) false)) (W.seen world.old) (W.seen world.new)) }
         ensures cause { IfErr result (λ f. HasPrintCause f (printer_state self.old).name (W.seen world.old) (W.seen world.new)) }
     {
         match item {
             Item::Unit(unit) => self.take(world, Next::Unit(unit)),
             Item::Overrun { .. } => self.take(world, Next::Missed),
+            Item::Missed { .. } => Ok(Go::More),
         }
     }
 

@@ -17,9 +17,13 @@ use Rattle.tool_consumers.specs.declared.layout.Layout.{Layout}
 use Rattle.tool_consumers.specs.declared.layout.Look.{Look}
 use Rattle.tool_consumers.specs.declared.layout.Layout.TheVariants.{Lines, Units}
 
+-- the lines of groups, verbose or not, one group after another
+abbrev pub lines_of : Bool → List Group → List ℕ
+lines_of verbose groups = flat_map (group_text verbose) groups
+
 -- what groups are written as, one after another: their lines, verbose or not, or the units of a log file
 abbrev pub written : Layout → Bool → List Group → List ℕ
-written Lines verbose groups = flat_map (group_text verbose) groups
+written Lines verbose groups = lines_of verbose groups
 written Units verbose groups = log_bytes (flat_map file_units groups)
 
 -- what groups look like: what of them is shown, as it is written
@@ -45,11 +49,23 @@ layout_of job = if writes_log job then Units else Lines
 abbrev pub look_of : Job → Look
 look_of job = record { layout = layout_of job; verbose = job.verbose; selection = showing_of job }
 
--- what a tool writes of a job's groups, ended or not: varnishlog what groups look like, varnishncsa their lines in the job's format, varnishtop its report; varnishstat, which takes no groups, nothing
+-- what varnishlog writes of groups as lines: those of what is shown of each
+abbrev pub log_lines : Job → List Group → List ℕ
+log_lines job groups = lines_of job.verbose (map (shown (showing_of job)) groups)
+
+-- what varnishncsa writes of groups: a line in the job's format for each of their requests that is logged
+abbrev pub access_lines : Job → List Group → List ℕ
+access_lines job groups = access_text (pieces_of (format_text job)) job.sides groups
+
+-- what varnishtop writes of groups, ended or not: a report of what is shown of them
+abbrev pub top_report : Job → List Group → Bool → List ℕ
+top_report job groups ended = top_output (showing_of job) job.first_field groups ended
+
+-- what a tool writes of a job's groups, ended or not: varnishlog what groups look like, varnishncsa their access lines, varnishtop its report; varnishstat, which takes no groups, nothing
 abbrev pub tool_output : Tool → Job → List Group → Bool → List ℕ
 tool_output tools.Log job = λ groups ended. laid_out (look_of job) groups
-tool_output tools.Ncsa job = λ groups ended. access_text (pieces_of (format_text job)) job.sides groups
-tool_output tools.Top job = λ groups ended. top_output (showing_of job) job.first_field groups ended
+tool_output tools.Ncsa job = λ groups ended. access_lines job groups
+tool_output tools.Top job = λ groups ended. top_report job groups ended
 tool_output tools.Stat job = λ groups ended. []
 
 -- what a job writes of groups, ended or not

@@ -59,7 +59,8 @@ pub fn count_cuts(counts: &mut CounterPass, counters: &Counters, cuts: u64)
     requires low { own_sum 18 counts.old + cuts ≤ ceiling }
     ensures same { counts.new.counters ≡ counts.old.counters }
     ensures whole { length counts.new.sums ≡ length counts.old.sums }
-    ensures counted { (which : ℕ) → which < counter_count → own_sum which counts.new ≡ own_sum which counts.old + cut_raise (slice_get causes which) cuts }
+    ensures counted { (which : ℕ) → which < counter_count → own_sum which counts.new
+        ≡ own_sum which counts.old + cut_raise (slice_get causes which) cuts }
 {
     add(counts, counters, CUTS, cuts);
 }
@@ -72,7 +73,8 @@ pub fn count_waits(counts: &mut CounterPass, counters: &Counters, waits: u64)
     requires low { own_sum 19 counts.old + waits ≤ ceiling }
     ensures same { counts.new.counters ≡ counts.old.counters }
     ensures whole { length counts.new.sums ≡ length counts.old.sums }
-    ensures counted { (which : ℕ) → which < counter_count → own_sum which counts.new ≡ own_sum which counts.old + wait_raise (slice_get causes which) waits }
+    ensures counted { (which : ℕ) → which < counter_count → own_sum which counts.new
+        ≡ own_sum which counts.old + wait_raise (slice_get causes which) waits }
 {
     add(counts, counters, WAITS, waits);
 }
@@ -85,7 +87,8 @@ pub fn count_wraps(counts: &mut CounterPass, counters: &Counters, wraps: u64)
     requires low { own_sum 20 counts.old + wraps ≤ ceiling }
     ensures same { counts.new.counters ≡ counts.old.counters }
     ensures whole { length counts.new.sums ≡ length counts.old.sums }
-    ensures counted { (which : ℕ) → which < counter_count → own_sum which counts.new ≡ own_sum which counts.old + wrap_raise (slice_get causes which) wraps }
+    ensures counted { (which : ℕ) → which < counter_count → own_sum which counts.new
+        ≡ own_sum which counts.old + wrap_raise (slice_get causes which) wraps }
 {
     add(counts, counters, WRAPS, wraps);
 }

@@ -156,7 +156,8 @@ impl Maker {
         requires few { k < request_end }
         requires tags { All (λ row. IsTag row.1) rows.now }
         requires cuts { self.old.gathering.cuts + length rows.now < 2 ^ 64 }
-        ensures state { OnOk result (self.new.gathering ≡ fold stepped self.old.gathering (flat_map (λ row. row_lines k x row.0 row.1 row.2.now row.3 row.4.now) rows.now)) }
+        ensures state { OnOk result (self.new.gathering ≡ fold stepped self.old.gathering
+            (flat_map (λ row. row_lines k x row.0 row.1 row.2.now row.3 row.4.now) rows.now)) }
         ensures few_cuts { OnOk result (self.new.gathering.cuts ≤ self.old.gathering.cuts + length rows.now) }
     {
         for row in rows {

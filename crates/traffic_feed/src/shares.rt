@@ -34,7 +34,8 @@ fn add_raise(sums: &mut Sums, which: u32, rec: &RecordView<'_>)
 /// Adds to each counter's sum what a record raises the counter by. Only the counters that its tag may raise are asked.
 fn add_raises(sums: &mut Sums, rec: &RecordView<'_>)
     requires low { (which : ℕ) → which < counter_count → slice_index sums.old which < 2 ^ 63 }
-    ensures { (which : ℕ) → which < counter_count → slice_index sums.new which ≡ slice_index sums.old which + raise_at (slice_get causes which) rec.now }
+    ensures { (which : ℕ) → which < counter_count → slice_index sums.new which
+        ≡ slice_index sums.old which + raise_at (slice_get causes which) rec.now }
 {
     add_raise(sums, RECORDS, rec);
     match rec.tag().number() {

@@ -69,11 +69,19 @@ pub fn run_workers<R: Threads + Wait + Sync, G: Gate>(
         rt,
         move || -> Fed
             requires { MayBegin ring.now counters.now worker }
-            ensures { IsFed ring.entry.now counters.entry.now worker.listing result × (result.left.number ≡ worker.pass.number) × WasAskedEach (G.was_asked gate.entry.now number) result.left.entries result.full }
+            ensures { IsFed ring.entry.now counters.entry.now worker.listing result
+                × (result.left.number ≡ worker.pass.number)
+                × WasAskedEach (G.was_asked gate.entry.now number) result.left.entries result.full }
         { work(rt, ring, counters, worker, number, gate) },
         move || -> Vec<Fed>
-            requires { IsSync R.row × AllReady ring.now counters.now workers.items × (room.items ≡ []) × (vec_len workers < vec_capacity room) × (vec_len workers < 2 ^ 32) }
-            ensures { AllFed ring.entry.now counters.entry.now (listings_of workers.items) result.items × (map (λ f. f.left.number) result.items ≡ map (λ w. w.pass.number) workers.items) × AllAsked (G.was_asked gate.entry.now) result.items × (vec_capacity result ≡ vec_capacity room) × (vec_len result ≡ vec_len workers) }
+            requires { IsSync R.row
+                × AllReady ring.now counters.now workers.items × (room.items ≡ [])
+                × (vec_len workers < vec_capacity room) × (vec_len workers < 2 ^ 32) }
+            ensures { AllFed ring.entry.now counters.entry.now
+                (listings_of workers.items) result.items
+                × (map (λ f. f.left.number) result.items ≡ map (λ w. w.pass.number) workers.items)
+                × AllAsked (G.was_asked gate.entry.now) result.items
+                × (vec_capacity result ≡ vec_capacity room) × (vec_len result ≡ vec_len workers) }
         { run_workers(rt, ring, counters, workers, room, gate) },
     );
     all.push_reserved(fed);

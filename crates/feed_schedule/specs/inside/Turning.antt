@@ -4,11 +4,13 @@ use Rattle.std.specs.Option.{option_map}
 use Rattle.vsl_record.specs.Unit.{LogUnit}
 use Rattle.vsl_record.specs.Views.{Spells}
 use Rattle.traffic_feed.specs.Turns.{next_draw}
+use Rattle.ring_layout.specs.declared.item.Item.{Item}
+use Rattle.ring_layout.specs.declared.item.Item.TheVariants as items
 use Rattle.feed_schedule.specs.declared.replay.Advanced.{Advanced}
 use Rattle.feed_schedule.specs.declared.replay.Advanced.TheVariants as answer
 use Rattle.feed_schedule.specs.declared.replay.Reading.{Reading as KeptReading}
 use Rattle.feed_schedule.specs.declared.replay.Reading.TheVariants as kept
-use Rattle.feed_schedule.specs.Schedule.{Event, TookUnit, WasOverrun, Reading, Reads, Waits, Ended, Stage, count_writers, is_reading, has_ended, met}
+use Rattle.feed_schedule.specs.Schedule.{Reading, Reads, Waits, Ended, Stage, count_writers, is_reading, has_ended, met}
 use Rattle.feed_schedule.specs.Replaying.{ReplayState, IsAt}
 use Rattle.feed_schedule.specs.Unread.{count_turns}
 
@@ -34,10 +36,10 @@ abbrev pub turns_to_come : ReplayState → ℕ
 turns_to_come r = 2 * count_turns r.writers + (if is_reading r.reading then 1 else 0)
 
 -- the reader met what a turn answers, between what was met before it and after it, and nothing where it answers nothing; what was taken stands in the cursor
-abbrev pub Adds : Option Advanced → ReplayState → List Event → List Event → Type 0
+abbrev pub Adds : Option Advanced → ReplayState → List Item → List Item → Type 0
 Adds None now before after = after ≡ before
-Adds (Some answer.Took) now before after = (u : LogUnit) × (after ≡ before ++ TookUnit u ∷ []) × Spells now.cursor.words u
-Adds (Some (answer.Overrun at seen)) now before after = after ≡ before ++ WasOverrun at seen ∷ []
+Adds (Some answer.Took) now before after = (u : LogUnit) × (after ≡ before ++ items.Unit u ∷ []) × Spells now.cursor.words u
+Adds (Some (answer.Overrun at seen missed)) now before after = after ≡ before ++ items.Overrun at seen ∷ items.Missed missed ∷ []
 Adds (Some answer.Ended) now before after = (after ≡ before) × (has_ended now.reading ≡ true)
 
 -- a turn that answers this leads from a stage to another

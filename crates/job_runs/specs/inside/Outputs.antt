@@ -4,8 +4,9 @@ use Rattle.vsl_record.specs.Unit.{LogUnit, Log}
 use Rattle.ring_layout.specs.declared.history.HistoryItem.{HistoryItem}
 use Rattle.query_parser.specs.declared.query.Query.{Query}
 use Rattle.traffic_feed.specs.declared.listing.Listing.{Listing}
-use Rattle.feed_schedule.specs.Schedule.{events_of}
-use Rattle.feed_schedule.specs.Replaying.{ReplayState, Represents}
+use Rattle.ring_layout.specs.Items.{items_of}
+use Rattle.run_sources.specs.declared.feed_items.FeedItems.{FeedItems}
+use Rattle.run_sources.specs.Sources.{HasToCome}
 use Rattle.tool_words.specs.declared.job.Job.{Job}
 use Rattle.txn_rows.specs.declared.group.Group.{Group}
 use Rattle.text_printer.specs.declared.output.TextOutput.{TextOutput}
@@ -25,9 +26,9 @@ pub record IsJobOutput {C : Type 0} (keep : C → Option ℕ) (output : C → Li
   pub head : o.head.items ≡ head_text job empty
   pub new : IsNew keep output represents o
 
--- what is to come of a replay is what a reader meets of these listings
-pub record IsFed (job : Job) (listings : List Listing) (replay : ReplayState) : Type 0 where
+-- what is to come of feeds is what a reader meets of these listings
+pub record IsFed (job : Job) (listings : List Listing) (feeds : FeedItems) : Type 0 where
   pub log : Log
   pub history : List (HistoryItem LogUnit)
   pub fed : AreFed job listings log history
-  pub represents : Represents replay (events_of history)
+  pub comes : HasToCome feeds (items_of history)

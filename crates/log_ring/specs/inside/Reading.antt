@@ -5,16 +5,16 @@ use Rattle.vsl_record.specs.Unit.{LogUnit}
 use Rattle.vsl_record.specs.Words.{IsUnit}
 use Rattle.ring_layout.specs.declared.history.HistoryItem.TheVariants.{UnitRun, Overrun}
 use Rattle.ring_layout.specs.Places.{overrun_distance, seek_distance, last_tail}
-use Rattle.ring_layout.specs.History.{HasRun, with_unit}
+use Rattle.ring_layout.specs.History.{HasRun, next_number, with_unit}
 use Rattle.log_ring.specs.declared.rule.RingKey.{RingKey}
 use Rattle.log_ring.specs.declared.rule.Unchecked.{Unchecked}
-use Rattle.log_ring.specs.declared.rule.Unchecked.TheVariants.{Nothing, Words, Start}
+use Rattle.log_ring.specs.declared.rule.Unchecked.TheVariants.{Nothing, Words, Start, Numbered}
 use Rattle.log_ring.specs.declared.rule.Observation.{Observation}
-use Rattle.log_ring.specs.declared.rule.Observation.TheVariants.{CounterSeen, FinishedSeen, WordSeen, StartSeen}
+use Rattle.log_ring.specs.declared.rule.Observation.TheVariants.{CounterSeen, FinishedSeen, WordSeen, StartSeen, NumberSeen}
 use Rattle.log_ring.specs.declared.rule.ReaderView.{ReaderView}
 use Rattle.log_ring.specs.declared.rule.View.{View}
 use Rattle.log_ring.specs.Readers.{new_reader}
-use Rattle.log_ring.specs.inside.Rule.{counter_word, first_start, finished_word, first_ring_word}
+use Rattle.log_ring.specs.inside.Rule.{counter_word, first_start, finished_word, first_number_word, first_ring_word}
 
 -- a reader that loaded the number of writers that left
 abbrev pub with_finished : ℕ → ReaderView → ReaderView
@@ -57,9 +57,24 @@ with_loaded c r = record r { loaded = c; observed = CounterSeen c ∷ r.observed
 abbrev pub with_start_of : ℕ → ReaderView → ReaderView
 with_start_of x r = record r { unchecked = Start (r.loaded - seek_distance) x; observed = StartSeen (r.loaded - seek_distance) x ∷ r.observed }
 
--- a reader that goes on at a place, where the k-th unit is due, in a segment
+-- the start that was loaded and not checked yet
+abbrev pub unchecked_start : Unchecked → ℕ
+unchecked_start (Start s x) = x
+unchecked_start (Numbered s x n) = x
+unchecked_start unchecked = 0
+
+-- and the number
+abbrev pub unchecked_number : Unchecked → ℕ
+unchecked_number (Numbered s x n) = n
+unchecked_number unchecked = 0
+
+-- a reader that loaded the number of that segment's first unit too
+abbrev pub with_number_of : ℕ → ReaderView → ReaderView
+with_number_of n r = record r { unchecked = Numbered (r.loaded - seek_distance) (unchecked_start r.unchecked) n; observed = NumberSeen (r.loaded - seek_distance) n ∷ r.observed }
+
+-- a reader that goes on at a place, where the k-th unit is due, in a segment: it missed the units behind its newest run and before that one
 abbrev pub with_run : ℕ → ℕ → ℕ → ℕ → ReaderView → ReaderView
-with_run s p k seen r = record r { place = p; number = k; lost = None; items = UnitRun (record { segment = s; first = k; units = [] }) ∷ r.items; unchecked = Nothing; loaded = seen; observed = CounterSeen seen ∷ r.observed; ended = false }
+with_run s p k seen r = record r { place = p; number = k; lost = None; items = UnitRun (record { segment = s; first = k; missed = k - next_number r.items; units = [] }) ∷ r.items; unchecked = Nothing; loaded = seen; observed = CounterSeen seen ∷ r.observed; ended = false }
 
 -- the first reader of a seat
 abbrev pub reader_of : View → ReaderView
@@ -75,6 +90,7 @@ IsOfLoad seg i x (CounterSeen c) = (i ≡ counter_word) × (c ≡ x)
 IsOfLoad seg i x (FinishedSeen n) = (i ≡ finished_word) × (n ≡ x)
 IsOfLoad seg i x (WordSeen p y) = (i ≡ first_ring_word + p % (8 * seg)) × (y ≡ x)
 IsOfLoad seg i x (StartSeen s p) = (i ≡ first_start + s % 8) × (p ≡ x)
+IsOfLoad seg i x (NumberSeen s n) = (i ≡ first_number_word + s % 8) × (n ≡ x)
 
 -- a reader found this load more, or nothing that it keeps
 abbrev pub Observes : ℕ → ℕ → ℕ → ReaderView → ReaderView → Type 0
@@ -113,7 +129,7 @@ FindsLap key x r after = (after ≡ with_lap key.seg x r) × (after.place ≤ la
 -- where it copied a unit: it takes the unit. Readers copy, and look at the counter after that: before nothing is said
 -- of the copy
 abbrev pub FindsUnit : (LogUnit → List ℕ) → RingKey → ℕ → ReaderView → ReaderView → Type 0
-FindsUnit words key x r after = (u : LogUnit) × IsUnit u × (unchecked_words r.unchecked ≡ words u) × HasRun r.items × (after ≡ with_taken (length (words u)) u x r) × (after.place ≤ last_tail)
+FindsUnit words key x r after = (u : LogUnit) × IsUnit u × (unchecked_words r.unchecked ≡ words u) × HasRun r.items × (r.number ≡ next_number r.items) × (after ≡ with_taken (length (words u)) u x r) × (after.place ≤ last_tail) × (after.number ≤ last_tail)
 
 -- where it found another word, it is overrun. Since that is proved, there is no answer for a damaged ring
 abbrev pub FindsNothing : RingKey → ℕ → ReaderView → ReaderView → Type 0
@@ -131,13 +147,13 @@ Looks key x r after = after ≡ with_loaded x r
 abbrev pub LoadsStart : RingKey → ℕ → ReaderView → ReaderView → Type 0
 LoadsStart key x r after = after ≡ with_start_of x r
 
--- the start that was loaded and not checked yet
-abbrev pub unchecked_start : Unchecked → ℕ
-unchecked_start (Start s x) = x
-unchecked_start unchecked = 0
+-- a load of the number of that segment's first unit
+abbrev pub LoadsNumber : RingKey → ℕ → ReaderView → ReaderView → Type 0
+LoadsNumber key x r after = after ≡ with_number_of x r
 
--- a check of a cursor that seeks: it is overrun, or goes on at the start of the segment
+-- a check of a cursor that seeks: it is overrun, or goes on at the start of the segment, where no unit is due that it took; it took a run before
 abbrev pub Seeks : RingKey → ℕ → ReaderView → ReaderView → Type 0
 Seeks key x r after =
     (((r.loaded - seek_distance) + overrun_distance ≤ x) × (after ≡ overrun_at (r.loaded - seek_distance) x r))
-    ⊎ ((x < (r.loaded - seek_distance) + overrun_distance) × ((k : ℕ) × (after ≡ with_run (r.loaded - seek_distance) (unchecked_start r.unchecked) k x r)) × (after.place ≤ last_tail))
+    ⊎ ((x < (r.loaded - seek_distance) + overrun_distance) × (0 < length r.items) × (next_number r.items ≤ unchecked_number r.unchecked) × (after ≡ with_run (r.loaded - seek_distance) (unchecked_start r.unchecked) (unchecked_number r.unchecked) x r)
+    × (after.place ≤ last_tail) × (after.number ≤ last_tail))

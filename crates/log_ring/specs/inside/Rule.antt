@@ -10,15 +10,16 @@ use Rattle.vsl_record.specs.Words.{IsUnit}
 use Rattle.ring_layout.specs.declared.history.HistoryItem.{HistoryItem}
 use Rattle.ring_layout.specs.declared.history.HistoryItem.TheVariants.{UnitRun, Overrun}
 use Rattle.ring_layout.specs.Places.{IsSegment, seek_distance, last_tail, end_mark, end_at, tail, segment_start, AreFit}
-use Rattle.ring_layout.specs.Content.{HoldsLog, HasStored}
+use Rattle.ring_layout.specs.Content.{HoldsLog, HoldsNumbers, HasStored}
+use Rattle.ring_layout.specs.inside.Numbers.{HasNumbered}
 use Rattle.ring_layout.specs.Copied.{IsDueAt, AreCopied}
-use Rattle.ring_layout.specs.History.{last_seen, IsReadBack}
+use Rattle.ring_layout.specs.History.{last_seen, first_number, IsReadBack}
 use Rattle.log_ring.specs.declared.rule.RingKey.{RingKey}
 use Rattle.log_ring.specs.declared.rule.WriterView.{WriterView}
 use Rattle.log_ring.specs.declared.rule.Progress.{Progress}
 use Rattle.log_ring.specs.declared.rule.Progress.TheVariants.{Free, Storing, Stored}
 use Rattle.log_ring.specs.declared.rule.Unchecked.{Unchecked}
-use Rattle.log_ring.specs.declared.rule.Unchecked.TheVariants.{Nothing, Words, Start}
+use Rattle.log_ring.specs.declared.rule.Unchecked.TheVariants.{Nothing, Words, Start, Numbered}
 use Rattle.log_ring.specs.declared.rule.ReaderView.{ReaderView}
 use Rattle.log_ring.specs.declared.rule.View.{View}
 use Rattle.log_ring.specs.Ring.{most_writers}
@@ -27,6 +28,10 @@ use Rattle.log_ring.specs.Closed.{entries_from, CursorStands, AreObserved}
 -- the word of the write token: the tail and one more, or 0 while a writer puts a unit. Readers load none of the seven behind it, so that writers have a cache line alone
 abbrev pub token_word : ℕ
 token_word = 0
+
+-- the word of the number of units of the log. Readers don't load it
+abbrev pub count_word : ℕ
+count_word = 1
 
 -- the word of the counter: the segment up to which a writer may be writing
 abbrev pub counter_word : ℕ
@@ -40,9 +45,13 @@ first_start = 9
 abbrev pub finished_word : ℕ
 finished_word = 17
 
+-- the first of the eight words that keep the numbers of segments' first units
+abbrev pub first_number_word : ℕ
+first_number_word = 18
+
 -- the first of the ring's words
 abbrev pub first_ring_word : ℕ
-first_ring_word = 24
+first_ring_word = 32
 
 -- what no word of the ring says
 pub record SharedState : Type 0 where
@@ -118,6 +127,12 @@ module _ (words : LogUnit → List ℕ) where
   IsToken seg log Free x = x ≡ tail words seg log + 1
   IsToken seg log progress x = x ≡ 0
 
+  -- the number of units of the log, and one more once the put in progress has counted its unit
+  abbrev pub IsCount : Log → Progress → ℕ → Type 0
+  IsCount log Free x = x ≡ length log
+  IsCount log (Storing p) x = x ≡ length log + p.counted
+  IsCount log (Stored p) x = x ≡ length log
+
   -- ---- 3 to 5. the counter is the tail's segment, or the coming tail's once that is announced; the starts of segments and the words of the ring that lie less than eight
   -- segments behind it are the log's (`HoldsLog`), and what the put in progress stored is the coming log's (`HasStored`)
 
@@ -128,6 +143,12 @@ module _ (words : LogUnit → List ℕ) where
       (p.tail ≡ tail words seg log) × (p.counter ≡ c) × ((c ≡ p.tail / seg) ⊎ ((c ≡ end_at seg p.tail (length (words p.unit)) / seg) × (c ≤ p.tail / seg + 2)))
       × (p.start ≤ c + 1) × HasStored words seg log p.unit p.start p.word p.mark ent word
   IsUnderWay seg log c (Stored p) ent word = (tail words seg log ≡ end_at seg p.tail (length (words p.unit))) × (c ≡ tail words seg log / seg)
+
+  -- what the put in progress loaded of the number of units, and the numbers of segments that it stored
+  abbrev pub IsNumbering : ℕ → Log → Progress → (ℕ → ℕ) → Type 0
+  IsNumbering seg log Free num = Unit {0}
+  IsNumbering seg log (Storing p) num = ((n : ℕ) → p.units ≡ Some n → n ≡ length log) × HasNumbered words seg log p.unit p.numbered num
+  IsNumbering seg log (Stored p) num = Unit {0}
 
   -- ---- 6. the writers that left are counted, and none of them puts a unit (`IsSeat.idle`, `HoldsOneLog.finished`)
 
@@ -143,6 +164,8 @@ module _ (words : LogUnit → List ℕ) where
       → AreCopied words key.seg log r.place r.number xs × (key.writers ≤ r.finished_seen → xs ≡ end_mark ∷ [] → r.number ≡ length log)
   IsUnchecked key log c r (Start s x) = (r.loaded ≤ s + seek_distance)
       × (c < s + 8 → (s ≤ tail words key.seg log / key.seg) × (segment_start words key.seg log s ≡ Some x))
+  IsUnchecked key log c r (Numbered s x n) = (r.loaded ≤ s + seek_distance)
+      × (c < s + 8 → (s ≤ tail words key.seg log / key.seg) × (segment_start words key.seg log s ≡ Some x) × (n ≡ first_number words key.seg log s))
 
   -- ---- 8. what a reader took is a history of the log, and its cursor stands where the history ends
 
@@ -175,6 +198,9 @@ module _ (words : LogUnit → List ℕ) where
     pub finished : slice_index ws finished_word ≡ w.finished  -- 6
     pub holds : HoldsLog words seg w.log w.counter (λ i. slice_index ws (first_start + i)) (λ i. slice_index ws (first_ring_word + i))  -- 4, 5
     pub under_way : IsUnderWay seg w.log w.counter w.progress (λ i. slice_index ws (first_start + i)) (λ i. slice_index ws (first_ring_word + i))  -- 3 to 5
+    pub count : IsCount w.log w.progress (slice_index ws count_word)  -- 2
+    pub numbers : HoldsNumbers words seg w.log w.counter (λ i. slice_index ws (first_number_word + i))  -- 4
+    pub numbering : IsNumbering seg w.log w.progress (λ i. slice_index ws (first_number_word + i))  -- 2, 4
     pub narrow : (i : ℕ) → slice_index ws (first_ring_word + i) < 2 ^ 32
     pub fit : AreFit words seg w.log
     pub units : AllByRecursion IsUnit w.log

@@ -67,21 +67,33 @@ IsPutAt ring table t u placed = (table ≡ ring.table) × IsPlaced ring.seg t (l
 abbrev pub with_progress : Progress → View → View
 with_progress progress v = record v { progress = progress }
 
--- the put of a unit at a tail, once the new tail's segment is announced
-abbrev pub announced : ℕ → ℕ → LogUnit → Put
-announced seg t u = record (begun unit_words seg t u) { counter = end_at seg t (length (unit_words u)) / seg }
+-- the put of a unit at a tail, once it is known that n units stand before it
+abbrev pub known : ℕ → ℕ → ℕ → LogUnit → Put
+known seg t n u = record (begun unit_words seg t u) { units = Some n }
 
--- once the starts of segments are stored
-abbrev pub started : ℕ → ℕ → LogUnit → Put
-started seg t u = record (announced seg t u) { start = end_at seg t (length (unit_words u)) / seg + 1 }
+-- once the new tail's segment is announced
+abbrev pub announced : ℕ → ℕ → ℕ → LogUnit → Put
+announced seg t n u = record (known seg t n u) { counter = end_at seg t (length (unit_words u)) / seg }
+
+-- once the starts of the segments below this one are stored, and the numbers of their first units
+abbrev pub starting : ℕ → ℕ → ℕ → LogUnit → ℕ → Put
+starting seg t n u s = record (announced seg t n u) { start = s; numbered = s }
+
+-- once those of all segments are stored
+abbrev pub started : ℕ → ℕ → ℕ → LogUnit → Put
+started seg t n u = starting seg t n u (end_at seg t (length (unit_words u)) / seg + 1)
 
 -- once the words of the unit are stored, but for the one at the tail
-abbrev pub written : ℕ → ℕ → LogUnit → Put
-written seg t u = record (started seg t u) { word = length (unit_words u) }
+abbrev pub written : ℕ → ℕ → ℕ → LogUnit → Put
+written seg t n u = record (started seg t n u) { word = length (unit_words u) }
 
 -- once the end mark is stored
-abbrev pub marked : ℕ → ℕ → LogUnit → Put
-marked seg t u = record (written seg t u) { mark = 1 }
+abbrev pub marked : ℕ → ℕ → ℕ → LogUnit → Put
+marked seg t n u = record (written seg t n u) { mark = 1 }
+
+-- once the unit is counted
+abbrev pub counted : ℕ → ℕ → ℕ → LogUnit → Put
+counted seg t n u = record (marked seg t n u) { counted = 1 }
 
 -- the first of a unit's start and end that lies in a segment that it enters
 abbrev pub first_of : ℕ → ℕ → ℕ → ℕ → ℕ
@@ -135,9 +147,9 @@ IsReaderOf ring table me = (table ≡ ring.table) × (me.0.readers ≡ reader_of
 abbrev pub IsReadingOf : RingSet → TableId → Me ℕ View → Type 0
 IsReadingOf ring table me = (table ≡ ring.table) × (me.0.readers ≡ reader_of me.0 ∷ []) × ((reader_of me.0).lost ≡ None)
 
--- what contracts see of the seat of one reader, and of the words that it copied last
-abbrev pub reader_seen : TableId → View → List ℕ → ReaderState
-reader_seen table v words = record { ring = set_of table v.ring; reader = reader_of v; words = words }
+-- what contracts see of the seat of one reader, and of the words that it copied last, which are those of the unit of this number
+abbrev pub reader_seen : TableId → View → List ℕ → ℕ → ReaderState
+reader_seen table v words taken = record { ring = set_of table v.ring; reader = reader_of v; words = words; taken = taken }
 
 -- the writer of a pass
 abbrev pub writer_in : WriterState → WriterView

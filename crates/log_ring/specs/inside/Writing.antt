@@ -1,5 +1,5 @@
 -- What a seat says after each step of a writer, when a pass is made, and when passes are joined (this project's choice).
-use Rattle.std.specs.Prelude.{◌≡◌, ℕ, ◌+◌, ◌-◌, ◌/◌, ◌<◌, ◌≤◌, ◌==◌, max, if◌then◌else◌, List, [], ◌∷◌, ◌++◌, length}
+use Rattle.std.specs.Prelude.{◌≡◌, ℕ, ◌+◌, ◌-◌, ◌/◌, ◌<◌, ◌≤◌, ◌==◌, max, if◌then◌else◌, List, [], ◌∷◌, ◌++◌, length, Some, None}
 use Rattle.atomic_table.specs.Table.{Me, Step}
 use Rattle.vsl_record.specs.Unit.{LogUnit}
 use Rattle.ring_layout.specs.Places.{last_tail}
@@ -21,7 +21,7 @@ first_entries (x ∷ xs) = x.entries
 module _ (words : LogUnit → List ℕ) where
   -- a put of the unit u by a writer that found the tail t
   abbrev pub begun : ℕ → ℕ → LogUnit → Put
-  begun seg t u = record { tail = t; unit = u; counter = t / seg; start = t / seg + 1; word = first_word words seg t (length (words u)); mark = 0 }
+  begun seg t u = record { tail = t; unit = u; units = None; counter = t / seg; start = t / seg + 1; numbered = t / seg + 1; word = first_word words seg t (length (words u)); mark = 0; counted = 0 }
 
   -- what a seat says when it swapped the write token, with the unit u to be put
   abbrev pub after_acquire : LogUnit → ℕ → View → View
@@ -60,6 +60,10 @@ abbrev pub with_entry : Progress → List WriterView → List WriterView
 with_entry (Storing p) (x ∷ xs) = record x { entries = x.entries ++ (p.tail, p.unit) ∷ [] } ∷ xs
 with_entry progress xs = xs
 
+-- what a seat says after it loaded the number of units of the log
+abbrev pub after_count : ℕ → View → View
+after_count n v = record v { progress = going_on (λ p. record p { units = Some n }) v.progress }
+
 -- what a seat says after it stored the counter
 abbrev pub after_announce : ℕ → View → View
 after_announce c v = record v { progress = going_on (λ p. record p { counter = c }) v.progress }
@@ -68,6 +72,10 @@ after_announce c v = record v { progress = going_on (λ p. record p { counter = 
 abbrev pub after_start : View → View
 after_start v = record v { progress = going_on (λ p. record p { start = p.start + 1 }) v.progress }
 
+-- after it stored the number of its first unit
+abbrev pub after_number : View → View
+after_number v = record v { progress = going_on (λ p. record p { numbered = p.numbered + 1 }) v.progress }
+
 -- after it stored a word of the unit
 abbrev pub after_word : View → View
 after_word v = record v { progress = going_on (λ p. record p { word = p.word + 1 }) v.progress }
@@ -75,6 +83,10 @@ after_word v = record v { progress = going_on (λ p. record p { word = p.word + 
 -- after it stored the end mark
 abbrev pub after_mark : View → View
 after_mark v = record v { progress = going_on (λ p. record p { mark = 1 }) v.progress }
+
+-- after it counted the unit
+abbrev pub after_counting : View → View
+after_counting v = record v { progress = going_on (λ p. record p { counted = 1 }) v.progress }
 
 -- after it stored the word at the old tail: the unit is put. It was the end mark, so a reader takes the unit when this
 -- word has changed, and not before
@@ -142,6 +154,10 @@ no_view = record { ring = record { seg = 0; writers = 0; readers = 0 }; writers 
 -- a step makes this of what the seat says, by the number found
 abbrev pub Makes : (ℕ → View → View) → Step ℕ → Me ℕ View → ℕ → Me ℕ View → Type 0
 Makes f st me found after = after ≡ (f found me.0, me.1)
+
+-- a load of the number of units of the log, which is at most the last tail
+abbrev pub LoadsCount : Step ℕ → Me ℕ View → ℕ → Me ℕ View → Type 0
+LoadsCount st me found after = (after ≡ (after_count found me.0, me.1)) × (found ≤ last_tail)
 
 module _ (words : LogUnit → List ℕ) where
   -- a swap of the write token: where it was free, the tail found is no smaller than the number of units that the writer put, and is at most the last; where it was taken,

@@ -22,7 +22,7 @@ returns-then-not-has_room-clause-short g c = λ start before first.
     let run = c.loop-met.invariant in let made = run.made start before first in short_late run.done made made.is.came made.is.prints
 
 pub loop-met-smaller : goal.loop-met-smaller
-loop-met-smaller g c = let room = c.has_room.ensures c.if-not-has_room.false in omega (arith, c.and-met.ensures.more, room.units, room.overruns)
+loop-met-smaller g c = let room = c.has_room.ensures c.if-not-has_room.false in omega (arith, c.and-met.ensures.more, room.units, room.items)
 
 pub item-requires : goal.item-requires
 item-requires g c =

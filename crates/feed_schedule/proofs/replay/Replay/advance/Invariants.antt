@@ -1,5 +1,6 @@
 use Rattle.std.proofs.Common.{◌≡◌, false, List}
-use Rattle.feed_schedule.specs.Schedule.{Event, has_ended}
+use Rattle.ring_layout.specs.declared.item.Item.{Item}
+use Rattle.feed_schedule.specs.Schedule.{has_ended}
 use Rattle.feed_schedule.specs.Replaying.{Represents}
 use Rattle.feed_schedule.specs.inside.Turning.{turns_to_come}
 use Rattle.feed_schedule.proofs.replay.Replay.advance.Given as goal
@@ -7,7 +8,7 @@ use Rattle.feed_schedule.proofs.replay.Replay.advance.Given as goal
 -- what was still to come is, and the reader hasn't ended
 abbrev pub invariant-loop-met : goal.invariant-loop-met
 invariant-loop-met l = record {
-  to_come : (events : List Event) → Represents l.fn.self events → Represents l.self events;
+  to_come : (more : List Item) → Represents l.fn.self more → Represents l.self more;
   goes_on : has_ended l.self.reading ≡ false;
 }
 

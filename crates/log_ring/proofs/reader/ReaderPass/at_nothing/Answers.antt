@@ -11,8 +11,8 @@ use Rattle.log_ring.proofs.reader.ReaderPass.at_nothing.Goals as goal
 pub returns-clause-answer : goal.returns-clause-answer
 returns-clause-answer g c =
     let words = words_in (take c.self.inside.used c.self.inside.bytes.items) in
-    let old : ReaderState = reader_seen c.self.inside.seat.table_id c.self.inside.seat.me.0 words in
-    let new : ReaderState = reader_seen c.check_nothing-seen.new.seat.table_id c.check_nothing-seen.new.seat.me.0 words in
+    let old : ReaderState = reader_seen c.self.inside.seat.table_id c.self.inside.seat.me.0 words c.self.inside.taken in
+    let new : ReaderState = reader_seen c.check_nothing-seen.new.seat.table_id c.check_nothing-seen.new.seat.me.0 words c.self.inside.taken in
     let key = c.self.inside.seat.me.0.ring in
     let x = c.check_nothing-seen.result in
     let seg = c.ring.invariant.1 ∙ (ap (λ z. z.seg) c.ring.view_is ∙ (sym (ap (λ z. z.seg) c.requires.ours) ∙ sym (ap (λ z. z.ring.seg) c.self.view_is))) in
@@ -22,6 +22,6 @@ returns-clause-answer g c =
 pub returns-clause-checked : goal.returns-clause-checked
 returns-clause-checked g c =
     let words = words_in (take c.self.inside.used c.self.inside.bytes.items) in
-    let old : ReaderState = reader_seen c.self.inside.seat.table_id c.self.inside.seat.me.0 words in
-    let new : ReaderState = reader_seen c.check_nothing-seen.new.seat.table_id c.check_nothing-seen.new.seat.me.0 words in
+    let old : ReaderState = reader_seen c.self.inside.seat.table_id c.self.inside.seat.me.0 words c.self.inside.taken in
+    let new : ReaderState = reader_seen c.check_nothing-seen.new.seat.table_id c.check_nothing-seen.new.seat.me.0 words c.self.inside.taken in
     subst (λ (o : ReaderState). HasChecked o new) c.self.view_is (nothing_checked c.self.inside.seat.me.0.ring c.check_nothing-seen.result old new c.check_nothing-seen.ensures.checked.1)

@@ -12,7 +12,7 @@ store-requires g c =
     let x_is = c.segment_of-counter.ensures ∙ ap (λ (z : ℕ). c.args.put.now.placed.tail / z) shape in
     let t_is = c.segment_of.ensures ∙ ap (λ (z : ℕ). c.args.put.now.tail / z) shape in
     let up = c.if-counter-segment_of.true in
-    (c.requires.placed.0 ∙ sym (ap (λ z. z.table) c.self.view_is), omega arith, announce_allowed _ _ seg _ _ c.args.put.now.tail c.args.put.now.unit.now c.args.put.now.placed _ _ c.requires.begun c.requires.placed.1 x_is (omega arith) c.requires.placed.2)
+    (c.requires.placed.0 ∙ sym (ap (λ z. z.table) c.self.view_is), omega arith, announce_allowed _ _ seg _ _ c.args.put.now.tail c.args.put.now.count c.args.put.now.unit.now c.args.put.now.placed _ _ c.requires.known c.requires.placed.1 x_is (omega arith) c.requires.placed.2)
 
 pub returns-else-counter-segment_of-clause-announced : goal.returns-else-counter-segment_of-clause-announced
 returns-else-counter-segment_of-clause-announced g c =
@@ -23,5 +23,5 @@ returns-else-counter-segment_of-clause-announced g c =
     let low = c.if-counter-segment_of.false in
     let least = c.self.invariant.2.0 in
     let same = same_segment c.args.self.now.seg c.args.put.now.tail c.args.put.now.unit.now c.args.put.now.placed (omega arith) c.requires.placed.1 (omega arith) in
-    let progress = c.requires.begun ∙ (λ i. Storing (record (announced c.args.self.now.seg c.args.put.now.tail c.args.put.now.unit.now) { counter = same i })) in
+    let progress = c.requires.known ∙ (λ i. Storing (record (announced c.args.self.now.seg c.args.put.now.tail c.args.put.now.count c.args.put.now.unit.now) { counter = same i })) in
     (λ i. (with_progress (progress i) c.args.seat.now.me.0, c.args.seat.now.me.1))

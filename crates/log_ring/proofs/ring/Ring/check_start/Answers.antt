@@ -6,4 +6,4 @@ pub load-requires : goal.load-requires
 load-requires c =
     let wide = c.self.invariant.0 in
     let least = c.self.invariant.2.0 in
-    (c.requires.reader.0 ∙ sym (ap (λ z. z.table) c.self.view_is), omega arith, seeks _ _ _ _ _ _ _ c.requires.reader.1 (omega arith) c.requires.lost c.requires.unchecked)
+    (c.requires.reader.0 ∙ sym (ap (λ z. z.table) c.self.view_is), omega arith, seeks _ _ _ _ _ _ _ _ c.requires.reader.1 (omega arith) c.requires.lost c.requires.unchecked)

@@ -24,8 +24,8 @@ load_more-next-requires-clause-at g c =
     let more = c.loop-word-test.true in
     let first = c.word_of-at.ensures in
     let there = in_lap c.args.place c.loop-word.word (8 * c.args.self.now.seg) (let room = c.requires.in_lap in omega arith) in
-    let here : c.word_of-at.result + c.loop-word.word ≡ 24 + (c.args.place + c.loop-word.word) % (8 * c.args.self.now.seg) = omega arith in
-    here ∙ sym (λ i. 24 + ((place ∙ sym mine) i + words i) % (8 * c.args.self.now.seg))
+    let here : c.word_of-at.result + c.loop-word.word ≡ 32 + (c.args.place + c.loop-word.word) % (8 * c.args.self.now.seg) = omega arith in
+    here ∙ sym (λ i. 32 + ((place ∙ sym mine) i + words i) % (8 * c.args.self.now.seg))
 
 pub loop-word-preserved : goal.loop-word-preserved
 loop-word-preserved g c =

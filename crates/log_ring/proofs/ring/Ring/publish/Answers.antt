@@ -10,4 +10,4 @@ store-requires g c =
     let there = c.word_of.ensures in
     let word = c.from.ensures in
     let small = c.last_word-word.type_inv in
-    (c.requires.placed.0 ∙ sym (ap (λ z. z.table) c.self.view_is), omega arith, publish_allowed _ _ seg _ _ c.args.put.now.tail c.args.put.now.unit.now c.args.put.now.placed _ _ _ _ (omega arith) c.is_unit.ensures c.requires.marked c.requires.placed.1 (omega arith) c.requires.placed.2 c.requires.one c.requires.stays there (word ∙ c.last_word-word.ensures) (omega arith))
+    (c.requires.placed.0 ∙ sym (ap (λ z. z.table) c.self.view_is), omega arith, publish_allowed _ _ seg _ _ c.args.put.now.tail c.args.put.now.count c.args.put.now.unit.now c.args.put.now.placed _ _ _ _ (omega arith) c.is_unit.ensures c.requires.counted c.requires.placed.1 (omega arith) c.requires.placed.2 c.requires.one c.requires.stays there (word ∙ c.last_word-word.ensures) (omega arith))

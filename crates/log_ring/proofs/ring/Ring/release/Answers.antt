@@ -5,4 +5,4 @@ use Rattle.log_ring.proofs.ring.Ring.release.Goals as goal
 pub store-requires : goal.store-requires
 store-requires g c =
     let wide = c.self.invariant.0 in
-    (c.requires.placed.0 ∙ sym (ap (λ z. z.table) c.self.view_is), omega arith, release_allowed _ _ (ap (λ z. z.seg) c.self.view_is) _ _ c.args.put.now.tail c.args.put.now.unit.now c.args.put.now.placed _ _ c.requires.stored c.requires.placed.1 refl)
+    (c.requires.placed.0 ∙ sym (ap (λ z. z.table) c.self.view_is), omega arith, release_allowed _ _ (ap (λ z. z.seg) c.self.view_is) _ _ c.args.put.now.tail c.args.put.now.count c.args.put.now.unit.now c.args.put.now.placed _ _ c.requires.stored c.requires.placed.1 refl)

@@ -8,4 +8,4 @@ store-requires g c =
     let seg = ap (λ z. z.seg) c.self.view_is in
     let least = c.self.invariant.2.0 in
     let there = c.word_of.ensures in
-    (c.requires.placed.0 ∙ sym (ap (λ z. z.table) c.self.view_is), omega arith, mark_allowed _ _ seg _ _ c.args.put.now.tail c.args.put.now.unit.now c.args.put.now.placed _ _ _ (omega arith) c.requires.written c.requires.placed.1 (omega arith) c.requires.placed.2 there c.from.ensures)
+    (c.requires.placed.0 ∙ sym (ap (λ z. z.table) c.self.view_is), omega arith, mark_allowed _ _ seg _ _ c.args.put.now.tail c.args.put.now.count c.args.put.now.unit.now c.args.put.now.placed _ _ _ (omega arith) c.requires.written c.requires.placed.1 (omega arith) c.requires.placed.2 there c.from.ensures)

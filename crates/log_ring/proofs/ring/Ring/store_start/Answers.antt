@@ -7,4 +7,4 @@ store-requires c =
     let wide = c.self.invariant.0 in
     let seg = ap (λ z. z.seg) c.self.view_is in
     let least = c.self.invariant.2.0 in
-    (c.requires.placed.0 ∙ sym (ap (λ z. z.table) c.self.view_is), omega arith, start_allowed _ _ seg _ _ c.args.put.now.tail c.args.put.now.unit.now c.args.put.now.placed _ _ c.args.segment _ (omega arith) c.requires.started c.requires.placed.1 c.requires.placed.2 c.requires.above c.requires.upto c.requires.place refl)
+    (c.requires.placed.0 ∙ sym (ap (λ z. z.table) c.self.view_is), omega arith, start_allowed _ _ seg _ _ c.args.put.now.tail c.args.put.now.count c.args.put.now.unit.now c.args.put.now.placed _ _ c.args.segment _ (omega arith) c.requires.started c.requires.placed.1 c.requires.placed.2 c.requires.above c.requires.upto c.requires.place refl)

@@ -9,4 +9,4 @@ store-requires c =
     let least = c.self.invariant.2.0 in
     let word = c.from.ensures in
     let small = c.ranges.word in
-    (c.requires.placed.0 ∙ sym (ap (λ z. z.table) c.self.view_is), omega arith, word_allowed _ _ seg _ _ c.args.put.now.tail c.args.put.now.unit.now c.args.put.now.placed _ _ c.args.place _ (omega arith) c.requires.started c.requires.placed.1 c.requires.placed.2 c.requires.inside c.requires.behind c.requires.at (word ∙ c.requires.word) (omega arith))
+    (c.requires.placed.0 ∙ sym (ap (λ z. z.table) c.self.view_is), omega arith, word_allowed _ _ seg _ _ c.args.put.now.tail c.args.put.now.count c.args.put.now.unit.now c.args.put.now.placed _ _ c.args.place _ (omega arith) c.requires.started c.requires.placed.1 c.requires.placed.2 c.requires.inside c.requires.behind c.requires.at (word ∙ c.requires.word) (omega arith))

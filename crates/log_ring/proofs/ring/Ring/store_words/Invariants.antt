@@ -9,7 +9,7 @@ use Rattle.log_ring.proofs.ring.Ring.store_words.Given as goal
 abbrev pub invariant-loop-place : goal.invariant-loop-place
 invariant-loop-place g l =
     (l.seat.table_id ≡ l.initial.seat.table_id)
-    × (l.seat.me ≡ (with_progress (Storing (record (started l.self.seg l.put.tail l.put.unit.now) { word = l.place })) l.initial.seat.me.0, l.initial.seat.me.1))
+    × (l.seat.me ≡ (with_progress (Storing (record (started l.self.seg l.put.tail l.put.count l.put.unit.now) { word = l.place })) l.initial.seat.me.0, l.initial.seat.me.1))
     × (first_word unit_words l.self.seg l.put.tail (length (unit_words l.put.unit.now)) ≤ l.place)
     × (l.place ≤ length (unit_words l.put.unit.now))
     × (l.words ≡ drop l.place (unit_words l.put.unit.now))

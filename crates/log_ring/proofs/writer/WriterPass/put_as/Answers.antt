@@ -1,6 +1,9 @@
-use Rattle.std.proofs.Common.{◌-◌, true, false, not, sym, ap, refl, ◌∙◌, arith}
+use Rattle.std.proofs.Common.{ℕ, ◌-◌, true, false, not, sym, ap, refl, ◌∙◌, arith}
 use Rattle.ring_layout.specs.Places.{stays}
+use Rattle.atomic_table.specs.Table.{Me}
+use Rattle.log_ring.specs.declared.rule.View.{View}
 use Rattle.log_ring.specs.inside.Writing.{first_entries}
+use Rattle.log_ring.specs.inside.Steps.{with_put}
 use Rattle.log_ring.proofs.WriterLemmas.{wrapped_short, put_seat, count_put, not_false, not_true}
 use Rattle.log_ring.proofs.writer.WriterPass.put_as.Goals as goal
 
@@ -17,7 +20,7 @@ overflow_add-self g c =
 pub invariant_of-self-then-placed : goal.invariant_of-self-then-placed
 invariant_of-self-then-placed g c =
     let got = c.if-token-eq0.false in
-    let put = put_seat _ _ _ c.acquire-token.result _ _ _ c.self.invariant.0 c.acquire-token.ensures.taken (λ e. omega arith) c.store.ensures.put in
+    let put = put_seat _ _ _ c.acquire-token.result _ _ _ c.self.invariant.0 c.acquire-token.ensures.taken (λ e. omega arith) (c.store.ensures.put ∙ ap (λ (m : Me ℕ View). (with_put (c.acquire-token.result - 1) c.args.unit.now m.0, m.1)) c.load_count-count.ensures.known) in
     let seg = ap (λ z. z.ring.seg) c.self.view_is ∙ ap (λ z. z.seg) c.requires.ours in
     let shape = c.ring.invariant.1 ∙ (ap (λ z. z.seg) c.ring.view_is ∙ sym seg) in
     let stay = not_true (sym c.if-placed.true ∙ (c.in-Some.ensures.wraps ∙ (λ i. not (stays (shape i) (c.acquire-token.result - 1) ((c.requires.words ∙ refl) i))))) in
@@ -26,7 +29,7 @@ invariant_of-self-then-placed g c =
 pub invariant_of-self-else-placed : goal.invariant_of-self-else-placed
 invariant_of-self-else-placed g c =
     let got = c.if-token-eq0.false in
-    let put = put_seat _ _ _ c.acquire-token.result _ _ _ c.self.invariant.0 c.acquire-token.ensures.taken (λ e. omega arith) c.store.ensures.put in
+    let put = put_seat _ _ _ c.acquire-token.result _ _ _ c.self.invariant.0 c.acquire-token.ensures.taken (λ e. omega arith) (c.store.ensures.put ∙ ap (λ (m : Me ℕ View). (with_put (c.acquire-token.result - 1) c.args.unit.now m.0, m.1)) c.load_count-count.ensures.known) in
     let seg = ap (λ z. z.ring.seg) c.self.view_is ∙ ap (λ z. z.seg) c.requires.ours in
     let shape = c.ring.invariant.1 ∙ (ap (λ z. z.seg) c.ring.view_is ∙ sym seg) in
     let stay = not_false (sym c.if-placed.false ∙ (c.in-Some.ensures.wraps ∙ (λ i. not (stays (shape i) (c.acquire-token.result - 1) ((c.requires.words ∙ refl) i))))) in

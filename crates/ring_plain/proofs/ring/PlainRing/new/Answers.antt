@@ -6,4 +6,4 @@ use Rattle.ring_plain.proofs.ring.PlainRing.new.Goals as goal
 pub returns-clause-empty : goal.returns-clause-empty
 returns-clause-empty c =
     let bytes = c.in_ok-empty_words.ensures in
-    new_log _ (search rules) refl (omega (arith, length-words_in c.in_ok-empty_words.field-0.items, bytes.size)) refl refl refl refl bytes.mark
+    new_log _ (search rules) refl refl (omega (arith, length-words_in c.in_ok-empty_words.field-0.items, bytes.size)) refl refl refl refl refl refl bytes.mark
