@@ -39,7 +39,7 @@ _vtools_options() {
         ;;
     vslog)
         takes=(
-            [-t]=flag [-a]=flag [-q]=flag [-w]=file [--strict]=flag
+            [-t]=flag [-w]=file [-a]=flag [-q]=flag [--strict]=flag
         )
         ;;
     # made until here

@@ -1,8 +1,8 @@
 #!/usr/bin/env python3
 """Makes what completion/ has of the tables of the source, for command lines of vtools and vslog in bash, zsh and fish.
 
-Options, their values and what is said of them are those of tool_words, without the options that are left out, and of
-vslog those that it reads, as its help has them; tags are those of vsl_tags, counters those of vsl_stat, formatters
+Commands and options, their values and what is said of them are those of tool_words, without the options that are left
+out, and those of vslog; tags are those of vsl_tags, counters those of vsl_stat, formatters
 those of ncsa_format, and what compares in a query that of query_parser. In the files they stand between two comments.
 With --write these are written. Without it nothing is: it is said whether the files have what would be written, and the
 status is 1 where one doesn't.
@@ -24,7 +24,10 @@ FORMATTERS = CRATES / "ncsa_format/src/formatter.rt"
 FORMAT = CRATES / "ncsa_format/src/format.rt"
 COMPARISONS = CRATES / "query_parser/src/operator.rt"
 # what is offered as the value of an option, by the value's name in the help, or else by its form; else nothing
-OF_VALUE = {"FILE": "file", "TAGLIST": "tag", "RULE": "rule", "GLOB": "counter", "FORMAT": "format", "TEXT": "query"}
+OF_VALUE = {
+    **{"FILE": "file", "OUT": "file", "TAGLIST": "tag", "RULE": "rule", "GLOB": "counter"},
+    **{"FORMAT": "format", "TEXT": "query"},
+}
 OF_FORM = {"AnyGrouping": "grouping", "AccessGrouping": "access_grouping"}
 # the words that are offered with what they are, or in longer texts
 LISTED = (*OF_FORM.values(), "tag", "counter", "formatter", "comparison")
@@ -44,20 +47,9 @@ def told(option):
     return re.split(r"[;:.] |, as in ", text)[0].removesuffix(".")
 
 
-def taken(tool):
-    """Each option of a tool: its name, what it takes, the name of its value, and what it does."""
-    return [(option.name, kind_of(option), option.value, told(option)) for option in options.here(tool)]
-
-
-def taken_by_vslog():
-    """The same of vslog."""
-    text = options.HELP.search(options.VSLOG_HELP.read_text())[3]
-    rows = {name: (value, does) for name, value, does in re.findall(r"^  (--?\w+) ?([A-Z]*)  +(.*)$", text, re.M)}
-    read = options.of_vslog()
-    if not all(name in rows and bool(rows[name][0]) == has_value for name, has_value in read.items()):
-        sys.exit("completion: the help of vslog has not each of its options")
-    told = {name: (rows[name][0], re.split("[;,] ", rows[name][1])[0]) for name in read}
-    return [(name, "file" if value else "flag", value, does) for name, (value, does) in told.items()]
+def taken(command):
+    """Each option of a command: its name, what it takes, the name of its value, and what it does."""
+    return [(option.name, kind_of(option), option.value, told(option)) for option in options.here(command)]
 
 
 def feeding():
@@ -111,9 +103,8 @@ def words():
     counters = table_rows(COUNTERS, "static COUNTERS: [(&str, &str)", r'^    \("([\w.]+)", "([^"]*)"\),$')
     tags = table_rows(TAGS, "static COLUMNS: [&str", r'^    "(\w+) *",$')
     comparisons = re.findall(r'^        b"(\S+)" => Operator::', COMPARISONS.read_text(), re.M)
-    text = options.HELP.search(options.HELPS.read_text())[3]
     return {
-        "tool": {tool: options.does_of(text, tool) for tool in options.TOOLS},
+        "tool": {name: command.does for name, command in options.all_commands().items()},
         "feed": dict.fromkeys(feeding()),
         **{OF_FORM[form]: form_words(form) for form in OF_FORM},
         "tag": dict.fromkeys(tags),
@@ -139,6 +130,12 @@ def lines(rows, indent):
     return "\n".join(" " * indent + row for row in rows)
 
 
+def array(name, made, indent):
+    """An array of bash and zsh, in lines that are indented."""
+    blanks = " " * indent
+    return f"{blanks}{name}=(\n{made}\n{blanks})" if made else f"{blanks}{name}=()"
+
+
 def case_of(branches):
     """The branches of a `case`, each with its lines."""
     return "\n".join(f"    {pattern})\n{made}\n        ;;" for pattern, made in branches.items())
@@ -147,7 +144,7 @@ def case_of(branches):
 def for_bash(rows, kinds):
     """What the completion for bash has."""
     taken = {tool: wrapped((f"[{name}]={kind}" for name, kind, _, _ in rows[tool]), 12) for tool in rows}
-    options = {'""' if tool == "vtools" else tool: f"        takes=(\n{taken[tool]}\n        )" for tool in rows}
+    options = {'""' if tool == "vtools" else tool: array("takes", taken[tool], 8) for tool in rows}
     words = {kind: wrapped([f"words='{' '.join(kinds[kind])}'"], 8) for kind in kinds}
     return {"options": case_of(options), "words": case_of(words)}
 
@@ -164,7 +161,7 @@ def zsh_option(name, kind, value, does):
 def zsh_array(name, words):
     """Words as an array, each with what it is behind a colon."""
     told = [quoted(word.replace(":", "\\:") + (f":{does}" if does else "")) for word, does in words.items()]
-    return f"    {name}=(\n{lines(told, 8) if any(words.values()) else wrapped(told, 8)}\n    )"
+    return array(name, lines(told, 8) if any(words.values()) else wrapped(told, 8), 4)
 
 
 def for_zsh(rows, kinds):
@@ -172,7 +169,7 @@ def for_zsh(rows, kinds):
     rows = {"feed": [row for row in rows["vtools"] if row[0] in kinds["feed"]], **rows}
     made = {tool: lines((zsh_option(*row) for row in rows[tool]), 12) for tool in rows}
     arrays = [zsh_array(f"{kind}s", kinds[kind]) for kind in ("tool", "feed", *LISTED)]
-    options = {tool: f"        specs=(\n{made[tool]}\n        )" for tool in rows}
+    options = {tool: array("specs", made[tool], 8) for tool in rows}
     return {"options": case_of(options), "words": "\n".join(arrays)}
 
 
@@ -218,7 +215,7 @@ def for_vslog(rows, kinds):
 def all_made():
     """Each file of completion/, with its text."""
     kinds = words()
-    rows = {tool: taken(tool) for tool in ("vtools", *options.TOOLS)} | {"vslog": taken_by_vslog()}
+    rows = {command: taken(command) for command in ("vtools", *options.COMMANDS, "vslog")}
     files = {"vtools.bash": for_bash, "_vtools": for_zsh, "vtools.fish": for_fish, "vslog.fish": for_vslog}
     for name, made in files.items():
         indent = "" if name.endswith(".fish") else "    "

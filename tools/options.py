@@ -1,51 +1,61 @@
 #!/usr/bin/env python3
-"""The options of the tools, from the rows of crates/tool_words/src/options.rt and the lines above each row.
+"""The commands and the options of vtools and vslog, from rows of the source and the lines above each row.
 
-Usage: tools/options.py            prints a line of tool, option and kind for each
+Usage: tools/options.py            prints a line of command, option and kind for each
        tools/options.py --write    writes what is made of the rows
        tools/options.py --check    says whether that stands as it would be written; the status is 1 where it doesn't
 
-Made are the usage and the paragraphs of options in the help, which is `HELP` in crates/vtools/src/help.rt; of these,
-and of the sentence and the example that the help has of a tool, the help of each tool there; the cases of all these,
-and of vslog's help; the tables of docs/formats/command-line.md and of docs/COMING_FROM_VARNISH.md; and SYNOPSIS and
-OPTIONS of docs/man/*.1. In documents they stand between two comments. tools/completion.py makes the completion of the
-same rows, tools/tables.py the tables of docs/formats that are of no options.
+The rows stand in commands.rt and options.rt of crates/tool_words/src, and those of vslog in options.rt of
+crates/vslog/src. Made are, in help.rt of crates/vtools/src, of `HELP` the usage, the paragraph of sentences, those of
+options and the examples, and the help of each command; of vslog's help its usage, sentence, example and options; the
+cases of all these; the tables of docs/formats/command-line.md and of docs/COMING_FROM_VARNISH.md; and SYNOPSIS and
+OPTIONS of docs/man/*.1. In helps of commands and in documents they stand between two comments. tools/completion.py
+makes the completion of the same rows, tools/tables.py the tables of docs/formats that are of no options.
 
-The tool is `vtools` for the options before the tool. The kind is `flag`, `value` (the option takes one) or `absent` (an
-option of Varnish that is left out). Lines above a row: `OPTION VALUE` and what the help says of it, in the help's own
-lines; `page:` for the man pages; `varnish:` for how it is beside Varnish's own, for each tool or for all, and how it
-differs; `instead:` for what to do where it is left out. A text goes on in lines that are indented. A line that ends
-with a colon, and an empty one, begin a paragraph of the help. What the help says of an option is said of all rows of
-its name that have no such lines; what ends with `; not of TOOL` is left out of the help of this tool. It proves
-nothing.
+For the options before the command the command is `vtools`. The kind is `flag`, `value` (the option takes one) or
+`absent` (an option of Varnish that is left out).
+
+Lines above a command: `usage:` the whole command line, with a letter or a name in the place of each option; `does:`
+what it does, as a sentence without its name and its full stop; `behind:` what the program's help says behind this
+sentence; `example:` a command line, and below it what that prints. A program without commands has them too. What stands
+before the tool is `[OPTIONS]` there; its own usage stands above its table.
+
+Lines above an option: `OPTION VALUE` and what the help says of it, in the help's own lines; `page:` for the man pages;
+`varnish:` for how it is beside Varnish's own, for each tool or for all, and how it differs; `instead:` for what to do
+where it is left out. A text goes on in lines that are indented. A line that ends with a colon, and an empty one, begin
+a paragraph of the help. What the help says of an option is said of all rows of its name that have no such lines; what
+ends with `; not of TOOL` is left out of the help of this tool. It proves nothing.
 """
 
+import functools
 import re
 import sys
 import textwrap
 from pathlib import Path
 
 TOP = Path(__file__).resolve().parent.parent
-SOURCE = TOP / "crates/tool_words/src/options.rt"
-HELPS = TOP / "crates/vtools/src/help.rt"
+CRATES = TOP / "crates"
+COMMAND_SOURCE = CRATES / "tool_words/src/commands.rt"
+SOURCE = CRATES / "tool_words/src/options.rt"
+SOURCES = {"vtools": SOURCE, "vslog": CRATES / "vslog/src/options.rt"}
+HELPS = {"vtools": CRATES / "vtools/src/help.rt", "vslog": CRATES / "vslog/src/help.rt"}
 COMMAND_LINE = TOP / "docs/formats/command-line.md"
 COMING_FROM = TOP / "docs/COMING_FROM_VARNISH.md"
-TOOLS = ("varnishlog", "varnishncsa", "varnishtop", "varnishstat")
-PAGES = {tool: TOP / f"docs/man/vtools-{tool}.1" for tool in TOOLS} | {"vtools": TOP / "docs/man/vtools.1"}
-VSLOG_WORDS = TOP / "crates/vslog/src/words.rt"
-VSLOG_HELP = TOP / "crates/vslog/src/answers.rt"
 HELP_COLUMNS = 80
+OPTION_COLUMNS = {"vtools": 20, "vslog": 12}  # where the help says what an option does
 KINDS = {"Flag": "flag", "Value": "value", "NotHere": "absent"}
-SETS = re.compile(r"^const (\w+): Tools = \(([a-z, ]+)\);$", re.M)
-USAGE = re.compile(r"^/// usage: (\w+) (.*)$", re.M)
-NAME = re.compile(r"--[a-z-]+|[A-Za-z1]")
-TABLE = re.compile(r"^pub static (LETTERS|WORDS): \[[^\n]*; (\d+)\] = \[\n(.*?)^\];", re.M | re.S)
-ROW = re.compile(r"\((?:b'(.)', (\w+)|\"(--[a-z-]+)\"), (\w+)(?:\(Choice::(\w+)(?:, (?:Form::)?(\w+)(?:\(\d+\))?)?\))?\),")
-LABEL = re.compile(r"(`[^`]*`|page:|varnish:|instead:)(?: |$)")
+VARIANT = re.compile(r"Command::\w+(?:\(\w+::\w+\))?")
+SETS = re.compile(r"^const (\w+): Commands = &\[(.*?)\];$", re.M | re.S)
+USAGE = re.compile(r"^/// usage: (\w+ .*)$", re.M)
+NAME = re.compile(r"--[a-z-]+|(?<![\w-])[A-Za-z1](?![\w-])|[A-Z]{2,}")
+TABLE = re.compile(r"^pub static ([A-Z]+): \[[^\n]*; (\d+)\] = \[\n(.*?)^\];", re.M | re.S)
+PROGRAM = re.compile(r'((?:^// [^\n]*\n)+)/// [^\n]*\npub const PROGRAM: &str = ("\w+");$', re.M)
+ROW = re.compile(r"\((?:b'(.)'|\"([\w-]+)\"), (?:(\w+), )?([A-Z].*)\),")
+MEANING = re.compile(r"(\w+)(?:\(Choice::(\w+)(?:, (?:Form::)?(\w+)(?:\(\d+\))?)?\))?|Choice::(\w+)")
+LABEL = re.compile(r"(`[^`]*`|\w+:)(?: |$)")
 FORM = re.compile(r"^    /// ([^\n]*)\.\n    (\w+)(?:\(u32\))?,$", re.M)
 RANGE = re.compile(r"^        Choice::(\w+) => \(([\d_]+), ([\d_]+)\),$", re.M)
-HELP = re.compile(r'^((?:pub )?const (\w*?)_?HELP: &str = "\\\n)(.*?)(?=^";$)', re.M | re.S)
-EXAMPLE = re.compile(r"^  (vtools [^\n]*)\n      ([^\n]*)$", re.M)
+HELP = re.compile(r'^(pub const HELP: &str = "\\\n)(.*?)(?=^";$)', re.M | re.S)
 
 
 def refuse(what):
@@ -53,29 +63,76 @@ def refuse(what):
     sys.exit(f"options: {what}")
 
 
-class Option:
-    """A row: its tools, name, kind, choice, form and texts, and the paragraph of the help that it stands in."""
+def in_source(path):
+    """The name of a file for a message."""
+    return path.relative_to(CRATES)
 
-    def __init__(self, line, comments, sets, paragraph):
-        found = ROW.fullmatch(line) or refuse(f"{SOURCE.name}: a row has another form: {line}")
-        letter, having, word, kind, self.choice, self.form = found.groups()
-        self.tools = sets[having] if letter else ("vtools",)
-        self.name = word or f"-{letter}"
-        self.kind = KINDS[kind]
-        self.paragraph = paragraph
-        self.texts = {}
+
+class Row:
+    """A row: its name, and the texts above it by their labels."""
+
+    LABELS = ()
+
+    def __init__(self, path, name, comments):
+        self.name, self.texts = name, {}
         for comment in comments:
-            if comment.startswith("  "):
+            if comment.startswith("  ") and self.texts:
                 last.append(comment.strip())
                 continue
-            label = LABEL.match(comment) or refuse(f"{SOURCE.name}: above {self.name}: {comment}")
+            label = LABEL.match(comment)
+            if not label or label[1] in self.texts or (label[1] not in self.LABELS and label[1][0] != "`"):
+                refuse(f"{in_source(path)}: above {name}: {comment}")
             last = self.texts[label[1]] = [comment[label.end() :]] if label.end() < len(comment) else []
-        self.helps = {label.strip("`"): lines for label, lines in self.texts.items() if label[0] == "`"}
-        self.value = next(iter(self.helps), "").partition(" ")[2]
 
     def of(self, label):
         """A text of the row, as one line."""
         return " ".join(self.texts.get(label, []))
+
+
+class Command(Row):
+    """A command of vtools, or a program without commands: its usage, what it does, and an example."""
+
+    LABELS = ("usage:", "does:", "behind:", "example:")
+
+    def __init__(self, path, name, variant, comments):
+        super().__init__(path, name, comments)
+        self.variant, self.does = variant, self.of("does:")
+        self.usage = self.of("usage:")
+        lacks = [label for label in self.LABELS if not self.of(label) and label != "behind:"]
+        if lacks or not re.match(rf"(vtools .*)?\b{name}\b", self.usage) or len(self.texts["example:"]) < 2:
+            refuse(f"{in_source(path)}: above {name}: no {', '.join(lacks) or 'usage or example in full'}")
+        self.run, *printed = self.texts["example:"]
+        self.prints = " ".join(printed)
+        self.is_tool = "[OPTIONS]" in self.usage
+        self.has_log = self.is_tool and "-r" in names_of(name)
+
+    def constant(self):
+        """The name of its help in the source."""
+        return re.findall(r"\w+", self.variant)[-1].upper() + "_HELP"
+
+    def sentence(self):
+        """What it does, as a sentence."""
+        return f"{self.name} {self.does}."
+
+    def example(self):
+        """Its example, as the help has it."""
+        return f"  {self.run}\n      {self.prints}"
+
+
+class Option(Row):
+    """A row: its tools, name, kind, choice, form and texts, and the paragraph of the help that it stands in."""
+
+    LABELS = ("page:", "varnish:", "instead:")
+
+    def __init__(self, path, found, comments, having, paragraph):
+        letter, word, _, meaning = found
+        super().__init__(path, word or f"-{letter}", comments)
+        self.tools, self.paragraph = having, paragraph
+        self.helps = {label.strip("`"): lines for label, lines in self.texts.items() if label[0] == "`"}
+        self.value = next(iter(self.helps), "").partition(" ")[2]
+        kind, self.choice, self.form, choice = MEANING.fullmatch(meaning).groups()
+        self.choice = self.choice or choice
+        self.kind = KINDS[kind] if kind else "value" if self.value else "flag"
 
     def does(self):
         """What the option does, as the help has it."""
@@ -87,41 +144,77 @@ class Option:
         return f"{self.name} {self.value}".strip()
 
 
-def all_options():
-    """The options of both tables."""
-    text, options, paragraph = SOURCE.read_text(), [], 0
-    sets = {
-        name: tuple(tool for tool, has in zip(TOOLS, having.split(", ")) if has == "true")
-        for name, having in SETS.findall(text)
-    }
-    for name, count, body in TABLE.findall(text):
-        comments, before = [], len(options)
+def rows_of(path, tables):
+    """The rows of these tables: of each what its form has, the lines above it, and the paragraph that it stands in."""
+    paragraph, met = 0, []
+    for name, count, body in TABLE.findall(path.read_text()):
+        if name not in tables:
+            continue
+        comments, before = [], len(met)
         for line in map(str.strip, body.splitlines()):
             if line == "//":
                 comments, paragraph = [], paragraph + 1
             elif line.startswith("//"):
                 comments.append(line[3:])
             else:
-                options.append(Option(line, comments, sets, paragraph))
+                row = ROW.fullmatch(line) or refuse(f"{in_source(path)}: a row has another form: {line}")
+                met.append((row.groups(), comments, paragraph))
                 comments = []
-        if len(options) - before != int(count):
-            refuse(f"{SOURCE.name}: {name} has not {count} rows")
-    return options or refuse(f"{SOURCE.name}: no table")
+        if len(met) - before != int(count):
+            refuse(f"{in_source(path)}: {name} has not {count} rows")
+    return met or refuse(f"{in_source(path)}: no table")
 
 
-def here(tool):
-    """The options that a tool takes."""
-    return [option for option in all_options() if tool in option.tools and option.kind != "absent"]
+COMMAND_ROWS = [(row, comments) for row, comments, _ in rows_of(COMMAND_SOURCE, ["COMMANDS"])]
+COMMANDS = {name: variant for (_, name, _, variant), _ in COMMAND_ROWS}
+TOOLS = tuple(name for name, variant in COMMANDS.items() if variant.startswith("Command::Tool("))
+PAGES = {name: TOP / f"docs/man/vtools-{name}.1" for name in COMMANDS} | {
+    program: TOP / f"docs/man/{program}.1" for program in HELPS
+}
 
 
-def of_vslog():
-    """The options of vslog, by its source, each with whether it takes a value."""
-    text = VSLOG_WORDS.read_text()
-    letters = re.findall(r"^        b'(.)' => Some\(Letter::(\w+)\),$", text, re.M)
-    words = re.findall(r'^    if word == "(--[a-z]+)" \{$', text, re.M)
-    if not letters or not words:
-        refuse(f"{VSLOG_WORDS.name}: no options")
-    return {f"-{letter}": meaning == "Write" for letter, meaning in letters} | {word: False for word in words}
+@functools.cache
+def all_options(program="vtools"):
+    """The options of a program."""
+    path = SOURCES[program]
+    by_variant = {variant: name for name, variant in COMMANDS.items()}
+    sets = {
+        name: tuple(by_variant[variant] for variant in VARIANT.findall(having))
+        for name, having in SETS.findall(path.read_text())
+    }
+    return [
+        Option(path, row, comments, sets[row[2]] if row[2] else (program,), paragraph)
+        for row, comments, paragraph in rows_of(path, ["LETTERS", "WORDS"])
+    ]
+
+
+def options_of(program):
+    """The options of a program, or those of a command's program."""
+    return all_options("vslog" if program == "vslog" else "vtools")
+
+
+def here(command):
+    """The options that a command takes."""
+    return [option for option in options_of(command) if command in option.tools and option.kind != "absent"]
+
+
+def names_of(command):
+    """The names of the options that a command takes."""
+    return [option.name for option in here(command)]
+
+
+@functools.cache
+def all_commands():
+    """The commands of vtools, in their order, by their names."""
+    return {row[1]: Command(COMMAND_SOURCE, row[1], row[3], comments) for row, comments in COMMAND_ROWS}
+
+
+@functools.cache
+def vslog():
+    """The program vslog, as a command."""
+    path = SOURCES["vslog"]
+    comments, name = PROGRAM.search(path.read_text()).groups()
+    return Command(path, name.strip('"'), name, [line[3:] for line in comments.splitlines()])
 
 
 def form_words(name):
@@ -140,14 +233,18 @@ def check_ranges():
                 refuse(f"{SOURCE.name}: the texts of {option.name} have not the range {low} to {high}")
 
 
-def usage_of(tool, shown):
-    """The usage of a tool, or of what stands before it, with each option as it is shown."""
-    named = {option.name if tool == "vtools" else option.name[1]: option for option in here(tool)}
-    usage = dict(USAGE.findall(SOURCE.read_text()))[tool]
+def usage_of(command, shown):
+    """The usage of a command or of a program, or of what stands before a tool, with each option as it is shown."""
+    if command == "vtools":
+        usage = USAGE.search(SOURCE.read_text())[1].removeprefix("vtools ")
+    else:
+        usage = (vslog() if command == "vslog" else all_commands()[command]).usage
+        usage = re.sub(rf"^(vtools (\[OPTIONS\] )?)?{command} ?", "", usage)
+    named = {option.name if option.name.startswith("--") else option.name[1]: option for option in here(command)}
     told = {name for name, option in named.items() if option.value or option.does()}
-    if sorted(NAME.findall(usage)) != sorted(told):
-        refuse(f"{SOURCE.name}: the usage of {tool} has not each of its options once")
-    return NAME.sub(lambda name: shown(named[name[0]]), usage)
+    if sorted(name for name in NAME.findall(usage) if not name[1:].isupper()) != sorted(told):
+        refuse(f"the usage of {command} has not each of its options once")
+    return NAME.sub(lambda name: shown(named.get(name[0], name[0])), usage)
 
 
 def unbroken(usage):
@@ -159,117 +256,158 @@ def unbroken(usage):
     return made
 
 
-def help_usage(tool="TOOL"):
-    """The usage of a tool, or of all, in which no line is broken within brackets or within an option."""
-    used = {it: unbroken(usage_of(it, lambda option: option.words().replace(" ", "\0"))) for it in PAGES}
-    over_log = {it: f"vtools [OPTIONS] {it} {used[it]}" for it in TOOLS}
-    over_feeds = f"vtools {used['vtools']} {tool}"
-    if tool == "varnishstat":
-        lines = [f"{over_feeds} {used[tool]}"]
-    else:
-        lines = [over_log[tool]] if tool in TOOLS else list(over_log.values())
-        lines.insert(3, f"{over_feeds} .., as above without -r\0FILE")
+def help_words(option):
+    """An option in a usage of the help, with the name of its value, or the name of an operand."""
+    return option if isinstance(option, str) else option.words().replace(" ", "\0")
+
+
+def usage_lines(lines):
+    """Usages in the help, in which no line is broken within brackets or within an option."""
     broken = textwrap.TextWrapper(HELP_COLUMNS - 8, subsequent_indent=" " * 7, break_on_hyphens=False)
-    made = "\n".join(broken.fill(line) for line in lines)
+    made = "\n".join(broken.fill(unbroken(line)) for line in lines)
     return "usage: " + made.replace("\0", " ").replace("\n", "\n" + " " * 7)
 
 
-def in_help(words, lines):
+def help_usage(only=None):
+    """The usage of a command, or of all."""
+    before = f"vtools {usage_of('vtools', help_words)}"
+    shown = [only] if only else list(all_commands().values())
+    logs, others = [], []
+    for command in shown:
+        front = "vtools [OPTIONS]" if command.is_tool else "vtools"
+        if only and command.is_tool and not command.has_log:
+            front = before
+        line = f"{front} {command.name} {usage_of(command.name, help_words)}".rstrip()
+        (logs if command.has_log else others).append(line)
+    fed = [f"{before} {only.name if only else 'TOOL'} .., as above without -r\0FILE"] if logs else []
+    return usage_lines(logs + fed + others)
+
+
+def in_help(words, lines, program="vtools"):
     """What the help says of an option, behind its words."""
-    made = [f"{'' if at else '  ' + words:<20}{line}" for at, line in enumerate(lines)]
+    columns = OPTION_COLUMNS[program]
+    made = [f"{'' if at else '  ' + words:<{columns}}{line}" for at, line in enumerate(lines)]
     if max(map(len, made)) > HELP_COLUMNS:
         refuse(f"the help of {words} is wider than {HELP_COLUMNS} columns")
     return made
 
 
-def help_options():
-    """The paragraphs of options in the help."""
+def help_options(program="vtools"):
+    """The paragraphs of options in the help of a program."""
     paragraphs = {}
-    for option in all_options():
+    for option in all_options(program):
         for words, lines in option.helps.items():
             if lines:
-                paragraphs.setdefault(option.paragraph, []).extend(in_help(words, lines))
+                paragraphs.setdefault(option.paragraph, []).extend(in_help(words, lines, program))
     return ["\n".join(lines) for lines in paragraphs.values()]
 
 
-def tool_options(tool):
-    """What the help of a tool says of its options."""
+def command_options(command):
+    """What the help of a command says of its options, or that of vtools of those before it."""
     made, silent = [], []
-    for option in here(tool):
+    for option in here(command):
         same = [option, *(it for it in all_options() if it.name == option.name)]
         helps = next((it.helps for it in same if it.does()), {})
         for words, lines in helps.items():
             said, _, others = " ".join(lines).partition("; not of ")
-            if said and others != tool:
-                made += in_help(words, textwrap.wrap(said, HELP_COLUMNS - 20) if others else lines)
+            if said and others != command:
+                columns = HELP_COLUMNS - OPTION_COLUMNS["vtools"]
+                made += in_help(words, textwrap.wrap(said, columns) if others else lines)
         if not helps:
             silent.append(option.name)
     none = [f"Taken too, and of no effect: {', '.join(silent)}."] if silent else []
-    return "\n\n".join(["\n".join(made), *none])
+    return ["\n".join(made), *none] if made else none
 
 
-def does_of(text, tool):
-    """What a tool does, by the sentence of the help that begins with its name."""
-    found = re.search(rf"(?:^|[.]\s+){tool}\s+([^.]*)[.]", text, re.M) or refuse(f"the help has no sentence of {tool}")
-    return " ".join(found[1].split())
+def paragraph_of(paragraphs, begin):
+    """The place of the one paragraph of a help that begins so."""
+    found = [at for at, paragraph in enumerate(paragraphs) if paragraph.startswith(begin)]
+    return found[0] if len(found) == 1 else refuse(f"the help has not one paragraph that begins with `{begin}`")
 
 
-def tool_help(text, tool):
-    """The help of a tool, by the help of the program and the rows."""
-    paragraphs = text.split("\n\n")
-
-    def paragraph(begin):
-        found = [it for it in paragraphs if it.startswith(begin)]
-        return found[0] if len(found) == 1 else refuse(f"the help has not one paragraph that begins with `{begin}`")
-
-    shown = [f"  {command}\n      {does}" for command, does in EXAMPLE.findall(text) if f" {tool} " in command]
-    if len(shown) != 1:
-        refuse(f"the help has not one example of {tool}")
-    names = [option.name for option in here(tool)]
-    before = paragraph("In the place of -r FILE, before the tool").replace("\n", " ")
+def command_help(text, command):
+    """The help of a command, by the help of the program and the rows."""
+    paragraphs, names = text.split("\n\n"), names_of(command.name)
+    before = paragraphs[paragraph_of(paragraphs, "In the place of -r FILE, before the tool")].replace("\n", " ")
     if "-r" not in names:
         before = before.replace("In the place of -r FILE, before", "Before")
+    rules = [paragraphs[paragraph_of(paragraphs, "The first -I or -X")]] if "-I" in names else []
+    feeds = [textwrap.fill(before, HELP_COLUMNS), *command_options("vtools")] if command.is_tool else []
     return "\n\n".join([
-        textwrap.fill(f"{tool} {does_of(text, tool)}.", HELP_COLUMNS),
-        help_usage(tool),
-        tool_options(tool),
-        *([paragraph("The first -I or -X")] if "-I" in names else []),
-        textwrap.fill(before, HELP_COLUMNS),
-        tool_options("vtools"),
-        f"An example:\n\n{shown[0]}",
-        paragraph("Exit status"),
-        f"Manual: man {PAGES[tool].stem}.",
+        textwrap.fill(command.sentence(), HELP_COLUMNS),
+        help_usage(command),
+        *command_options(command.name),
+        *rules,
+        *feeds,
+        f"An example:\n\n{command.example()}",
+        paragraphs[paragraph_of(paragraphs, "Exit status")],
+        f"Manual: man {PAGES[command.name].stem}.",
     ]) + "\n"
 
 
-def help_made(text):
-    """The help, with its usage and its paragraphs of options made anew."""
-    made, paragraphs = help_options(), text.split("\n\n")
+def with_options(paragraphs, made):
+    """The paragraphs of a help with those of options made anew."""
     places = [at for at, paragraph in enumerate(paragraphs) if paragraph.startswith("  -")]
     if len(places) != len(made):
         refuse(f"the help has {len(places)} paragraphs of options, and not {len(made)}")
     for at, paragraph in zip(places, made):
         paragraphs[at] = paragraph
-    return "\n\n".join(help_usage() if it.startswith("usage: ") else it for it in paragraphs)
+    return paragraphs
+
+
+def vtools_help(text):
+    """The help of vtools, with its usage, sentences, options and examples made anew."""
+    paragraphs = with_options(text.split("\n\n"), help_options())
+    commands = list(all_commands().values())
+    said = " ".join(text for command in commands for text in (command.sentence(), command.of("behind:")) if text)
+    paragraphs[paragraph_of(paragraphs, "usage: ")] = help_usage()
+    paragraphs[paragraph_of(paragraphs, f"{commands[0].name} ")] = textwrap.fill(said, HELP_COLUMNS)
+    examples = paragraph_of(paragraphs, "An example of each") + 1
+    paragraphs[examples] = "\n".join(command.example() for command in commands)
+    return "\n\n".join(paragraphs)
+
+
+def vslog_help(text):
+    """The help of vslog, with its usage, sentence, example and options made anew."""
+    paragraphs, program = with_options(text.split("\n\n"), help_options("vslog")), vslog()
+    said = f"{program.does[0].upper()}{program.does[1:]}. {program.of('behind:')}"
+    usage = paragraph_of(paragraphs, "usage: ")
+    paragraphs[usage] = usage_lines([f"vslog {usage_of('vslog', help_words)}"])
+    paragraphs[usage + 1] = textwrap.fill(said, HELP_COLUMNS)
+    paragraphs[usage + 2] = f"  {program.run}"
+    if not paragraphs[usage + 3].replace("\n", " ").startswith(f"{program.prints}."):
+        refuse("the help of vslog does not say behind its example what that prints")
+    return "\n\n".join(paragraphs)
 
 
 def all_helps():
-    """The source of the helps, and the text of each, by its name."""
-    source = HELPS.read_text()
-    names = {"": "vtools"} | {tool.removeprefix("varnish").upper(): tool for tool in TOOLS}
-    found = {names.get(name): text for _, name, text in HELP.findall(source)}
-    if list(found) != list(names.values()):
-        refuse(f"{HELPS.name} has not the texts of {', '.join(names.values())}")
-    text = help_made(found["vtools"])
-    helps = {"vtools": text} | {tool: tool_help(text, tool) for tool in TOOLS}
-    return HELP.sub(lambda it: it[1] + helps[names[it[2]]], source), helps
+    """The source of the helps, by its path, and the text of each help, by its command."""
+    sources = {program: path.read_text() for program, path in HELPS.items()}
+    texts = {program: HELP.search(source)[2] for program, source in sources.items()}
+    helps = {"vtools": vtools_help(texts["vtools"]), "vslog": vslog_help(texts["vslog"])}
+    made = {path: HELP.sub(lambda it: it[1] + helps[program], sources[program]) for program, path in HELPS.items()}
+    commands = all_commands()
+    helps |= {name: command_help(helps["vtools"], command) for name, command in commands.items()}
+    rows = [f"    ({command.variant}, {command.constant()}),\n" for command in commands.values()]
+    parts = [
+        f"/// What `vtools NAME --help` prints of each command.\n"
+        f"pub static HELPS: [(Command, &str); {len(rows)}] = [\n{''.join(rows)}];\n",
+        *[
+            f"/// What `vtools {name} --help` prints.\n"
+            f'const {command.constant()}: &str = "\\\n{helps[name]}";\n'
+            for name, command in commands.items()
+        ],
+    ]
+    path = HELPS["vtools"]
+    made[path] = in_comments(made[path], path, {"commands": "\n".join(parts).rstrip()}, "// @\n")
+    return made, helps
 
 
 def by_letter():
     """The options behind the tool, by their letters."""
     found = {}
     for option in all_options():
-        if option.tools != ("vtools",):
+        if set(option.tools) & set(TOOLS):
             found.setdefault(option.name, []).append(option)
     return sorted(found.items(), key=lambda item: (item[0].lower(), item[0].isupper()))
 
@@ -339,60 +477,79 @@ def shown_words(option):
     return roff(f"`{option.name}` *{option.value}*" if option.value else f"`{option.name}`")
 
 
-def page_usage(tool):
-    """The usage of a tool for its page. That of `vtools` has the options of feeds, which the others call FEEDS."""
-    if tool == "vtools":
-        return f"\\fBvtools\\fR {usage_of(tool, shown_words)} \\fITOOL\\fR [\\fIOPTIONS\\fR]"
-    over_feeds, behind = "\\fBvtools\\fR \\fIFEEDS\\fR", f"\\fB{tool}\\fR {usage_of(tool, shown_words)}"
-    if tool == "varnishstat":
+def page_usage(command):
+    """The usage of a command for its page. That of `vtools` has the options of feeds, which the others call FEEDS."""
+    used = usage_of(command, lambda it: roff(f"*{it}*") if isinstance(it, str) else shown_words(it))
+    if command == "vtools":
+        return f"\\fBvtools\\fR {used} \\fITOOL\\fR [\\fIOPTIONS\\fR]"
+    behind = f"\\fB{command}\\fR {used}"
+    if command == "vslog":
+        return behind
+    row, over_feeds = all_commands()[command], "\\fBvtools\\fR \\fIFEEDS\\fR"
+    if row.is_tool and not row.has_log:
         return f"{over_feeds} {behind}"
-    return f"\\fBvtools\\fR {behind}\n.br\n{over_feeds} \\fB{tool}\\fR [\\fIOPTIONS\\fR]"
+    fed = f"\n.br\n{over_feeds} \\fB{command}\\fR [\\fIOPTIONS\\fR]" if row.is_tool else ""
+    return f"\\fBvtools\\fR {behind}{fed}"
 
 
-def page_options(tool):
-    """The options of a tool, for its page."""
-    silent = [option.name for option in here(tool) if not option.of("page:")]
+def page_options(command):
+    """The options of a command, for its page."""
+    silent = [option.name for option in here(command) if not option.of("page:")]
     if silent:
-        refuse(f"{SOURCE.name}: no `page:` of {', '.join(silent)}")
-    return "\n".join(f".TP\n{shown_words(option)}\n{roff(option.of('page:'))}" for option in here(tool))
+        refuse(f"{command}: no `page:` of {', '.join(silent)}")
+    return "\n".join(f".TP\n{shown_words(option)}\n{roff(option.of('page:'))}" for option in here(command))
 
 
-def between(path, parts, marks, maker="tools/options.py"):
-    """The text of a file, with each part between two comments, which name what makes it."""
-    text = path.read_text()
+def in_comments(text, path, parts, marks, maker="tools/options.py"):
+    """A text of a file, with each part between two comments, which name what makes it."""
     for name, made in parts.items():
         begin, end = (marks.replace("@", line) for line in (f"made by {maker}: {name}", "made until here"))
         before, found, rest = text.partition(begin)
         _, ended, after = rest.partition(end)
         if not found or not ended:
-            refuse(f"{path.name}: no comments round {name}")
+            refuse(f"{path.relative_to(TOP)}: no comments round {name}")
         text = f"{before}{begin}{made}\n{end}{after}"
     return text
+
+
+def between(path, parts, marks, maker="tools/options.py"):
+    """The text of a file that is there, with each part between two comments."""
+    if not path.is_file():
+        refuse(f"{path.relative_to(TOP)} is missing")
+    return in_comments(path.read_text(), path, parts, marks, maker)
+
+
+def all_cases(helps):
+    """The cases in which a help is printed: each file with its text."""
+    folders = {"vtools": "words/help_is_printed", "vslog": "varnish_logs/help_of_vslog_is_printed"}
+    for command, text in helps.items():
+        folder = TOP / "cases" / folders.get(command, f"words/help_of_{command}_is_printed")
+        if command in COMMANDS:
+            yield folder / "args", f"{command}\n--help\n"
+        yield folder / "stdout", text
 
 
 def all_made():
     """Each file in which something is made, with its text."""
     check_ranges()
-    source, helps = all_helps()
-    yield HELPS, source
-    cases = {f"words/help_of_{tool}_is_printed": helps[tool] for tool in TOOLS}
-    cases["words/help_is_printed"] = helps["vtools"]
-    cases["varnish_logs/help_of_vslog_is_printed"] = HELP.search(VSLOG_HELP.read_text())[3]
-    for case, text in cases.items():
-        yield TOP / "cases" / case / "stdout", text
+    sources, helps = all_helps()
+    yield from sources.items()
+    yield from all_cases(helps)
     tables = {"options before the tool": words_table(), "options of the tools": letters_table()}
     yield COMMAND_LINE, between(COMMAND_LINE, tables, "<!-- @ -->\n")
     yield COMING_FROM, between(COMING_FROM, {"options": varnish_table()}, "<!-- @ -->\n")
-    for tool, page in PAGES.items():
-        yield page, between(page, {"usage": page_usage(tool), "options": page_options(tool)}, '.\\" @\n')
+    for command, page in PAGES.items():
+        parts = {"usage": page_usage(command)} | ({"options": page_options(command)} if here(command) else {})
+        yield page, between(page, parts, '.\\" @\n')
 
 
 def write_or_check(word, maker, made):
     """With --write writes what is made of the source, and with --check fails where a file isn't that."""
-    for path, text in list(made):
+    for path, text in made:
         if word == "--write":
+            path.parent.mkdir(exist_ok=True)
             path.write_text(text)
-        elif path.read_text() != text:
+        elif not path.is_file() or path.read_text() != text:
             sys.exit(f"{Path(maker).stem}: {path.relative_to(TOP)} is not what `{maker} --write` writes")
     if word == "--check":
         print(f"{Path(maker).stem}: all that is made is up to date")
@@ -400,9 +557,9 @@ def write_or_check(word, maker, made):
 
 def main():
     if sys.argv[1:] == []:
-        for option in all_options():
-            for tool in option.tools:
-                print(tool, option.name, option.kind)
+        for option in (option for program in HELPS for option in all_options(program)):
+            for command in option.tools:
+                print(command, option.name, option.kind)
     elif sys.argv[1:] in (["--write"], ["--check"]):
         write_or_check(sys.argv[1], "tools/options.py", all_made())
     else:

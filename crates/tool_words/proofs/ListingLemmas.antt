@@ -16,7 +16,7 @@ use Rattle.tool_words.specs.declared.options.Meaning.TheVariants.{Flag, Value, N
 use Rattle.tool_words.specs.declared.reading.Given.{Given}
 use Rattle.tool_words.specs.Fold.{with_choice, with_options}
 use Rattle.tool_words.specs.Options.{letters_of}
-use Rattle.tool_words.specs.Reading.{is_feed, nothing, read_all, takes}
+use Rattle.tool_words.specs.Reading.{is_feed, read_all, takes}
 use Rattle.tool_words.proofs.GivenLemmas.{all-so, with_one}
 
 -- how many of the given options name a listing
@@ -50,12 +50,12 @@ given-few : (choice : Choice) (given : List Given) (at : ℕ) (value : List ℕ)
 given-few choice given at value n = omega (arith, sum_by_push (λ (g : Given). cond (is_feed g.choice) 1 0) given (record { choice = choice; word = at; value = value }))
 
 -- the words name at most sixteen listings
-pub all-few : (words : List (List ℕ)) → IfOk (read_all nothing 0 words) (λ r. listings r.given ≤ 16)
+pub all-few : (words : List (List ℕ)) → IfOk (read_all words) (λ r. listings r.given ≤ 16)
 all-few words =
     all-so is_few (λ given. listings given ≤ 16)
-    (λ choice given at few n. given-few choice given at [] (none_more (is_feed choice) (listings given) few n))
+    (λ choice given at value few n. given-few choice given at value (none_more (is_feed choice) (listings given) few n))
     (λ choice form given at value few took n. given-few choice given at value (taken given choice form value few n took))
-    tables-few refl words nothing 0 (record { given = lit≤ tt; wanted = tt })
+    tables-few refl words (lit≤ tt)
 
 -- a job names as many listings as are given
 feeds-with_choice : (choice : Choice) (at : ℕ) (value : List ℕ) (job : Job) → length (with_choice choice at value job).feeds ≡ length job.feeds + cond (is_feed choice) 1 0

@@ -17,7 +17,7 @@ use Rattle.tool_words.specs.Answers.{Gives}
 use Rattle.tool_words.specs.Fold.{number_for, plain_job, with_choice, with_options}
 use Rattle.tool_words.specs.Job.{job_from, job_of, job_read, lacks_log, has_two_logs}
 use Rattle.tool_words.specs.Number.{number_in, both, count_and_seed_at, is_comma}
-use Rattle.tool_words.specs.Reading.{nothing, read_all}
+use Rattle.tool_words.specs.Reading.{read_all}
 use Rattle.tool_words.specs.Sound.{IsWithin, AreInRange, IsSound}
 use Rattle.tool_words.proofs.ListingLemmas.{listings, all-few, feeds-with_options}
 
@@ -99,5 +99,5 @@ read (Err fault) found few e = absurd (let bad : ⊥ = cc in bad)
 
 -- a job that is answered is sound
 pub sound_answer : (answer : Result Job WordsFault) (words : List (List ℕ)) → Gives answer (job_of words) → IfOk answer (λ job. IsSound job)
-sound_answer (Ok job) words given = read (read_all nothing 0 words) job (all-few words) given
+sound_answer (Ok job) words given = read (read_all words) job (all-few words) given
 sound_answer (Err fault) words given = tt

@@ -16,7 +16,7 @@ use Rattle.tool_words.specs.declared.options.Meaning.TheVariants.{Flag, Value, N
 use Rattle.tool_words.specs.declared.reading.Given.{Given}
 use Rattle.tool_words.specs.Again.{AllSay, says}
 use Rattle.tool_words.specs.Options.{letters_of}
-use Rattle.tool_words.specs.Reading.{nothing, read_all, takes}
+use Rattle.tool_words.specs.Reading.{read_all, takes}
 use Rattle.tool_words.proofs.GivenLemmas.{all-so}
 
 -- whether an option wants a value that says something
@@ -73,9 +73,9 @@ taken given choice form value so took = unwanted choice value so
 abbrev IsSaid : Given → Type 0
 IsSaid one = says one.choice one.value ≡ true
 
-pub all_said : (words : List (List ℕ)) → IfOk (read_all nothing 0 words) (λ r. AllSay r.given)
+pub all_said : (words : List (List ℕ)) → IfOk (read_all words) (λ r. AllSay r.given)
 all_said words =
     all-so is_said (All IsSaid)
-    (λ choice given at so all. All-push IsSaid given (record { choice = choice; word = at; value = [] }) all (unwanted choice [] so))
+    (λ choice given at value so all. All-push IsSaid given (record { choice = choice; word = at; value = value }) all (unwanted choice value so))
     (λ choice form given at value so took all. All-push IsSaid given (record { choice = choice; word = at; value = value }) all (taken given choice form value so took))
-    tables-said refl words nothing 0 (record { given = All-nil IsSaid; wanted = tt })
+    tables-said refl words (All-nil IsSaid)

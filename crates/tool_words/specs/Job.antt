@@ -13,7 +13,7 @@ use Rattle.tool_words.specs.declared.options.Choice.TheVariants.{Json, ListCount
 use Rattle.tool_words.specs.declared.reading.Given.{Given}
 use Rattle.tool_words.specs.declared.reading.Reading.{Reading}
 use Rattle.tool_words.specs.Fold.{plain_job, with_options}
-use Rattle.tool_words.specs.Reading.{nothing, read_all}
+use Rattle.tool_words.specs.Reading.{read_all}
 
 -- whether a tool goes on for ever by itself
 abbrev pub goes_on : Tool → Bool
@@ -75,4 +75,4 @@ job_read (Err fault) = Err fault
 -- the job of the words, or what is wrong with them. Whatever the words are it says which, and each job that words state
 -- is one that runs
 abbrev pub job_of : List (List ℕ) → Result Job UsageFault
-job_of words = job_read (read_all nothing 0 words)
+job_of words = job_read (read_all words)

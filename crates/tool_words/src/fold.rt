@@ -9,9 +9,10 @@ use crate::lookup::option_number;
 use crate::number::{read_count_and_seed, read_grouping};
 use crate::options::Choice;
 use crate::reading::Given;
+use log_model::{Listed, Text};
 use std::alloc::{AllocError, Global};
 use txn_rows::Grouping;
-use vsl_select::{Listed, RuleText, Sides, Text};
+use vsl_select::{RuleText, Sides};
 
 /// The job of a tool without options.
 pub(crate) fn new_job(alloc: Global, tool: Tool) -> Job

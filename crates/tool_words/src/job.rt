@@ -1,7 +1,8 @@
 //! What a command line asks for.
 
+use log_model::{Listed, Text};
 use txn_rows::Grouping;
-use vsl_select::{Listed, RuleText, Sides, Text};
+use vsl_select::{RuleText, Sides};
 
 /// Which tool is to work.
 #[derive(Clone, Copy, Debug, PartialEq, Eq)]

@@ -8,6 +8,7 @@
 //! definitions cite as they stand. Source: varnishlog(1), varnishncsa(1), varnishtop(1), varnishstat(1).
 #![tactic(auto)]
 
+mod commands;
 mod fault;
 mod fold;
 mod job;
@@ -16,9 +17,11 @@ mod lookup;
 mod number;
 mod options;
 mod reading;
+mod rows;
 mod whole;
 mod words;
 
+pub use commands::{Command, command_named};
 pub use fault::{UsageFault, WordsFault};
 pub use job::{Job, Order, QueryText, StatMode, Tool};
 pub use laws::{first_fault_stays, jobs_are_sound, options_are_written_out, options_gather};

@@ -1,8 +1,8 @@
 //! The options that the words give.
 
 use crate::job::Tool;
-use crate::options::{Choice, Form};
-use vsl_select::{Listed, Text};
+use crate::options::Choice;
+use log_model::{Listed, Text};
 
 /// An option that is given.
 #[derive(Debug, Drop)]
@@ -20,6 +20,4 @@ pub(crate) struct Reading {
     pub tool: Option<Tool>,
     /// In the order of their words.
     pub given: Listed<Given>,
-    /// The option whose value is the next word.
-    pub wanted: Option<(Choice, Form)>,
 }

@@ -1,21 +1,17 @@
 -- The steps of the work, and what was said behind it.
-use Rattle.std.proofs.Common.{◌≡◌, ℕ, Bool, true, false, List, [], ◌∷◌, ◌++◌, Result, Ok, Err, inl, inr, refl, sym, ap, subst, ◌∙◌, codes}
+use Rattle.std.proofs.Common.{◌≡◌, ℕ, Bool, true, false, List, [], ◌∷◌, ◌++◌, Result, Ok, Err, inl, inr, refl, sym, ap, subst, ◌∙◌}
 use Rattle.std.specs.Prelude.{if◌then◌else◌, ◌&&◌, nat_lt}
-use Rattle.std.specs.Bool.{MatchBool}
-use Rattle.std.specs.Str.{bytes_eq}
 use Rattle.std.proofs.lemmas.List.{append-nil}
-use Rattle.log_model.specs.Faults.{HasNewFault}
 use Rattle.log_model.specs.Prefix.{IsProperPrefix}
-use Rattle.vio.specs.declared.fault.WorldFault.{WorldFault}
 use Rattle.vio.specs.declared.fault.WorldFault.TheVariants.{Failed, NoMemory}
 use Rattle.vio.specs.declared.world.Created.{Created}
-use Rattle.vio.specs.declared.world.TheConstants.{INPUT, OUTPUT}
-use Rattle.vio.specs.World.{Seen, Opening, Creating, Writing, Opened, FileCreated, OnlyCounts, Wrote, FaultsRose}
+use Rattle.vio.specs.World.{Seen, Writing, Wrote, FaultsRose}
 use Rattle.vio.specs.Writes.{WroteOn}
-use Rattle.vio.specs.Calls.{Call, Called, Did, Open, Create, Write, Went, FailedEach, Refuse, Lack}
+use Rattle.vio.specs.Calls.{Call, Called, Did, Write, Went, FailedEach}
+use Rattle.vio.specs.Streams.{CreatesStream, IsMadeBy, IsOpenedBy}
 use Rattle.vio.proofs.CallLemmas.{did_then, did_write}
 use Rattle.vsl_file.specs.File.{file_header}
-use Rattle.one_run.specs.Promise.{Says, SaysPart}
+use Rattle.one_command.specs.Promise.{Says, SaysPart}
 use Rattle.varnish_log.specs.declared.copying.Copied.{Copied}
 use Rattle.varnish_log.specs.Copied.{CopiedThen, IsLog, IsStarved}
 use Rattle.vslog.specs.declared.ended.RunFault.TheVariants.{NoOutput, NoHeader, CutShort}
@@ -25,45 +21,17 @@ use Rattle.vslog.specs.declared.words.UsageFault.{UsageFault}
 use Rattle.vslog.specs.Messages.{text_due, usage_message}
 use Rattle.vslog.specs.declared.work.Ends.{Ends}
 use Rattle.vslog.specs.Words.{Job}
-use Rattle.vslog.specs.Theorem.{Begun, Copies, HeaderStops, IsMadeBy, IsOpenedBy, Lacks, LacksWork, Runs, StopsWith, Works, WorksOff, header_calls, settled}
-use Rattle.vslog.specs.inside.Work.{IsBegun, IsMade, IsOpened}
-
--- ---- opening and creating
-
-file_so : (b : Bool) (P Q : Type 0) → b ≡ false → Q → MatchBool b P Q
-file_so true P Q e q = absurd cc
-file_so false P Q e q = q
-
-stream_so : (b : Bool) (P Q : Type 0) → b ≡ true → P → MatchBool b P Q
-stream_so true P Q e p = p
-stream_so false P Q e p = absurd cc
-
-pub stream_opened : (name : List ℕ) (s : Seen) → bytes_eq name (codes "-") ≡ true → Called (IsOpened name (Ok INPUT)) s s
-stream_opened name s is = record { calls = []; did = refl; is = stream_so (bytes_eq name (codes "-")) _ _ is (refl, refl) }
-
-pub file_opened : (name : List ℕ) (r : Result ℕ WorldFault) (s t : Seen) → bytes_eq name (codes "-") ≡ false → ((h : ℕ) → r ≡ Ok h → Opened name h s t) → ((e : WorldFault) → r ≡ Err e → OnlyCounts s t)
-    → (r ≡ Err Failed → HasNewFault (s.faults Opening name) (t.faults Opening name)) → Called (IsOpened name r) s t
-file_opened name (Ok h) s t file opened only rose = record { calls = Open name h ∷ []; did = (t, opened h refl, refl); is = file_so (bytes_eq name (codes "-")) _ _ file refl }
-file_opened name (Err Failed) s t file opened only rose = record { calls = Refuse Opening name ∷ []; did = (t, (only Failed refl, rose refl), refl); is = (file, refl) }
-file_opened name (Err NoMemory) s t file opened only rose = record { calls = Lack ∷ []; did = (t, only NoMemory refl, refl); is = refl }
-
-pub stream_made : (append : Bool) (name : List ℕ) (s : Seen) → bytes_eq name (codes "-") ≡ true → Called (IsMade append name (Ok (record { handle = OUTPUT; empty = true }))) s s
-stream_made append name s is = record { calls = []; did = refl; is = stream_so (bytes_eq name (codes "-")) _ _ is (refl, refl, refl) }
-
-pub file_made : (append : Bool) (name : List ℕ) (r : Result Created WorldFault) (s t : Seen) → bytes_eq name (codes "-") ≡ false → ((c : Created) → r ≡ Ok c → FileCreated append name c.handle c.empty s t) → ((e : WorldFault) → r ≡ Err e → OnlyCounts s t)
-    → (r ≡ Err Failed → HasNewFault (s.faults Creating name) (t.faults Creating name)) → Called (IsMade append name r) s t
-file_made append name (Ok c) s t file made only rose = record { calls = Create append name c.handle c.empty ∷ []; did = (t, made c refl, refl); is = file_so (bytes_eq name (codes "-")) _ _ file refl }
-file_made append name (Err Failed) s t file made only rose = record { calls = Refuse Creating name ∷ []; did = (t, (only Failed refl, rose refl), refl); is = (file, refl) }
-file_made append name (Err NoMemory) s t file made only rose = record { calls = Lack ∷ []; did = (t, only NoMemory refl, refl); is = refl }
+use Rattle.vslog.specs.Theorem.{Begun, Copies, HeaderStops, Lacks, LacksWork, Runs, StopsWith, Works, WorksOff, header_calls, settled}
+use Rattle.vslog.specs.inside.Work.{IsBegun}
 
 -- ---- beginning
 
 module _ (job : Job) (input : ℕ) (s t : Seen) (open_calls : Called (IsOpenedBy job.input input) s t) where
   -- it can't be created, or there was no memory for that
-  pub no_output : (u : Seen) → Called (IsMade job.append job.output (Err Failed)) t u → Called (StopsWith job NoOutput) s u
+  pub no_output : (u : Seen) → Called (CreatesStream job.append job.output (Err Failed)) t u → Called (StopsWith job NoOutput) s u
   no_output u p = record { calls = open_calls.calls ++ p.calls; did = did_then open_calls.calls p.calls s t u open_calls.did p.did; is = (input, open_calls.calls, open_calls.is, p.is.0, ap (λ (x : List Call). open_calls.calls ++ x) p.is.1) }
 
-  pub lacks_output : (u : Seen) → Called (IsMade job.append job.output (Err NoMemory)) t u → Called (LacksWork job) s u
+  pub lacks_output : (u : Seen) → Called (CreatesStream job.append job.output (Err NoMemory)) t u → Called (LacksWork job) s u
   lacks_output u p = record { calls = open_calls.calls ++ p.calls; did = did_then open_calls.calls p.calls s t u open_calls.did p.did; is = inr (inr (inl (input, open_calls.calls, open_calls.is, ap (λ (x : List Call). open_calls.calls ++ x) p.is))) }
 
   module _ (made : Created) (u : Seen) (make_calls : Called (IsMadeBy job.append job.output made.handle made.empty) t u) where

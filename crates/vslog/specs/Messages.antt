@@ -1,6 +1,6 @@
 -- What is said on standard error (this project's choice).
 use Rattle.std.specs.Prelude.{ℕ, ◌+◌, ◌-◌, ◌^◌, min, nat_lt, if◌then◌else◌, List, [], ◌++◌, codes, slice_index_or}
-use Rattle.one_run.specs.Messages.{numbered}
+use Rattle.one_command.specs.Messages.{numbered}
 use Rattle.varnish_log.specs.declared.copying.Copied.{Copied}
 use Rattle.varnish_log.specs.declared.copying.CopyFault.{CopyFault}
 use Rattle.varnish_log.specs.declared.copying.CopyFault.TheVariants as copying

@@ -1,12 +1,11 @@
 -- The main theorem of `vslog`: what the top call does in the world, for every command line, input and world (this project's choice).
 use Rattle.std.specs.Prelude.{◌≡◌, ◌⊎◌, ℕ, ◌&&◌, nat_lt, if◌then◌else◌, Bool, true, false, List, [], ◌∷◌, ◌++◌, Result, Ok, Err, codes}
-use Rattle.std.specs.Bool.{MatchBool}
 use Rattle.std.specs.Str.{bytes_eq}
 use Rattle.log_model.specs.Prefix.{IsProperPrefix}
-use Rattle.vio.specs.declared.world.TheConstants.{INPUT, OUTPUT}
 use Rattle.vio.specs.World.{Opening, Creating}
-use Rattle.vio.specs.Calls.{Went, FailedEach, Call, Open, Create, Write, Refuse, Lack}
-use Rattle.one_run.specs.Promise.{Says, SaysPart}
+use Rattle.vio.specs.Calls.{Went, FailedEach, Call, Write, Refuse, Lack}
+use Rattle.vio.specs.Streams.{IsMadeBy, IsOpenedBy}
+use Rattle.one_command.specs.Promise.{Says, SaysPart}
 use Rattle.vsl_file.specs.File.{file_header}
 use Rattle.varnish_log.specs.declared.copying.Copied.{Copied}
 use Rattle.varnish_log.specs.Copied.{CopiedThen, IsEnd, IsLog, IsNoLog, IsStarved}
@@ -32,17 +31,9 @@ settled strict copied = if strict && nat_lt 0 copied.left then Stopped (CutShort
 
 -- ---- the work
 
--- the log of this name has this handle: `-` is standard input
-abbrev pub IsOpenedBy : List ℕ → ℕ → List Call → Type 0
-IsOpenedBy name h calls = MatchBool (bytes_eq name (codes "-")) ((h ≡ INPUT) × (calls ≡ [])) (calls ≡ Open name h ∷ [])
-
--- what is written under this name has this handle, and is empty or not: `-` is standard output, which counts as empty.
--- So a shell that appends gets a second header, and `-a -w FILE` is there for it
-abbrev pub IsMadeBy : Bool → List ℕ → ℕ → Bool → List Call → Type 0
-IsMadeBy append name h empty calls = MatchBool (bytes_eq name (codes "-")) ((h ≡ OUTPUT) × (empty ≡ true) × (calls ≡ [])) (calls ≡ Create append name h empty ∷ [])
-
 -- the header of a log file is written where nothing is yet. That is before the log is read, so that a reader behind a
--- pipe sees a log at once
+-- pipe sees a log at once. Standard output counts as empty, so a shell that appends gets a second header, and
+-- `-a -w FILE` is there for it
 abbrev pub header_calls : ℕ → Bool → List Call
 header_calls h empty = if empty then Write h file_header Went ∷ [] else []
 

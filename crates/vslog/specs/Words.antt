@@ -1,11 +1,15 @@
 -- The words of the command line and the job that they state (`-a` and `-w` as in varnishlog(1), "OPTIONS"; the rest is this project's choice).
-use Rattle.std.specs.Prelude.{ℕ, ◌+◌, ◌==◌, if◌then◌else◌, Bool, true, false, List, [], ◌∷◌, drop, Option, Some, None, Result, Ok, Err, codes}
+use Rattle.std.specs.Prelude.{ℕ, ◌==◌, if◌then◌else◌, Bool, true, false, List, Option, Some, None, Result, Ok, Err, codes}
 use Rattle.std.specs.Str.{bytes_eq}
 use Rattle.varnish_log.specs.declared.form.How.{How}
 use Rattle.varnish_log.specs.declared.form.LogForm.TheVariants as forms
+use Rattle.word_forms.specs.declared.fault.WordFault.{WordFault}
+use Rattle.word_forms.specs.declared.fault.WordFault.TheVariants as words
+use Rattle.word_forms.specs.Items.{Given, Table, folded, items}
+use Rattle.vslog.specs.declared.options.Choice.{Choice}
+use Rattle.vslog.specs.declared.options.Choice.TheVariants as choices
 use Rattle.vslog.specs.declared.words.Job.{Job as JobView}
-use Rattle.vslog.specs.declared.words.Letter.{Letter}
-use Rattle.vslog.specs.declared.words.Letter.TheVariants as letters
+use Rattle.vslog.specs.declared.words.LogRows.{LogRows}
 use Rattle.vslog.specs.declared.words.UsageFault.{UsageFault}
 use Rattle.vslog.specs.declared.words.UsageFault.TheVariants.{UnknownOption, NoValue, TwoLogs}
 
@@ -17,87 +21,59 @@ pub record Job : Type 0 where
   pub output : List ℕ
   pub input : List ℕ
 
--- what is known behind some words: the job, whether a log was named, and whether the next word is the value of `-w`
-pub record Reading : Type 0 where
-  pub job : Job
-  pub named : Bool
-  pub wanted : Bool
-
 -- what a letter says
-abbrev pub letter_of : ℕ → Option Letter
+abbrev pub letter_of : ℕ → Option Choice
 letter_of letter =
-    if letter == 116 then Some letters.Text else
-    (if letter == 97 then Some letters.Append else
-    (if letter == 113 then Some letters.Quiet else
-    (if letter == 119 then Some letters.Write else None)))
+    if letter == 116 then Some choices.Text else
+    (if letter == 119 then Some choices.Write else
+    (if letter == 97 then Some choices.Append else
+    (if letter == 113 then Some choices.Quiet else None)))
 
--- whether a letter wants a value
-abbrev pub is_write : Letter → Bool
-is_write letters.Write = true
-is_write letter = false
+-- what a word says by itself
+abbrev pub word_of : List ℕ → Option Choice
+word_of word = if bytes_eq (codes "--strict") word then Some choices.Strict else None
 
--- behind a letter that wants no value
-abbrev pub with_flag : Letter → Reading → Reading
-with_flag letters.Text r = record r { job = record (r.job) { how = record (r.job.how) { form = forms.Text } } }
-with_flag letters.Append r = record r { job = record (r.job) { append = true } }
-with_flag letters.Quiet r = record r { job = record (r.job) { quiet = true } }
-with_flag letters.Write r = r
+-- whether an option has a value
+abbrev pub has_value : Choice → Bool
+has_value choices.Write = true
+has_value choice = false
 
--- behind the value of `-w`
-abbrev pub with_output : List ℕ → Reading → Reading
-with_output output r = record { job = record (r.job) { output = output }; named = r.named; wanted = false }
+-- the options, and one operand among them, the log. A filter takes its input as an operand, so there is no letter for it
+abbrev pub log_rows : Table LogRows Choice
+log_rows = record {
+  letter = λ rows letter. letter_of letter;
+  name = λ rows word. word_of word;
+  wants = has_value;
+  behind = λ rows operand. if rows.named then None else Some (record { named = true });
+}
 
--- what is left of a word behind `w` is the value, or the next word is where nothing is left
-abbrev pub with_rest : List ℕ → Reading → Reading
-with_rest [] r = record r { wanted = true }
-with_rest (b ∷ rest) r = with_output (b ∷ rest) r
+-- behind an option, or behind the word that names the log. There is no `--`: a name that begins with a minus sign is
+-- written `./NAME`
+abbrev pub with_given : Option Choice → List ℕ → Job → Job
+with_given None input job = record job { input = input }
+with_given (Some choices.Text) value job = record job { how = record (job.how) { form = forms.Text } }
+with_given (Some choices.Append) value job = record job { append = true }
+with_given (Some choices.Quiet) value job = record job { quiet = true }
+with_given (Some choices.Strict) value job = record job { how = record (job.how) { strict = true } }
+with_given (Some choices.Write) output job = record job { output = output }
 
--- behind the letters of a word
-abbrev pub read_letters : Reading → ℕ → List ℕ → Result Reading UsageFault
-read_letters r at [] = Ok r
-read_letters r at (letter ∷ rest) = elim (letter_of letter) [
-  | None ↦ Err (UnknownOption at)
-  | Some meaning ↦ if is_write meaning then Ok (with_rest rest r) else read_letters (with_flag meaning r) at rest
-]
+-- behind what is given next
+abbrev pub with_next : Job → Given Choice → Result Job UsageFault
+with_next job one = Ok (with_given one.choice one.value job)
 
--- behind a word that names the log. A filter takes its input as an operand, so there is no letter for it. There is no
--- `--`: a name that begins with a minus sign is written `./NAME`
-abbrev pub read_input : Reading → ℕ → List ℕ → Result Reading UsageFault
-read_input r at word = if r.named then Err (TwoLogs at) else Ok (record { job = record (r.job) { input = word }; named = true; wanted = r.wanted })
-
--- whether a word has a minus sign in front and more behind it
-abbrev pub has_letters : List ℕ → Bool
-has_letters [] = false
-has_letters (b ∷ []) = false
-has_letters (b ∷ letter ∷ text) = b == 45
-
--- behind `--strict`
-abbrev pub with_strict : Reading → Reading
-with_strict r = record r { job = record (r.job) { how = record (r.job.how) { strict = true } } }
-
--- behind a word: it is the value that `-w` wants, or `--strict`, or has letters, or names the log
-abbrev pub read_word : Reading → ℕ → List ℕ → Result Reading UsageFault
-read_word r at word =
-    if r.wanted then Ok (with_output word r) else
-    (if bytes_eq word (codes "--strict") then Ok (with_strict r) else
-    (if has_letters word then read_letters r at (drop 1 word) else read_input r at word))
-
--- behind the last word
-abbrev pub at_end : Reading → Result Job UsageFault
-at_end r = if r.wanted then Err NoValue else Ok r.job
-
--- behind the words from a place on
-abbrev pub read_all : Reading → ℕ → List (List ℕ) → Result Job UsageFault
-read_all r at [] = at_end r
-read_all r at (word ∷ words) = elim (read_word r at word) [ Ok next ↦ read_all next (at + 1) words | Err fault ↦ Err fault ]
+-- what is wrong with a word: `-w` alone has a value
+abbrev pub usage_of : WordFault → UsageFault
+usage_of (words.UnknownOption at) = UnknownOption at
+usage_of (words.NoValue at) = NoValue
+usage_of (words.BadOperand at) = TwoLogs at
 
 -- before the first word
-abbrev pub first_reading : Reading
-first_reading = record { job = record { how = record { form = forms.Binary; strict = false }; append = false; quiet = false; output = codes "-"; input = codes "-" }; named = false; wanted = false }
+abbrev pub first_job : Job
+first_job = record { how = record { form = forms.Binary; strict = false }; append = false; quiet = false; output = codes "-"; input = codes "-" }
 
 -- the job that the words state, or the first that is wrong with them
 abbrev pub job_of : List (List ℕ) → Result Job UsageFault
-job_of words = read_all first_reading 0 words
+job_of words = folded with_next usage_of first_job (items log_rows (record { named = false }) 0 None words)
 
 -- ---- what was read
 

@@ -11,12 +11,15 @@
 
 mod answers;
 mod ended;
+mod help;
 mod message;
+mod options;
 mod run;
 mod words;
 mod work;
 
-use answers::{PROGRAM, run};
+use answers::run;
+use options::PROGRAM;
 use std::process::ExitCode;
 use system_world::{RealWorld, WordFault, no_memory, not_text, read_words};
 

@@ -7,7 +7,7 @@ ghost use Rattle.vslog.specs.Words.{job_as};
 
 use crate::ended::{Ended, RunFault};
 use crate::words::{Job, UsageFault};
-use one_run::numbered;
+use one_command::numbered;
 use std::alloc::{AllocError, Global};
 use varnish_log::{Copied, CopyFault, LogFault, LogForm, Looks, Loss};
 

@@ -12,7 +12,7 @@ use crate::message::{text_due, usage_message};
 use crate::words::{Job, UsageFault, read_job};
 use crate::work::work;
 use log_model::{Halt, NoMemory};
-use one_run::say;
+use one_command::say;
 use std::alloc::Global;
 use vio::World;
 

@@ -1,14 +1,14 @@
 //! The words of the command line, and the job that they state.
 
-ghost use Rattle.std.specs.Prelude.{◌≡◌, ◌<◌, map, drop, OnSome};
+ghost use Rattle.std.specs.Prelude.{◌≡◌, ℕ, List, map};
 ghost use Rattle.std.specs.String.{string_bytes};
-ghost use Rattle.vslog.specs.Words.{first_reading, has_letters, is_write, job_of, letter_of, read_input, read_letters, read_word, stated_as, with_flag, with_output, with_rest, with_strict};
-ghost use Rattle.vslog.specs.inside.Views.{reading_as, readings_as};
+ghost use Rattle.vslog.specs.Words.{first_job, job_as, job_of, stated_as, with_given, word_of};
+ghost use Rattle.word_forms.specs.Lookup.{first_name};
 
+use crate::options::{Choice, LETTERS, WORDS};
 use varnish_log::{How, LogForm};
-
-/// The name of standard input, and of standard output.
-pub const STREAM: &str = "-";
+use vio::STREAM;
+use word_forms::{Rows, WordFault, Words, letter_in, name_in};
 
 /// What is to be copied, how, and to where.
 #[derive(Clone, Copy)]
@@ -35,217 +35,116 @@ pub enum UsageFault {
     TwoLogs { word: usize },
 }
 
-/// What a letter says.
-#[derive(Clone, Copy, Debug, PartialEq, Eq)]
-pub enum Letter {
-    /// `-t`: the log is a text.
-    Text,
-    /// `-a`: what is written keeps what it has.
-    Append,
-    /// `-q`: nothing is said of what was left out.
-    Quiet,
-    /// `-w`: the name of what is written follows.
-    Write,
+impl From<WordFault> for UsageFault {
+    ghost use Rattle.vslog.specs.Words.{usage_of};
+
+    ghost from_gives = { λ fault e. e ≡ usage_of fault };
+
+    fn from(fault: WordFault) -> UsageFault {
+        match fault {
+            WordFault::UnknownOption { word } => UsageFault::UnknownOption { word },
+            WordFault::NoValue { .. } => UsageFault::NoValue,
+            WordFault::BadOperand { word } => UsageFault::TwoLogs { word },
+        }
+    }
 }
 
-/// What is known behind some words.
+/// The rows of the options that are words.
+fn word_rows() -> &'static [(&'static str, Choice)]
+    ensures { (word : List ℕ) →
+        first_name (λ row. row.0.now) (λ row. row.1) result.now word ≡ word_of word }
+{
+    &WORDS
+}
+
+/// The rows of `vslog`.
 #[derive(Clone, Copy)]
-pub struct Reading<'a> {
-    pub job: Job<'a>,
+pub struct LogRows {
     /// Whether a log was named.
     pub named: bool,
-    /// Whether the next word is the value of `-w`.
-    pub wanted: bool,
 }
 
-/// What a letter says, where it says something.
-fn letter_of(letter: u8) -> Option<Letter>
-    ensures letter { result ≡ letter_of letter }
-    ensures ascii { OnSome result (letter < 128) }
-{
-    match letter {
-        b't' => Some(Letter::Text),
-        b'a' => Some(Letter::Append),
-        b'q' => Some(Letter::Quiet),
-        b'w' => Some(Letter::Write),
-        _ => None,
+impl Rows for LogRows {
+    type Choice = Choice;
+
+    ghost use Rattle.vslog.specs.Words.{log_rows};
+
+    ghost rows = { log_rows };
+
+    fn letter(&self, letter: u8) -> Option<Choice> {
+        letter_in(&LETTERS, letter)
+    }
+
+    fn name(&self, word: &str) -> Option<Choice> {
+        name_in(word_rows(), word)
+    }
+
+    fn wants(&self, choice: Choice) -> bool {
+        match choice {
+            Choice::Write => true,
+            _ => false,
+        }
+    }
+
+    fn behind(&self, _operand: &str) -> Option<LogRows> {
+        if self.named {
+            return None;
+        }
+        Some(LogRows { named: true })
     }
 }
 
 /// Before the first word.
-fn first_reading() -> Reading<'static>
-    ensures { reading_as result ≡ first_reading }
+fn first_job() -> Job<'static>
+    ensures { job_as result ≡ first_job }
 {
     let how = How {
         form: LogForm::Binary,
         strict: false,
     };
-    let job = Job {
+    Job {
         how,
         append: false,
         quiet: false,
         output: STREAM,
         input: STREAM,
-    };
-    Reading {
-        job,
-        named: false,
-        wanted: false,
     }
 }
 
-/// Whether a letter wants a value.
-fn is_write(letter: Letter) -> bool
-    ensures { result ≡ is_write letter }
+/// Behind an option, or behind the name of the log, which is of no choice.
+fn with_given<'a>(choice: Option<Choice>, value: &'a str, job: Job<'a>) -> Job<'a>
+    ensures { job_as result ≡ with_given choice value.now (job_as job.entry) }
 {
-    match letter {
-        Letter::Write => true,
-        _ => false,
-    }
-}
-
-/// Behind a letter that wants no value.
-fn with_flag(letter: Letter, reading: Reading<'_>) -> Reading<'_>
-    ensures { reading_as result ≡ with_flag letter (reading_as reading.entry) }
-{
-    let Reading { job, named, wanted } = reading;
-    let how = job.how;
-    let job = match letter {
-        Letter::Text => Job {
-            how: How {
+    let mut job = job;
+    match choice {
+        None => job.input = value,
+        Some(Choice::Text) => {
+            job.how = How {
                 form: LogForm::Text,
-                strict: how.strict,
-            },
-            ..job
-        },
-        Letter::Append => Job {
-            append: true,
-            ..job
-        },
-        Letter::Quiet => Job { quiet: true, ..job },
-        Letter::Write => job,
-    };
-    Reading { job, named, wanted }
-}
-
-/// Behind the value of `-w`.
-fn with_output<'a>(output: &'a str, reading: Reading<'a>) -> Reading<'a>
-    ensures { reading_as result ≡ with_output output.now (reading_as reading.entry) }
-{
-    Reading {
-        job: Job {
-            output,
-            ..reading.job
-        },
-        named: reading.named,
-        wanted: false,
-    }
-}
-
-/// Behind the letter of `-w`: what is left of its word is the value, or the next word is where nothing is left.
-fn with_rest<'a>(rest: &'a str, reading: Reading<'a>) -> Reading<'a>
-    ensures { reading_as result ≡ with_rest rest.now (reading_as reading.entry) }
-{
-    if !rest.is_empty() {
-        return with_output(rest, reading);
-    }
-    Reading {
-        wanted: true,
-        ..reading
-    }
-}
-
-/// Behind the letters of a word, behind its minus sign.
-fn take_letters<'a>(
-    word: &'a str,
-    at: usize,
-    reading: Reading<'a>,
-) -> Result<Reading<'a>, UsageFault>
-    ensures { readings_as result ≡ read_letters (reading_as reading.entry) at (drop 1 word.now) }
-{
-    let mut reading = reading;
-    let letters = word.as_bytes();
-    for i in 1..letters.len() {
-        let Some(letter) = letter_of(letters[i]) else {
-            return Err(UsageFault::UnknownOption { word: at });
-        };
-        if is_write(letter) {
-            return Ok(with_rest(&word[i + 1..], reading));
+                strict: job.how.strict,
+            }
         }
-        reading = with_flag(letter, reading);
+        Some(Choice::Append) => job.append = true,
+        Some(Choice::Quiet) => job.quiet = true,
+        Some(Choice::Strict) => {
+            job.how = How {
+                form: job.how.form,
+                strict: true,
+            }
+        }
+        Some(Choice::Write) => job.output = value,
     }
-    Ok(reading)
-}
-
-/// Behind a word that names the log.
-fn take_input<'a>(word: &'a str, at: usize, reading: Reading<'a>) -> Result<Reading<'a>, UsageFault>
-    ensures { readings_as result ≡ read_input (reading_as reading.entry) at word.now }
-{
-    if reading.named {
-        return Err(UsageFault::TwoLogs { word: at });
-    }
-    Ok(Reading {
-        job: Job {
-            input: word,
-            ..reading.job
-        },
-        named: true,
-        wanted: reading.wanted,
-    })
-}
-
-/// Whether a word has a minus sign in front and more behind it.
-fn has_letters(word: &[u8]) -> bool
-    ensures { result ≡ has_letters word.now }
-{
-    match word {
-        [] => false,
-        [_] => false,
-        [first, _, ..] => *first == b'-',
-    }
-}
-
-/// Behind `--strict`.
-fn with_strict(reading: Reading<'_>) -> Reading<'_>
-    ensures { reading_as result ≡ with_strict (reading_as reading.entry) }
-{
-    let how = How {
-        form: reading.job.how.form,
-        strict: true,
-    };
-    Reading {
-        job: Job { how, ..reading.job },
-        named: reading.named,
-        wanted: reading.wanted,
-    }
-}
-
-/// Behind a word.
-fn take_word<'a>(word: &'a str, at: usize, reading: Reading<'a>) -> Result<Reading<'a>, UsageFault>
-    ensures { readings_as result ≡ read_word (reading_as reading.entry) at word.now }
-{
-    if reading.wanted {
-        return Ok(with_output(word, reading));
-    }
-    if word == "--strict" {
-        return Ok(with_strict(reading));
-    }
-    if has_letters(word.as_bytes()) {
-        return take_letters(word, at, reading);
-    }
-    take_input(word, at, reading)
+    job
 }
 
 /// The job that the words of a command line state, or the first that is wrong with them.
 pub fn read_job(words: &[String]) -> Result<Job<'_>, UsageFault>
     ensures { stated_as result ≡ job_of (map string_bytes words.now) }
 {
-    let mut reading = first_reading();
-    for (at, word) in words.iter().enumerate() {
-        reading = take_word(word.as_str(), at, reading)?;
+    let mut left = Words::new(LogRows { named: false }, words, 0);
+    let mut job = first_job();
+    while let Some(one) = left.next()? {
+        job = with_given(one.choice, one.value, job);
     }
-    if reading.wanted {
-        return Err(UsageFault::NoValue);
-    }
-    Ok(reading.job)
+    Ok(job)
 }

@@ -5,14 +5,14 @@ ghost use Rattle.log_model.specs.Halts.{IfFault, OnShort};
 ghost use Rattle.vio.specs.Calls.{Called};
 ghost use Rattle.vslog.specs.Words.{job_as};
 ghost use Rattle.vslog.specs.Theorem.{Begun, Copies, LacksWork, StopsWith};
-ghost use Rattle.vslog.specs.inside.Work.{IsBegun, IsMade, IsOpened};
+ghost use Rattle.vslog.specs.inside.Work.{IsBegun};
 
 use crate::ended::RunFault;
-use crate::words::{Job, STREAM};
+use crate::words::Job;
 use log_model::{Halt, NoMemory};
 use std::alloc::Global;
 use varnish_log::{Copied, copy_log};
-use vio::{Created, INPUT, OUTPUT, World, WorldFault, write_all};
+use vio::{World, WorldFault, create_stream, open_stream, write_all};
 use vsl_file::put_header;
 
 /// The handles between which a log is copied.
@@ -20,29 +20,6 @@ use vsl_file::put_header;
 struct Ends {
     input: u32,
     output: u32,
-}
-
-/// Opens the log of this name, or standard input.
-fn open_input<W: World>(world: &mut W, name: &str) -> Result<u32, WorldFault>
-    ensures { Called (IsOpened name.now result) (W.seen world.old) (W.seen world.new) }
-{
-    if name == STREAM {
-        return Ok(INPUT);
-    }
-    world.open(name)
-}
-
-/// Creates the file of this name, or gives standard output, which counts as empty.
-fn create_output<W: World>(world: &mut W, name: &str, append: bool) -> Result<Created, WorldFault>
-    ensures { Called (IsMade append name.now result) (W.seen world.old) (W.seen world.new) }
-{
-    if name == STREAM {
-        return Ok(Created {
-            handle: OUTPUT,
-            empty: true,
-        });
-    }
-    world.create(name, append)
 }
 
 /// Opens what is read, creates what is written, and writes the header of a log file where that is empty.
@@ -53,12 +30,12 @@ fn begin<W: World>(alloc: Global, world: &mut W, job: Job<'_>) -> Result<Ends, H
 {
     let mut header = Vec::new(alloc);
     put_header(&mut header)?;
-    let input = match open_input(world, job.input) {
+    let input = match open_stream(world, job.input) {
         Ok(handle) => handle,
         Err(WorldFault::Failed) => return Err(Halt::Fault(RunFault::NoInput)),
         Err(WorldFault::NoMemory) => return Err(Halt::NoMemory),
     };
-    let made = match create_output(world, job.output, job.append) {
+    let made = match create_stream(world, job.output, job.append) {
         Ok(made) => made,
         Err(WorldFault::Failed) => return Err(Halt::Fault(RunFault::NoOutput)),
         Err(WorldFault::NoMemory) => return Err(Halt::NoMemory),

@@ -1,5 +1,7 @@
-//! What is printed for help. `tools/options.py` makes the usage and the paragraphs of options of `HELP`, and of `HELP` and
-//! the rows of options the text of each tool.
+//! What is printed for help. `tools/options.py` makes the usage, the sentences, the options and the examples of `HELP` by
+//! the rows of commands and of options, and of these rows and `HELP` the text of each command.
+
+use tool_words::{Command, Tool};
 
 /// What `vtools --help` prints.
 pub const HELP: &str = "\
@@ -136,8 +138,17 @@ Manuals: man vtools, and man vtools-TOOL for each TOOL. All options and formats:
 docs/FORMATS.md.
 ";
 
+// made by tools/options.py: commands
+/// What `vtools NAME --help` prints of each command.
+pub static HELPS: [(Command, &str); 4] = [
+    (Command::Tool(Tool::Log), LOG_HELP),
+    (Command::Tool(Tool::Ncsa), NCSA_HELP),
+    (Command::Tool(Tool::Top), TOP_HELP),
+    (Command::Tool(Tool::Stat), STAT_HELP),
+];
+
 /// What `vtools varnishlog --help` prints.
-pub const LOG_HELP: &str = "\
+const LOG_HELP: &str = "\
 varnishlog prints the records of a log file, a group of them when it is
 complete, or writes them as a log file.
 
@@ -214,7 +225,7 @@ Manual: man vtools-varnishlog.
 ";
 
 /// What `vtools varnishncsa --help` prints.
-pub const NCSA_HELP: &str = "\
+const NCSA_HELP: &str = "\
 varnishncsa prints a line for each request, as a web server does in its access
 log.
 
@@ -279,7 +290,7 @@ Manual: man vtools-varnishncsa.
 ";
 
 /// What `vtools varnishtop --help` prints.
-pub const TOP_HELP: &str = "\
+const TOP_HELP: &str = "\
 varnishtop counts equal records, and prints each once with its count when the
 log has ended.
 
@@ -354,7 +365,7 @@ Manual: man vtools-varnishtop.
 ";
 
 /// What `vtools varnishstat --help` prints.
-pub const STAT_HELP: &str = "\
+const STAT_HELP: &str = "\
 varnishstat prints counters of feeds, and takes no log file.
 
 usage: vtools [--feed FILE].. [--gen N,SEED] [--ring N] [--reclen N]
@@ -393,3 +404,4 @@ pattern, a query or a format was refused, 3 out of memory.
 
 Manual: man vtools-varnishstat.
 ";
+// made until here

@@ -2,7 +2,7 @@
 //!
 //! `main` reads the words of the command line, makes the system's files and streams a world, and
 //! answers words that aren't UTF-8. Others go to `answers::run`, whose contract says what is printed
-//! and which status is answered: for `--help` and `--version` alone, and for a tool and `--help` or `-h`
+//! and which status is answered: for `--help` and `--version` alone, and for a command and `--help` or `-h`
 //! alone, a text of its own, and for all other words what `varnish_tools::run_tools` promises.
 //!
 //! Start with `specs/Asked.antt` and `specs/Command.antt`.
@@ -11,6 +11,7 @@
 mod answers;
 mod asked;
 mod help;
+mod texts;
 
 use answers::{PROGRAM, run};
 use std::process::ExitCode;

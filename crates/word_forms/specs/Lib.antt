@@ -1,0 +1,4 @@
+pub mod Items
+pub mod Lookup
+pub mod Words
+pub mod inside

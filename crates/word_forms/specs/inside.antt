@@ -1,0 +1,2 @@
+-- What only the private steps of this crate say.
+pub mod Steps
