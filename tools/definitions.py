@@ -4,6 +4,7 @@
 Usage: tools/definitions.py            prints the text
        tools/definitions.py --write    writes docs/DEFINITIONS.md
        tools/definitions.py --unused   prints what no public call reaches, and what has no source
+       tools/definitions.py --reach NAME ..     counts what these definitions reach, with themselves, by crate
 
 A sentence is the comment above a definition, or above the module that it begins. Its source is what stands in
 parentheses at the comment's end, or else at the end of the first sentence of the file's head. A public call carries a
@@ -14,7 +15,7 @@ error. It proves nothing.
 import re
 import sys
 import textwrap
-from collections import deque
+from collections import Counter, deque
 from pathlib import Path
 
 ROOT = Path(__file__).resolve().parent.parent
@@ -437,12 +438,29 @@ class Index:
                     found[id(item)] = item
         return list(found.values())
 
-    def reach(self):
-        """For each definition the calls that reach it with the fewest steps, and whether a private one does."""
+    def edges(self):
+        """For each definition those that it cites."""
         edges = {}
         for spec in self.specs:
             for item in spec.items.values():
                 edges[id(item)] = self.cited(item.body, spec.imports, spec.modules, spec)
+        return edges
+
+    def reached(self, names):
+        """The definitions of these names, and all that they reach."""
+        edges = self.edges()
+        left = [item for spec in self.specs for item in spec.items.values() if item.name in names]
+        found = {id(item): item for item in left}
+        while left:
+            for item in edges[id(left.pop())]:
+                if id(item) not in found:
+                    found[id(item)] = item
+                    left.append(item)
+        return list(found.values())
+
+    def reach(self):
+        """For each definition the calls that reach it with the fewest steps, and whether a private one does."""
+        edges = self.edges()
         nearest, private = {}, set()
         for call in self.calls:
             imports, modules = call.imports
@@ -539,6 +557,11 @@ def main():
     index = Index()
     if option == "--unused":
         print(*unused(index), sep="\n")
+        return
+    if option == "--reach":
+        found = index.reached(sys.argv[2:])
+        counts = Counter(item.crate for item in found).most_common()
+        print(f"{len(found)}: " + ", ".join(f"{crate} {count}" for crate, count in counts))
         return
     text, errors = document(index)
     if option == "--write":

@@ -28,7 +28,7 @@ use Rattle.tool_words.specs.declared.job.Job.{Job}
 use Rattle.tool_words.specs.declared.job.Tool.{Tool}
 use Rattle.tool_words.specs.declared.job.Tool.TheVariants as tools
 use Rattle.tool_words.specs.Job.{job_of}
-use Rattle.one_run.specs.Promise.{Works}
+use Rattle.one_command.specs.Promise.{Works}
 use Rattle.one_run.specs.declared.met.Met.{Met}
 use Rattle.one_run.specs.declared.pass.RunEnd.{RunEnd}
 use Rattle.one_run.specs.declared.pass.RunEnd.TheVariants as ends
@@ -48,7 +48,7 @@ use Rattle.job_runs.specs.Counters.{PrintsCounters, WritesText}
 use Rattle.job_runs.specs.Rows.{PrintsGroups, end_answer, job_due}
 use Rattle.job_runs.specs.Sources.{CameOf, StopsOf}
 use Rattle.varnish_tools.specs.declared.outcome.Outcome.{Outcome}
-use Rattle.varnish_tools.specs.Theorem.{IsFaithful, StatedRan}
+use Rattle.varnish_tools.specs.Theorem.{IsFaithful, StatedRan, alone_of}
 use Rattle.varnish_tools.proofs.FoundLemmas.{found_feeds, found_file}
 use Rattle.varnish_tools.proofs.PartLemmas.{counter_parts, feeds_found, group_parts, passed_alone}
 use Rattle.varnish_tools.proofs.QuietLemmas.{rose_within}
@@ -204,7 +204,7 @@ early_counted steps fault calls s t p did =
     let parts = did_apart p.first p.last s t (subst (λ (cs : List Call). Did cs s t) p.are did) in
     counted_within fault s parts.0 t t (did_counts p.first s parts.0 parts.1) (stops_counted p.step fault p.last parts.0 t p.stops parts.2) (did_counts [] t t refl)
 
-work_counted : (stated : Result Job UsageFault) (fault : ToolFault) (recorded : RunRecord) (work : List Call) (s t : Seen) → HasStreams s → Works Passes Stops (StatedRan stated) Nothing (steps_of stated) t (Some fault) recorded work → Did work s t → IsCounted fault s t
+work_counted : (stated : Result Job UsageFault) (fault : ToolFault) (recorded : RunRecord) (work : List Call) (s t : Seen) → HasStreams s → Works Passes Stops (StatedRan stated) alone_of Nothing (steps_of stated) t (Some fault) recorded work → Did work s t → IsCounted fault s t
 work_counted stated fault recorded work s t streams (inl early) did = counted_as fault early.by s t (some_same fault early.by early.is) (early_counted (steps_of stated) early.by work s t early.stopped did)
 work_counted (Err why) fault recorded work s t streams (inr ran) did = absurd ran.ran
 work_counted (Ok job) fault recorded work s t streams (inr ran) did =
@@ -218,5 +218,5 @@ pub fault_counted : (fault : ToolFault) (words : List (List ℕ)) (outcome : Out
 fault_counted fault words outcome before now streams p is =
     let q = p.works in
     counted_within fault before before q.at now (did_counts [] before before refl)
-    (work_counted (job_of words) fault outcome.run q.work before q.at streams (subst (λ (f : Option ToolFault). Works Passes Stops (StatedRan (job_of words)) Nothing (steps_of (job_of words)) q.at f outcome.run q.work) is q.works) q.did)
+    (work_counted (job_of words) fault outcome.run q.work before q.at streams (subst (λ (f : Option ToolFault). Works Passes Stops (StatedRan (job_of words)) alone_of Nothing (steps_of (job_of words)) q.at f outcome.run q.work) is q.works) q.did)
     (did_counts q.said q.at now q.told)

@@ -15,7 +15,7 @@ use Rattle.ring_layout.specs.declared.item.Item.{Item}
 use Rattle.ring_layout.specs.Items.{items_of}
 use Rattle.traffic_feed.specs.declared.listing.Listing.{Listing}
 use Rattle.feed_files.specs.Feeds.{AreFeedsRead, AreListings, FeedsHold, feeds_from}
-use Rattle.one_run.specs.Promise.{Says}
+use Rattle.one_command.specs.Promise.{Says}
 use Rattle.tool_words.specs.declared.fault.UsageFault.{UsageFault}
 use Rattle.tool_words.specs.declared.job.Job.{Job}
 use Rattle.tool_words.specs.Job.{job_of}
@@ -114,7 +114,7 @@ pub ring_printed : OneListings → TellsRead → RingWrites → (words : List (L
 ring_printed one read writes words outcome job contents listings before now states fed groups threads streams tells are p =
     work_prints one read job contents listings groups fed are (PrintsRing job outcome.fault outcome.run listings before now) (fault_message words outcome.fault) outcome.fault outcome.run before now streams tells
     (λ ask sink empty calls over. let w = writes job ask sink empty listings outcome.fault outcome.run calls threads over in
-    (items_of w.history, w.ended, w.writes, λ prints. record { ring = w.ring; is = w.is; interleaved = w.interleaved; history = w.history; only = w.only; read = w.read; ended = w.ended; tail = w.tail; prints = prints }))
+    (items_of w.history, w.ended, w.writes, λ prints. record { ring = w.ring; is = w.is; interleaved = w.interleaved; history = w.history; only = w.only; read = w.read; adds_up = w.adds_up; ended = w.ended; tail = w.tail; prints = prints }))
     (stated_work words outcome job before now states p)
 
 -- ---- counters

@@ -6,7 +6,8 @@ mod PartLemmas
 mod OutLemmas
 mod PrintedLemmas
 mod ToldLemmas
-mod FedLemmas
 mod PartedLemmas
+mod PlainLemmas
+mod FedLemmas
 mod QuietLemmas
 mod CountedLemmas

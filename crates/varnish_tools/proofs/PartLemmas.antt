@@ -6,6 +6,7 @@ use Rattle.vio.specs.World.{Seen}
 use Rattle.vio.specs.Touches.{Touches}
 use Rattle.vio.specs.Calls.{Call, Did}
 use Rattle.vio.specs.Steps.{Passed}
+use Rattle.vio.specs.Streams.{IsMadeBy}
 use Rattle.vio.proofs.CallLaws.{did_keep}
 use Rattle.vio.proofs.CallLemmas.{did_apart}
 use Rattle.vio.proofs.StepLemmas.{passed_one}
@@ -15,11 +16,11 @@ use Rattle.feed_files.specs.Feeds.{Feed, FeedPasses, FeedStops, feeds_from}
 use Rattle.tool_words.specs.declared.job.Job.{Job}
 use Rattle.tool_words.specs.declared.job.QueryText.{QueryText}
 use Rattle.job_steps.specs.Jobs.{format_text, is_counting, write_of}
-use Rattle.job_steps.specs.Steps.{Step, TakeQuery, TakeFormat, ReadFeed, MakeSink, Found, FoundNone, FoundText, FoundListing, FoundSink, IsMadeBy, Passes, Stops, counter_steps, feed_steps, group_steps, input_steps, logs_of, opens_of, queries_from, steps_of, word_steps}
+use Rattle.job_steps.specs.Steps.{Step, TakeQuery, TakeFormat, ReadFeed, MakeSink, Found, FoundNone, FoundText, FoundListing, FoundSink, Passes, Stops, counter_steps, feed_steps, group_steps, input_steps, logs_of, opens_of, queries_from, steps_of, word_steps}
 use Rattle.job_steps.proofs.BegunLemmas.{read_create}
 use Rattle.job_steps.proofs.GoodLemmas.{text_kept, text_told}
 use Rattle.job_steps.proofs.TookLemmas.{opens_alone}
-use Rattle.varnish_tools.specs.Told.{AreTexts}
+use Rattle.varnish_tools.specs.Texts.{AreTexts}
 use Rattle.varnish_tools.proofs.FoundLemmas.{CountingSo, found_behind, found_counting}
 
 -- ---- steps that passed, by parts

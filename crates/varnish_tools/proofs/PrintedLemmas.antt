@@ -10,8 +10,8 @@ use Rattle.vio.proofs.CallLemmas.{did_then, on_append, written_append}
 use Rattle.vio.proofs.TouchLemmas.{did_touch}
 use Rattle.ring_layout.specs.declared.item.Item.{Item}
 use Rattle.traffic_feed.specs.declared.listing.Listing.{Listing}
-use Rattle.one_run.specs.Promise.{RanOn, Says}
-use Rattle.one_run.proofs.PromiseLemmas.{promised_gain, said_other}
+use Rattle.one_command.specs.Promise.{RanOn, Says}
+use Rattle.one_command.proofs.PromiseLemmas.{promised_gain, said_other}
 use Rattle.tool_words.specs.declared.job.Job.{Job}
 use Rattle.job_steps.specs.declared.fault.ToolFault.{ToolFault}
 use Rattle.job_steps.specs.Jobs.{is_counting, write_of}
@@ -24,7 +24,7 @@ use Rattle.job_runs.specs.Sources.{CameOf, RecordsOf, StopsOf}
 use Rattle.job_runs.specs.Counters.{PrintsCounters}
 use Rattle.job_runs.specs.Rows.{IsAsked, JobRan, PrintsGroups, RanFor, end_answer, job_due}
 use Rattle.job_runs.specs.Told.{WritesOf}
-use Rattle.varnish_tools.specs.Theorem.{StatedRan, WorksOff}
+use Rattle.varnish_tools.specs.Theorem.{StatedRan, WorksOff, alone_of}
 use Rattle.varnish_tools.specs.Told.{PrintsItems}
 use Rattle.varnish_tools.proofs.FoundLemmas.{FoundSo}
 use Rattle.varnish_tools.proofs.PartLemmas.{GroupParts}
@@ -55,9 +55,9 @@ ran_over job found texts logs listings sink empty at fault recorded calls groups
 
 -- what the last of a job's calls wrote to a handle but standard error it gained: nothing was written before them, nor by the message
 pub run_gains : (job : Job) (message : List ℕ) (fault : Option ToolFault) (recorded : RunRecord) (h : ℕ) (s t : Seen) → h ≢ ERRORS → (q : WorksOff (Says message) (Ok job) fault recorded s t)
-    → (ran : RanOn Passes Stops (StatedRan (Ok job)) Nothing (steps_of (Ok job)) q.at fault recorded q.work) → Gains (s.written h) (t.written h) (written_by h ran.last)
+    → (ran : RanOn Passes Stops (StatedRan (Ok job)) alone_of Nothing (steps_of (Ok job)) q.at fault recorded q.work) → Gains (s.written h) (t.written h) (written_by h ran.last)
 run_gains job message fault recorded h s t apart q ran =
-    let gained = promised_gain Passes Stops (StatedRan (Ok job)) Nothing (Says message) (steps_of (Ok job)) fault recorded h s t (λ calls says. said_other h message calls apart says) q in
+    let gained = promised_gain Passes Stops (StatedRan (Ok job)) alone_of Nothing (Says message) (steps_of (Ok job)) fault recorded h s t (λ calls says. said_other h message calls apart says) q in
     let within = passed_within (steps_of (Ok job)) ran.found ran.first ran.passed in
     let last : written_by h q.work ≡ written_by h ran.last =
     ap (λ (cs : List Call). written_by h cs) ran.are ∙ written_append h ran.first ran.last ∙ ap (λ (xs : List ℕ). xs ++ written_by h ran.last) (within.writes h) in
@@ -65,7 +65,7 @@ run_gains job message fault recorded h s t apart q ran =
 
 -- what such a run wrote of items is what OUT gained
 pub items_printed : (job : Job) (message : List ℕ) (fault : Option ToolFault) (recorded : RunRecord) (s t : Seen) (every : List Item) (ended : Bool) (logs : List ℕ) (listings : List Listing) → HasStreams s → (q : WorksOff (Says message) (Ok job) fault recorded s t)
-    → (ran : RanOn Passes Stops (StatedRan (Ok job)) Nothing (steps_of (Ok job)) q.at fault recorded q.work) → (mid : Seen) → Did ran.first s mid → Did ran.last mid q.at → (out : GroupParts job ran.found s mid) → FoundSo ran.found out.texts logs listings out.sink out.empty
+    → (ran : RanOn Passes Stops (StatedRan (Ok job)) alone_of Nothing (steps_of (Ok job)) q.at fault recorded q.work) → (mid : Seen) → Did ran.first s mid → Did ran.last mid q.at → (out : GroupParts job ran.found s mid) → FoundSo ran.found out.texts logs listings out.sink out.empty
     → (g : RanOver job ran.found logs listings out.sink out.empty q.at fault recorded ran.last) → WritesOf out.sink (job_due job g.ask out.empty) fault every ended ran.last → PrintsItems job fault every ended s t
 items_printed job message fault recorded s t every ended logs listings streams q ran mid did_first did_last out so g wrote =
     let sink = out.sink in

@@ -4,7 +4,7 @@ use Rattle.log_model.specs.declared.fault.Halt.{Halt}
 use Rattle.log_model.specs.declared.fault.Halt.TheVariants.{Fault, NoMemory}
 use Rattle.vio.specs.World.{Seen}
 use Rattle.vio.specs.Calls.{Call, Called}
-use Rattle.one_run.specs.Promise.{Says, SaysPart}
+use Rattle.one_command.specs.Promise.{Says, SaysPart}
 use Rattle.tool_words.specs.declared.fault.UsageFault.{UsageFault}
 use Rattle.tool_words.specs.declared.job.Job.{Job}
 use Rattle.tool_words.specs.Job.{job_of}
@@ -42,7 +42,7 @@ settled_short stated (Err NoMemory) e s t is p = p
 
 -- what was said behind it
 pub works_off : (IsSaid : List Call → Type 0) (stated : Result Job UsageFault) (fault : Option ToolFault) (recorded : RunRecord) (s t u : Seen) → Called (DidWork stated t fault recorded) s t → Called IsSaid t u → WorksOff IsSaid stated fault recorded s u
-works_off IsSaid stated fault recorded s t u p q = record { work = p.calls; at = t; did = p.did; works = p.is.0; fail = p.is.1; said = q.calls; told = q.did; says = q.is }
+works_off IsSaid stated fault recorded s t u p q = record { work = p.calls; at = t; did = p.did; works = p.is; said = q.calls; told = q.did; says = q.is }
 
 -- or was not, for want of memory
 pub lacks_message : (words : List (List ℕ)) (fault : Option ToolFault) (recorded : RunRecord) (s t u : Seen) → Called (DidWork (job_of words) t fault recorded) s t → Called (SaysPartOf words fault) t u → LacksMessage words s u

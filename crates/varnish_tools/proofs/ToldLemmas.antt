@@ -1,23 +1,25 @@
 -- What the main theorem comes to, where the world tells what the log of a job holds.
 use Rattle.std.specs.Bool.{MatchBool}
 use Rattle.std.specs.Str.{bytes_eq}
-use Rattle.std.proofs.Common.{◌≡◌, ◌⊎◌, ℕ, Bool, true, false, if◌then◌else◌, is_some, List, [], ◌∷◌, ◌++◌, Option, Some, None, Result, Ok, refl, sym, ap, subst, ◌∙◌, inl, inr, codes}
+use Rattle.std.proofs.Common.{◌≡◌, ◌⊎◌, ℕ, ◌<◌, Bool, true, false, if◌then◌else◌, is_some, List, [], ◌∷◌, ◌++◌, length, Option, Some, None, Result, Ok, refl, sym, ap, subst, ◌∙◌, inl, inr, codes, arith}
 use Rattle.std.proofs.lemmas.List.{append-nil}
 use Rattle.vio.specs.declared.world.TheConstants.{ERRORS, INPUT}
+use Rattle.log_model.specs.Prefix.{IsPrefix}
 use Rattle.vio.specs.World.{Gains, HasStreams, Seen, Writing}
 use Rattle.vio.specs.Touches.{IsOneOf}
-use Rattle.vio.specs.Calls.{Call, Did, Open, SomeFailed, none_failed, written_by}
+use Rattle.vio.specs.Calls.{Call, Did, Open, Went, SomeFailed, none_failed, written_by}
 use Rattle.vio.specs.Steps.{Passed, Stopped}
-use Rattle.vio.proofs.CallLaws.{did_keep}
-use Rattle.vio.proofs.CallLemmas.{did_apart, did_then, none_or_some, on_append, some_behind, written_append}
+use Rattle.vio.proofs.CallLaws.{did_gain, did_keep}
+use Rattle.vio.proofs.CallLemmas.{did_apart, did_then, none_or_some, on_append, some_behind, written_append, written_here}
 use Rattle.vio.proofs.StepLemmas.{passed_one}
 use Rattle.vio.proofs.TouchLemmas.{did_touch, only_one}
 use Rattle.vsl_record.specs.Unit.{Log}
 use Rattle.vsl_file.specs.File.{FileEnding, IsFile, Whole, is_whole}
-use Rattle.one_run.specs.Promise.{Says, Works}
-use Rattle.one_run.proofs.PromiseLemmas.{promised_gain, said_other}
+use Rattle.one_command.specs.Promise.{Says, Works}
+use Rattle.one_command.proofs.PromiseLemmas.{promised_gain, said_other}
 use Rattle.run_sources.specs.Sources.{FileCame, FileStopped, unit_items}
 use Rattle.run_sources.specs.Told.{TellsLog}
+use Rattle.text_printer.specs.Messages.{messages_of}
 use Rattle.tool_words.specs.declared.fault.UsageFault.{UsageFault}
 use Rattle.tool_words.specs.declared.job.Job.{Job}
 use Rattle.tool_words.specs.Job.{job_of}
@@ -38,7 +40,7 @@ use Rattle.job_runs.specs.Rows.{JobRan, PrintsGroups, RanFor, end_answer, job_du
 use Rattle.job_runs.specs.Told.{WritesOf}
 use Rattle.varnish_tools.specs.declared.outcome.Outcome.{Outcome}
 use Rattle.varnish_tools.specs.Faults.{fault_message}
-use Rattle.varnish_tools.specs.Theorem.{IsFaithful, StatedRan, WorksOff}
+use Rattle.varnish_tools.specs.Theorem.{IsFaithful, StatedRan, WorksOff, alone_of}
 use Rattle.varnish_tools.specs.Told.{PrintsLog, TellsInput, WasStopped}
 use Rattle.varnish_tools.proofs.FoundLemmas.{FoundSo, found_feeds, found_file}
 use Rattle.varnish_tools.proofs.PartLemmas.{GroupParts, counter_parts, early, feeds_found, group_parts, passed_alone}
@@ -88,6 +90,22 @@ log_found job units ending found calls s t groups file streams tells passed did 
 
 -- ---- what a run over a told log comes to
 
+-- no item of a log has a message
+units_silent : (units : Log) → messages_of (unit_items units) ≡ []
+units_silent [] = refl
+units_silent (u ∷ units) = units_silent units
+
+-- a part of nothing is nothing
+prefix_none : (text : List ℕ) → IsPrefix text [] → text ≡ []
+prefix_none [] part = refl
+prefix_none (byte ∷ text) part = let no : [] ≡ byte ∷ (text ++ part.rest) = part.is in absurd cc
+
+-- where there is no message nothing is written
+says_none : (calls : List Call) → Says [] calls → written_by ERRORS calls ≡ []
+says_none calls (inl none) = ap (λ (cs : List Call). written_by ERRORS cs) none.1
+says_none calls (inr (inl whole)) = ap (λ (cs : List Call). written_by ERRORS cs) whole ∙ written_here ERRORS [] Went
+says_none calls (inr (inr part)) = let no : length part.0 < 0 = (part.1).shorter in absurd (omega (arith, no))
+
 -- that a run over a log whose handle told what it had left writes what is due of it
 abbrev pub TellsWrites : Type 0
 TellsWrites = (job : Job) (ask : Ask) (h : ℕ) (others : List ℕ) (sink : ℕ) (empty : Bool) (units : Log) (ending : FileEnding) (fault : Option ToolFault) (recorded : RunRecord) (calls : List Call) (before now : Seen) → TellsLog h units ending before → Did calls before now
@@ -104,6 +122,23 @@ module _ (writes_told : TellsWrites) (job : Job) (units : Log) (ending : FileEnd
         let g = ran_over job ran.found out.texts (of.h ∷ []) [] out.sink out.empty q.at fault recorded ran.last groups of.so ran.ran in
         inr (items_printed job message fault recorded s t (unit_items units) (is_whole ending) (of.h ∷ []) [] streams q ran parts.0 parts.1 parts.2 out of.so g
         (writes_told job g.ask of.h [] out.sink out.empty units ending fault recorded ran.last parts.0 q.at of.tells parts.2 g.over))
+  ]
+
+  -- and where there is no message standard error gained nothing, if there is no fault
+  pub errors_silent : (recorded : RunRecord) (s t : Seen) → HasStreams s → TellsInput job units ending s → WorksOff (Says []) (Ok job) None recorded s t → Gains (s.written ERRORS) (t.written ERRORS) []
+  errors_silent recorded s t streams tells q = elim q.works [
+    | inl early ↦ let no : None ≡ Some early.by = early.is in absurd cc
+    | inr ran ↦
+        let parts = did_apart ran.first ran.last s q.at (subst (λ (cs : List Call). Did cs s q.at) ran.are q.did) in
+        let of = log_found job units ending ran.found ran.first s parts.0 groups file streams tells ran.passed parts.1 in
+        let out = of.parts in
+        let g = ran_over job ran.found out.texts (of.h ∷ []) [] out.sink out.empty q.at None recorded ran.last groups of.so ran.ran in
+        let wrote = writes_told job g.ask of.h [] out.sink out.empty units ending None recorded ran.last parts.0 q.at of.tells parts.2 g.over in
+        let first : written_by ERRORS ran.first ≡ [] = (passed_within (steps_of (Ok job)) ran.found ran.first ran.passed).writes ERRORS in
+        let last : written_by ERRORS ran.last ≡ [] = prefix_none (written_by ERRORS ran.last) (subst (λ (text : List ℕ). IsPrefix (written_by ERRORS ran.last) text) (units_silent units) wrote.told) in
+        let work : written_by ERRORS q.work ≡ [] = ap (λ (cs : List Call). written_by ERRORS cs) ran.are ∙ written_append ERRORS ran.first ran.last ∙ (λ i. first i ++ last i) in
+        let all : written_by ERRORS (q.work ++ q.said) ≡ [] = written_append ERRORS q.work q.said ∙ (λ i. work i ++ says_none q.said q.says i) in
+        subst (λ (text : List ℕ). Gains (s.written ERRORS) (t.written ERRORS) text) all (did_gain ERRORS (q.work ++ q.said) s t (did_then q.work q.said s q.at t q.did q.told))
   ]
 
 -- what was written of a log that was told
@@ -148,7 +183,7 @@ log_stops whole false false job found first last h fault r s t groups is streams
     none_found h (logs_of found) (found_feeds g.texts g.inputs found fed.0 g.sink g.empty g.are fed.1).logs_are one
 
 module _ (pass : GoodPass) (cause : FaultCause) (whole : WholeRuns) (job : Job) (s t : Seen) (streams : HasStreams s) (good : AreGoodSteps s (steps_of (Ok job))) (tells : TellsWhole job s) where
-  work_failed : (fault : ToolFault) (recorded : RunRecord) (work : List Call) → Did work s t → Works Passes Stops (StatedRan (Ok job)) Nothing (steps_of (Ok job)) t (Some fault) recorded work → SomeFailed work
+  work_failed : (fault : ToolFault) (recorded : RunRecord) (work : List Call) → Did work s t → Works Passes Stops (StatedRan (Ok job)) alone_of Nothing (steps_of (Ok job)) t (Some fault) recorded work → SomeFailed work
   work_failed fault recorded work did (inl early) = pass (Ok job) early.by work s t good did early.stopped
   work_failed fault recorded work did (inr ran) =
       let parts = did_apart ran.first ran.last s t (subst (λ (cs : List Call). Did cs s t) ran.are did) in
@@ -157,7 +192,7 @@ module _ (pass : GoodPass) (cause : FaultCause) (whole : WholeRuns) (job : Job) 
         | inr log ↦ absurd (log_stops whole (is_counting job.tool) (is_some job.file) job ran.found ran.first ran.last log.0 fault s parts.0 t refl refl streams tells ran.passed parts.1 parts.2 log.1 log.2)
       ]
 
-  work_whole : (fault : Option ToolFault) (recorded : RunRecord) (work : List Call) → Did work s t → Works Passes Stops (StatedRan (Ok job)) Nothing (steps_of (Ok job)) t fault recorded work → none_failed work ≡ true → fault ≡ None
+  work_whole : (fault : Option ToolFault) (recorded : RunRecord) (work : List Call) → Did work s t → Works Passes Stops (StatedRan (Ok job)) alone_of Nothing (steps_of (Ok job)) t fault recorded work → none_failed work ≡ true → fault ≡ None
   work_whole None recorded work did works none = refl
   work_whole (Some fault) recorded work did works none = absurd (none_or_some work none (work_failed fault recorded work did works))
 
@@ -167,4 +202,4 @@ pub no_fault : GoodPass → FaultCause → WholeRuns → (words : List (List ℕ
 no_fault pass cause whole words outcome job before now states streams good tells p none =
     let q = p.works in
     work_whole pass cause whole job before q.at streams good tells outcome.fault outcome.run q.work q.did
-    (subst (λ (stated : Result Job UsageFault). Works Passes Stops (StatedRan stated) Nothing (steps_of stated) q.at outcome.fault outcome.run q.work) states q.works) none
+    (subst (λ (stated : Result Job UsageFault). Works Passes Stops (StatedRan stated) alone_of Nothing (steps_of stated) q.at outcome.fault outcome.run q.work) states q.works) none

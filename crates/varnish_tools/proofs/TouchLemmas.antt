@@ -9,7 +9,7 @@ use Rattle.vio.specs.Calls.{Call, Called, AreOn}
 use Rattle.vio.specs.Steps.{Passed, Stopped}
 use Rattle.vio.proofs.CallLemmas.{did_then, given_append, handles_created, handles_opened, on_given, on_within, within_behind, within_more}
 use Rattle.vio.proofs.TouchLemmas.{one_of_left, one_of_right}
-use Rattle.one_run.specs.Promise.{Says, SaysPart, Works}
+use Rattle.one_command.specs.Promise.{Says, SaysPart, Works}
 use Rattle.vsl_select.specs.declared.rule_text.SelectFault.{SelectFault}
 use Rattle.vsl_select.specs.Shown.{rules_fault}
 use Rattle.tool_words.specs.declared.fault.UsageFault.{UsageFault}
@@ -25,7 +25,7 @@ use Rattle.job_runs.specs.declared.record.RunRecord.TheVariants.{Nothing}
 use Rattle.job_runs.specs.Counters.{CountersShort, PrintsCounters, WritesText}
 use Rattle.job_runs.specs.Rows.{GroupsShort, JobRan, JobShort, PrintsGroups}
 use Rattle.varnish_tools.specs.Faults.{message}
-use Rattle.varnish_tools.specs.Theorem.{LacksWork, StatedRan, TouchesJob, TouchesSteps, asked_of}
+use Rattle.varnish_tools.specs.Theorem.{LacksWork, StatedRan, TouchesJob, TouchesSteps, alone_of, asked_of}
 use Rattle.varnish_tools.specs.inside.Works.{DidWork, SaysPartOf}
 use Rattle.varnish_tools.proofs.FoundLemmas.{found_log, found_sink, handle_in, one_of_both, sink_is}
 
@@ -125,7 +125,7 @@ ran_touch : (job : Job) (found : List Found) (first last : List Call) → Passed
 ran_touch job found first last passed on = rw (asked_passed job found first passed) (touch_on (steps_of (Ok job)) found first last passed on)
 
 -- what was worked off touches what its steps name
-pub works_touch : (stated : Result Job UsageFault) (at : Seen) (fault : Option ToolFault) (recorded : RunRecord) (calls : List Call) → Works Passes Stops (StatedRan stated) Nothing (steps_of stated) at fault recorded calls → TouchesSteps (asked_of stated) calls
+pub works_touch : (stated : Result Job UsageFault) (at : Seen) (fault : Option ToolFault) (recorded : RunRecord) (calls : List Call) → Works Passes Stops (StatedRan stated) alone_of Nothing (steps_of stated) at fault recorded calls → TouchesSteps (asked_of stated) calls
 works_touch stated at fault recorded calls (inl p) = stopped_touch stated p.by calls p.stopped
 works_touch (Err why) at fault recorded calls (inr p) = absurd p.ran
 works_touch (Ok job) at fault recorded calls (inr p) = rw p.are (ran_touch job p.found p.first p.last p.passed (run_on job at fault recorded p.found p.last p.ran))
@@ -166,7 +166,7 @@ pub said_touches : (IsSaid : List Call → Type 0) (stated : Result Job UsageFau
 said_touches IsSaid stated fault recorded s t u on p q = record {
   calls = p.calls ++ q.calls;
   did = did_then p.calls q.calls s t u p.did q.did;
-  is = touch_said (asked_of stated) p.calls q.calls (works_touch stated t fault recorded p.calls p.is.0) (on q.calls q.is);
+  is = touch_said (asked_of stated) p.calls q.calls (works_touch stated t fault recorded p.calls p.is) (on q.calls q.is);
 }
 
 -- whether all of the message was said, or not

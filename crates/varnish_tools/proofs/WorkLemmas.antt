@@ -8,7 +8,7 @@ use Rattle.vio.specs.Calls.{Call, Called, OnlyOpen, last_failed}
 use Rattle.vio.specs.Steps.{Passed, PassedSo, Halted}
 use Rattle.vio.proofs.CallLemmas.{did_then, last_failed_then}
 use Rattle.vio.proofs.StepLemmas.{passed_then, stopped_one}
-use Rattle.one_run.proofs.PromiseLemmas.{early_first, early_behind}
+use Rattle.one_command.proofs.PromiseLemmas.{early_first, early_behind}
 use Rattle.run_sources.specs.Sources.{FileCame, FileStopped}
 use Rattle.traffic_feed.specs.declared.listing.Listing.{Listing}
 use Rattle.tool_words.specs.declared.fault.UsageFault.{UsageFault}
@@ -32,14 +32,14 @@ use Rattle.job_runs.specs.Sources.{BeganOf, CameOf, FedCame, FeedsCame, LogBegan
 use Rattle.job_runs.specs.Counters.{CountsSo, WritesText}
 use Rattle.job_runs.specs.Rows.{IsAsked, JobRan, JobShort, RanFor, end_answer, job_due}
 use Rattle.job_runs.specs.Runs.{CountsShort, RanShort, RanSo}
-use Rattle.varnish_tools.specs.Theorem.{StatedRan, asked_of}
+use Rattle.varnish_tools.specs.Theorem.{StatedRan, alone_of, asked_of}
 use Rattle.varnish_tools.specs.inside.Works.{IsWorked}
 use Rattle.varnish_tools.proofs.FoundLemmas.{CountingSo, FoundSo, found_behind, found_counting, found_feeds, found_file}
 use Rattle.varnish_tools.proofs.TouchLemmas.{asked_good}
 
 -- the words ended the work
 pub words_end : (stated : Result Job UsageFault) (halt : Halt ToolFault) (s : Seen) → IfFault {A = Ran} (Err halt) (λ fault. (why : UsageFault) × (stated ≡ Err why) × (fault ≡ Usage why)) → Called (IsWorked stated s (Err halt)) s s
-words_end stated (Fault fault) s p = rw (p.1, p.2) (record { calls = []; did = refl; is = (inl (record { by = Usage p.0; is = refl; none = refl; stopped = stopped_one Passes Stops (RefuseWords p.0) (Usage p.0) [] (refl, refl) }), refl) })
+words_end stated (Fault fault) s p = rw (p.1, p.2) (record { calls = []; did = refl; is = inl (record { by = Usage p.0; is = refl; none = refl; stopped = stopped_one Passes Stops (RefuseWords p.0) (Usage p.0) [] (refl, refl); fail = refl }) })
 words_end stated NoMemory s p = record { calls = []; did = refl; is = inl (tt, omega arith) }
 
 -- what work comes to is said of the words that state the job
@@ -50,7 +50,7 @@ of_words stated job r s t states p = subst (λ (st : Result Job UsageFault). Cal
 
 -- they ended the work
 pub rules_end : (job : Job) (halt : Halt ToolFault) (s : Seen) → Halted Passes Stops [] (word_steps (Ok job)) halt [] → Called (IsWorked (Ok job) s (Err halt)) s s
-rules_end job (Fault fault) s p = record { calls = []; did = refl; is = (early_first Passes Stops (StatedRan (Ok job)) Nothing (word_steps (Ok job)) (job_steps job) s fault [] p.0, refl) }
+rules_end job (Fault fault) s p = record { calls = []; did = refl; is = early_first Passes Stops (StatedRan (Ok job)) alone_of Nothing (word_steps (Ok job)) (job_steps job) s fault [] p.0 refl }
 rules_end job NoMemory s p = record { calls = []; did = refl; is = inl (tt, omega arith) }
 
 -- they are good
@@ -66,7 +66,7 @@ module _ (job : Job) (selection : Showing) (rules : PassedRules job selection) w
 
   -- a step of the job ended the work
   steps_end : (halt : Halt ToolFault) (s t : Seen) → Called (Halted Passes Stops (opens_of (job_steps job)) (job_steps job) halt) s t → Called (IsWorked (Ok job) t (Err halt)) s t
-  steps_end (Fault fault) s t p = called_so (λ calls q. (early_behind Passes Stops (StatedRan (Ok job)) Nothing (word_steps (Ok job)) (job_steps job) t fault (FoundNone ∷ []) [] calls passed_rules q.0, q.1)) p
+  steps_end (Fault fault) s t p = called_so (λ calls q. early_behind Passes Stops (StatedRan (Ok job)) alone_of Nothing (word_steps (Ok job)) (job_steps job) t fault (FoundNone ∷ []) [] calls passed_rules q.0 q.1) p
   steps_end NoMemory s t p = called_so (λ calls q. inl (subst (λ (steps : List Step). OnlyOpen (opens_of steps) calls) (sym asked) q)) p
 
   pub job_end : (steps : List Step) (halt : Halt ToolFault) (s t : Seen) → steps ≡ job_steps job → Called (Halted Passes Stops (opens_of steps) steps halt) s t → Called (IsWorked (Ok job) t (Err halt)) s t
@@ -83,7 +83,7 @@ module _ (job : Job) (selection : Showing) (rules : PassedRules job selection) w
       let q = run p.is.found p.is.is in record {
         calls = p.calls ++ q.calls;
         did = did_then p.calls q.calls s t u p.did q.did;
-        is = (inr (record { found = found_behind p.is.found; first = p.calls; last = q.calls; are = refl; passed = passed_all IsSo steps p.calls are p.is; ran = q.is.0 }), last_failed_then p.calls q.calls p.is.fail q.is.1);
+        is = inr (record { found = found_behind p.is.found; first = p.calls; last = q.calls; are = refl; passed = passed_all IsSo steps p.calls are p.is; ran = q.is.0; fail = last_failed_then p.calls q.calls p.is.fail q.is.1 });
       }
 
   -- or had no memory

@@ -4,7 +4,8 @@ use Rattle.tool_words.specs.declared.fault.UsageFault.{UsageFault}
 use Rattle.tool_words.specs.declared.fault.UsageFault.TheVariants.{UnknownTool, UnknownOption, NoValue, BadValue, NotHere, NoTool, NoOnce, NoLog, TwoLogs}
 use Rattle.query_parser.specs.declared.fault.QueryFault.{QueryFault}
 use Rattle.query_parser.specs.declared.fault.QueryFault.TheVariants.{Syntax, UnknownTag, Number, Pattern, Deep, NoMemory}
-use Rattle.text_printer.specs.Messages.{told, numbered}
+use Rattle.one_command.specs.Messages.{numbered}
+use Rattle.text_printer.specs.Messages.{told}
 use Rattle.job_steps.specs.declared.fault.ToolFault.{ToolFault}
 use Rattle.job_steps.specs.declared.fault.ToolFault.TheVariants.{Usage, BadPattern, BadQuery, BadFormat, BadListing, NoOpen, ReadFault, WriteFault, NotALog, Damaged, TooLarge}
 

@@ -1,21 +1,87 @@
 -- The main theorem: what the top call answers, and all that it does in the world, for every command line, input and world (this project's choice).
-use Rattle.std.specs.Prelude.{◌≡◌, ◌⊎◌, ℕ, ◌≤◌, true, if◌then◌else◌, is_some, List, [], ◌∷◌, ◌++◌, length, Option, Some, Result, Ok, Err}
-use Rattle.vio.specs.declared.world.TheConstants.{ERRORS}
-use Rattle.vio.specs.World.{Seen}
+use Rattle.std.specs.Prelude.{◌≡◌, ◌≢◌, ◌⊎◌, ℕ, ◌≤◌, true, false, if◌then◌else◌, is_some, List, [], ◌∷◌, ◌++◌, length, Option, None, Some, Result, Ok, Err, codes}
+use Rattle.vio.specs.declared.world.TheConstants.{ERRORS, OUTPUT}
+use Rattle.vio.specs.World.{Gains, Seen}
 use Rattle.vio.specs.Calls.{Call, Called, AreWithin, OnlyOpen, count_given, none_failed}
 use Rattle.vio.specs.Steps.{Passed}
-use Rattle.one_run.specs.Promise.{Promised, Says, SaysPart}
+use Rattle.one_command.specs.Promise.{Promised, Says, SaysPart}
+use Rattle.vsl_record.specs.Unit.{Log}
+use Rattle.vsl_file.specs.File.{IsSplit, most_bytes}
+use Rattle.txn_rows.specs.declared.group.Group.{Group}
+use Rattle.txn_rows.specs.Grouping.{all_taken, groups_of}
 use Rattle.vsl_select.specs.Shown.{rules_fault}
+use Rattle.vsl_dispatch.specs.Groups.{kept}
 use Rattle.tool_words.specs.declared.fault.UsageFault.{UsageFault}
 use Rattle.tool_words.specs.declared.job.Job.{Job}
+use Rattle.tool_words.specs.declared.job.Tool.{Tool}
+use Rattle.tool_words.specs.declared.job.Tool.TheVariants as tools
 use Rattle.tool_words.specs.Job.{job_of}
 use Rattle.job_steps.specs.declared.fault.ToolFault.{ToolFault}
+use Rattle.job_steps.specs.Jobs.{is_counting, options_of}
+use Rattle.job_steps.specs.Queries.{Ask, AreAsked, chosen}
 use Rattle.job_steps.specs.Steps.{Step, Found, Passes, Stops, job_steps, steps_of, reads_of, writes_of, opens_of, creates_of}
+use Rattle.tool_consumers.specs.Output.{access_lines, log_lines, top_report}
 use Rattle.job_runs.specs.declared.record.RunRecord.{RunRecord}
 use Rattle.job_runs.specs.declared.record.RunRecord.TheVariants.{Nothing}
 use Rattle.job_runs.specs.Rows.{JobRan, JobShort}
 use Rattle.varnish_tools.specs.declared.outcome.Outcome.{Outcome}
 use Rattle.varnish_tools.specs.Faults.{fault_message, message, status_of}
+use Rattle.varnish_tools.specs.Texts.{AreTexts}
+
+-- ---- the plain case: a log file that is read to its end, without a fault, and printed to standard output
+
+-- words name a log: they state this job of a tool that prints groups, with no OUT, over a file of this name, and the world tells that it holds a whole log of these units
+pub record NamesLog (words : List (List ℕ)) (job : Job) (units : Log) (before : Seen) : Type 0 where
+  pub states : job_of words ≡ Ok job
+  pub groups : is_counting job.tool ≡ false
+  pub name : List ℕ
+  pub is_log : job.file ≡ Some name
+  pub is_file : name ≢ codes "-"
+  pub no_out : job.write ≡ None
+  pub bytes : List ℕ
+  pub held : before.held name ≡ Some bytes
+  pub most : length bytes ≤ most_bytes
+  pub file : IsSplit bytes units []
+
+-- the texts of a job's queries mean this; without one nothing is asked, and each group is one that is asked for
+pub record Asks (job : Job) (ask : Ask) (before : Seen) : Type 0 where
+  pub texts : List (List ℕ)
+  pub are_texts : AreTexts before job.queries texts
+  pub asked : AreAsked job.caseless None texts ask
+
+-- the groups of a log that are printed: those that are asked for, in the order in which they are complete, at most as many as are kept
+abbrev pub printed_groups : Job → Ask → Log → List Group
+printed_groups job ask units = kept job.keep (chosen ask (groups_of (options_of job) (all_taken units) true))
+
+-- a call ended well: its status is 0, standard output gained this text, and standard error nothing
+pub record Prints (text : List ℕ) (outcome : Outcome) (before now : Seen) : Type 0 where
+  pub status : outcome.status ≡ 0
+  pub output : Gains (before.written OUTPUT) (now.written OUTPUT) text
+  pub errors : Gains (before.written ERRORS) (now.written ERRORS) []
+
+-- varnishlog printed the lines of a log's groups
+abbrev pub PrintsLines : Job → Ask → Log → Outcome → Seen → Seen → Type 0
+PrintsLines job ask units outcome before now = Prints (log_lines job (printed_groups job ask units)) outcome before now
+
+-- varnishncsa printed their access lines
+abbrev pub PrintsAccess : Job → Ask → Log → Outcome → Seen → Seen → Type 0
+PrintsAccess job ask units outcome before now = Prints (access_lines job (printed_groups job ask units)) outcome before now
+
+-- varnishtop printed its report of them
+abbrev pub PrintsReport : Job → Ask → Log → Outcome → Seen → Seen → Type 0
+PrintsReport job ask units outcome before now = Prints (top_report job (printed_groups job ask units) true) outcome before now
+
+-- by the tool; varnishstat prints no groups
+abbrev pub PrintsBy : Tool → Job → Ask → Log → Outcome → Seen → Seen → Type 0
+PrintsBy tools.Log job ask units outcome before now = PrintsLines job ask units outcome before now
+PrintsBy tools.Ncsa job ask units outcome before now = PrintsAccess job ask units outcome before now
+PrintsBy tools.Top job ask units outcome before now = PrintsReport job ask units outcome before now
+PrintsBy tools.Stat job ask units outcome before now = Unit {0}
+
+-- the plain case of the main theorem: where words name a log, and there was no fault, this was printed of the log's groups
+abbrev pub PrintsPlain : List (List ℕ) → Outcome → Seen → Seen → Type 0
+PrintsPlain words outcome before now =
+    (job : Job) (units : Log) → NamesLog words job units before → outcome.fault ≡ None → (ask : Ask) × Asks job ask before × PrintsBy job.tool job ask units outcome before now
 
 -- ---- the work
 
@@ -29,9 +95,13 @@ abbrev pub StatedShort : Result Job UsageFault → List Found → List Call → 
 StatedShort (Err why) found calls = ⊥
 StatedShort (Ok job) found calls = JobShort job found calls
 
+-- the sinks that stop alone, by what was found: none, since a write that fails ends a tool
+abbrev pub alone_of : List Found → List ℕ
+alone_of found = []
+
 -- the work that words ask for was done, and behind it this was said: a step stopped it, or all passed and the job ran
 abbrev pub WorksOff : (List Call → Type 0) → Result Job UsageFault → Option ToolFault → RunRecord → Seen → Seen → Type 0
-WorksOff IsSaid stated fault recorded before now = Promised Passes Stops (StatedRan stated) Nothing IsSaid (steps_of stated) fault recorded before now
+WorksOff IsSaid stated fault recorded before now = Promised Passes Stops (StatedRan stated) alone_of Nothing IsSaid (steps_of stated) fault recorded before now
 
 -- ---- an outcome
 

@@ -10,18 +10,16 @@ use Rattle.vsl_record.specs.Unit.{LogUnit, Log}
 use Rattle.vsl_record.specs.Words.{unit_words}
 use Rattle.ring_layout.specs.declared.history.HistoryItem.{HistoryItem}
 use Rattle.ring_layout.specs.declared.item.Item.{Item}
-use Rattle.ring_layout.specs.History.{IsReadHistory, ReachesTail}
+use Rattle.ring_layout.specs.History.{IsReadHistory, ReachesTail, AddUp}
 use Rattle.ring_layout.specs.Items.{items_of}
 use Rattle.log_ring.specs.Closed.{ClosedState}
 use Rattle.vsl_file.specs.File.{FileEnding, IsFile, is_whole}
 use Rattle.traffic_feed.specs.declared.listing.Listing.{Listing}
 use Rattle.txn_partition.specs.Partition.{partition}
 use Rattle.tool_words.specs.declared.job.Job.{Job}
-use Rattle.tool_words.specs.declared.job.QueryText.{QueryText}
 use Rattle.run_sources.specs.Sources.{unit_items}
 use Rattle.text_printer.specs.Ends.{whole}
 use Rattle.job_steps.specs.declared.fault.ToolFault.{ToolFault}
-use Rattle.job_steps.specs.Good.{TellsText}
 use Rattle.job_steps.specs.Jobs.{file_of, units_of, with_made, write_of}
 use Rattle.job_steps.specs.Queries.{Ask, AreAsked, chosen}
 use Rattle.tool_consumers.specs.Output.{head_text, output_of}
@@ -31,19 +29,13 @@ use Rattle.job_runs.specs.declared.record.RunRecord.TheVariants.{Closed, Nothing
 use Rattle.job_runs.specs.Counters.{ArePut, counters_text}
 use Rattle.job_runs.specs.Rows.{job_due}
 use Rattle.job_runs.specs.Sources.{AreFed}
+use Rattle.varnish_tools.specs.Texts.{AreTexts}
 
 -- the world tells that the log of a job has these units and ends so: its file holds them, or standard input has them left
 pub record TellsInput (job : Job) (units : Log) (ending : FileEnding) (before : Seen) : Type 0 where
   pub bytes : List ℕ
   pub told : MatchBool (bytes_eq (file_of job) (codes "-")) (before.left INPUT ≡ Some bytes) (before.held (file_of job) ≡ Some bytes)
   pub file : IsFile bytes units ending
-
--- these are the texts of queries: of each the one that the world tells, which is that of its word, or what its file holds
-abbrev pub AreTexts : Seen → List QueryText → List (List ℕ) → Type 0
-AreTexts before [] [] = Unit {0}
-AreTexts before (query ∷ queries) (text ∷ texts) = ((told : List ℕ) → TellsText before query told → text ≡ told) × AreTexts before queries texts
-AreTexts before [] (text ∷ texts) = ⊥
-AreTexts before (query ∷ queries) [] = ⊥
 
 -- a file was created under this name, and has this handle: it began empty or not, and holds this text behind what it began with, as far as that is told and no message goes to it
 pub record IsFileSink (append : Bool) (name : List ℕ) (h : ℕ) (empty : Bool) (text : List ℕ) (before now : Seen) : Type 0 where
@@ -84,7 +76,8 @@ PrintsLog job fault units ending before now = PrintsItems job fault (unit_items 
 abbrev pub PrintsFeeds : Job → Option ToolFault → List Listing → Seen → Seen → Type 0
 PrintsFeeds job fault listings before now = (log : Log) × (history : List (HistoryItem LogUnit)) × AreFed job listings log history × PrintsItems job fault (items_of history) true before now
 
--- what was written of listings that threads put: of all that the one reader of the ring took, which is recorded; that goes up to the log's tail where it had ended
+-- what was written of listings that threads put: of all that the one reader of the ring took, which is recorded; that goes up to the log's tail where it had ended, and then
+-- what it took and what it missed add up
 pub record PrintsRing (job : Job) (fault : Option ToolFault) (recorded : RunRecord) (listings : List Listing) (before now : Seen) : Type 0 where
   pub ring : ClosedState
   pub is : recorded ≡ Closed ring
@@ -92,6 +85,7 @@ pub record PrintsRing (job : Job) (fault : Option ToolFault) (recorded : RunReco
   pub history : List (HistoryItem LogUnit)
   pub only : ring.histories ≡ history ∷ []
   pub read : IsReadHistory unit_words job.seg ring.log history
+  pub adds_up : AddUp ring.log history
   pub ended : Bool
   pub tail : ended ≡ true → ReachesTail ring.log history
   pub prints : PrintsItems job fault (items_of history) ended before now

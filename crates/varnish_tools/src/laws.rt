@@ -21,13 +21,22 @@ ghost use Rattle.job_steps.specs.Queries.{Ask};
 ghost use Rattle.job_steps.specs.Steps.{steps_of};
 ghost use Rattle.job_runs.specs.Rows.{job_due};
 ghost use Rattle.varnish_tools.specs.declared.outcome.Outcome.{Outcome};
-ghost use Rattle.varnish_tools.specs.Theorem.{IsFaithful};
+ghost use Rattle.varnish_tools.specs.Theorem.{IsFaithful, PrintsPlain};
 ghost use Rattle.varnish_tools.specs.Told.{PrintsCounted, PrintsFeeds, PrintsLog, PrintsRing, TellsInput, WasStopped, parted_text};
 
 use feed_files::{feeds_are_listings_or_have_a_fault, told_feeds_are_read};
 use job_runs::{faults_have_failed_calls, feeds_are_written, told_logs_are_written};
 use job_steps::good_steps_pass;
 use txn_partition::groups_are_the_partition;
+
+/// Where words name a log, and there was no fault, the text of the log's groups was printed, and nothing else: the plain case of
+/// the main theorem follows from it.
+pub fn plain_logs_are_printed()
+    ensures { (words : List (List ℕ)) (outcome : Outcome) (before now : Seen) →
+        HasStreams before → IsFaithful words outcome before now → PrintsPlain words outcome before now }
+{
+    told_logs_are_written();
+}
 
 /// Where the world told what the log of a job holds, OUT gained a part of what is due of that log, and without a fault all of it; or
 /// a step stopped the job.

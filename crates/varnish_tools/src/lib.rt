@@ -5,7 +5,7 @@
 //! failed but that of the message. Its contract is the main theorem of this project. A job that starts no thread it gives to
 //! `run_alone`, which waits for nobody.
 //!
-//! Start with `IsFaithful` in `specs/Theorem.antt`; the steps stand in `job_steps`, the runs in `job_runs`.
+//! Start with `PrintsPlain` and `IsFaithful` in `specs/Theorem.antt`; the steps stand in `job_steps`, the runs in `job_runs`.
 //! Source: varnishlog(1), varnishncsa(1), varnishtop(1), varnishstat(1); messages and statuses are this project's choice.
 #![tactic(auto)]
 
@@ -17,7 +17,7 @@ mod tools;
 pub use job_runs::RunRecord;
 pub use job_steps::ToolFault;
 pub use laws::{
-    faults_are_counted, good_words_have_no_fault, regular_logs_are_parted,
+    faults_are_counted, good_words_have_no_fault, plain_logs_are_printed, regular_logs_are_parted,
     told_counters_are_printed, told_feeds_are_printed, told_logs_are_printed,
 };
 pub use outcome::Outcome;

@@ -2,15 +2,17 @@
 
 ghost use Rattle.std.specs.Prelude.{◌≡◌, ◌++◌, map, IfOk};
 ghost use Rattle.std.specs.String.{string_bytes};
-ghost use Rattle.text_printer.specs.Messages.{numbered, told};
+ghost use Rattle.one_command.specs.Messages.{numbered};
+ghost use Rattle.text_printer.specs.Messages.{told};
 ghost use Rattle.varnish_tools.specs.Faults.{message, query_message, status_of, usage_message, word_at};
 
 use job_steps::ToolFault;
+use log_model::Text;
+use one_command::numbered;
 use query_parser::QueryFault;
 use std::alloc::{AllocError, Global};
-use text_printer::{numbered, tell_both};
+use text_printer::tell_both;
 use tool_words::UsageFault;
-use vsl_select::Text;
 
 /// A line of two texts, after the program's name.
 fn tell_bytes(alloc: Global, first: &str, second: &[u8]) -> Result<Vec<u8>, AllocError>

@@ -5,14 +5,15 @@ ghost use Rattle.std.specs.String.{string_bytes};
 ghost use Rattle.vio.specs.World.{Seen};
 ghost use Rattle.vio.specs.Calls.{Called};
 ghost use Rattle.vsl_dispatch.specs.Groups.{is_filled};
-ghost use Rattle.one_run.specs.Promise.{Says};
+ghost use Rattle.one_command.specs.Promise.{Says};
 ghost use Rattle.tool_words.specs.Job.{job_of};
 ghost use Rattle.tool_words.specs.Sound.{IsSound};
 ghost use Rattle.job_steps.specs.Jobs.{is_on_threads};
 ghost use Rattle.varnish_tools.specs.Faults.{fault_message};
-ghost use Rattle.varnish_tools.specs.Theorem.{IsCutShort, IsFaithful, TouchesJob};
+ghost use Rattle.varnish_tools.specs.Theorem.{IsCutShort, IsFaithful, PrintsPlain, TouchesJob};
 ghost use Rattle.varnish_tools.specs.inside.Works.{IsWorked, SaysPartOf};
 
+use crate::laws::plain_logs_are_printed;
 use crate::message::{message_of, status_of};
 use crate::outcome::{Outcome, settled};
 use job_runs::{Ran, print_counters, print_feeds, print_live, print_live_counters, print_log};
@@ -21,7 +22,7 @@ use job_steps::{
     take_counter_steps, take_group_steps,
 };
 use log_model::Halt;
-use one_run::say;
+use one_command::say;
 use std::alloc::Global;
 use std::sync::Wait;
 use std::thread::Threads;
@@ -157,7 +158,7 @@ pub fn run_alone<W: World>(
 /// none, as lines, or with `-w` and without `-A` as the units of a log file; of varnishncsa a line for each request that is logged
 /// of these groups; of varnishtop the report of what is shown of them; of varnishstat the counters of feeds. A log is read in pieces,
 /// in one pass; with `-k` no more is taken after the unit, or the overrun, that completes the last group that is kept. A reader of
-/// feeds that the writers have overrun says so on standard error.
+/// feeds that the writers have overrun says so on standard error, and where it goes on how many units it missed, exactly.
 ///
 /// Feeds whose order isn't stated are put into a ring by workers, each on a thread of its own, or here where none can be made, while
 /// this thread reads. Workers run to their end, and are joined before the call returns, whatever it answers. A gate, for tests,
@@ -175,10 +176,13 @@ pub fn run_tools<R: Threads + Wait + Sync, W: World, G: Gate>(
     world: &mut W,
     gate: &G,
 ) -> Result<Outcome, NoMemory>
+    ensures plain { IfOk result (λ o. PrintsPlain (map string_bytes words.now) o (W.seen world.old) (W.seen world.new)) }
     ensures faithful { IfOk result (λ o. IsFaithful (map string_bytes words.now) o (W.seen world.old) (W.seen world.new)) }
     ensures memory { OnErr result (IsCutShort (map string_bytes words.now) (W.seen world.old) (W.seen world.new)) }
     ensures touches { Called (TouchesJob (map string_bytes words.now)) (W.seen world.old) (W.seen world.new) }
 {
+    // A law, by which the plain case follows.
+    plain_logs_are_printed();
     let job = match read_job(alloc, words) {
         Ok(job) => job,
         Err(halt) => return finish(alloc, words, Err(halt), world),

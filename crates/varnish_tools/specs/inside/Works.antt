@@ -1,10 +1,10 @@
 -- What working off comes to, by its answer.
-use Rattle.std.specs.Prelude.{◌≡◌, ℕ, true, List, Option, Some, Result, Ok, Err}
+use Rattle.std.specs.Prelude.{◌≡◌, ℕ, List, Option, Some, Result, Ok, Err}
 use Rattle.log_model.specs.declared.fault.Halt.{Halt}
 use Rattle.log_model.specs.declared.fault.Halt.TheVariants.{Fault, NoMemory}
 use Rattle.vio.specs.World.{Seen}
-use Rattle.vio.specs.Calls.{Call, last_failed}
-use Rattle.one_run.specs.Promise.{SaysPart, Works}
+use Rattle.vio.specs.Calls.{Call}
+use Rattle.one_command.specs.Promise.{SaysPart, Works}
 use Rattle.tool_words.specs.declared.fault.UsageFault.{UsageFault}
 use Rattle.tool_words.specs.declared.job.Job.{Job}
 use Rattle.job_steps.specs.declared.fault.ToolFault.{ToolFault}
@@ -13,11 +13,11 @@ use Rattle.job_runs.specs.declared.record.Ran.{Ran}
 use Rattle.job_runs.specs.declared.record.RunRecord.{RunRecord}
 use Rattle.job_runs.specs.declared.record.RunRecord.TheVariants.{Nothing}
 use Rattle.varnish_tools.specs.Faults.{message}
-use Rattle.varnish_tools.specs.Theorem.{LacksWork, StatedRan}
+use Rattle.varnish_tools.specs.Theorem.{LacksWork, StatedRan, alone_of}
 
--- the words were worked off by these calls, of which none failed but perhaps the last
+-- the words were worked off by these calls
 abbrev pub DidWork : Result Job UsageFault → Seen → Option ToolFault → RunRecord → List Call → Type 0
-DidWork stated at fault recorded calls = Works Passes Stops (StatedRan stated) Nothing (steps_of stated) at fault recorded calls × (last_failed calls ≡ true)
+DidWork stated at fault recorded calls = Works Passes Stops (StatedRan stated) alone_of Nothing (steps_of stated) at fault recorded calls
 
 -- what working off comes to: a run, a fault of a step, or want of memory
 abbrev pub IsWorked : Result Job UsageFault → Seen → Result Ran (Halt ToolFault) → List Call → Type 0

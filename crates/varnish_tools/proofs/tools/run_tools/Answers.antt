@@ -1,6 +1,10 @@
 -- The words, and then the work that they ask for.
+use Rattle.varnish_tools.proofs.PlainLemmas.{plain_ok}
 use Rattle.varnish_tools.proofs.WorkLemmas.{of_words, words_end}
 use Rattle.varnish_tools.proofs.tools.run_tools.Goals as goal
+
+pub returns-in-Err-clause-plain : goal.returns-in-Err-clause-plain
+returns-in-Err-clause-plain g c = plain_ok c.plain_logs_are_printed.ensures _ c.finish.result _ _ (g.met.W.World.streams c.args.world.now) (c.finish.ensures.faithful _ (words_end _ c.in-Err.halt _ c.in-Err.ensures.refused))
 
 pub returns-in-Err-clause-faithful : goal.returns-in-Err-clause-faithful
 returns-in-Err-clause-faithful g c = c.finish.ensures.faithful _ (words_end _ c.in-Err.halt _ c.in-Err.ensures.refused)
@@ -10,6 +14,13 @@ returns-in-Err-clause-memory g c = c.finish.ensures.memory _ (words_end _ c.in-E
 
 pub returns-in-Err-clause-touches : goal.returns-in-Err-clause-touches
 returns-in-Err-clause-touches g c = c.finish.ensures.touches _ (words_end _ c.in-Err.halt _ c.in-Err.ensures.refused)
+
+pub returns-then-not-is_on_threads-clause-plain : goal.returns-then-not-is_on_threads-clause-plain
+returns-then-not-is_on_threads-clause-plain g c = plain_ok c.plain_logs_are_printed.ensures _ c.run_alone.result _ _ (g.met.W.World.streams c.args.world.now) c.run_alone.ensures.faithful
+
+pub returns-clause-plain : goal.returns-clause-plain
+returns-clause-plain g c =
+    plain_ok c.plain_logs_are_printed.ensures _ c.finish-2.result _ _ (g.met.W.World.streams c.args.world.now) (c.finish-2.ensures.faithful _ (of_words _ c.in-Ok.job c.work_on_threads-worked.result _ _ c.in-Ok.ensures.job c.work_on_threads-worked.ensures))
 
 pub returns-clause-faithful : goal.returns-clause-faithful
 returns-clause-faithful g c = c.finish-2.ensures.faithful _ (of_words _ c.in-Ok.job c.work_on_threads-worked.result _ _ c.in-Ok.ensures.job c.work_on_threads-worked.ensures)
