@@ -1,43 +1,52 @@
 //! Log files that are cut, changed and large.
 
-ghost use Rattle.std.specs.Prelude.{◌<◌};
-
+use crate::comparing::same;
 use acceptance_support::{
     ALSO_WHOLE, Answer, ENDS_EARLY, Ending, FETCH, FETCH_GROUPS, FETCH_TO_FILE, FIRST_WHOLE,
-    HEADER, LAST_WHOLE, Log, ONE_PING, OPEN_GROUPS, OPEN_TO_FILE, PING_TO_FILE, PRINT_F,
+    HEADER, KINDS, LAST_WHOLE, Log, ONE_PING, OPEN_GROUPS, OPEN_TO_FILE, PING_TO_FILE,
     REQUEST_WITH_FETCH, differs, taken, world_with,
 };
 use std::alloc::Global;
 use std::process::Abort;
 use std::sync::Wait;
-use std::test::Fail;
 use std::thread::Threads;
 use vio::World;
 use vsl_file::{FileFault, FileReader, FileStep, put_header, put_unit};
 use vsl_record::{Mark, Record, Unit};
 use vsl_tags::Tag;
 
+/// Adds bytes to a text.
+fn add(rt: &impl Abort, text: &mut Vec<u8>, more: &[u8]) {
+    text.extend_from_slice(more).expect(rt, "memory");
+}
+
+/// The text of a log of which these first units are whole, where it ends there or not.
+fn put_text(rt: &impl Abort, log: &Log, units: usize, is_done: bool, text: &mut Vec<u8>) {
+    text.clear();
+    add(rt, text, log.head);
+    let mut flush: &[u8] = b"";
+    for (_, unit_text, unit_flush) in log.units.iter().take(units) {
+        flush = *unit_flush;
+        add(rt, text, *unit_text);
+    }
+    if is_done {
+        add(rt, text, flush);
+    }
+}
+
 /// What a log answers of which these first units are whole, and which then ends so. The text is a buffer.
 fn answer_of_units<'a>(
+    rt: &impl Abort,
     log: &Log,
     units: usize,
     ending: Ending,
     text: &'a mut Vec<u8>,
-) -> Result<Answer<'a>, Fail> {
-    text.clear();
-    text.extend_from_slice(log.head)?;
-    let mut flush: &[u8] = b"";
-    for (_, unit_text, unit_flush) in log.units.iter().take(units) {
-        flush = *unit_flush;
-        text.extend_from_slice(*unit_text)?;
-    }
-    if matches!(ending, Ending::Done) {
-        text.extend_from_slice(flush)?;
-    }
-    Ok(Answer {
+) -> Answer<'a> {
+    put_text(rt, log, units, matches!(ending, Ending::Done), text);
+    Answer {
         sink: log.sink.handle,
         ..taken(ending, units as u64, text)
-    })
+    }
 }
 
 /// How many units are whole in the first `cut` bytes of a log, and how it ends there.
@@ -59,94 +68,117 @@ fn ending_of_cut(log: &Log, cut: usize) -> (usize, Ending) {
     (units, Ending::Done)
 }
 
-/// Cuts a log at every length, and reads it in pieces of so many bytes.
-fn expect_cuts<R: Abort + Threads + Wait + Sync>(
+/// Reads a log whose bytes are these, in pieces of so many bytes, and compares all that comes out.
+fn expect_answer<R: Abort + Threads + Wait + Sync>(
     rt: &R,
     alloc: Global,
     log: &Log,
+    bytes: &[u8],
     piece: usize,
-) -> Result<(), Fail> {
+    want: &Answer<'_>,
+    place: usize,
+) {
+    let mut world = world_with(alloc, bytes).expect(rt, "memory");
+    world.piece(piece);
+    let differs = differs(rt, alloc, log.words, &mut world, want).expect(rt, "memory");
+    same(rt, (log.name, place, differs), (log.name, place, ""));
+}
+
+/// Cuts a log at every length, and reads it in pieces of so many bytes.
+fn expect_cuts<R: Abort + Threads + Wait + Sync>(rt: &R, alloc: Global, log: &Log, piece: usize) {
     let mut text = Vec::new(alloc);
     for cut in 0..=log.bytes.len() {
         let (units, ending) = ending_of_cut(log, cut);
-        let want = answer_of_units(log, units, ending, &mut text)?;
-        let mut world = world_with(alloc, &log.bytes[..cut])?;
-        world.piece(piece);
-        let differs = differs(rt, alloc, log.words, &mut world, &want)?;
-        assert_eq!(rt; differs, "", "{}, {cut}", log.name);
+        let want = answer_of_units(rt, log, units, ending, &mut text);
+        let (bytes, _) = log.bytes.split_at(cut);
+        expect_answer(rt, alloc, log, bytes, piece, &want, cut);
     }
-    Ok(())
 }
 
+/// The logs that are cut.
+const CUT: [Log; 6] = [
+    ONE_PING,
+    FETCH,
+    FETCH_GROUPS,
+    OPEN_GROUPS,
+    PING_TO_FILE,
+    OPEN_TO_FILE,
+];
+
 #[test]
-fn a_cut_file_prints_its_whole_units_and_a_whole_one_its_flush(
-    rt: HostRuntime,
-) -> Result<(), Fail> {
+fn a_cut_file_prints_its_whole_units_and_a_whole_one_its_flush(rt: HostRuntime) {
     for piece in [3, 1000] {
-        for log in [
-            ONE_PING,
-            FETCH,
-            FETCH_GROUPS,
-            OPEN_GROUPS,
-            PING_TO_FILE,
-            OPEN_TO_FILE,
-        ] {
-            expect_cuts(&rt, rt.alloc(), &log, piece)?;
+        for log in &CUT {
+            expect_cuts(&rt, rt.alloc(), log, piece);
         }
     }
-    Ok(())
 }
 
 #[test]
-fn a_file_of_more_than_16_mebibytes_is_read_as_far_as_it_is_a_log(
-    rt: HostRuntime,
-) -> Result<(), Fail> {
-    let mut bytes = Vec::from_slice(rt.alloc(), ONE_PING.bytes)?;
-    bytes.resize(16_777_217, 0)?;
+fn a_file_of_more_than_16_mebibytes_is_read_as_far_as_it_is_a_log(rt: HostRuntime) {
+    let mut bytes = Vec::from_slice(rt.alloc(), ONE_PING.bytes).expect(&rt, "memory");
+    bytes.resize(16_777_217, 0).expect(&rt, "memory");
     let (_, line, _) = ONE_PING.units[0];
     let want = taken(Ending::Damaged(28), 1, line);
-    let mut world = world_with(rt.alloc(), &bytes)?;
-    assert_eq!(rt; differs(&rt, rt.alloc(), PRINT_F, &mut world, &want)?, "");
-    Ok(())
+    expect_answer(&rt, rt.alloc(), &ONE_PING, &bytes, usize::MAX, &want, 28);
 }
 
-/// How many units the file of these bytes has, at most 1,000, and why no more are there, if it isn't whole. It
-/// is read in pieces of so many bytes.
-fn read_content(
-    alloc: Global,
-    bytes: &[u8],
-    piece: usize,
-) -> Result<(usize, Option<FileFault>), Fail> {
-    let mut world = world_with(alloc, bytes)?;
-    world.piece(piece);
-    let handle = world.open("f")?;
-    let mut reader = FileReader::new(alloc, handle)?;
+/// The request and its fetch with this value at this place.
+fn changed_to(place: usize, value: u8) -> [u8; 100] {
+    let mut bytes = REQUEST_WITH_FETCH;
+    if let Some(byte) = bytes.get_mut(place) {
+        *byte = value;
+    }
+    bytes
+}
+
+/// How many units the file of these bytes has, at most 1,000, and why no more are there, if it isn't whole.
+fn read_content(rt: &impl Abort, alloc: Global, bytes: &[u8]) -> (usize, Option<FileFault>) {
+    let mut world = world_with(alloc, bytes).expect(rt, "memory");
+    let handle = world.open("f").expect(rt, "a file");
+    let mut reader = FileReader::new(alloc, handle).expect(rt, "memory");
     for units in 0..1000 {
         match reader.next(&mut world) {
             Ok(FileStep::Unit(_)) => {}
-            Ok(FileStep::End) => return Ok((units, None)),
-            Err(fault) => return Ok((units, Some(fault))),
+            Ok(FileStep::End) => return (units, None),
+            Err(fault) => return (units, Some(fault)),
         }
     }
-    Ok((1000, None))
+    (1000, None)
 }
 
-/// How many units the file has with this value at this place, and why no more, if it isn't whole.
-fn content_of_changed(place: usize, value: u8) -> (usize, Option<FileFault>)
-    requires { place < 100 }
-{
-    if FIRST_WHOLE[place] <= value && value <= LAST_WHOLE[place] {
-        return (2, None);
+/// Whether the file stays whole with this value at this place.
+fn is_whole(place: usize, value: u8) -> bool {
+    let first = FIRST_WHOLE.get(place).copied().unwrap_or(255);
+    let last = LAST_WHOLE.get(place).copied().unwrap_or(0);
+    if first <= value && value <= last {
+        return true;
     }
     for (at, first, last) in ALSO_WHOLE {
         if at == place && first <= value && value <= last {
-            return (2, None);
+            return true;
         }
     }
+    false
+}
+
+/// How many units the file has with this value at this place, and at which byte no unit begins, if it ends early.
+fn early_end(place: usize, value: u8) -> Option<(usize, u64)> {
     for (at, changed, units, wrong) in ENDS_EARLY {
         if at == place && changed == value {
-            return (units, Some(FileFault::Damaged { at: wrong }));
+            return Some((units, wrong));
         }
+    }
+    None
+}
+
+/// How many units the file has with this value at this place, and why no more, if it isn't whole.
+fn content_of_changed(place: usize, value: u8) -> (usize, Option<FileFault>) {
+    if is_whole(place, value) {
+        return (2, None);
+    }
+    if let Some((units, at)) = early_end(place, value) {
+        return (units, Some(FileFault::Damaged { at }));
     }
     if place < HEADER.len() {
         return (0, Some(FileFault::NotALog { at: place as u64 }));
@@ -158,18 +190,55 @@ fn content_of_changed(place: usize, value: u8) -> (usize, Option<FileFault>)
     (1, Some(FileFault::Damaged { at: 44 }))
 }
 
-#[test]
-fn a_changed_byte_is_seen_where_it_matters(rt: HostRuntime) -> Result<(), Fail> {
-    for place in 0..REQUEST_WITH_FETCH.len() {
-        for value in 0..=255 {
-            let mut bytes = REQUEST_WITH_FETCH;
-            bytes[place] = value;
-            let content = read_content(rt.alloc(), &bytes, 64)?;
-            let want = content_of_changed(place, value);
-            assert_eq!(rt; content, want, "{value} at {place}");
-        }
+/// Reads the file with this value at this place.
+fn expect_content(rt: &impl Abort, alloc: Global, place: usize, value: u8) {
+    let (units, fault) = read_content(rt, alloc, &changed_to(place, value));
+    let (whole, wrong) = content_of_changed(place, value);
+    same(
+        rt,
+        (place, value, units, fault),
+        (place, value, whole, wrong),
+    );
+}
+
+/// Each value once, at these places in turn.
+fn expect_values(rt: &impl Abort, alloc: Global, places: &[usize]) {
+    for value in 0..=255u8 {
+        let place = places.get(usize::from(value) % places.len().max(1));
+        expect_content(rt, alloc, *place.expect(rt, "a place"), value);
     }
-    Ok(())
+}
+
+/// The values beside a range of values at a place, and its ends; of the range of all values nothing.
+fn expect_ends(rt: &impl Abort, alloc: Global, place: usize, first: u8, last: u8) {
+    if first == 0 && last == 255 {
+        return;
+    }
+    expect_content(rt, alloc, place, first.wrapping_sub(1));
+    expect_content(rt, alloc, place, last.wrapping_add(1));
+    if first < last {
+        expect_content(rt, alloc, place, first);
+        expect_content(rt, alloc, place, last);
+    }
+}
+
+/// Of each kind of byte each value, at one of its places; at each place the values round the ends of those with which the
+/// file stays whole; and what ends it early.
+#[test]
+fn a_changed_byte_is_seen_where_it_matters(rt: HostRuntime) {
+    let alloc = rt.alloc();
+    for places in KINDS {
+        expect_values(&rt, alloc, places);
+    }
+    for place in 0..REQUEST_WITH_FETCH.len() {
+        expect_ends(&rt, alloc, place, FIRST_WHOLE[place], LAST_WHOLE[place]);
+    }
+    for (place, first, last) in ALSO_WHOLE {
+        expect_ends(&rt, alloc, place, first, last);
+    }
+    for (place, value, _, _) in ENDS_EARLY {
+        expect_content(&rt, alloc, place, value);
+    }
 }
 
 /// How a run ends over a file that isn't whole; nothing where it is.
@@ -181,72 +250,67 @@ fn ending_of_fault(fault: Option<FileFault>) -> Option<Ending> {
     }
 }
 
-/// Changes each byte of a log of the request and its fetch to this value, and reads it in pieces of so many bytes. What is
+/// Changes a byte of a log of the request and its fetch to this value, and reads it in pieces of so many bytes. What is
 /// whole then has another text or the same, and isn't looked at.
-fn expect_changes<R: Abort + Threads + Wait + Sync>(
+fn expect_change<R: Abort + Threads + Wait + Sync>(
     rt: &R,
     alloc: Global,
     log: &Log,
+    place: usize,
     value: u8,
     piece: usize,
-) -> Result<(), Fail> {
+) {
+    let (units, fault) = content_of_changed(place, value);
+    let Some(ending) = ending_of_fault(fault) else {
+        return;
+    };
     let mut text = Vec::new(alloc);
-    for place in 0..REQUEST_WITH_FETCH.len() {
-        let mut bytes = REQUEST_WITH_FETCH;
-        bytes[place] = value;
-        let (units, fault) = content_of_changed(place, value);
-        if let Some(ending) = ending_of_fault(fault) {
-            let want = answer_of_units(log, units, ending, &mut text)?;
-            let mut world = world_with(alloc, &bytes)?;
-            world.piece(piece);
-            let differs = differs(rt, alloc, log.words, &mut world, &want)?;
-            assert_eq!(rt; differs, "", "{}, {place}", log.name);
-        }
-    }
-    Ok(())
+    let want = answer_of_units(rt, log, units, ending, &mut text);
+    let bytes = changed_to(place, value);
+    expect_answer(rt, alloc, log, &bytes, piece, &want, place);
 }
 
+/// The logs of the request and its fetch.
+const CHANGED: [Log; 3] = [FETCH, FETCH_GROUPS, FETCH_TO_FILE];
+
 #[test]
-fn a_changed_file_prints_the_units_before_the_changed_one(rt: HostRuntime) -> Result<(), Fail> {
-    for log in [FETCH, FETCH_GROUPS, FETCH_TO_FILE] {
+fn a_changed_file_prints_the_units_before_the_changed_one(rt: HostRuntime) {
+    for log in &CHANGED {
         for (value, piece) in [(0, 3), (128, 64), (255, 1000)] {
-            expect_changes(&rt, rt.alloc(), &log, value, piece)?;
+            for place in 0..REQUEST_WITH_FETCH.len() {
+                expect_change(&rt, rt.alloc(), log, place, value, piece);
+            }
         }
     }
-    Ok(())
 }
 
 #[test]
-fn a_reader_that_answered_a_fault_answers_that_one_came_before(
-    rt: HostRuntime,
-) -> Result<(), Fail> {
-    let mut world = world_with(rt.alloc(), b"VSLO")?;
-    let handle = world.open("f")?;
-    let mut reader = FileReader::new(rt.alloc(), handle)?;
+fn a_reader_that_answered_a_fault_answers_that_one_came_before(rt: HostRuntime) {
+    let mut world = world_with(rt.alloc(), b"VSLO").expect(&rt, "memory");
+    let handle = world.open("f").expect(&rt, "a file");
+    let mut reader = FileReader::new(rt.alloc(), handle).expect(&rt, "memory");
     for want in [
         FileFault::NotALog { at: 4 },
         FileFault::FailedBefore,
         FileFault::FailedBefore,
     ] {
         let fault = reader.next(&mut world).err();
-        assert_eq!(rt; fault, Some(want));
+        same(&rt, fault, Some(want));
     }
-    Ok(())
+}
+
+/// The unit of the ping.
+fn ping(rt: &impl Abort, alloc: Global) -> Unit {
+    let tag = Tag::from_number(3).expect(rt, "CLI is a tag");
+    let one = Record::new(alloc, tag, Mark::Plain, b"Rd ping").expect(rt, "a record");
+    let records = Vec::from_array(alloc, [one]).expect(rt, "memory");
+    Unit::new(0, Mark::Plain, records).expect(rt, "a unit")
 }
 
 #[test]
-fn a_header_and_a_unit_are_written_as_their_bytes(rt: HostRuntime) -> Result<(), Fail> {
+fn a_header_and_a_unit_are_written_as_their_bytes(rt: HostRuntime) {
     let mut text = Vec::new(rt.alloc());
-    put_header(&mut text)?;
-    let ping = Record::new(
-        rt.alloc(),
-        Tag::from_number(3).ok_or("CLI is a tag")?,
-        Mark::Plain,
-        b"Rd ping",
-    )?;
-    let mut records = Vec::new(rt.alloc());
-    records.push(ping)?;
-    put_unit(&Unit::new(0, Mark::Plain, records)?, &mut text)?;
-    assert_eq!(rt; text.as_slice(), ONE_PING.bytes);
-    Ok(())
+    put_header(&mut text).expect(&rt, "memory");
+    put_unit(&ping(&rt, rt.alloc()), &mut text).expect(&rt, "memory");
+    same(&rt, text.as_slice(), ONE_PING.bytes);
 }

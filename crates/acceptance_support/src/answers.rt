@@ -58,75 +58,46 @@ fn what_of(ending: Ending) -> &'static str {
     }
 }
 
-/// Adds a number below 10,000 in decimal.
-fn put_number(text: &mut Vec<u8>, number: u64) -> Result<(), NoMemory> {
-    for power in [1000, 100, 10, 1] {
-        if number >= power || power == 1 {
-            text.push(b'0' + (number / power % 10) as u8)?;
-        }
-    }
-    Ok(())
+/// Whether a message tells a place.
+fn has_place(ending: Ending) -> bool {
+    matches!(ending, Ending::NotALog(_) | Ending::Damaged(_))
 }
 
 /// The message of an ending.
 pub fn message_of(alloc: Global, ending: Ending) -> Result<Vec<u8>, NoMemory> {
-    let mut text = Vec::new(alloc);
     if matches!(ending, Ending::Done) {
-        return Ok(text);
+        return Ok(Vec::new(alloc));
     }
     let (_, name, at) = fault_of(ending);
-    for part in ["vtools: ", name, what_of(ending)] {
-        text.extend_from_slice(part.as_bytes())?;
-    }
-    if matches!(ending, Ending::NotALog(_) | Ending::Damaged(_)) {
-        put_number(&mut text, at)?;
-    }
-    text.push(b'\n')?;
-    Ok(text)
+    let what = what_of(ending);
+    let message = if has_place(ending) {
+        format!(in alloc; "vtools: {name}{what}{at}\n")
+    } else {
+        format!(in alloc; "vtools: {name}{what}\n")
+    };
+    Ok(message?.into_bytes())
 }
 
-/// The name of a fault's variant.
-fn variant_of(fault: &ToolFault) -> &'static str {
+/// A fault's variant, the name that it tells, and the place, where it is one of an ending.
+fn told_in(fault: &ToolFault) -> (&'static str, &str, u64) {
     match fault {
-        ToolFault::Usage(UsageFault::BadValue { .. }) => "BadValue",
-        ToolFault::Usage(_) => "Usage",
-        ToolFault::BadPattern { .. } => "BadPattern",
-        ToolFault::BadQuery { .. } => "BadQuery",
-        ToolFault::BadFormat { .. } => "BadFormat",
-        ToolFault::BadListing { .. } => "BadListing",
-        ToolFault::NoOpen { .. } => "NoOpen",
-        ToolFault::ReadFault { .. } => "ReadFault",
-        ToolFault::WriteFault { .. } => "WriteFault",
-        ToolFault::NotALog { .. } => "NotALog",
-        ToolFault::Damaged { .. } => "Damaged",
-        ToolFault::TooLarge { .. } => "TooLarge",
-    }
-}
-
-/// The name and the place that a fault tells.
-fn told_in(fault: &ToolFault) -> (&str, u64) {
-    match fault {
-        ToolFault::Usage(_) => ("", 0),
-        ToolFault::BadPattern { word } => ("", u64::from(*word)),
-        ToolFault::BadQuery { query, .. } => ("", u64::from(*query)),
-        ToolFault::BadFormat { at } => ("", *at),
-        ToolFault::BadListing { line, .. } => ("", *line),
-        ToolFault::NoOpen { name } => (name.as_str(), 0),
-        ToolFault::ReadFault { name } => (name.as_str(), 0),
-        ToolFault::WriteFault { name } => (name.as_str(), 0),
-        ToolFault::NotALog { name, at } => (name.as_str(), *at),
-        ToolFault::Damaged { name, at } => (name.as_str(), *at),
-        ToolFault::TooLarge { name, limit } => (name.as_str(), *limit),
+        ToolFault::Usage(UsageFault::BadValue { .. }) => ("BadValue", "", 0),
+        ToolFault::NoOpen { name } => ("NoOpen", name.as_str(), 0),
+        ToolFault::ReadFault { name } => ("ReadFault", name.as_str(), 0),
+        ToolFault::WriteFault { name } => ("WriteFault", name.as_str(), 0),
+        ToolFault::NotALog { name, at } => ("NotALog", name.as_str(), *at),
+        ToolFault::Damaged { name, at } => ("Damaged", name.as_str(), *at),
+        _ => ("another fault", "", 0),
     }
 }
 
 /// Whether a fault is that of an ending, with its name and its place; no fault has no variant.
 pub fn is_fault_of(fault: &Option<ToolFault>, ending: Ending) -> bool {
-    let (variant, name, at) = fault_of(ending);
-    match fault {
-        None => variant.is_empty(),
-        Some(fault) => variant_of(fault) == variant && told_in(fault) == (name, at),
-    }
+    let told = match fault {
+        None => ("", "", 0),
+        Some(fault) => told_in(fault),
+    };
+    told == fault_of(ending)
 }
 
 /// What a run record tells.

@@ -13,6 +13,31 @@ pub const REQUEST_WITH_FETCH: [u8; 100] = [
     0x02, 0x00, 0x00, 0x40,
 ];
 
+/// The places of each kind of byte.
+pub const KINDS: [&[usize]; 9] = [
+    // what is the same in each file: its header, and the mark of a unit's header
+    &[0, 1, 2, 3, 4, 5, 6, 7, 11, 47],
+    // the low byte of the words that a unit's header counts
+    &[8, 44],
+    // the low byte of the length of a payload
+    &[12, 36, 48, 68, 92],
+    // the other bytes of such a count or length
+    &[9, 10, 13, 14, 37, 38, 45, 46, 49, 50, 69, 70, 93, 94],
+    // a tag
+    &[15, 39, 51, 71, 95],
+    // a VXID
+    &[16, 17, 18, 40, 41, 42, 52, 53, 54, 72, 73, 74, 96, 97, 98],
+    // the mark of a record, in the byte of its VXID's highest bits
+    &[19, 43, 55, 75, 99],
+    // a payload
+    &[
+        20, 21, 22, 23, 24, 25, 26, 27, 28, 29, 30, 31, 32, 56, 57, 58, 59, 60, 61, 62, 63, 64, 65,
+        66, 76, 77, 78, 79, 80, 81, 82, 83, 84, 85, 86, 87, 88,
+    ],
+    // what fills its last word
+    &[33, 34, 35, 67, 89, 90, 91],
+];
+
 /// For each place of the file the least value of the range round its own byte with which it stays
 /// whole and has two units.
 pub const FIRST_WHOLE: [u8; 100] = [

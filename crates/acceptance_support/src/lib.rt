@@ -18,7 +18,7 @@ mod traffic;
 pub use answers::{
     Answer, Ending, Took, is_fault_of, message_of, refused, status_of, taken, took_of,
 };
-pub use byte_table::{ALSO_WHOLE, ENDS_EARLY, FIRST_WHOLE, LAST_WHOLE, REQUEST_WITH_FETCH};
+pub use byte_table::{ALSO_WHOLE, ENDS_EARLY, FIRST_WHOLE, KINDS, LAST_WHOLE, REQUEST_WITH_FETCH};
 pub use gates::{Hold, HoldingGate, Step, UnevenGate};
 pub use logs::{
     FETCH, FETCH_GROUPS, FETCH_TO_FILE, HEADER, Log, ONE_PING, OPEN_BYTES, OPEN_GROUPS,
@@ -26,7 +26,7 @@ pub use logs::{
 };
 pub use running::{differs, run_words, world_with};
 pub use texts::{
-    Kept, are_first_lines, ends_line, feed_of, groups_of, has_parts_of, have_same_parts, lines_of,
-    lines_of_feed, read_overrun,
+    Kept, are_first_lines, count_ends, ends_line, feed_of, groups_of, has_parts_of,
+    have_same_parts, lines_of, lines_of_feed, read_missed, read_overrun,
 };
 pub use traffic::{listings_of, twelve_units};

@@ -26,19 +26,27 @@ pub fn ends_line(byte: &u8) -> bool {
     *byte == b'\n'
 }
 
+/// A text in two: so many bytes, or all that there are, and the rest.
+fn cut(text: &[u8], size: usize) -> (&[u8], &[u8]) {
+    text.split_at(size.min(text.len()))
+}
+
 /// The groups of a text, each with its lines. A last one that no blank line ends is a part of a group.
-pub fn groups_of(alloc: Global, text: &[u8]) -> Result<Vec<Vec<u8>>, NoMemory> {
+pub fn groups_of(alloc: Global, text: &[u8]) -> Result<Vec<&[u8]>, NoMemory> {
     let mut groups = Vec::new(alloc);
-    let mut group = Vec::new(alloc);
+    let mut rest = text;
+    let mut size: usize = 0;
     for line in text.split_inclusive(ends_line) {
-        group.extend_from_slice(line)?;
+        size = size.saturating_add(line.len());
         if line == b"\n".as_slice() {
+            let (group, behind) = cut(rest, size);
             groups.push(group)?;
-            group = Vec::new(alloc);
+            rest = behind;
+            size = 0;
         }
     }
-    if !group.is_empty() {
-        groups.push(group)?;
+    if !rest.is_empty() {
+        groups.push(rest)?;
     }
     Ok(groups)
 }
@@ -76,7 +84,7 @@ fn size_of_unit(text: &[u8]) -> usize {
 }
 
 /// The header of a log file, and its units. A last one whose bytes aren't all there is a part of one.
-fn units_of(alloc: Global, text: &[u8]) -> Result<Vec<Vec<u8>>, NoMemory> {
+fn units_of(alloc: Global, text: &[u8]) -> Result<Vec<&[u8]>, NoMemory> {
     let mut units = Vec::new(alloc);
     let mut rest = text;
     let mut size: usize = 8;
@@ -84,42 +92,70 @@ fn units_of(alloc: Global, text: &[u8]) -> Result<Vec<Vec<u8>>, NoMemory> {
         if rest.is_empty() {
             break;
         }
-        units.push(Vec::from_slice(alloc, rest.get(..size).unwrap_or(rest))?)?;
-        rest = rest.get(size..).unwrap_or(&[]);
+        let (unit, behind) = cut(rest, size);
+        units.push(unit)?;
+        rest = behind;
         size = size_of_unit(rest);
     }
     Ok(units)
 }
 
+/// A text as its only part.
+fn whole_of(alloc: Global, text: &[u8]) -> Result<Vec<&[u8]>, NoMemory> {
+    Ok(Vec::from_array(alloc, [text])?)
+}
+
 /// The parts of a text that a schedule leaves as they are.
-fn parts_of(alloc: Global, kept: Kept, text: &[u8]) -> Result<Vec<Vec<u8>>, NoMemory> {
-    let mut parts = Vec::new(alloc);
+fn parts_of(alloc: Global, kept: Kept, text: &[u8]) -> Result<Vec<&[u8]>, NoMemory> {
     match kept {
-        Kept::Groups => return groups_of(alloc, text),
-        Kept::Units => return units_of(alloc, text),
-        Kept::Whole => parts.push(Vec::from_slice(alloc, text)?)?,
-        Kept::Counters => parts.push(without_waits_and_wraps(alloc, text)?)?,
-        Kept::Lines | Kept::FeedLines => {
-            for line in text.split_inclusive(ends_line) {
-                parts.push(Vec::from_slice(alloc, line)?)?;
-            }
-        }
+        Kept::Groups => groups_of(alloc, text),
+        Kept::Units => units_of(alloc, text),
+        Kept::Lines | Kept::FeedLines => lines_of(alloc, text),
+        Kept::Whole | Kept::Counters => whole_of(alloc, text),
     }
+}
+
+/// What a schedule leaves as it is of a text, but for the order of its parts.
+fn kept_of(alloc: Global, kept: Kept, text: &[u8]) -> Result<Vec<u8>, NoMemory> {
+    match kept {
+        Kept::Counters => without_waits_and_wraps(alloc, text),
+        _ => Ok(Vec::from_slice(alloc, text)?),
+    }
+}
+
+/// The parts of a text, sorted.
+fn sorted_parts(alloc: Global, kept: Kept, text: &[u8]) -> Result<Vec<&[u8]>, NoMemory> {
+    let mut parts = parts_of(alloc, kept, text)?;
+    parts.sort_unstable();
     Ok(parts)
+}
+
+/// Whether two lists have the same parts, in the same order.
+fn are_same(parts: &[&[u8]], others: &[&[u8]]) -> bool {
+    parts == others
 }
 
 /// Whether two texts have the same parts, in any order.
 pub fn have_same_parts(
     alloc: Global,
     kept: Kept,
-    one: &[u8],
+    text: &[u8],
     other: &[u8],
 ) -> Result<bool, NoMemory> {
-    let mut ours = parts_of(alloc, kept, one)?;
-    let mut theirs = parts_of(alloc, kept, other)?;
-    ours.sort_unstable();
-    theirs.sort_unstable();
-    Ok(ours == theirs)
+    let text = kept_of(alloc, kept, text)?;
+    let other = kept_of(alloc, kept, other)?;
+    let others = sorted_parts(alloc, kept, &other)?;
+    Ok(are_same(&sorted_parts(alloc, kept, &text)?, &others))
+}
+
+/// Whether each of these parts is the first part of one of the others.
+fn are_parts_of(parts: &[&[u8]], all: &[&[u8]]) -> bool {
+    for part in parts {
+        if !all.iter().any(|one| one.starts_with(*part)) {
+            return false;
+        }
+    }
+    true
 }
 
 /// Whether a text has parts of another one alone, of which one may be cut.
@@ -129,17 +165,14 @@ pub fn has_parts_of(
     text: &[u8],
     whole: &[u8],
 ) -> Result<bool, NoMemory> {
-    let cut = match kept {
+    let there = match kept {
         Kept::Counters => whole_lines(text),
         _ => text,
     };
-    let all = parts_of(alloc, kept, whole)?;
-    for part in parts_of(alloc, kept, cut)? {
-        if !all.iter().any(|one| one.as_slice().starts_with(&part)) {
-            return Ok(false);
-        }
-    }
-    Ok(true)
+    let text = kept_of(alloc, kept, there)?;
+    let whole = kept_of(alloc, kept, whole)?;
+    let all = parts_of(alloc, kept, &whole)?;
+    Ok(are_parts_of(&parts_of(alloc, kept, &text)?, &all))
 }
 
 /// Whether these are the first lines of two feeds, each feed's in their order, and at last a first part of a next one.
@@ -194,7 +227,7 @@ pub fn lines_of_feed(alloc: Global, text: &[u8], feed: usize) -> Result<Vec<u8>,
 }
 
 /// The lines of all counters but those of waits for another writer and of laps of the ring.
-pub fn without_waits_and_wraps(alloc: Global, text: &[u8]) -> Result<Vec<u8>, NoMemory> {
+fn without_waits_and_wraps(alloc: Global, text: &[u8]) -> Result<Vec<u8>, NoMemory> {
     let mut lines = Vec::new(alloc);
     for line in text.split_inclusive(ends_line) {
         if !line.starts_with(b"MAIN.shm_cont ") && !line.starts_with(b"MAIN.shm_cycles ") {
@@ -231,4 +264,25 @@ pub fn read_overrun(line: &[u8]) -> Option<(u64, u64)> {
     } else {
         None
     }
+}
+
+/// How many units a line tells as missed, if it has that message.
+pub fn read_missed(line: &[u8]) -> Option<u64> {
+    let (units, end) = read_number(line.strip_prefix(b"vtools: missed ")?);
+    if end == b" units\n".as_slice() {
+        Some(units)
+    } else {
+        None
+    }
+}
+
+/// How many raw lines have the tag End, which is the last of each unit that feeds of requests have.
+pub fn count_ends(text: &[u8]) -> u64 {
+    let mut ends: u64 = 0;
+    for line in text.split_inclusive(ends_line) {
+        if line.get(11..15) == Some(b"End ") {
+            ends = ends.saturating_add(1);
+        }
+    }
+    ends
 }

@@ -1,22 +1,14 @@
 //! Feeds of requests, as `varnishlog -g raw` prints them. No two feeds have a VXID in common.
 
-use std::alloc::Global;
+use std::alloc::{AllocError, Global};
 use vio::NoMemory;
 
 /// How many VXIDs a feed may have; those of the feed f begin at f + 1 times as many.
 pub const VXIDS: u32 = 1000;
 
-/// Adds a line.
-fn put_line(
-    alloc: Global,
-    listing: &mut Vec<u8>,
-    vxid: u32,
-    tag: &str,
-    mark: &str,
-    payload: &str,
-) -> Result<(), NoMemory> {
-    let line = format!(in alloc; "{vxid:>10} {tag:<14} {mark} {payload}\n")?;
-    listing.extend_from_slice(line.as_bytes())?;
+/// Adds lines.
+fn put_lines(listing: &mut Vec<u8>, lines: Result<String, AllocError>) -> Result<(), NoMemory> {
+    listing.extend_from_slice(lines?.as_bytes())?;
     Ok(())
 }
 
@@ -27,29 +19,42 @@ fn put_fetch(
     fetch: u32,
     request: u32,
 ) -> Result<(), NoMemory> {
-    let begin = format!(in alloc; "bereq {request} fetch")?;
-    put_line(alloc, listing, fetch, "Begin", "b", begin.as_str())?;
-    put_line(alloc, listing, fetch, "End", "b", "")
+    let lines = format!(in alloc;
+        "{fetch:>10} Begin          b bereq {request} fetch\n{fetch:>10} End            b \n"
+    );
+    put_lines(listing, lines)
 }
 
-/// Adds the unit of a request, with a request to a backend where it is a miss.
-fn put_request(
+/// Adds the first lines of the unit of a request.
+fn put_begin(
     alloc: Global,
     listing: &mut Vec<u8>,
     session: u32,
     request: u32,
-    fetch: Option<u32>,
 ) -> Result<(), NoMemory> {
-    let begin = format!(in alloc; "req {session} rxreq")?;
-    put_line(alloc, listing, request, "Begin", "c", begin.as_str())?;
-    let url = format!(in alloc; "/{request}")?;
-    put_line(alloc, listing, request, "ReqURL", "c", url.as_str())?;
-    if let Some(fetch) = fetch {
-        let link = format!(in alloc; "bereq {fetch} fetch")?;
-        put_line(alloc, listing, request, "Link", "c", link.as_str())?;
-    }
-    put_line(alloc, listing, request, "RespStatus", "c", "200")?;
-    put_line(alloc, listing, request, "End", "c", "")
+    let lines = format!(in alloc;
+        "{request:>10} Begin          c req {session} rxreq\n{request:>10} ReqURL         c /{request}\n"
+    );
+    put_lines(listing, lines)
+}
+
+/// Adds the link of a request to that to a backend.
+fn put_link(
+    alloc: Global,
+    listing: &mut Vec<u8>,
+    request: u32,
+    fetch: u32,
+) -> Result<(), NoMemory> {
+    let line = format!(in alloc; "{request:>10} Link           c bereq {fetch} fetch\n");
+    put_lines(listing, line)
+}
+
+/// Adds the last lines of the unit of a request.
+fn put_end(alloc: Global, listing: &mut Vec<u8>, request: u32) -> Result<(), NoMemory> {
+    let lines = format!(in alloc;
+        "{request:>10} RespStatus     c 200\n{request:>10} End            c \n"
+    );
+    put_lines(listing, lines)
 }
 
 /// Adds the unit of a session.
@@ -59,10 +64,29 @@ fn put_session(
     session: u32,
     request: u32,
 ) -> Result<(), NoMemory> {
-    put_line(alloc, listing, session, "Begin", "c", "sess 0 HTTP/1")?;
-    let link = format!(in alloc; "req {request} rxreq")?;
-    put_line(alloc, listing, session, "Link", "c", link.as_str())?;
-    put_line(alloc, listing, session, "End", "c", "")
+    let lines = format!(in alloc;
+        "{session:>10} Begin          c sess 0 HTTP/1\n{session:>10} Link           c req {request} rxreq\n{session:>10} End            c \n"
+    );
+    put_lines(listing, lines)
+}
+
+/// Adds the units of a request and its session, and of a request to a backend where it is a miss.
+fn put_request(
+    alloc: Global,
+    listing: &mut Vec<u8>,
+    session: u32,
+    is_miss: bool,
+) -> Result<(), NoMemory> {
+    let (request, fetch) = (session.saturating_add(1), session.saturating_add(2));
+    if is_miss {
+        put_fetch(alloc, listing, fetch, request)?;
+    }
+    put_begin(alloc, listing, session, request)?;
+    if is_miss {
+        put_link(alloc, listing, request, fetch)?;
+    }
+    put_end(alloc, listing, request)?;
+    put_session(alloc, listing, session, request)
 }
 
 /// The listing of the feed of this number with so many requests, each with its session. The first of four is a miss.
@@ -71,14 +95,7 @@ fn listing_of(alloc: Global, feed: u8, requests: u8) -> Result<Vec<u8>, NoMemory
     let mut listing = Vec::new(alloc);
     for number in 0..requests {
         let session = VXIDS * (u32::from(feed) + 1) + 3 * u32::from(number);
-        let (request, fetch) = (session + 1, session + 2);
-        if number % 4 == 0 {
-            put_fetch(alloc, &mut listing, fetch, request)?;
-            put_request(alloc, &mut listing, session, request, Some(fetch))?;
-        } else {
-            put_request(alloc, &mut listing, session, request, None)?;
-        }
-        put_session(alloc, &mut listing, session, request)?;
+        put_request(alloc, &mut listing, session, number % 4 == 0)?;
     }
     Ok(listing)
 }
@@ -92,15 +109,18 @@ pub fn listings_of(alloc: Global, feeds: u8, requests: u8) -> Result<Vec<Vec<u8>
     Ok(listings)
 }
 
+/// What fills a record that is as long as a segment of 64 words.
+const FILLING: [u8; 244] = [b'a'; 244];
+
 /// A listing of twelve units of a record, each as long as a segment of 64 words.
 pub fn twelve_units(alloc: Global) -> Result<Vec<u8>, NoMemory> {
     let mut listing = Vec::new(alloc);
     for unit in 1..=12u8 {
-        let head = format!(in alloc; "{unit:>10} VCL_Log        c ")?;
-        listing.extend_from_slice(head.as_bytes())?;
-        for _ in 0..244u8 {
-            listing.push(b'a')?;
-        }
+        put_lines(
+            &mut listing,
+            format!(in alloc; "{unit:>10} VCL_Log        c "),
+        )?;
+        listing.extend_from_slice(&FILLING)?;
         listing.push(b'\n')?;
     }
     Ok(listing)

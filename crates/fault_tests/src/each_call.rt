@@ -1,5 +1,6 @@
 //! Each call of a run fails in turn, alone and with the one behind it, for each tool and input.
 
+use crate::comparing::same;
 use crate::runs::{count_calls, expect_faults};
 use crate::tables::{
     ASKED, FAULTS, FEEDS, Input, LATE_READER, LOG, MADE, MORE_UNITS, ONE_ON_A_THREAD, OPEN,
@@ -9,100 +10,84 @@ use crate::tables::{
 use std::alloc::Global;
 use std::process::Abort;
 use std::sync::Wait;
-use std::test::Fail;
 use std::thread::Threads;
 
 /// Lets each call fail of the runs of all tools over an input.
-fn expect_all<R: Abort + Threads + Wait + Sync>(
-    rt: &R,
-    alloc: Global,
-    input: &Input,
-) -> Result<(), Fail> {
+fn expect_all<R: Abort + Threads + Wait + Sync>(rt: &R, alloc: Global, input: &Input) {
     for tool in &TOOLS {
         if tool.groups || !input.is_log {
-            expect_faults(rt, alloc, input, tool)?;
+            expect_faults(rt, alloc, input, tool);
         }
     }
-    Ok(())
 }
 
 #[test]
-fn each_failing_call_ends_a_run_over_a_log(rt: HostRuntime) -> Result<(), Fail> {
-    expect_all(&rt, rt.alloc(), &LOG)
+fn each_failing_call_ends_a_run_over_a_log(rt: HostRuntime) {
+    expect_all(&rt, rt.alloc(), &LOG);
 }
 
 #[test]
-fn each_failing_call_ends_a_run_over_an_open_transaction(rt: HostRuntime) -> Result<(), Fail> {
-    expect_all(&rt, rt.alloc(), &OPEN)
+fn each_failing_call_ends_a_run_over_an_open_transaction(rt: HostRuntime) {
+    expect_all(&rt, rt.alloc(), &OPEN);
 }
 
 #[test]
-fn each_failing_call_ends_a_run_over_standard_input(rt: HostRuntime) -> Result<(), Fail> {
-    expect_all(&rt, rt.alloc(), &STREAM)
+fn each_failing_call_ends_a_run_over_standard_input(rt: HostRuntime) {
+    expect_all(&rt, rt.alloc(), &STREAM);
 }
 
 #[test]
-fn each_failing_call_ends_a_run_over_a_log_that_queries_ask(rt: HostRuntime) -> Result<(), Fail> {
-    expect_all(&rt, rt.alloc(), &ASKED)
+fn each_failing_call_ends_a_run_over_a_log_that_queries_ask(rt: HostRuntime) {
+    expect_all(&rt, rt.alloc(), &ASKED);
 }
 
 #[test]
-fn each_failing_call_ends_a_run_over_feeds_one_after_the_other(
-    rt: HostRuntime,
-) -> Result<(), Fail> {
-    expect_all(&rt, rt.alloc(), &FEEDS)
+fn each_failing_call_ends_a_run_over_feeds_one_after_the_other(rt: HostRuntime) {
+    expect_all(&rt, rt.alloc(), &FEEDS);
 }
 
 #[test]
-fn each_failing_call_ends_a_run_over_feeds_in_turns(rt: HostRuntime) -> Result<(), Fail> {
-    expect_all(&rt, rt.alloc(), &TURNS)
+fn each_failing_call_ends_a_run_over_feeds_in_turns(rt: HostRuntime) {
+    expect_all(&rt, rt.alloc(), &TURNS);
 }
 
 #[test]
-fn each_failing_call_ends_a_run_over_made_requests(rt: HostRuntime) -> Result<(), Fail> {
+fn each_failing_call_ends_a_run_over_made_requests(rt: HostRuntime) {
     for input in &MADE {
-        expect_all(&rt, rt.alloc(), input)?;
+        expect_all(&rt, rt.alloc(), input);
     }
-    Ok(())
 }
 
 #[test]
-fn each_failing_call_ends_a_run_over_a_feed_that_overran_its_reader(
-    rt: HostRuntime,
-) -> Result<(), Fail> {
-    expect_all(&rt, rt.alloc(), &OVERRUN)
+fn each_failing_call_ends_a_run_over_a_feed_that_overran_its_reader(rt: HostRuntime) {
+    expect_all(&rt, rt.alloc(), &OVERRUN);
 }
 
 #[test]
-fn each_failing_call_ends_a_run_over_feeds_in_turns_that_overrun_their_reader(
-    rt: HostRuntime,
-) -> Result<(), Fail> {
-    expect_all(&rt, rt.alloc(), &OVERRUN_IN_TURNS)
+fn each_failing_call_ends_a_run_over_feeds_in_turns_that_overrun_their_reader(rt: HostRuntime) {
+    expect_all(&rt, rt.alloc(), &OVERRUN_IN_TURNS);
 }
 
 #[test]
-fn each_failing_call_ends_a_run_over_a_feed_on_a_thread(rt: HostRuntime) -> Result<(), Fail> {
-    expect_all(&rt, rt.alloc(), &ONE_ON_A_THREAD)
+fn each_failing_call_ends_a_run_over_a_feed_on_a_thread(rt: HostRuntime) {
+    expect_all(&rt, rt.alloc(), &ONE_ON_A_THREAD);
 }
 
 #[test]
-fn each_failing_call_ends_a_run_over_feeds_on_threads(rt: HostRuntime) -> Result<(), Fail> {
-    expect_all(&rt, rt.alloc(), &TWO_ON_THREADS)
+fn each_failing_call_ends_a_run_over_feeds_on_threads(rt: HostRuntime) {
+    expect_all(&rt, rt.alloc(), &TWO_ON_THREADS);
 }
 
 #[test]
-fn each_failing_call_ends_a_run_over_a_feed_on_a_thread_that_overruns_its_reader(
-    rt: HostRuntime,
-) -> Result<(), Fail> {
-    expect_all(&rt, rt.alloc(), &LATE_READER)
+fn each_failing_call_ends_a_run_over_a_feed_on_a_thread_that_overruns_its_reader(rt: HostRuntime) {
+    expect_all(&rt, rt.alloc(), &LATE_READER);
 }
 
 #[test]
-fn a_message_that_fails_changes_nothing_else(rt: HostRuntime) -> Result<(), Fail> {
+fn a_message_that_fails_changes_nothing_else(rt: HostRuntime) {
     for input in &FAULTS {
-        expect_all(&rt, rt.alloc(), input)?;
+        expect_all(&rt, rt.alloc(), input);
     }
-    Ok(())
 }
 
 /// A log, a tool, and how many calls their run makes, each of three bytes at most.
@@ -125,11 +110,10 @@ const COUNTS: [(Input, Tool, usize); 7] = [
 ];
 
 #[test]
-fn a_run_makes_no_call_that_its_bytes_do_not_take(rt: HostRuntime) -> Result<(), Fail> {
+fn a_run_makes_no_call_that_its_bytes_do_not_take(rt: HostRuntime) {
     for (log, tool, calls) in COUNTS {
         let input = Input { piece: 3, ..log };
-        let made = count_calls(&rt, rt.alloc(), &input, &tool)?;
-        assert_eq!(rt; made, calls, "{}, {}", tool.name, input.name);
+        let made = count_calls(&rt, rt.alloc(), &input, &tool);
+        same(&rt, (tool.name, made), (tool.name, calls), input.name);
     }
-    Ok(())
 }

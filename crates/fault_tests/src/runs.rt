@@ -10,7 +10,6 @@ use acceptance_support::{
 use std::alloc::Global;
 use std::process::Abort;
 use std::sync::Wait;
-use std::test::Fail;
 use std::thread::Threads;
 use varnish_tools::{OpenGate, Outcome};
 use vio::{ERRORS, OUTPUT};
@@ -43,64 +42,92 @@ struct Row<'a> {
     work: usize,
 }
 
+/// Adds bytes to a text.
+fn add(rt: &impl Abort, text: &mut Vec<u8>, more: &[u8]) {
+    text.extend_from_slice(more).expect(rt, "memory");
+}
+
+/// The bytes that fill the log of such a request.
+const FILLING: [u8; 212] = [b'a'; 212];
+
 /// A listing of twelve requests of as many sessions, each a unit of 64 words, of VXIDs behind this one: one word for the
 /// unit, 6 for Begin, 55 for the log and 2 for End.
-fn long_requests(alloc: Global, before: u32) -> Result<Vec<u8>, Fail> {
+fn long_requests(rt: &impl Abort, alloc: Global, before: u32) -> Vec<u8> {
     let mut listing = Vec::new(alloc);
     for unit in 1..=12u8 {
         let vxid = before.saturating_add(u32::from(unit));
         let session = vxid.saturating_add(1000);
         let begin = format!(in alloc;
             "{vxid:>10} Begin          c req {session} rxreq\n{vxid:>10} VCL_Log        c "
-        )?;
-        listing.extend_from_slice(begin.as_bytes())?;
-        for _ in 0..212u8 {
-            listing.push(b'a')?;
-        }
-        let end = format!(in alloc; "\n{vxid:>10} End            c \n")?;
-        listing.extend_from_slice(end.as_bytes())?;
+        );
+        add(rt, &mut listing, begin.expect(rt, "memory").as_bytes());
+        add(rt, &mut listing, &FILLING);
+        let end = format!(in alloc; "\n{vxid:>10} End            c \n");
+        add(rt, &mut listing, end.expect(rt, "memory").as_bytes());
     }
-    Ok(listing)
+    listing
 }
 
 /// The bytes of a file.
-fn bytes_of(alloc: Global, content: &Content) -> Result<Vec<u8>, Fail> {
+fn bytes_of(rt: &impl Abort, alloc: Global, content: &Content) -> Vec<u8> {
     match content {
-        Content::Bytes(bytes) => Ok(Vec::from_slice(alloc, *bytes)?),
-        Content::LongRequests(before) => long_requests(alloc, *before),
+        Content::Bytes(bytes) => Vec::from_slice(alloc, *bytes).expect(rt, "memory"),
+        Content::LongRequests(before) => long_requests(rt, alloc, *before),
     }
 }
 
 /// The bytes of the file of this name of an input; none where it has no such file.
-fn file_of(alloc: Global, input: &Input, name: &str) -> Result<Vec<u8>, Fail> {
+fn file_of(rt: &impl Abort, alloc: Global, input: &Input, name: &str) -> Vec<u8> {
     for (known, content) in input.files {
         if *known == name {
-            return bytes_of(alloc, content);
+            return bytes_of(rt, alloc, content);
         }
     }
-    Ok(Vec::new(alloc))
+    Vec::new(alloc)
 }
 
 /// A world with the files of an input and what a tool's sink has, in which calls of these numbers fail.
 fn world_for(
+    rt: &impl Abort,
     alloc: Global,
     input: &Input,
     tool: &Tool,
     failing: &[usize],
-) -> Result<WatchedWorld, Fail> {
-    let mut world = WatchedWorld::new(alloc, NAMES)?;
+) -> WatchedWorld {
+    let mut world = WatchedWorld::new(rt, alloc, NAMES);
     if !tool.there.is_empty() {
-        world.memory.file(tool.sink, tool.there)?;
+        world.file(rt, tool.sink, tool.there);
     }
     for (name, content) in input.files {
-        let bytes = bytes_of(alloc, content)?;
-        world.memory.file(*name, &bytes)?;
+        world.file(rt, *name, &bytes_of(rt, alloc, content));
     }
     world.memory.piece(input.piece);
     for call in failing {
-        world.memory.fail(*call as u64)?;
+        world.memory.fail(*call as u64).expect(rt, "memory");
     }
-    Ok(world)
+    world
+}
+
+/// The words of a tool's run over an input.
+fn words_for(rt: &impl Abort, alloc: Global, input: &Input, tool: &Tool) -> Vec<&'static str> {
+    let mut words = Vec::new(alloc);
+    for part in [input.before, tool.words, input.behind] {
+        words.extend_from_slice(part).expect(rt, "memory");
+    }
+    words
+}
+
+/// Runs words at a gate that holds the reader until it comes late.
+fn run_late<R: Abort + Threads + Wait + Sync>(
+    rt: &R,
+    alloc: Global,
+    words: &[&str],
+    world: &mut WatchedWorld,
+) -> Outcome {
+    let gate = HoldingGate::new(LATE);
+    let outcome = run_words(rt, alloc, words, world, &gate);
+    holds(rt, !gate.has_failed(rt), "a step was held to the last turn");
+    outcome.expect(rt, "memory")
 }
 
 /// Runs a tool over an input, at a gate that holds the reader where it is to come late.
@@ -110,18 +137,20 @@ fn run_in<R: Abort + Threads + Wait + Sync>(
     input: &Input,
     tool: &Tool,
     world: &mut WatchedWorld,
-) -> Result<Outcome, Fail> {
-    let mut words = Vec::new(alloc);
-    for part in [input.before, tool.words, input.behind] {
-        words.extend_from_slice(part)?;
+) -> Outcome {
+    let words = words_for(rt, alloc, input, tool);
+    if input.order == Order::Late {
+        return run_late(rt, alloc, &words, world);
     }
-    if input.order != Order::Late {
-        return Ok(run_words(rt, alloc, &words, world, &OpenGate)?);
+    run_words(rt, alloc, &words, world, &OpenGate).expect(rt, "memory")
+}
+
+/// What a sink has.
+fn text_in(rt: &impl Abort, alloc: Global, world: &mut WatchedWorld, sink: &str) -> Vec<u8> {
+    if sink != "-" {
+        return world.held(rt, alloc, sink);
     }
-    let gate = HoldingGate::new(LATE);
-    let outcome = run_words(rt, alloc, &words, world, &gate)?;
-    holds(rt, !gate.has_failed(rt), "a step was held to the last turn");
-    Ok(outcome)
+    Vec::from_slice(alloc, world.memory.content(OUTPUT)).expect(rt, "memory")
 }
 
 /// What a run leaves in which calls of these numbers fail, counted from 1.
@@ -131,22 +160,18 @@ fn left_of<R: Abort + Threads + Wait + Sync>(
     input: &Input,
     tool: &Tool,
     failing: &[usize],
-) -> Result<Left, Fail> {
-    let mut world = world_for(alloc, input, tool, failing)?;
-    let outcome = run_in(rt, alloc, input, tool, &mut world)?;
-    let calls = world.calls(alloc)?;
-    let errors = Vec::from_slice(alloc, world.memory.content(ERRORS))?;
-    let text = if tool.sink == "-" {
-        Vec::from_slice(alloc, world.memory.content(OUTPUT))?
-    } else {
-        world.held(alloc, tool.sink)?
-    };
-    Ok(Left {
+) -> Left {
+    let mut world = world_for(rt, alloc, input, tool, failing);
+    let outcome = run_in(rt, alloc, input, tool, &mut world);
+    let calls = world.calls(rt, alloc);
+    let errors = Vec::from_slice(alloc, world.memory.content(ERRORS)).expect(rt, "memory");
+    let text = text_in(rt, alloc, &mut world, tool.sink);
+    Left {
         outcome,
         text,
         errors,
         calls,
-    })
+    }
 }
 
 /// How many calls a run makes where none fails.
@@ -155,15 +180,27 @@ pub fn count_calls<R: Abort + Threads + Wait + Sync>(
     alloc: Global,
     input: &Input,
     tool: &Tool,
-) -> Result<usize, Fail> {
-    Ok(left_of(rt, alloc, input, tool, &[])?.calls.len())
+) -> usize {
+    left_of(rt, alloc, input, tool, &[]).calls.len()
 }
 
 /// What an input is called with a tool, and which of its calls fail.
-fn name_of(alloc: Global, input: &Input, tool: &Tool, failing: &[usize]) -> Result<String, Fail> {
+fn name_of(
+    rt: &impl Abort,
+    alloc: Global,
+    input: &Input,
+    tool: &Tool,
+    failing: &[usize],
+) -> String {
     let last = failing.last().copied().unwrap_or(0);
     let twice = failing.len();
-    Ok(format!(in alloc; "{}, {}, {twice} up to {last}", input.name, tool.name)?)
+    let name = format!(in alloc; "{}, {}, {twice} up to {last}", input.name, tool.name);
+    name.expect(rt, "memory")
+}
+
+/// The message of an ending.
+fn message_for(rt: &impl Abort, alloc: Global, ending: Ending) -> Vec<u8> {
+    message_of(alloc, ending).expect(rt, "memory")
 }
 
 /// Nothing was written but to the sink, behind what was there, and to standard error.
@@ -176,15 +213,9 @@ fn expect_sink(rt: &impl Abort, tool: &Tool, left: &Left, what: &str) {
 }
 
 /// A run without a failing call tells its overruns, and ends as it must, with its message.
-fn expect_whole(
-    rt: &impl Abort,
-    alloc: Global,
-    input: &Input,
-    tool: &Tool,
-    left: &Left,
-) -> Result<(), Fail> {
-    let what = name_of(alloc, input, tool, &[])?;
-    let message = message_of(alloc, input.ending)?;
+fn expect_whole(rt: &impl Abort, alloc: Global, input: &Input, tool: &Tool, left: &Left) {
+    let what = name_of(rt, alloc, input, tool, &[]);
+    let message = message_for(rt, alloc, input.ending);
     holds(rt, is_fault_of(&left.outcome.fault, input.ending), &what);
     same(rt, left.outcome.status, status_of(input.ending), &what);
     expect_sink(rt, tool, left, &what);
@@ -197,7 +228,6 @@ fn expect_whole(
         let size = told.len().saturating_add(message.len());
         same(rt, left.errors.len(), size, &what);
     }
-    Ok(())
 }
 
 /// How many calls it takes to move so many bytes, each at most so many.
@@ -252,40 +282,34 @@ fn expect_message(
     }
 }
 
+/// What a run on threads wrote has parts of what the whole one wrote, and of raw lines the first of each feed.
+fn expect_parts(rt: &impl Abort, alloc: Global, row: &Row<'_>, left: &Left, what: &str) {
+    let kept = row.tool.kept;
+    if row.input.order == Order::Late && matches!(kept, Kept::Whole | Kept::Counters) {
+        return;
+    }
+    let has_parts = has_parts_of(alloc, kept, &left.text, &row.whole.text);
+    holds(rt, has_parts.expect(rt, "memory"), what);
+    if row.input.order == Order::Threads && matches!(kept, Kept::FeedLines) {
+        let a = file_of(rt, alloc, row.input, "a");
+        let b = file_of(rt, alloc, row.input, "b");
+        holds(rt, are_first_lines(&left.text, &a, &b), what);
+    }
+}
+
 /// What was written is that of the calls before the one that failed: of the same calls as in the whole run, or else of
 /// parts of what that wrote.
-fn expect_text(
-    rt: &impl Abort,
-    alloc: Global,
-    row: &Row<'_>,
-    left: &Left,
-    at: usize,
-    what: &str,
-) -> Result<(), Fail> {
-    let first = left.calls.get(..at).ok_or("the calls before")?;
+fn expect_text(rt: &impl Abort, alloc: Global, row: &Row<'_>, left: &Left, at: usize, what: &str) {
+    let first = left.calls.get(..at).expect(rt, "the calls before");
     let size = moved_of(first, Deed::Write, row.tool.sink);
     let there = row.tool.there.len();
     same(rt, left.text.len(), there.saturating_add(size), what);
     if row.input.order == Order::Same {
         same(rt, Some(first), row.whole.calls.get(..at), what);
         holds(rt, row.whole.text.as_slice().starts_with(&left.text), what);
-        return Ok(());
+        return;
     }
-    let kept = row.tool.kept;
-    if row.input.order == Order::Late && matches!(kept, Kept::Whole | Kept::Counters) {
-        return Ok(());
-    }
-    holds(
-        rt,
-        has_parts_of(alloc, kept, &left.text, &row.whole.text)?,
-        what,
-    );
-    if row.input.order == Order::Threads && matches!(kept, Kept::FeedLines) {
-        let a = file_of(alloc, row.input, "a")?;
-        let b = file_of(alloc, row.input, "b")?;
-        holds(rt, are_first_lines(&left.text, &a, &b), what);
-    }
-    Ok(())
+    expect_parts(rt, alloc, row, left, what);
 }
 
 /// Whether the run had begun with these calls, of which the last one failed: a log was read, something was written, or an
@@ -323,16 +347,10 @@ fn expect_taken(rt: &impl Abort, row: &Row<'_>, left: &Left, at: usize, what: &s
 }
 
 /// Compares all that a run left whose call of this number failed, counted from 1, and perhaps the one behind it.
-fn expect_cut(
-    rt: &impl Abort,
-    alloc: Global,
-    row: &Row<'_>,
-    left: &Left,
-    failing: &[usize],
-) -> Result<(), Fail> {
-    let what = name_of(alloc, row.input, row.tool, failing)?;
+fn expect_cut(rt: &impl Abort, alloc: Global, row: &Row<'_>, left: &Left, failing: &[usize]) {
+    let what = name_of(rt, alloc, row.input, row.tool, failing);
     let at = failing.first().copied().unwrap_or(1).saturating_sub(1);
-    let call = *left.calls.get(at).ok_or("the call that failed")?;
+    let call = *left.calls.get(at).expect(rt, "the call that failed");
     holds(rt, call.moved.is_none(), &what);
     let ending = if at < row.work {
         call.ending()
@@ -342,23 +360,16 @@ fn expect_cut(
     holds(rt, is_fault_of(&left.outcome.fault, ending), &what);
     same(rt, left.outcome.status, status_of(ending), &what);
     expect_sink(rt, row.tool, left, &what);
-    let message = message_of(alloc, ending)?;
+    let message = message_for(rt, alloc, ending);
     let written = written_behind(row, at, failing.len() > 1, &message);
     expect_message(rt, row, left, at, written, &message, &what);
-    expect_text(rt, alloc, row, left, at, &what)?;
+    expect_text(rt, alloc, row, left, at, &what);
     expect_taken(rt, row, left, at, &what);
-    Ok(())
 }
 
-/// What a tool leaves of an input where no call fails; of feeds on threads in the order in which they are named, in a ring
-/// that overruns nobody.
-fn stated_whole<R: Abort + Threads + Wait + Sync>(
-    rt: &R,
-    alloc: Global,
-    input: &Input,
-    tool: &Tool,
-) -> Result<Left, Fail> {
-    let stated = match input.order {
+/// An input of feeds on threads as one in a stated order, in a ring that overruns nobody.
+fn stated_input(input: &Input) -> Input {
+    match input.order {
         Order::Same => *input,
         Order::Threads => Input {
             before: &["--feed", "a", "--feed", "b", "--feed-first"],
@@ -370,10 +381,21 @@ fn stated_whole<R: Abort + Threads + Wait + Sync>(
             overruns: b"",
             ..*input
         },
-    };
-    let left = left_of(rt, alloc, &stated, tool, &[])?;
-    expect_whole(rt, alloc, &stated, tool, &left)?;
-    Ok(left)
+    }
+}
+
+/// What a tool leaves of an input where no call fails; of feeds on threads in the order in which they are named, in a ring
+/// that overruns nobody.
+fn stated_whole<R: Abort + Threads + Wait + Sync>(
+    rt: &R,
+    alloc: Global,
+    input: &Input,
+    tool: &Tool,
+) -> Left {
+    let stated = stated_input(input);
+    let left = left_of(rt, alloc, &stated, tool, &[]);
+    expect_whole(rt, alloc, &stated, tool, &left);
+    left
 }
 
 /// Lets these calls of a row's run fail: whether it makes the first of them. Where it doesn't, it ends as the whole one.
@@ -382,14 +404,24 @@ fn expect_failing<R: Abort + Threads + Wait + Sync>(
     alloc: Global,
     row: &Row<'_>,
     failing: &[usize],
-) -> Result<bool, Fail> {
-    let left = left_of(rt, alloc, row.input, row.tool, failing)?;
+) -> bool {
+    let left = left_of(rt, alloc, row.input, row.tool, failing);
     if left.calls.len() < failing.first().copied().unwrap_or(1) {
-        expect_whole(rt, alloc, row.input, row.tool, &left)?;
-        return Ok(false);
+        expect_whole(rt, alloc, row.input, row.tool, &left);
+        return false;
     }
-    expect_cut(rt, alloc, row, &left, failing)?;
-    Ok(true)
+    expect_cut(rt, alloc, row, &left, failing);
+    true
+}
+
+/// How many calls a run of an input makes but those of its last message, of those of the whole one.
+fn count_work(rt: &impl Abort, alloc: Global, input: &Input, whole: &Left) -> usize {
+    let message = message_for(rt, alloc, input.ending);
+    let said = count_pieces(message.len(), input.piece);
+    match input.order {
+        Order::Same => whole.calls.len().saturating_sub(said),
+        _ => usize::MAX,
+    }
 }
 
 /// Lets each call of a run fail in turn, alone and with the one behind it, until a run has no fault.
@@ -398,14 +430,9 @@ pub fn expect_faults<R: Abort + Threads + Wait + Sync>(
     alloc: Global,
     input: &Input,
     tool: &Tool,
-) -> Result<(), Fail> {
-    let whole = stated_whole(rt, alloc, input, tool)?;
-    let message = message_of(alloc, input.ending)?;
-    let said = count_pieces(message.len(), input.piece);
-    let work = match input.order {
-        Order::Same => whole.calls.len().saturating_sub(said),
-        _ => usize::MAX,
-    };
+) {
+    let whole = stated_whole(rt, alloc, input, tool);
+    let work = count_work(rt, alloc, input, &whole);
     let row = Row {
         input,
         tool,
@@ -413,11 +440,11 @@ pub fn expect_faults<R: Abort + Threads + Wait + Sync>(
         work,
     };
     for failing in 1..=MOST_CALLS {
-        if !expect_failing(rt, alloc, &row, &[failing])? {
-            assert!(rt; failing > 1, "{}, {}", input.name, tool.name);
-            return Ok(());
+        if !expect_failing(rt, alloc, &row, &[failing]) {
+            holds(rt, failing > 1, tool.name);
+            return;
         }
-        expect_failing(rt, alloc, &row, &[failing, failing.saturating_add(1)])?;
+        expect_failing(rt, alloc, &row, &[failing, failing.saturating_add(1)]);
     }
-    Err("a run without a fault".into())
+    holds(rt, false, "a run without a fault");
 }

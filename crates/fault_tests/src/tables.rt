@@ -162,7 +162,7 @@ pub struct Input {
     pub piece: usize,
     pub order: Order,
     pub ending: Ending,
-    /// The messages of overruns, as tools/reference/schedules.py tells them where calls are the same in each run.
+    /// The messages of overruns and of what they cost, as tools/reference/schedules.py tells them where calls are the same in each run.
     pub overruns: &'static [u8],
 }
 
@@ -311,7 +311,7 @@ pub const OVERRUN: Input = Input {
     files: &[("a", Content::LongRequests(100))],
     before: &["--ring", "64", "--feed", "a", "--feed-first"],
     piece: 1000,
-    overruns: b"vtools: log overrun at segment 0, counter 13\n",
+    overruns: b"vtools: log overrun at segment 0, counter 13\nvtools: missed 8 units\n",
     ..FEEDS
 };
 
@@ -323,7 +323,7 @@ pub const OVERRUN_IN_TURNS: Input = Input {
     ],
     before: &["--ring", "64", "--feed", "a", "--feed", "b", "--turns", "3"],
     piece: 1000,
-    overruns: b"vtools: log overrun at segment 3, counter 9\nvtools: log overrun at segment 5, counter 13\nvtools: log overrun at segment 10, counter 17\nvtools: log overrun at segment 13, counter 21\nvtools: log overrun at segment 18, counter 25\n",
+    overruns: b"vtools: log overrun at segment 3, counter 9\nvtools: missed 2 units\nvtools: log overrun at segment 5, counter 13\nvtools: missed 3 units\nvtools: log overrun at segment 10, counter 17\nvtools: missed 3 units\nvtools: log overrun at segment 13, counter 21\nvtools: missed 3 units\nvtools: log overrun at segment 18, counter 25\nvtools: missed 3 units\n",
     ..FEEDS
 };
 

@@ -1,11 +1,12 @@
 //! A world in memory that keeps the calls that are made of it.
 
 ghost use Rattle.vio.specs.Memory.{memory_seen};
-ghost use Rattle.vio.specs.Streams.{HasStreams-memory};
+ghost use Rattle.vio.specs.MemoryStreams.{HasStreams-memory};
 
+use crate::comparing::holds;
 use acceptance_support::Ending;
 use std::alloc::Global;
-use std::test::Fail;
+use std::process::Abort;
 use vio::{Created, ERRORS, Failed, INPUT, MemWorld, OUTPUT, World, WorldFault};
 
 /// What a call does.
@@ -128,34 +129,45 @@ pub struct WatchedWorld {
 
 impl WatchedWorld {
     /// A world whose files may have these names, and have none yet.
-    pub fn new(alloc: Global, names: &'static [&'static str]) -> Result<WatchedWorld, Fail> {
-        Ok(WatchedWorld {
-            memory: MemWorld::new(alloc)?,
+    pub fn new(rt: &impl Abort, alloc: Global, names: &'static [&'static str]) -> WatchedWorld {
+        WatchedWorld {
+            memory: MemWorld::new(alloc).expect(rt, "memory"),
             calls: Calls {
                 names,
                 given: Vec::new(alloc),
                 made: Vec::new(alloc),
                 whole: true,
             },
-        })
+        }
+    }
+
+    /// Gives a file bytes.
+    pub fn file(&mut self, rt: &impl Abort, name: &str, bytes: &[u8]) {
+        self.memory.file(name, bytes).expect(rt, "memory");
     }
 
     /// The calls that were made.
-    pub fn calls(&self, alloc: Global) -> Result<Vec<Call>, Fail> {
-        if !self.calls.whole {
-            return Err("memory for all calls".into());
-        }
-        Ok(Vec::from_slice(alloc, &self.calls.made)?)
+    pub fn calls(&self, rt: &impl Abort, alloc: Global) -> Vec<Call> {
+        holds(rt, self.calls.whole, "memory for all calls");
+        Vec::from_slice(alloc, &self.calls.made).expect(rt, "memory")
     }
 
-    /// What a file holds, which takes a call; nothing where there is none. At most two calls of a plan are left to fail.
-    pub fn held(&mut self, alloc: Global, name: &str) -> Result<Vec<u8>, Fail> {
+    /// The handle of a file, which takes a call; nothing where there is none. At most two calls of a plan are left to fail.
+    fn opened(&mut self, name: &str) -> Option<u32> {
         for _ in 0..3 {
             if let Ok(handle) = self.memory.open(name) {
-                return Ok(Vec::from_slice(alloc, self.memory.content(handle))?);
+                return Some(handle);
             }
         }
-        Ok(Vec::new(alloc))
+        None
+    }
+
+    /// What a file holds; nothing where there is none.
+    pub fn held(&mut self, rt: &impl Abort, alloc: Global, name: &str) -> Vec<u8> {
+        let Some(handle) = self.opened(name) else {
+            return Vec::new(alloc);
+        };
+        Vec::from_slice(alloc, self.memory.content(handle)).expect(rt, "memory")
     }
 }
 

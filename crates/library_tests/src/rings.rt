@@ -1,12 +1,12 @@
 //! Where units lie in a ring, and what a listing has.
 
-ghost use Rattle.std.specs.Prelude.{◌≡◌, IfOk};
+ghost use Rattle.std.specs.Prelude.{◌≡◌};
 
 use crate::support::same;
 use ring_layout::{Placed, Shape, place_after, segment_of};
+use std::alloc::Global;
 use std::process::Abort;
-use std::test::Fail;
-use traffic_feed::{ListFault, read_listing};
+use traffic_feed::{ListFault, Listing, read_listing};
 use vsl_record::Unit;
 
 /// The last tail that a ring has, less ten: 2^62 - 10.
@@ -19,25 +19,29 @@ const TWO_LINES: &[u8] = b"1 CLI - a\n2 CLI - b\n";
 const BAD_THIRD: &[u8] = b"1 CLI - a\n2 CLI - b\nx\n";
 
 /// Segments of 64 words, the fewest.
-fn least_shape() -> Result<Shape, Fail>
-    ensures { IfOk result (λ shape. shape ≡ 64) }
+fn least_shape(rt: &impl Abort) -> Shape
+    ensures { result ≡ 64 }
 {
-    Ok(Shape::new(64).ok_or("64 words are a segment")?)
+    Shape::new(64).expect(rt, "64 words are a segment")
+}
+
+/// A listing over such segments.
+fn listing_of(rt: &impl Abort, alloc: Global, bytes: &[u8]) -> Result<Listing, ListFault> {
+    read_listing(alloc, bytes, 255, least_shape(rt))
 }
 
 /// The unit has this VXID, and is of one record with this payload.
 fn expect_unit(rt: &impl Abort, unit: &Unit, vxid: u32, payload: &[u8]) {
-    same(rt, unit.vxid(), vxid);
     let records = unit.records();
-    same(rt, records.len(), 1);
+    same(rt, (unit.vxid(), records.len()), (vxid, 1));
     for i in 0..records.len() {
         same(rt, records.get(i).payload(), payload);
     }
 }
 
 #[test]
-fn a_unit_lies_in_one_lap(rt: HostRuntime) -> Result<(), Fail> {
-    let shape = least_shape()?;
+fn a_unit_lies_in_one_lap(rt: HostRuntime) {
+    let shape = least_shape(&rt);
     let stays = Placed {
         start: 447,
         tail: 511,
@@ -52,12 +56,11 @@ fn a_unit_lies_in_one_lap(rt: HostRuntime) -> Result<(), Fail> {
     };
     same(&rt, place_after(shape, 448, 64), Some(wraps));
     same(&rt, segment_of(shape, 576), 9);
-    Ok(())
 }
 
 #[test]
-fn no_unit_lies_behind_the_last_tail(rt: HostRuntime) -> Result<(), Fail> {
-    let shape = least_shape()?;
+fn no_unit_lies_behind_the_last_tail(rt: HostRuntime) {
+    let shape = least_shape(&rt);
     let last = Placed {
         start: LATE_TAIL,
         tail: 4_611_686_018_427_387_897,
@@ -65,24 +68,23 @@ fn no_unit_lies_behind_the_last_tail(rt: HostRuntime) -> Result<(), Fail> {
     };
     same(&rt, place_after(shape, LATE_TAIL, 64), None);
     same(&rt, place_after(shape, LATE_TAIL, 3), Some(last));
-    Ok(())
 }
 
+/// The VXIDs and payloads of the two lines.
+const UNITS: [(u32, &[u8]); 2] = [(1, b"a"), (2, b"b")];
+
 #[test]
-fn two_lines_are_two_units(rt: HostRuntime) -> Result<(), Fail> {
-    let listing = read_listing(rt.alloc(), TWO_LINES, 255, least_shape()?)?;
-    same(&rt, listing.cuts, 0);
+fn two_lines_are_two_units(rt: HostRuntime) {
+    let listing = listing_of(&rt, rt.alloc(), TWO_LINES).expect(&rt, "a listing");
     let units = listing.units.as_slice();
-    same(&rt, units.len(), 2);
-    for (unit, (vxid, payload)) in units.iter().zip([(1, b"a"), (2, b"b")]) {
+    same(&rt, (listing.cuts, units.len()), (0, 2));
+    for (unit, (vxid, payload)) in units.iter().zip(UNITS) {
         expect_unit(&rt, unit, vxid, payload);
     }
-    Ok(())
 }
 
 #[test]
-fn a_bad_line_is_told(rt: HostRuntime) -> Result<(), Fail> {
-    let refused = read_listing(rt.alloc(), BAD_THIRD, 255, least_shape()?).err();
+fn a_bad_line_is_told(rt: HostRuntime) {
+    let refused = listing_of(&rt, rt.alloc(), BAD_THIRD).err();
     same(&rt, refused, Some(ListFault::BadLine { line: 3 }));
-    Ok(())
 }

@@ -1,12 +1,15 @@
-//! Records of a client, and what shows all.
+//! What is compared, records and units of a client, and what shows all.
+//!
+//! Want of memory ends a test: what takes memory takes the handle too, and answers the value itself.
 
-ghost use Rattle.std.specs.Prelude.{◌≡◌, IfOk};
+ghost use Rattle.std.specs.Prelude.{◌≡◌, ◌<◌};
+ghost use Rattle.std.specs.List.{All};
 
 use std::alloc::Global;
 use std::fmt::Debug;
 use std::process::Abort;
-use std::test::Fail;
-use vsl_record::{Mark, Record};
+use txn_rows::{Kind, Member, Reason};
+use vsl_record::{Mark, Record, Records, Unit, UnitFault, Vxid};
 use vsl_select::{Selection, Sides};
 use vsl_tags::Tag;
 
@@ -15,11 +18,68 @@ pub fn same<T: PartialEq + Debug + Drop>(rt: &impl Abort, left: T, right: T) {
     assert_eq!(rt; left, right);
 }
 
+/// The number of a tag, and a payload.
+pub type Rec<'a> = (u8, &'a [u8]);
+
+/// A transaction of a group: its VXID, kind, level and records.
+pub type Shape<'a> = (Vxid, Kind, u32, &'a [Rec<'a>]);
+
 /// A client's record.
-pub fn record_of(alloc: Global, tag: Tag, payload: &[u8]) -> Result<Record, Fail>
-    ensures { IfOk result (λ r. r.mark ≡ Mark.Client) }
+pub fn record_of(rt: &impl Abort, alloc: Global, tag: u8, payload: &[u8]) -> Record
+    ensures { result.mark ≡ Mark.Client }
 {
-    Ok(Record::new(alloc, tag, Mark::Client, payload)?)
+    let tag = Tag::from_number(tag).expect(rt, "a tag");
+    Record::new(alloc, tag, Mark::Client, payload).expect(rt, "a record")
+}
+
+/// A client's records.
+fn records_of(rt: &impl Abort, alloc: Global, given: &[Rec<'_>]) -> Vec<Record>
+    ensures { All (λ r. r.mark ≡ Mark.Client) result.items }
+{
+    let mut records = Vec::new(alloc);
+    for one in given {
+        let (tag, payload) = *one;
+        let rec = record_of(rt, alloc, tag, payload);
+        records.push(rec).expect(rt, "memory");
+    }
+    records
+}
+
+/// What a client's records are as a unit.
+pub fn made_unit(
+    rt: &impl Abort,
+    alloc: Global,
+    vxid: Vxid,
+    given: &[Rec<'_>],
+) -> Result<Unit, UnitFault>
+    requires { vxid < 1073741824 }
+{
+    Unit::new(vxid, Mark::Client, records_of(rt, alloc, given))
+}
+
+/// The unit of a client's records.
+pub fn unit_of(rt: &impl Abort, alloc: Global, vxid: Vxid, given: &[Rec<'_>]) -> Unit
+    requires { vxid < 1073741824 }
+{
+    made_unit(rt, alloc, vxid, given).expect(rt, "a unit")
+}
+
+/// A transaction of a group, of a client's records.
+pub fn member_of(rt: &impl Abort, alloc: Global, shape: &Shape<'_>) -> Member {
+    let (vxid, kind, level, given) = *shape;
+    let mut records = Records::new(alloc);
+    for (tag, payload) in given {
+        let one = record_of(rt, alloc, *tag, *payload);
+        records.push(&one.view()).expect(rt, "memory");
+    }
+    Member {
+        vxid,
+        kind,
+        reason: Reason::Other,
+        level,
+        parent: 0,
+        records,
+    }
 }
 
 /// No side.
@@ -32,6 +92,6 @@ pub fn no_sides() -> Sides {
 }
 
 /// A selection that shows all.
-pub fn all_shown(alloc: Global) -> Result<Selection, Fail> {
-    Ok(Selection::new(alloc, no_sides(), Vec::new(alloc), false)?)
+pub fn all_shown(rt: &impl Abort, alloc: Global) -> Selection {
+    Selection::new(alloc, no_sides(), Vec::new(alloc), false).expect(rt, "a selection")
 }

@@ -1,72 +1,76 @@
 //! Tables: what is force-completed, by the limit and on demand.
 
-use crate::support::{record_of, same};
+use crate::support::{same, unit_of};
 use std::alloc::Global;
-use std::test::Fail;
+use std::process::Abort;
 use txn_rows::{Cause, Group, GroupOptions, Grouping, Table};
-use vsl_record::{Mark, Unit, Vxid};
-use vsl_tags::Tag;
+use vsl_record::{Unit, Vxid};
+use vsl_tags::named::{BEGIN, END};
 
 /// A unit in which the transaction 2 begins.
-fn begun(alloc: Global) -> Result<Unit, Fail> {
-    let records = Vec::from_array(alloc, [record_of(alloc, Tag::BEGIN, b"req 1 rxreq")?])?;
-    Ok(Unit::new(2, Mark::Client, records)?)
+fn begun(rt: &impl Abort, alloc: Global) -> Unit {
+    unit_of(rt, alloc, 2, &[(BEGIN, b"req 1 rxreq")])
 }
 
 /// The VXID of the first member of each group, and how many records it has.
-fn firsts(alloc: Global, groups: &[Group]) -> Result<Vec<(Vxid, usize)>, Fail> {
+fn firsts(rt: &impl Abort, alloc: Global, groups: &[Group]) -> Vec<(Vxid, usize)> {
     let mut firsts = Vec::new(alloc);
     for group in groups {
-        let first = group.members.as_slice().first().ok_or("a member")?;
-        firsts.push((first.vxid, first.records.view().len()))?;
+        let first = group.members.as_slice().first().expect(rt, "a member");
+        let size = first.records.view().len();
+        firsts.push((first.vxid, size)).expect(rt, "memory");
     }
-    Ok(firsts)
+    firsts
+}
+
+/// The groups begin with these members.
+fn expect_firsts(rt: &impl Abort, alloc: Global, groups: &[Group], want: &[(Vxid, usize)]) {
+    same(rt, firsts(rt, alloc, groups).as_slice(), want);
 }
 
 /// A table by transaction that holds at most one.
-fn small_table(alloc: Global) -> Result<Table, Fail> {
+fn small_table(rt: &impl Abort, alloc: Global) -> Table {
     let options = GroupOptions {
         grouping: Grouping::Vxid,
         limit: 1,
         timeout: 120,
     };
-    Ok(Table::new(alloc, options)?)
+    Table::new(alloc, options).expect(rt, "memory")
+}
+
+/// Gives a table a unit.
+fn step(rt: &impl Abort, table: &mut Table, unit: &Unit, groups: &mut Vec<Group>) {
+    table.step(unit, groups).expect(rt, "memory");
+}
+
+/// Ends the oldest open transaction of a table, if it has one.
+fn force(rt: &impl Abort, table: &mut Table, groups: &mut Vec<Group>) {
+    table.force(Cause::Timeout, groups).expect(rt, "memory");
 }
 
 #[test]
-fn a_table_over_its_limit_ends_the_oldest(rt: HostRuntime) -> Result<(), Fail> {
+fn a_table_over_its_limit_ends_the_oldest(rt: HostRuntime) {
     let alloc = rt.alloc();
-    let mut table = small_table(alloc)?;
+    let mut table = small_table(&rt, alloc);
     let mut groups = Vec::new(alloc);
-    let open = begun(alloc)?;
-    table.step(&open, &mut groups)?;
+    step(&rt, &mut table, &begun(&rt, alloc), &mut groups);
     same(&rt, groups.len(), 0);
-    let begin = record_of(alloc, Tag::BEGIN, b"req 1 rxreq")?;
-    let end = record_of(alloc, Tag::END, b"")?;
-    let records = Vec::from_array(alloc, [begin, end])?;
-    let unit = Unit::new(4, Mark::Client, records)?;
-    table.step(&unit, &mut groups)?;
-    same(
-        &rt,
-        firsts(alloc, &groups)?.as_slice(),
-        [(2, 3), (4, 2)].as_slice(),
-    );
-    Ok(())
+    let unit = unit_of(&rt, alloc, 4, &[(BEGIN, b"req 1 rxreq"), (END, b"")]);
+    step(&rt, &mut table, &unit, &mut groups);
+    expect_firsts(&rt, alloc, &groups, &[(2, 3), (4, 2)]);
 }
 
 #[test]
-fn a_table_ends_what_is_open_on_demand(rt: HostRuntime) -> Result<(), Fail> {
+fn a_table_ends_what_is_open_on_demand(rt: HostRuntime) {
     let alloc = rt.alloc();
-    let mut table = small_table(alloc)?;
+    let mut table = small_table(&rt, alloc);
     let mut groups = Vec::new(alloc);
-    table.flush(&mut groups)?;
-    table.force(Cause::Timeout, &mut groups)?;
+    table.flush(&mut groups).expect(&rt, "memory");
+    force(&rt, &mut table, &mut groups);
     same(&rt, groups.len(), 0);
-    let open = begun(alloc)?;
-    table.step(&open, &mut groups)?;
+    step(&rt, &mut table, &begun(&rt, alloc), &mut groups);
     same(&rt, table.unfinished(), 1);
-    table.force(Cause::Timeout, &mut groups)?;
-    same(&rt, firsts(alloc, &groups)?.as_slice(), [(2, 3)].as_slice());
+    force(&rt, &mut table, &mut groups);
+    expect_firsts(&rt, alloc, &groups, &[(2, 3)]);
     same(&rt, table.rows(), 0);
-    Ok(())
 }

@@ -5,8 +5,7 @@ use crate::support::same;
 use log_model::Halt;
 use std::alloc::Global;
 use std::process::Abort;
-use std::test::Fail;
-use varnish_log::{CopyFault, Counts, How, LogFault, LogForm, copy_log};
+use varnish_log::{Copied, CopyFault, Counts, How, LogFault, LogForm, copy_log};
 use vio::{INPUT, MemWorld, OUTPUT, World};
 
 /// The first four bytes, a Begin, a Backend, which this project doesn't have, a Link, two CLI of no transaction, an H2RxHdr of three zero
@@ -77,43 +76,48 @@ const fn of(form: LogForm) -> How {
     }
 }
 
-/// Copies a log, and compares what is written and left out.
-fn check(rt: &impl Abort, alloc: Global, row: Row) -> Result<(), Fail> {
-    let (form, log, most, units, counts, left) = row;
-    let mut world = MemWorld::new(alloc)?;
-    world.file("-", log)?;
+/// A world whose standard input has these bytes, of which so many come at once at most.
+fn world_of(rt: &impl Abort, alloc: Global, log: &[u8], most: usize) -> MemWorld {
+    let mut world = MemWorld::new(alloc).expect(rt, "memory");
+    world.file("-", log).expect(rt, "memory");
     world.piece(most);
-    let copied = copy_log(alloc, &mut world, of(form), INPUT, OUTPUT)?;
-    same(rt, copied.counts, counts);
-    same(rt, copied.left, left);
-    assert_eq!(rt; world.content(OUTPUT), units);
-    Ok(())
+    world
+}
+
+/// Copies a log, and compares what is written and left out.
+fn check(rt: &impl Abort, alloc: Global, row: &Row) {
+    let (form, log, most, units, counts, left) = *row;
+    let mut world = world_of(rt, alloc, log, most);
+    let copied = copy_log(alloc, &mut world, of(form), INPUT, OUTPUT);
+    same(rt, copied.expect(rt, "a copy"), Copied { counts, left });
+    same(rt, world.content(OUTPUT), units);
 }
 
 #[test]
-fn a_log_is_copied_whatever_pieces_it_comes_in(rt: HostRuntime) -> Result<(), Fail> {
-    for row in ROWS {
-        check(&rt, rt.alloc(), row)?;
+fn a_log_is_copied_whatever_pieces_it_comes_in(rt: HostRuntime) {
+    for row in &ROWS {
+        check(&rt, rt.alloc(), row);
     }
-    Ok(())
+}
+
+/// Whether a copy ended since a write failed.
+fn is_unwritten(copied: &Result<Copied, Halt<LogFault>>) -> bool {
+    matches!(
+        copied,
+        Err(Halt::Fault(LogFault::Stopped(CopyFault::WriteFault)))
+    )
 }
 
 /// A read of the first four bytes, five reads of five bytes complete the first record, and the write that follows fails:
 /// nothing more was read.
 #[test]
-fn a_record_is_written_before_more_is_read(rt: HostRuntime) -> Result<(), Fail> {
-    let mut world = MemWorld::new(rt.alloc())?;
-    world.file("-", LOG)?;
-    world.piece(5);
-    world.fail(7)?;
+fn a_record_is_written_before_more_is_read(rt: HostRuntime) {
+    let mut world = world_of(&rt, rt.alloc(), LOG, 5);
+    world.fail(7).expect(&rt, "memory");
     let how = of(LogForm::Binary);
-    match copy_log(rt.alloc(), &mut world, how, INPUT, OUTPUT) {
-        Ok(_) => assert!(rt; false, "all was written"),
-        Err(Halt::NoMemory) => assert!(rt; false, "no memory"),
-        Err(Halt::Fault(fault)) => same(&rt, fault, LogFault::Stopped(CopyFault::WriteFault)),
-    }
+    let copied = copy_log(rt.alloc(), &mut world, how, INPUT, OUTPUT);
+    same(&rt, is_unwritten(&copied), true);
     world.piece(LOG.len());
     let mut left = [0; LOG.len()];
     same(&rt, world.read(INPUT, &mut left), Ok(LOG.len() - 29));
-    Ok(())
 }

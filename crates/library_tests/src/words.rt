@@ -2,7 +2,7 @@
 
 use crate::support::same;
 use std::alloc::Global;
-use std::test::Fail;
+use std::process::Abort;
 use tool_words::{Job, Order, Tool, UsageFault, WordsFault, read_words};
 use txn_rows::Grouping;
 
@@ -63,47 +63,48 @@ const REFUSED: [Refused; 12] = [
     },
 ];
 
-fn read(alloc: Global, texts: &[&str]) -> Result<Result<Job, WordsFault>, Fail> {
+fn read(rt: &impl Abort, alloc: Global, texts: &[&str]) -> Result<Job, WordsFault> {
     let mut words = Vec::new(alloc);
     for text in texts {
-        words.push(String::from_str(alloc, text)?)?;
+        let word = String::from_str(alloc, text).expect(rt, "memory");
+        words.push(word).expect(rt, "memory");
     }
-    Ok(read_words(alloc, words.as_slice()))
+    read_words(alloc, words.as_slice())
 }
 
+/// A command line with two characters of more than a byte.
+const ASKED: &[&str] = &[
+    "--feed",
+    "é",
+    "--turns",
+    "7",
+    "varnishlog",
+    "-dgraw",
+    "-q",
+    "End",
+    "-Iä:ö",
+];
+
 #[test]
-fn a_command_line_has_its_job(rt: HostRuntime) -> Result<(), Fail> {
-    let texts = [
-        "--feed",
-        "é",
-        "--turns",
-        "7",
-        "varnishlog",
-        "-dgraw",
-        "-q",
-        "End",
-        "-Iä:ö",
-    ];
-    let job = read(rt.alloc(), texts.as_slice())??;
+fn a_command_line_has_its_job(rt: HostRuntime) {
+    let job = read(&rt, rt.alloc(), ASKED).expect(&rt, "a job");
     same(&rt, job.tool, Tool::Log);
     same(&rt, job.order, Order::Turns(7));
     same(&rt, job.grouping, Grouping::Raw);
     let feeds = job.feeds.as_slice();
-    assert_eq!(rt; feeds.len(), 1);
-    same(&rt, feeds[0].as_str(), "é");
+    let feed = feeds.first().expect(&rt, "a feed");
+    same(&rt, (feeds.len(), feed.as_str()), (1, "é"));
     same(&rt, job.queries.as_slice().len(), 1);
     let rules = job.rules.as_slice();
-    assert_eq!(rt; rules.len(), 1);
-    same(&rt, rules[0].text.as_str(), "ä:ö");
-    same(&rt, rules[0].word, 8);
-    Ok(())
+    let rule = rules.first().expect(&rt, "a rule");
+    let told = (rules.len(), rule.text.as_str(), rule.word);
+    same(&rt, told, (1, "ä:ö", 8));
 }
 
 #[test]
-fn a_refused_command_line_has_its_fault(rt: HostRuntime) -> Result<(), Fail> {
+fn a_refused_command_line_has_its_fault(rt: HostRuntime) {
     for case in &REFUSED {
-        let answer = read(rt.alloc(), case.words)?;
+        let answer = read(&rt, rt.alloc(), case.words);
         same(&rt, answer.err(), Some(WordsFault::Usage(case.fault)));
     }
-    Ok(())
 }

@@ -9,13 +9,13 @@ use ring_layout::{PutFault, Sought, Step};
 use ring_plain::{PlainCursor, PlainRing};
 use std::alloc::Global;
 use std::marker::Model;
-use std::test::Fail;
+use std::process::Abort;
 use vsl_record::Unit;
 
 /// A ring of segments of 64 words, with its writer and its cursor.
 pub trait AnyRing: Drop {
     /// A ring with no unit.
-    fn new(alloc: Global) -> Result<Self, Fail>;
+    fn new<R: Abort>(rt: &R, alloc: Global) -> Self;
 
     /// Puts a unit. Once the writer left it is `Busy`, which no ring answers to a writer that is alone.
     fn put(&mut self, unit: &Unit) -> Result<(), PutFault>;
@@ -23,8 +23,8 @@ pub trait AnyRing: Drop {
     /// The writer leaves.
     fn leave(&mut self);
 
-    /// What the cursor meets next, and the VXID of the unit that it took, or 0.
-    fn next(&mut self) -> (Step, u32);
+    /// What the cursor meets next, and the VXID and the number of the unit that it took, or 0.
+    fn next(&mut self) -> (Step, u32, u64);
 
     /// Goes on, where the cursor is overrun.
     fn seek(&mut self) -> Option<Sought>;
@@ -55,14 +55,14 @@ impl Model for Plain {
 
 impl AnyRing for Plain {
     #[tactic(auto, using(crate::proofs::StandingLemmas::stands_first))]
-    fn new(alloc: Global) -> Result<Self, Fail> {
-        let ring = PlainRing::new(alloc, least_shape()?)?;
-        let cursor = PlainCursor::new(alloc, &ring)?;
-        Ok(Plain {
+    fn new<R: Abort>(rt: &R, alloc: Global) -> Self {
+        let ring = PlainRing::new(alloc, least_shape(rt)).expect(rt, "memory");
+        let cursor = PlainCursor::new(alloc, &ring).expect(rt, "memory");
+        Plain {
             ring,
             cursor,
             has_left: false,
-        })
+        }
     }
 
     fn put(&mut self, unit: &Unit) -> Result<(), PutFault> {
@@ -80,13 +80,12 @@ impl AnyRing for Plain {
     }
 
     #[tactic(auto, using(crate::proofs::StandingLemmas::stands_next))]
-    fn next(&mut self) -> (Step, u32) {
+    fn next(&mut self) -> (Step, u32, u64) {
         let step = self.cursor.next(&self.ring);
-        let vxid = match step {
-            Step::Took => self.cursor.unit().vxid(),
-            _ => 0,
-        };
-        (step, vxid)
+        match step {
+            Step::Took => (step, self.cursor.unit().vxid(), self.cursor.number()),
+            _ => (step, 0, 0),
+        }
     }
 
     #[tactic(auto, using(crate::proofs::StandingLemmas::stands_sought))]
@@ -113,13 +112,13 @@ pub struct Shared {
 }
 
 impl AnyRing for Shared {
-    fn new(alloc: Global) -> Result<Self, Fail> {
-        let (ring, writer, reader) = open_pair(alloc)?;
-        Ok(Shared {
+    fn new<R: Abort>(rt: &R, alloc: Global) -> Self {
+        let (ring, writer, reader) = open_pair(rt, alloc);
+        Shared {
             ring,
             writer: Some(writer),
             reader,
-        })
+        }
     }
 
     fn put(&mut self, unit: &Unit) -> Result<(), PutFault> {
@@ -135,13 +134,12 @@ impl AnyRing for Shared {
         }
     }
 
-    fn next(&mut self) -> (Step, u32) {
+    fn next(&mut self) -> (Step, u32, u64) {
         let step = self.reader.next(&self.ring);
-        let vxid = match step {
-            Step::Took => self.reader.unit().vxid(),
-            _ => 0,
-        };
-        (step, vxid)
+        match step {
+            Step::Took => (step, self.reader.unit().vxid(), self.reader.number()),
+            _ => (step, 0, 0),
+        }
     }
 
     fn seek(&mut self) -> Option<Sought> {

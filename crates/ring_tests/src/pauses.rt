@@ -7,7 +7,6 @@ use log_ring::{Pause, ReaderPass, Ring, WriterPass};
 use ring_layout::{PutFault, Sought, Step};
 use std::alloc::Global;
 use std::process::Abort;
-use std::test::Fail;
 use vsl_record::Unit;
 
 /// Puts a unit so many times before one step.
@@ -35,9 +34,9 @@ impl Pause for PutsAt<'_> {
 }
 
 /// What a cursor at the first of the ring's units answers, where so many more are put before one step.
-fn stopped_at(rt: &impl Abort, alloc: Global, when: u64, times: u64) -> Result<Step, Fail> {
-    let unit = unit_of(alloc, 1, 64)?;
-    let (ring, mut writer, mut reader) = open_pair(alloc)?;
+fn stopped_at(rt: &impl Abort, alloc: Global, when: u64, times: u64) -> Step {
+    let unit = unit_of(rt, alloc, 1, 64);
+    let (ring, mut writer, mut reader) = open_pair(rt, alloc);
     same(rt, writer.try_put(&ring, &unit), Ok(()));
     let mut pause = PutsAt {
         ring: &ring,
@@ -49,7 +48,7 @@ fn stopped_at(rt: &impl Abort, alloc: Global, when: u64, times: u64) -> Result<S
     };
     let answer = reader.next_with(&ring, &mut pause);
     same(rt, pause.puts, times);
-    Ok(answer)
+    answer
 }
 
 /// How many units are put at once, and what the cursor answers.
@@ -60,14 +59,13 @@ const PUT_AT_ONCE: [(u64, Step); 3] = [
 ];
 
 #[test]
-fn a_cursor_answers_alike_wherever_it_is_stopped(rt: HostRuntime) -> Result<(), Fail> {
+fn a_cursor_answers_alike_wherever_it_is_stopped(rt: HostRuntime) {
     for (times, answer) in PUT_AT_ONCE {
         for when in 0..66 {
-            let met = stopped_at(&rt, rt.alloc(), when, times)?;
-            assert_eq!(&rt; met, answer, "{times} units at step {when}");
+            let met = stopped_at(&rt, rt.alloc(), when, times);
+            same(&rt, (times, when, met), (times, when, answer));
         }
     }
-    Ok(())
 }
 
 /// Tries to put a unit, and reads, before each step.
@@ -100,9 +98,9 @@ impl Pause for TriesAt<'_> {
 }
 
 /// A unit of so many words is put, and seen at its last one.
-fn expect_seen(rt: &impl Abort, alloc: Global, words: u8) -> Result<(), Fail> {
-    let unit = unit_of(alloc, 1, words)?;
-    let (ring, mut first, second, reader) = open_trio(alloc)?;
+fn expect_seen(rt: &impl Abort, alloc: Global, words: u8) {
+    let unit = unit_of(rt, alloc, 1, words);
+    let (ring, mut first, second, reader) = open_trio(rt, alloc);
     let mut pause = TriesAt {
         ring: &ring,
         writer: second,
@@ -115,31 +113,29 @@ fn expect_seen(rt: &impl Abort, alloc: Global, words: u8) -> Result<(), Fail> {
     };
     same(rt, first.try_put_with(&ring, &unit, &mut pause), Ok(()));
     let size = u64::from(words);
-    same(rt, pause.calls, size + 2);
-    same(rt, pause.busy, size + 2);
-    same(rt, pause.waits, size + 1);
-    same(rt, pause.took_at, size + 1);
-    Ok(())
+    same(rt, pause.calls, size + 4);
+    same(rt, pause.busy, size + 4);
+    same(rt, pause.waits, size + 3);
+    same(rt, pause.took_at, size + 3);
 }
 
 #[test]
-fn a_unit_is_seen_once_its_last_word_is_stored(rt: HostRuntime) -> Result<(), Fail> {
+fn a_unit_is_seen_once_its_last_word_is_stored(rt: HostRuntime) {
     for words in 3u8..64 {
-        expect_seen(&rt, rt.alloc(), words)?;
+        expect_seen(&rt, rt.alloc(), words);
     }
-    Ok(())
 }
 
 #[test]
-fn a_cursor_that_seeks_is_overrun_again(rt: HostRuntime) -> Result<(), Fail> {
+fn a_cursor_that_seeks_is_overrun_again(rt: HostRuntime) {
     let alloc = rt.alloc();
-    let unit = unit_of(alloc, 1, 64)?;
-    let (ring, mut writer, mut reader) = open_pair(alloc)?;
+    let unit = unit_of(&rt, alloc, 1, 64);
+    let (ring, mut writer, mut reader) = open_pair(&rt, alloc);
     for _ in 0..9 {
         same(&rt, writer.try_put(&ring, &unit), Ok(()));
     }
     same(&rt, reader.next(&ring), Step::Lost { at: 0, seen: 10 });
-    assert_eq!(&rt; reader.is_lost(), true);
+    assert!(&rt; reader.is_lost());
     let mut pause = PutsAt {
         ring: &ring,
         writer,
@@ -154,5 +150,4 @@ fn a_cursor_that_seeks_is_overrun_again(rt: HostRuntime) -> Result<(), Fail> {
         Sought::Lost { at: 6, seen: 18 },
     );
     same(&rt, pause.puts, 7);
-    Ok(())
 }

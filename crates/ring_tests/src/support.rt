@@ -1,6 +1,6 @@
 //! Rings and units for the tests.
 
-ghost use Rattle.std.specs.Prelude.{◌≡◌, ◌<◌, ◌≤◌, ◌*◌, IfOk};
+ghost use Rattle.std.specs.Prelude.{◌≡◌, ◌<◌, ◌≤◌, ◌*◌};
 ghost use Rattle.vsl_record.specs.Unit.{vxid_end};
 ghost use Rattle.log_ring.specs.Writers.{AreWritersOf};
 ghost use Rattle.log_ring.specs.Readers.{AreReadersOf};
@@ -10,7 +10,6 @@ use ring_layout::Shape;
 use std::alloc::Global;
 use std::fmt::Debug;
 use std::process::Abort;
-use std::test::Fail;
 use vsl_record::{Mark, Record, Unit};
 use vsl_tags::Tag;
 
@@ -24,71 +23,69 @@ pub fn same<T: PartialEq + Debug + Drop>(rt: &impl Abort, left: T, right: T) {
 
 /// A writer of a ring, from the end.
 #[tactic(auto, using(log_ring::proofs::PassLemmas::last_writer))]
-pub fn one_writer(opened: &mut Opened) -> Result<WriterPass, Fail>
+pub fn one_writer(rt: &impl Abort, opened: &mut Opened) -> WriterPass
     requires { AreWritersOf opened.old.ring opened.old.writers.items }
-    ensures writer { IfOk result (λ w. w.ring ≡ opened.new.ring) }
+    ensures writer { result.ring ≡ opened.new.ring }
     ensures writers { AreWritersOf opened.new.ring opened.new.writers.items }
     ensures readers { opened.new.readers ≡ opened.old.readers }
     ensures ring { opened.new.ring ≡ opened.old.ring }
 {
-    let one = opened.writers.pop();
-    Ok(one.ok_or("there is a writer")?)
+    opened.writers.pop().expect(rt, "a writer")
 }
 
 /// A reader of a ring, from the end.
 #[tactic(auto, using(log_ring::proofs::PassLemmas::last_reader))]
-pub fn one_reader(opened: &mut Opened) -> Result<ReaderPass, Fail>
+pub fn one_reader(rt: &impl Abort, opened: &mut Opened) -> ReaderPass
     requires { AreReadersOf opened.old.ring opened.old.readers.items }
-    ensures reader { IfOk result (λ r. r.ring ≡ opened.new.ring) }
+    ensures reader { result.ring ≡ opened.new.ring }
     ensures ring { opened.new.ring ≡ opened.old.ring }
 {
-    let one = opened.readers.pop();
-    Ok(one.ok_or("there is a reader")?)
+    opened.readers.pop().expect(rt, "a reader")
 }
 
 /// Segments of 64 words, the fewest.
-pub fn least_shape() -> Result<Shape, Fail>
-    ensures { IfOk result (λ shape. shape ≡ 64) }
+pub fn least_shape(rt: &impl Abort) -> Shape
+    ensures { result ≡ 64 }
 {
-    Ok(Shape::new(64).ok_or("64 words are a segment")?)
+    Shape::new(64).expect(rt, "64 words are a segment")
 }
 
 /// A ring of such segments, and its passes.
 #[tactic(auto, using(log_ring::proofs::PassLemmas::are_writers, log_ring::proofs::PassLemmas::are_readers))]
-pub fn open(alloc: Global, writers: u32, readers: u32) -> Result<Opened, Fail>
+pub fn open(rt: &impl Abort, alloc: Global, writers: u32, readers: u32) -> Opened
     requires some { 0 < writers }
     requires few { writers ≤ 17 }
     requires few_readers { readers ≤ 16 }
-    ensures writers { IfOk result (λ o. AreWritersOf o.ring o.writers.items) }
-    ensures readers { IfOk result (λ o. AreReadersOf o.ring o.readers.items) }
-    ensures all { IfOk result (λ o. o.ring.writers ≡ writers) }
+    ensures writers { AreWritersOf result.ring result.writers.items }
+    ensures readers { AreReadersOf result.ring result.readers.items }
+    ensures all { result.ring.writers ≡ writers }
 {
-    Ok(Ring::new(alloc, least_shape()?, writers, readers)?)
+    Ring::new(alloc, least_shape(rt), writers, readers).expect(rt, "memory")
 }
 
 /// A ring with one writer and one reader.
-pub fn open_pair(alloc: Global) -> Result<(Ring, WriterPass, ReaderPass), Fail>
-    ensures writer { IfOk result (λ made. made.1.ring ≡ made.0) }
-    ensures reader { IfOk result (λ made. made.2.ring ≡ made.0) }
+pub fn open_pair(rt: &impl Abort, alloc: Global) -> (Ring, WriterPass, ReaderPass)
+    ensures writer { result.1.ring ≡ result.0 }
+    ensures reader { result.2.ring ≡ result.0 }
 {
-    let mut opened = open(alloc, 1, 1)?;
-    let writer = one_writer(&mut opened)?;
-    let reader = one_reader(&mut opened)?;
-    Ok((opened.ring, writer, reader))
+    let mut opened = open(rt, alloc, 1, 1);
+    let writer = one_writer(rt, &mut opened);
+    let reader = one_reader(rt, &mut opened);
+    (opened.ring, writer, reader)
 }
 
 /// A ring with two writers and a reader.
-pub fn open_trio(alloc: Global) -> Result<(Ring, WriterPass, WriterPass, ReaderPass), Fail>
-    ensures first { IfOk result (λ made. made.1.ring ≡ made.0) }
-    ensures second { IfOk result (λ made. made.2.ring ≡ made.0) }
-    ensures reader { IfOk result (λ made. made.3.ring ≡ made.0) }
-    ensures all { IfOk result (λ made. made.0.writers ≡ 2) }
+pub fn open_trio(rt: &impl Abort, alloc: Global) -> (Ring, WriterPass, WriterPass, ReaderPass)
+    ensures first { result.1.ring ≡ result.0 }
+    ensures second { result.2.ring ≡ result.0 }
+    ensures reader { result.3.ring ≡ result.0 }
+    ensures all { result.0.writers ≡ 2 }
 {
-    let mut opened = open(alloc, 2, 1)?;
-    let second = one_writer(&mut opened)?;
-    let first = one_writer(&mut opened)?;
-    let reader = one_reader(&mut opened)?;
-    Ok((opened.ring, first, second, reader))
+    let mut opened = open(rt, alloc, 2, 1);
+    let second = one_writer(rt, &mut opened);
+    let first = one_writer(rt, &mut opened);
+    let reader = one_reader(rt, &mut opened);
+    (opened.ring, first, second, reader)
 }
 
 /// What the payload of a unit with this VXID is filled with.
@@ -97,11 +94,13 @@ pub fn filling(vxid: u32) -> u8 {
 }
 
 /// A unit of one record, which has so many words: 3 for the heads of the unit and the record, and the payload's.
-pub fn unit_of(alloc: Global, vxid: u32, words: u8) -> Result<Unit, Fail>
+pub fn unit_of(rt: &impl Abort, alloc: Global, vxid: u32, words: u8) -> Unit
     requires { vxid < vxid_end }
 {
-    let payload = vec![in alloc; filling(vxid); 4 * words.saturating_sub(3) as usize]?;
-    let tag = Tag::from_number(VCL_LOG).ok_or("24 is a tag")?;
-    let one = Record::new(alloc, tag, Mark::Client, payload.as_slice())?;
-    Ok(Unit::new(vxid, Mark::Client, Vec::from_array(alloc, [one])?)?)
+    let size = 4 * words.saturating_sub(3) as usize;
+    let payload = vec![in alloc; filling(vxid); size].expect(rt, "memory");
+    let tag = Tag::from_number(VCL_LOG).expect(rt, "24 is a tag");
+    let one = Record::new(alloc, tag, Mark::Client, payload.as_slice()).expect(rt, "a record");
+    let records = Vec::from_array(alloc, [one]).expect(rt, "memory");
+    Unit::new(vxid, Mark::Client, records).expect(rt, "a unit")
 }

@@ -6,10 +6,10 @@ ghost use Rattle.vsl_record.specs.Views.{Spells};
 
 use crate::support::{filling, open_trio, same, unit_of};
 use log_ring::{LeftWriter, ReaderPass, Ring, WriterPass, close};
-use ring_layout::Step;
+use ring_layout::{Sought, Step};
 use std::alloc::Global;
+use std::process::Abort;
 use std::sync::Wait;
-use std::test::Fail;
 use std::thread::{Threads, join};
 use vsl_record::{Unit, UnitView};
 
@@ -25,14 +25,15 @@ fn words_of(number: u32) -> u8 {
 }
 
 /// Units whose VXIDs are twice their numbers, and this more.
-fn units_from(alloc: Global, first: u32) -> Result<Vec<Unit>, Fail>
+fn units_from(rt: &impl Abort, alloc: Global, first: u32) -> Vec<Unit>
     requires { first < 2 }
 {
     let mut units = Vec::new(alloc);
     for number in 0..UNITS {
-        units.push(unit_of(alloc, 2 * number + first, words_of(number))?)?;
+        let unit = unit_of(rt, alloc, 2 * number + first, words_of(number));
+        units.push(unit).expect(rt, "memory");
     }
-    Ok(units)
+    units
 }
 
 /// Puts these units, and leaves.
@@ -72,8 +73,9 @@ fn put_both<R: Threads + Wait + Sync>(
 /// What a reader saw.
 #[derive(Clone, Copy)]
 struct Seen {
-    taken: u32,
-    overruns: u32,
+    taken: u64,
+    /// How many units the seeks told as missed.
+    missed: u64,
     /// The next number that may come of each writer.
     next: [u32; 2],
     /// Whether each writer's numbers grew, and each unit had its payload.
@@ -113,7 +115,7 @@ fn read_all<R: Wait>(rt: &R, ring: &Ring, mut reader: ReaderPass) -> (Seen, Read
 {
     let mut seen = Seen {
         taken: 0,
-        overruns: 0,
+        missed: 0,
         next: [0, 0],
         as_put: true,
     };
@@ -123,8 +125,10 @@ fn read_all<R: Wait>(rt: &R, ring: &Ring, mut reader: ReaderPass) -> (Seen, Read
             Step::NotYet { .. } => {}
             Step::Ended => return (seen, reader),
             Step::Lost { .. } => {
-                seen.overruns = seen.overruns.wrapping_add(1);
-                reader.seek(ring);
+                let due = reader.next_number();
+                if let Sought::At { number, .. } = reader.seek(ring) {
+                    seen.missed = seen.missed.wrapping_add(number.wrapping_sub(due));
+                }
             }
         }
     }
@@ -132,10 +136,10 @@ fn read_all<R: Wait>(rt: &R, ring: &Ring, mut reader: ReaderPass) -> (Seen, Read
 }
 
 #[test]
-fn a_reader_takes_units_of_two_writers_in_their_orders(rt: HostRuntime) -> Result<(), Fail> {
+fn a_reader_takes_units_of_two_writers_in_their_orders(rt: HostRuntime) {
     let alloc = rt.alloc();
-    let (ring, one, two, reader) = open_trio(alloc)?;
-    let (even, odd) = (units_from(alloc, 0)?, units_from(alloc, 1)?);
+    let (ring, one, two, reader) = open_trio(&rt, alloc);
+    let (even, odd) = (units_from(&rt, alloc, 0), units_from(&rt, alloc, 1));
     let (lefts, (seen, reader)) = join(
         &rt,
         ||
@@ -147,13 +151,15 @@ fn a_reader_takes_units_of_two_writers_in_their_orders(rt: HostRuntime) -> Resul
     same(&rt, seen.as_put, true);
     // The last unit of the log is one writer's last, and no cursor ends before it.
     same(&rt, seen.next[0].max(seen.next[1]), UNITS);
-    same(&rt, seen.overruns > 0 || seen.taken == 2 * UNITS, true);
+    // Each unit that was put was taken, or told as missed.
+    same(
+        &rt,
+        seen.taken.wrapping_add(seen.missed),
+        u64::from(2 * UNITS),
+    );
     let wraps = lefts.0.wraps().saturating_add(lefts.1.wraps());
     same(&rt, WRAPS.0 <= wraps && wraps <= WRAPS.1, true);
-    let _closed = close(
-        ring,
-        Vec::from_array(alloc, [lefts.0, lefts.1])?,
-        Vec::from_array(alloc, [reader])?,
-    );
-    Ok(())
+    let writers = Vec::from_array(alloc, [lefts.0, lefts.1]).expect(&rt, "memory");
+    let readers = Vec::from_array(alloc, [reader]).expect(&rt, "memory");
+    let _closed = close(ring, writers, readers);
 }

@@ -1,8 +1,0 @@
--- the records so far are a client's
-use Rattle.std.proofs.Common.{◌≡◌}
-use Rattle.std.specs.List.{All}
-use Rattle.vsl_record.specs.declared.mark.Mark.TheVariants.{Client}
-use Rattle.library_tests.proofs.units.records.Given as goal
-
-abbrev pub invariant-loop : goal.invariant-loop
-invariant-loop l = All (λ r. r.mark ≡ Client) l.records.items
