@@ -11,7 +11,7 @@ from checks.running import TOP, Failed
 
 # Each man page with the program that it is of.
 PAGES = {
-    **{page: "vtools" for page in ("vtools", *[f"vtools-{tool}" for tool in options.TOOLS])},
+    **{page: "vtools" for page in ("vtools", *[f"vtools-{command}" for command in options.COMMANDS])},
     "vslog": "vslog",
 }
 DOCUMENTS = [

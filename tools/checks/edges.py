@@ -25,7 +25,8 @@ COUNTED = "         1 CLI            Rd ping\n"
 LINE = '- - - - "- http://localhost HTTP/1.0" - - "-" "-"\n'
 COUNTER = "MAIN.shm_writes                           1 SHM writes\n"
 MADE = "         1 Hit            1\n"
-OVERRUN = "vtools: log overrun at segment 0, counter 13\n"
+OVERRUN = "vtools: log overrun at segment 0, counter 13\nvtools: missed 8 units\n"
+OVERRUN_LINE = rb"vtools: (log overrun at segment [0-9]+, counter [0-9]+|missed [0-9]+ units)\n"
 UNWRITTEN = "vtools: -: write failed\n"
 NO_MEMORY = "vtools: out of memory\n"
 MOST_BYTES = 16777216  # of a feed
@@ -490,7 +491,7 @@ def feeds_written(edges):
 
 
 def cut_short(edges):
-    """The reader of the output goes in mid-run, behind a line. Overruns may be told before, and nothing else."""
+    """The reader of the output goes in mid-run, behind a line. Overruns and what they cost may be told before, and nothing else."""
     for first, words in (
         (rb" +[0-9]+ Begin          [bc] .*\n", "--gen 100000,1 varnishlog -g raw"),
         (rb"[*]   << (BeReq  |Request|Session|Unknown)  >> [0-9]+ +\n", "--gen 100000,1 --ring 64 varnishlog"),
@@ -507,7 +508,7 @@ def cut_short(edges):
                 child.kill()
                 raise Failed(f"{what}: the first line is not as it should be: {line}")
             child.wait(MOST_SECONDS)
-            told = re.sub(rb"vtools: log overrun at segment [0-9]+, counter [0-9]+\n", b"", bytes_of(errors_file))
+            told = re.sub(OVERRUN_LINE, b"", bytes_of(errors_file))
             same_run(what, Run(1, UNWRITTEN.encode(), b""), Run(child.returncode, told, b""))
             edges.count += 1
 

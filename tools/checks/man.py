@@ -38,7 +38,7 @@ def plain(text):
 def options_of(page):
     """The options that the tool of a page has, and for a program the word that prints its version."""
     tool = page.removeprefix("vtools-")
-    taken = list(options.of_vslog()) if tool == "vslog" else [option.name for option in options.here(tool)]
+    taken = options.names_of(tool)
     return [*taken, "--version"] if tool in PAGES.values() else taken
 
 

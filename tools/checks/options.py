@@ -1,4 +1,4 @@
-"""What is made of the rows of options in the source, the help, tables and pages of documents, is as it would be made."""
+"""What is made of the rows of commands and options in the source, as help, tables and pages, is as it would be made."""
 
 import re
 
@@ -25,9 +25,22 @@ def of_pages():
             raise Failed(f"options of docs/man/{page}.1 that are not in docs/formats: {' '.join(sorted(unknown))}")
 
 
-def check(_):
-    of_pages()
-    for path, text in options.all_made():
-        if path.read_text() != text:
+def made():
+    """Each file in which something is made is there, and as it would be made."""
+    try:
+        files = list(options.all_made())
+    except SystemExit as refused:
+        raise Failed(str(refused)) from None
+    for path, text in files:
+        if not path.is_file() or path.read_text() != text:
             raise Failed(f"{path.relative_to(TOP)} is not what `tools/options.py --write` writes")
-    return f"{len(options.all_options())} rows of the source"
+
+
+def check(_):
+    lacks = [page for page in PAGES if not (TOP / f"docs/man/{page}.1").is_file()]
+    if lacks:
+        raise Failed("; ".join(f"docs/man/{page}.1 is missing: each command and program has a page" for page in lacks))
+    of_pages()
+    made()
+    rows = [row for program in options.HELPS for row in options.all_options(program)]
+    return f"{len(options.COMMANDS)} rows of commands and {len(rows)} of options in the source"
