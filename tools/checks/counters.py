@@ -16,6 +16,7 @@ RING, RECLEN = 65536, 255
 SMALL_RING = 64
 REAL_RINGS = [64, 100, 1000, RING]
 REAL_RECLENS = [16, 60, RECLEN, 4000]
+QUICK_RINGS, QUICK_RECLENS = [64, RING], [16, RECLEN]
 # how many requests, the seed, words of a segment, bytes of a payload
 MADE = [
     *[(count, 7, RING, RECLEN) for count in (1, 2, 3, 10, 1000)],
@@ -36,11 +37,11 @@ def compared_counters(program, folder, words, values):
     return 2
 
 
-def of_real_traffic(program, folder):
+def of_real_traffic(program, folder, rings, reclens):
     """Counters of the real log's lines, feed after feed and in turns of a seed."""
     data, runs = REAL.read_bytes(), 0
-    for ring in REAL_RINGS:
-        for reclen in REAL_RECLENS:
+    for ring in rings:
+        for reclen in reclens:
             listing = schedules.read_listing(data, reclen, ring)
             for seed in (None, 7):
                 values = counters.replayed_values([listing], ring, seed)
@@ -115,7 +116,9 @@ def of_globs(program, folder):
     return 2 * (len(choices) + len(counters.COUNTERS))
 
 
-def check(program):
-    checks = [of_globs, of_readers, of_two_feeds, of_made_requests, of_real_traffic]
+def check(program, quick):
+    """Checks all counters, and quickly those of the real log in fewer rings and lengths."""
+    real = (QUICK_RINGS, QUICK_RECLENS) if quick else (REAL_RINGS, REAL_RECLENS)
     with temporary_folder() as folder:
-        return f"{sum(of(program, folder) for of in checks)} command lines"
+        runs = sum(of(program, folder) for of in (of_globs, of_readers, of_two_feeds, of_made_requests))
+        return f"{runs + of_real_traffic(program, folder, *real)} command lines"
