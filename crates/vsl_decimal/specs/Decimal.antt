@@ -61,7 +61,8 @@ abbrev pub size_of_parts : List (List ℕ) → Option ℕ
 size_of_parts [] = None
 size_of_parts (whole ∷ []) = if is_digits whole then Some (digits_value 10 whole * scale) else None
 size_of_parts (whole ∷ fraction ∷ []) =
-    if is_digits whole && is_digits fraction then Some (digits_value 10 whole * scale + scaled_fraction (Some fraction)) else None
+    if is_digits whole && is_digits fraction then Some (digits_value 10 whole * scale + scaled_fraction (Some fraction))
+    else None
 size_of_parts (whole ∷ fraction ∷ more ∷ parts) = None
 
 -- the byte before a fraction
@@ -79,7 +80,8 @@ minus = 45
 -- the value that a text spells, scaled, where it spells one: a minus sign before a size negates it
 abbrev pub decimal_of : List ℕ → Option ℤ
 decimal_of [] = None
-decimal_of (b ∷ text) = if b == minus then option_map (λ size. neg_ℤ (pos size)) (size_of text) else option_map pos (size_of (b ∷ text))
+decimal_of (b ∷ text) = if b == minus then option_map (λ size. neg_ℤ (pos size)) (size_of text) else option_map pos
+    (size_of (b ∷ text))
 
 -- the integral part of a scaled value, cut toward zero. So `-0.5 == 0` holds in a query, as `200.9 == 200` does
 abbrev pub integral_part : ℤ → ℤ

@@ -23,7 +23,8 @@ NoSpaceFirst (b ∷ text) = is_space b ≡ false
 
 -- the value is the text without its leading white space
 abbrev pub WithoutBlanks : List ℕ → List ℕ → Type 0
-WithoutBlanks text value = (blanks : List ℕ) × All (λ b. is_space b ≡ true) blanks × NoSpaceFirst value × (text ≡ blanks ++ value)
+WithoutBlanks text value = (blanks : List ℕ) × All (λ b. is_space b ≡ true) blanks × NoSpaceFirst value ×
+    (text ≡ blanks ++ value)
 
 -- the text is the prefix in any case, a colon, white space, and the value, which doesn't begin with white space
 abbrev pub IsValueAfter : List ℕ → List ℕ → List ℕ → Type 0

@@ -7,5 +7,6 @@ use Rattle.std.specs.Str.Parse.{digits_value}
 -- the number that a text of digits writes, where there is a digit and the number is in this range
 abbrev pub whole_number : ℕ → ℕ → List ℕ → Option ℕ
 whole_number low high text =
-    if nat_le 1 (length text) && list_all (λ b. is_digit b 10) text && nat_le low (digits_value 10 text) && nat_le (digits_value 10 text) high
+    if nat_le 1 (length text) && list_all (λ b. is_digit b 10) text && nat_le low (digits_value 10 text) && nat_le
+    (digits_value 10 text) high
     then Some (digits_value 10 text) else None

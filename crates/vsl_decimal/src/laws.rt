@@ -11,13 +11,17 @@ pub fn one_value()
 
 /// The value of a text is what it spells.
 pub fn decimals_are_spelled()
-    ensures spelled { (text : List ℕ) (value : ℤ) → decimal_of text ≡ Some value → Spells text value }
+    ensures spelled { (text : List ℕ) (value : ℤ) → decimal_of text ≡ Some value →
+        Spells text value }
     ensures every { (text : List ℕ) (value : ℤ) → Spells text value → decimal_of text ≡ Some value }
 {}
 
 /// The value after a prefix is what follows it and a colon, and there is none only where nothing does.
 pub fn values_follow_prefixes()
-    ensures follows { (prefix text value : List ℕ) → value_after prefix text ≡ Some value → IsValueAfter prefix text value }
-    ensures every { (prefix text value : List ℕ) → IsValueAfter prefix text value → value_after prefix text ≡ Some value }
-    ensures none { (prefix text : List ℕ) → value_after prefix text ≡ None → (behind : List ℕ) → ¬ (FollowsPrefix prefix text behind) }
+    ensures follows { (prefix text value : List ℕ) → value_after prefix text ≡ Some value →
+        IsValueAfter prefix text value }
+    ensures every { (prefix text value : List ℕ) → IsValueAfter prefix text value →
+        value_after prefix text ≡ Some value }
+    ensures none { (prefix text : List ℕ) → value_after prefix text ≡ None → (behind : List ℕ) →
+        ¬ (FollowsPrefix prefix text behind) }
 {}

@@ -21,7 +21,7 @@ pub use blanks::trim;
 pub use laws::{decimals_are_spelled, one_value, values_follow_prefixes};
 pub use number::{Decimal, compare, integral, read_decimal};
 pub use prefix::after_prefix;
-pub use whole::whole_number;
+pub use whole::{whole_number, wide_number};
 
 /// The n-th field of the text, from 1, as `2` for the second field of `req 1 rxreq`, which is `1`.
 /// There is none where the text has fewer fields, or n is 0.

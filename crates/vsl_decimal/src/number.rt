@@ -86,7 +86,8 @@ fn read_fraction(text: &[u8]) -> Option<u64>
 /// Reads the digits of a fraction, which are the whole text.
 #[tactic(auto, using(crate::proofs::DecimalLemmas::not_all_digits, crate::proofs::DecimalLemmas::begins_below, crate::proofs::DecimalLemmas::fraction_below))]
 fn read_all_digits(text: &[u8]) -> Option<u64>
-    ensures read { IfSome result (λ value. IsDigits text.now × (scaled_fraction (Some text.now) ≡ value)) }
+    ensures read { IfSome result
+        (λ value. IsDigits text.now × (scaled_fraction (Some text.now) ≡ value)) }
     ensures within { IfSome result (λ value. value < 10 ^ 18) }
     ensures refused { IfNone result (¬ (IsDigits text.now)) }
 {
@@ -101,8 +102,10 @@ fn read_all_digits(text: &[u8]) -> Option<u64>
 #[inline(always)]
 #[tactic(auto, using(crate::proofs::DecimalLemmas::are_read_below))]
 fn read_digits(text: &[u8]) -> Option<Digits<'_>>
-    ensures read { IfSome result (λ found. BeginsWithDigits text.now found.value found.count found.rest.now) }
-    ensures refused { IfNone result ((digits rest : List ℕ) → IsDigits digits → NoDigitFirst rest → text.now ≢ digits ++ rest) }
+    ensures read { IfSome result
+        (λ found. BeginsWithDigits text.now found.value found.count found.rest.now) }
+    ensures refused { IfNone result ((digits rest : List ℕ) → IsDigits digits → NoDigitFirst rest →
+        text.now ≢ digits ++ rest) }
 {
     let mut value = 0;
     let mut count = 0;

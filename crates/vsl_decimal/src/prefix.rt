@@ -14,7 +14,8 @@ use crate::blanks::without_blanks;
 #[inline(always)]
 pub fn after_prefix<'a>(text: &'a [u8], prefix: &[u8]) -> Option<&'a [u8]>
     ensures found { IfSome result (λ value. IsValueAfter prefix.now text.now value.now) }
-    ensures refused { IfNone result ((behind : List ℕ) → ¬ (FollowsPrefix prefix.now text.now behind)) }
+    ensures refused { IfNone result ((behind : List ℕ) →
+        ¬ (FollowsPrefix prefix.now text.now behind)) }
     ensures value { option_copied result ≡ value_after prefix.now text.now }
 {
     let (name, after) = text.split_at_checked(prefix.len())?;

@@ -77,12 +77,12 @@ pushed_block block payload block' entries entries' e is b es size short at =
 
 -- ---- a unit's bytes
 
--- what stands eight bytes behind the first of the bytes that are left, by its place in all
-pub placed_in : (block left payload : List ℕ) (tag : ℕ) (mark : Mark) → left ≡ drop (length block - length left) block → length left ≤ length block → payload ≡ take (length payload) (drop 8 left)
-    → entry_record block (record { tag = tag; mark = mark; size = length payload; at = length block - length left + 8 }) ≡ record { tag = tag; mark = mark; payload = payload }
-placed_in block left payload tag mark is fewer there =
+-- what stands so many bytes behind the first of the bytes that are left, by its place in all
+pub placed_in : (m : ℕ) (block left payload : List ℕ) (tag : ℕ) (mark : Mark) → left ≡ drop (length block - length left) block → length left ≤ length block → payload ≡ take (length payload) (drop m (drop 4 left))
+    → entry_record block (record { tag = tag; mark = mark; size = length payload; at = length block - length left + 4 + m }) ≡ record { tag = tag; mark = mark; payload = payload }
+placed_in m block left payload tag mark is fewer there =
     let k : ℕ = length block - length left in
-    let same : drop (k + 8) block ≡ drop 8 left = sym (drop-drop 8 k block) ∙ ap (drop 8) (sym is) in
+    let same : drop (k + 4 + m) block ≡ drop m (drop 4 left) = sym (drop-drop m (k + 4) block) ∙ ap (drop m) (sym (drop-drop 4 k block) ∙ ap (drop 4) (sym is)) in
     ap (λ (p : List ℕ). record { tag = tag; mark = mark; payload = p }) (ap (take (length payload)) same ∙ sym there)
 
 -- ---- the records of another block

@@ -4,7 +4,10 @@ pub mod WordLemmas
 pub mod PayloadLemmas
 pub mod BlockLemmas
 mod MarkLemmas
+mod MixedLemmas
 mod RecordLemmas
+pub mod RecordsLemmas
+mod FitsLemmas
 pub mod UnitReadingLemmas
 mod AnswerLemmas
 mod WritingLemmas

@@ -1,25 +1,15 @@
--- The words of a payload and of records, one by one.
-use Rattle.std.proofs.Common.{◌≡◌, ℕ, zero, suc, ◌+◌, ◌-◌, ◌*◌, ◌<◌, ◌≤◌, List, [], ◌∷◌, ◌++◌, length, drop, get_or, refl, sym, ap, ◌∙◌, arith}
+-- The words of records, one by one.
+use Rattle.std.proofs.Common.{◌≡◌, ℕ, zero, suc, ◌+◌, ◌-◌, ◌<◌, ◌≤◌, List, ◌∷◌, ◌++◌, length, drop, get_or, refl, sym, ap, ◌∙◌, arith}
 use Rattle.std.specs.List.{flat_map}
 use Rattle.std.proofs.lemmas.List.{drop_more, get_or_append_left, get_or-append-add}
-use Rattle.vsl_record.specs.Words.{packed}
-use Rattle.vsl_record.proofs.WordLemmas.{four_more}
 
--- a word of a payload is the first of those behind so many bytes
-pub packed_at : (k : ℕ) (bytes : List ℕ) → get_or (packed (drop (4 * k) bytes)) 0 0 ≡ get_or (packed bytes) k 0
-packed_at zero bytes = refl
-packed_at (suc k) (a ∷ b ∷ c ∷ d ∷ bytes) = rw (four_more k) (packed_at k bytes)
-packed_at (suc k) [] = rw (four_more k) refl
-packed_at (suc k) (a ∷ []) = rw (four_more k) refl
-packed_at (suc k) (a ∷ b ∷ []) = rw (four_more k) refl
-packed_at (suc k) (a ∷ b ∷ c ∷ []) = rw (four_more k) refl
-
--- a word behind two
-pub behind_two : (a b : ℕ) (words : List ℕ) (i : ℕ) → 2 ≤ i → get_or (a ∷ b ∷ words) i 0 ≡ get_or words (i - 2) 0
-behind_two a b words zero two = absurd (omega (arith, two))
-behind_two a b words (suc zero) two = absurd (omega (arith, two))
-behind_two a b words (suc (suc i)) two =
-    let same : suc (suc i) - 2 ≡ i = omega arith in
+-- a word behind three
+pub behind_three : (a b c : ℕ) (words : List ℕ) (i : ℕ) → 3 ≤ i → get_or (a ∷ b ∷ c ∷ words) i 0 ≡ get_or words (i - 3) 0
+behind_three a b c words zero three = absurd (omega (arith, three))
+behind_three a b c words (suc zero) three = absurd (omega (arith, three))
+behind_three a b c words (suc (suc zero)) three = absurd (omega (arith, three))
+behind_three a b c words (suc (suc (suc i))) three =
+    let same : suc (suc (suc i)) - 3 ≡ i = omega arith in
     rw same refl
 
 -- what is left begins with the pieces of the next

@@ -1,13 +1,13 @@
 -- Bytes that are written one after the other, and the bytes of a record's words.
-use Rattle.std.proofs.Common.{◌≡◌, ℕ, ◌+◌, ◌-◌, ◌*◌, ◌%◌, ◌<◌, ◌≤◌, List, [], ◌∷◌, ◌++◌, length, take, drop, get_or, refl, sym, ap, subst, ◌∙◌, append_assoc, arith}
+use Rattle.std.proofs.Common.{◌≡◌, ℕ, ◌+◌, ◌-◌, ◌*◌, ◌/◌, ◌%◌, ◌<◌, ◌≤◌, List, [], ◌∷◌, ◌++◌, length, take, drop, get_or, refl, sym, ap, subst, ◌∙◌, append_assoc, arith}
 use Rattle.std.specs.Prelude.{replicate}
 use Rattle.std.specs.List.{flat_map}
-use Rattle.std.specs.Int.{w32, to_le_bytes}
+use Rattle.std.specs.Int.{w32, w64, to_le_bytes}
 use Rattle.std.proofs.lemmas.List.{length-append, length-drop, length-take-le, drop-drop, take_at, drop_at, drop_all, append-nil, take-replicate, take_more, take-append-drop}
 use Rattle.std.proofs.lemmas.List.Concat.{flat_map-append}
 use Rattle.vsl_record.specs.declared.record_type.Record.{Record}
-use Rattle.vsl_record.specs.Words.{mark_bits, record_words, word_bytes}
-use Rattle.vsl_record.specs.WordFaults.{payload_words}
+use Rattle.vsl_record.specs.Words.{id_of, record_words, word_bytes, payload_words}
+use Rattle.vsl_words.specs.declared.version.Version.TheVariants.{Two}
 use Rattle.vsl_record.specs.inside.Writing.{Wrote}
 use Rattle.vsl_record.proofs.Steps.{IsBytes}
 use Rattle.vsl_record.proofs.PayloadLemmas.{length-packed, word_bytes-packed}
@@ -38,12 +38,12 @@ pub wrote_as : (at stop stop' : ℕ) (bytes bytes' old new : List ℕ) → Wrote
 wrote_as at stop stop' bytes bytes' old new w same is = subst (λ (n : ℕ). Wrote at n bytes' old new) same (subst (λ (b : List ℕ). Wrote at stop b old new) is w)
 
 -- the four pieces of a record
-pub four_pieces : (at : ℕ) (a b p z x y1 y2 y3 y4 : List ℕ) → length a ≡ 4 → length b ≡ 4 → at + 8 + length p + length z ≤ length x
-    → Wrote at (at + length a) a x y1 → Wrote (at + 4) (at + 4 + length b) b y1 y2 → Wrote (at + 8) (at + 8 + length p) p y2 y3 → Wrote (at + 8 + length p) (at + 8 + length p + length z) z y3 y4
-    → Wrote at (at + 8 + length p + length z) (a ++ b ++ p ++ z) x y4
-four_pieces at a b p z x y1 y2 y3 y4 four_a four_b room w1 w2 w3 w4 =
-    let two = wrote_then at _ _ _ a b x y1 y2 w1 w2 (omega (arith, four_a)) (omega (arith, four_b, room)) in
-    let three = wrote_then at _ _ _ (a ++ b) p x y2 y3 two w3 (omega (arith, four_b)) (omega (arith, room)) in
+pub four_pieces : (at : ℕ) (a b p z x y1 y2 y3 y4 : List ℕ) → length a ≡ 4 → length b ≡ 8 → at + 12 + length p + length z ≤ length x
+    → Wrote at (at + length a) a x y1 → Wrote (at + 4) (at + 4 + length b) b y1 y2 → Wrote (at + 12) (at + 12 + length p) p y2 y3 → Wrote (at + 12 + length p) (at + 12 + length p + length z) z y3 y4
+    → Wrote at (at + 12 + length p + length z) (a ++ b ++ p ++ z) x y4
+four_pieces at a b p z x y1 y2 y3 y4 four_a eight_b room w1 w2 w3 w4 =
+    let two = wrote_then at _ _ _ a b x y1 y2 w1 w2 (omega (arith, four_a)) (omega (arith, eight_b, room)) in
+    let three = wrote_then at _ _ _ (a ++ b) p x y2 y3 two w3 (omega (arith, eight_b)) (omega (arith, room)) in
     wrote_then at _ _ _ (a ++ b ++ p) z x y3 y4 three w4 refl room
 
 -- all was written
@@ -60,14 +60,30 @@ padding_is n =
     let same : (4 - n % 4) % 4 ≡ 4 * payload_words n - n = omega arith in
     take-replicate {X = ℕ} ((4 - n % 4) % 4) 3 0 few ∙ ap (λ (k : ℕ). replicate k 0) same
 
+-- the bytes of an id are those of its words
+pub id_bytes : (id : ℕ) → to_le_bytes w64 id ≡ to_le_bytes w32 (id % 4294967296) ++ to_le_bytes w32 (id / 4294967296)
+id_bytes id =
+    let c0 : id % 4294967296 % 256 ≡ id % 256 = omega arith in
+    let c1 : id % 4294967296 / 256 % 256 ≡ id / 256 % 256 = omega arith in
+    let c2 : id % 4294967296 / 65536 % 256 ≡ id / 65536 % 256 = omega arith in
+    let c3 : id % 4294967296 / 16777216 % 256 ≡ id / 16777216 % 256 = omega arith in
+    let c4 : id / 4294967296 % 256 ≡ id / 4294967296 % 256 = refl in
+    let c5 : id / 4294967296 / 256 % 256 ≡ id / 1099511627776 % 256 = omega arith in
+    let c6 : id / 4294967296 / 65536 % 256 ≡ id / 281474976710656 % 256 = omega arith in
+    let c7 : id / 4294967296 / 16777216 % 256 ≡ id / 72057594037927936 % 256 = omega arith in
+    cc
+
 -- the bytes of a record's words
 pub record_bytes : (vxid : ℕ) (rec : Record) → IsBytes rec.payload
-    → to_le_bytes w32 (16777216 * rec.tag + length rec.payload) ++ to_le_bytes w32 (vxid + mark_bits rec.mark) ++ rec.payload ++ take ((4 - length rec.payload % 4) % 4) no_more ≡ word_bytes (record_words vxid rec)
+    → to_le_bytes w32 (16777216 * rec.tag + length rec.payload) ++ to_le_bytes w64 (id_of Two vxid rec.mark) ++ rec.payload ++ take ((4 - length rec.payload % 4) % 4) no_more ≡ word_bytes (record_words vxid rec)
 record_bytes vxid rec small =
-    let head : List ℕ = to_le_bytes w32 (16777216 * rec.tag + length rec.payload) ++ to_le_bytes w32 (vxid + mark_bits rec.mark) in
-    append_assoc head rec.payload _ ∙ ap (λ (z : List ℕ). head ++ (rec.payload ++ z)) (padding_is (length rec.payload)) ∙ ap (λ (p : List ℕ). head ++ p) (sym (word_bytes-packed rec.payload small))
+    let id : ℕ = id_of Two vxid rec.mark in
+    let first : List ℕ = to_le_bytes w32 (16777216 * rec.tag + length rec.payload) in
+    let head : List ℕ = first ++ to_le_bytes w32 (id % 4294967296) ++ to_le_bytes w32 (id / 4294967296) in
+    ap (λ (b : List ℕ). (first ++ b ++ rec.payload) ++ take ((4 - length rec.payload % 4) % 4) no_more) (id_bytes id)
+    ∙ append_assoc head rec.payload _ ∙ ap (λ (z : List ℕ). head ++ (rec.payload ++ z)) (padding_is (length rec.payload)) ∙ ap (λ (p : List ℕ). head ++ p) (sym (word_bytes-packed rec.payload small))
 
-pub record_size : (vxid : ℕ) (rec : Record) → 8 + length rec.payload + length (take ((4 - length rec.payload % 4) % 4) no_more) ≡ 4 * length (record_words vxid rec)
+pub record_size : (vxid : ℕ) (rec : Record) → 12 + length rec.payload + length (take ((4 - length rec.payload % 4) % 4) no_more) ≡ 4 * length (record_words vxid rec)
 record_size vxid rec = omega (arith, length-packed rec.payload, length-take-le ((4 - length rec.payload % 4) % 4) no_more (omega arith))
 
 -- what one more record adds to the bytes

@@ -1,19 +1,22 @@
 //! The words of a unit, taken one by one.
 
-ghost use Rattle.std.specs.Prelude.{◌≡◌, ◌∷◌, [], drop, IfSome, IfNone};
-ghost use Rattle.vsl_record.specs.Words.{packed, unit_words};
+ghost use Rattle.std.specs.Prelude.{◌≡◌, ◌∷◌, [], IfSome, IfNone};
+ghost use Rattle.vsl_record.specs.Words.{unit_words};
 
 use crate::lent::RecordsView;
 use crate::unit::{Unit, Vxid};
-use crate::writing::first_packed;
+use crate::writing::{high_word, low_word};
 use std::marker::Model;
+use vsl_words::{behind_first, first_packed};
 
 /// The words of a unit from its header on, each record looked at once. Contracts see those that are left.
 #[derive(Drop)]
 pub struct UnitWords<'a> {
     vxid: Vxid,
-    /// The word before the payload: a unit's header, or a record's second word.
+    /// A unit's header, or the lower word of a record's id.
     pending: Option<u32>,
+    /// The higher word of the id.
+    high: Option<u32>,
     /// What is left of a record's payload.
     payload: &'a [u8],
     /// The records behind it.
@@ -28,7 +31,8 @@ impl<'a> Model for UnitWords<'a> {
 
     ghost Value = { List ℕ };
 
-    ghost view = { λ w. option_to_list w.pending ++ packed w.payload.now ++ flat_map (record_words w.vxid) w.records };
+    ghost view = { λ w. option_to_list w.pending ++ option_to_list w.high ++ packed w.payload.now ++
+        flat_map (record_words w.vxid) w.records };
 
     ghost invariant = { λ w. w.vxid < vxid_end };
 }
@@ -41,6 +45,7 @@ impl Unit {
         UnitWords {
             vxid: self.vxid(),
             pending: Some(self.header_word()),
+            high: None,
             payload: &[],
             records: self.records(),
         }
@@ -56,6 +61,9 @@ impl UnitWords<'_> {
         if let Some(word) = self.pending.take() {
             return Some(word);
         }
+        if let Some(word) = self.high.take() {
+            return Some(word);
+        }
         if !self.payload.is_empty() {
             let word = first_packed(self.payload);
             self.payload = behind_first(self.payload);
@@ -67,18 +75,10 @@ impl UnitWords<'_> {
         let first = self.records.get(0);
         let (_, others) = self.records.split_at(1);
         self.records = others;
-        self.pending = Some(first.id_word(self.vxid));
+        let id = first.mark().id(self.vxid);
+        self.pending = Some(low_word(id));
+        self.high = Some(high_word(id));
         self.payload = first.payload();
         Some(first.head_word())
-    }
-}
-
-/// What is left of a payload behind its first word.
-fn behind_first(bytes: &[u8]) -> &[u8]
-    ensures { packed result.now ≡ drop 1 (packed bytes.now) }
-{
-    match bytes {
-        [_, _, _, _, rest @ ..] => rest,
-        _ => &[],
     }
 }

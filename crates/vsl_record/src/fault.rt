@@ -27,7 +27,7 @@ pub enum UnitFault {
     /// The unit has no record.
     #[error("unit without a record")]
     Empty,
-    /// The unit has so many words, more than 1,048,576.
+    /// The unit has so many words, more than 2,097,152.
     #[error("unit of {words} words")]
     TooLong {
         /// How many words the unit has, or 2^64 - 1 where it has more than that.
@@ -48,8 +48,9 @@ pub enum WordFault {
         /// The unit's header, 0, or the record's first word.
         at: u64,
     },
-    /// The unit's header counts fewer than 3 or more than 1,048,576 words, a record's length is
-    /// past 4,000 bytes, or the record passes the unit's end.
+    /// The unit's header counts fewer words than the shortest unit has, 4, or more than 2,097,152 (in
+    /// version 1: 3 and 1,048,576), a record's length is past 4,000 bytes, or the record passes the
+    /// unit's end.
     #[error("word {at}: bad length")]
     BadLength {
         /// The unit's header, 0, or the record's first word.
@@ -58,13 +59,13 @@ pub enum WordFault {
     /// The first record has both marks.
     #[error("word {at}: bad mark")]
     BadMark {
-        /// The record's second word.
+        /// The last word of its id, the record's third word (in version 1: its second).
         at: u64,
     },
     /// A later record has another VXID or another mark than the first.
     #[error("word {at}: another transaction or mark than the first record's")]
     Mixed {
-        /// The record's second word.
+        /// The first word of its id that differs, the record's second or third word.
         at: u64,
     },
     /// A byte that fills the last word of a payload is not zero.

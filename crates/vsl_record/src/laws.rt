@@ -1,17 +1,14 @@
-//! The laws of units and of bytes. A law is a function that does nothing.
+//! The laws of units. A law is a function that does nothing.
 
-ghost use Rattle.std.specs.Prelude.{◌≡◌, ◌⊎◌, ◌<◌, ◌^◌, ◌++◌, ℕ, List, slice_index};
+ghost use Rattle.std.specs.Prelude.{◌≡◌, ◌⊎◌, ◌<◌, ◌≤◌, ◌^◌, ◌++◌, ℕ, List, length, slice_index};
+ghost use Rattle.vsl_words.specs.declared.version.Version.{Version};
+ghost use Rattle.vsl_words.specs.declared.version.Version.TheVariants.{One};
 ghost use Rattle.vsl_record.specs.declared.fault.WordFault.{WordFault};
 ghost use Rattle.vsl_record.specs.Unit.{LogUnit};
 ghost use Rattle.vsl_record.specs.WordFaults.{FirstFault};
-ghost use Rattle.vsl_record.specs.Words.{IsUnit, unit_words};
+ghost use Rattle.vsl_record.specs.Words.{IsUnit, IsUnitOf, unit_words, unit_words_of};
 
 use crate::unit::Unit;
-
-/// Bytes are below 256.
-pub(crate) fn are_bytes(bytes: &[u8])
-    ensures { (i : ℕ) → slice_index bytes.now i < 256 }
-{}
 
 /// A unit meets what a unit must.
 pub fn is_unit(unit: &Unit)
@@ -20,19 +17,28 @@ pub fn is_unit(unit: &Unit)
     unit.records();
 }
 
-/// Each unit has one spelling, and no spelling begins another.
+/// In each version a unit has one spelling, and no spelling begins another.
 pub fn one_spelling()
-    ensures { (u v : LogUnit) (a b : List ℕ) → IsUnit u → IsUnit v → unit_words u ++ a ≡ unit_words v ++ b → (u ≡ v) × (a ≡ b) }
+    ensures { (v : Version) (u w : LogUnit) (a b : List ℕ) → IsUnitOf v u → IsUnitOf v w →
+        unit_words_of v u ++ a ≡ unit_words_of v w ++ b → (u ≡ w) × (a ≡ b) }
 {}
 
-/// Words begin with a unit or have a first fault.
+/// In each version words begin with a unit or have a first fault.
 pub fn every_words()
-    ensures { (words : List ℕ) → ((i : ℕ) → slice_index words i < 2 ^ 32) →
-        ((u : LogUnit) × (rest : List ℕ) × IsUnit u × (words ≡ unit_words u ++ rest)) ⊎ ((fault : WordFault) × FirstFault words fault) }
+    ensures { (v : Version) (words : List ℕ) → ((i : ℕ) → slice_index words i < 2 ^ 32) →
+        ((u : LogUnit) × (rest : List ℕ) × IsUnitOf v u × (words ≡ unit_words_of v u ++ rest)) ⊎
+        ((fault : WordFault) × FirstFault v words fault) }
 {}
 
-/// Words have one first fault, and those that begin with a unit have none.
+/// In each version words have one first fault, and those that begin with a unit have none.
 pub fn one_fault()
-    ensures one { (words : List ℕ) (e f : WordFault) → FirstFault words e → FirstFault words f → e ≡ f }
-    ensures none { (u : LogUnit) (rest : List ℕ) (fault : WordFault) → IsUnit u → FirstFault (unit_words u ++ rest) fault → ⊥ }
+    ensures one { (v : Version) (words : List ℕ) (e f : WordFault) → FirstFault v words e →
+        FirstFault v words f → e ≡ f }
+    ensures none { (v : Version) (u : LogUnit) (rest : List ℕ) (fault : WordFault) → IsUnitOf v u →
+        FirstFault v (unit_words_of v u ++ rest) fault → ⊥ }
+{}
+
+/// A unit that has words of version 1 has words of version 2, at most half as many again.
+pub fn old_units_fit()
+    ensures { (u : LogUnit) → IsUnitOf One u → IsUnit u × (length (unit_words u) ≤ 1572863) }
 {}

@@ -8,13 +8,13 @@ ghost use Rattle.vsl_record.specs.Words.{record_words};
 ghost use Rattle.vsl_record.specs.Blocks.{block_records, entry_record, IsBlock, IsEntryOf};
 
 use crate::entry::Entry;
-use crate::laws::are_bytes;
 use crate::mark::Mark;
 use crate::payload::Payload;
 use crate::record_type::Record;
 use std::alloc::{AllocError, Global};
 use std::marker::Model;
 use vsl_tags::Tag;
+use vsl_words::are_bytes;
 
 /// A record that is lent. It copies nothing. Contracts see the record.
 #[derive(Drop)]
@@ -68,7 +68,7 @@ impl<'a> RecordView<'a> {
         self.payload
     }
 
-    /// How many words the record takes, whatever its VXID: two, and one for each four bytes of
+    /// How many words the record takes, whatever its VXID: three, and one for each four bytes of
     /// payload or less.
     pub fn words(&self) -> usize
         ensures words { (vxid : ℕ) → result ≡ length (record_words vxid self.now) }
@@ -76,7 +76,7 @@ impl<'a> RecordView<'a> {
         ensures payload { IsPayload self.now.payload }
     {
         let _tag = self.tag.number();
-        2 + self.payload().len().div_ceil(4)
+        3 + self.payload().len().div_ceil(4)
     }
 
     /// A copy of the record.
@@ -118,7 +118,8 @@ impl<'a> Model for RecordsView<'a> {
 
     ghost view = { λ v. v.listed.now ++ block_records v.block.now v.entries.now };
 
-    ghost invariant = { λ v. IsBlock v.block.now v.entries.now × IsOneForm v.listed.now v.entries.now };
+    ghost invariant = { λ v. IsBlock v.block.now v.entries.now ×
+        IsOneForm v.listed.now v.entries.now };
 }
 
 impl<'a> RecordsView<'a> {
@@ -186,7 +187,8 @@ impl<'a> RecordsView<'a> {
 
     /// The block and the entries of the records, where they stand in a block.
     pub(crate) fn in_block(&self) -> Option<(&'a [u8], &'a [Entry])>
-        ensures { IfSome result (λ x. IsBlock x.0.now x.1.now × (self.now ≡ block_records x.0.now x.1.now)) }
+        ensures { IfSome result (λ x. IsBlock x.0.now x.1.now ×
+            (self.now ≡ block_records x.0.now x.1.now)) }
     {
         if self.listed.is_empty() {
             return Some((self.block, self.entries));

@@ -3,9 +3,9 @@
 ghost use Rattle.std.specs.Prelude.{◌≡◌, ◌≤◌, length, IfOk};
 ghost use Rattle.vsl_record.specs.Payload.{most_payload, IsPayload};
 
-use crate::laws::are_bytes;
 use std::alloc::{AllocError, Global};
 use std::marker::Model;
+use vsl_words::are_bytes;
 
 /// The most bytes that a record's payload has. This project's choice.
 pub const MAX_PAYLOAD: usize = 4000;

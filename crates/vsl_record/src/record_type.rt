@@ -24,10 +24,13 @@ pub struct Record {
 impl Record {
     /// A record with a copy of these bytes.
     pub fn new(alloc: Global, tag: Tag, mark: Mark, payload: &[u8]) -> Result<Record, RecordFault>
-        ensures made { IfOk result (λ r. (r.tag ≡ tag) × (r.mark ≡ mark) × (r.payload ≡ payload.now)) }
+        ensures made { IfOk result (λ r. (r.tag ≡ tag) × (r.mark ≡ mark) ×
+            (r.payload ≡ payload.now)) }
         ensures short { OnOk result (length payload.now ≤ most_payload) }
-        ensures too_long { most_payload < length payload.now → result ≡ Err (RecordFault.TooLong (length payload.now)) }
-        ensures refused { (bytes : ℕ) → result ≡ Err (RecordFault.TooLong bytes) → (most_payload < length payload.now) × (bytes ≡ length payload.now) }
+        ensures too_long { most_payload < length payload.now →
+            result ≡ Err (RecordFault.TooLong (length payload.now)) }
+        ensures refused { (bytes : ℕ) → result ≡ Err (RecordFault.TooLong bytes) →
+            (most_payload < length payload.now) × (bytes ≡ length payload.now) }
     {
         if payload.len() > MAX_PAYLOAD {
             return Err(RecordFault::TooLong {

@@ -155,8 +155,11 @@ fn append_moved(
 ) -> Result<(), NoMemory>
     requires behind { AllByRecursion (λ e. from ≤ e.at) entries.now }
     requires fits { AllByRecursion (λ e. e.at - from + base < 2 ^ 32) entries.now }
-    ensures ok { OnOk result (into.new.items ≡ into.old.items ++ map (moved from base) entries.now) }
-    ensures block { (block : List ℕ) → IsBlock block (into.old.items ++ map (moved from base) entries.now) → IsBlock block into.new.items }
+    ensures ok { OnOk result (into.new.items ≡ into.old.items ++ map
+        (moved from base) entries.now) }
+    ensures block { (block : List ℕ) →
+        IsBlock block (into.old.items ++ map (moved from base) entries.now) →
+        IsBlock block into.new.items }
 {
     let kept = into.len();
     into.extend_from_slice(entries)?;

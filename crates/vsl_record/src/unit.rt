@@ -17,13 +17,13 @@ use crate::records::Records;
 use std::marker::Model;
 
 /// A VXID (vsl(7)), the number of a transaction: below `VXID_END`.
-pub type Vxid = u32;
+pub type Vxid = u64;
 
 /// One more than the highest VXID. This project's choice.
-pub const VXID_END: Vxid = 1_073_741_824;
+pub const VXID_END: Vxid = 4_611_686_018_427_387_904;
 
 /// The most words that a unit has. This project's choice.
-pub const MAX_UNIT_WORDS: usize = 1_048_576;
+pub const MAX_UNIT_WORDS: usize = 2_097_152;
 
 /// A record's first word is its tag so many times, and below that the payload's length.
 /// A unit's is `UNIT_MARK` so many times, and below that its number of words. This project's choice.
@@ -52,7 +52,8 @@ impl Model for Unit {
 
     ghost view = { λ u. record { vxid = u.vxid; mark = u.mark; records = body_records u.body } };
 
-    ghost invariant = { λ u. IsUnit (record { vxid = u.vxid; mark = u.mark; records = body_records u.body }) };
+    ghost invariant = { λ u. IsUnit
+        (record { vxid = u.vxid; mark = u.mark; records = body_records u.body }) };
 }
 
 impl Unit {
@@ -60,13 +61,17 @@ impl Unit {
     pub fn new(vxid: Vxid, mark: Mark, records: Vec<Record>) -> Result<Unit, UnitFault>
         requires in_range { vxid < vxid_end }
         requires has_mark { All (λ r. r.mark ≡ mark) records.items }
-        ensures made { IfOk result (λ u. (u.vxid ≡ vxid) × (u.mark ≡ mark) × (u.records ≡ records.items)) }
+        ensures made { IfOk result (λ u. (u.vxid ≡ vxid) × (u.mark ≡ mark) ×
+            (u.records ≡ records.items)) }
         ensures unit { IfOk result (λ u. IsUnit u) }
         ensures empty { result ≡ Err UnitFault.Empty ↔ length records.items ≡ 0 }
-        ensures too_long { let size = length (unit_words (record { vxid = vxid; mark = mark; records = records.items })) in
+        ensures too_long { let size =
+            length (unit_words (record { vxid = vxid; mark = mark; records = records.items })) in
             most_words < size → result ≡ Err (UnitFault.TooLong (min size (2 ^ 64 - 1))) }
-        ensures refused { let size = length (unit_words (record { vxid = vxid; mark = mark; records = records.items })) in
-            (words : ℕ) → result ≡ Err (UnitFault.TooLong words) → (most_words < size) × (words ≡ min size (2 ^ 64 - 1)) }
+        ensures refused { let size =
+            length (unit_words (record { vxid = vxid; mark = mark; records = records.items })) in
+            (words : ℕ) → result ≡ Err (UnitFault.TooLong words) →
+            (most_words < size) × (words ≡ min size (2 ^ 64 - 1)) }
     {
         if records.is_empty() {
             return Err(UnitFault::Empty);
@@ -124,7 +129,8 @@ impl Unit {
 
 /// How many words the records and a unit's header take, or 2^64 - 1 where that is greater.
 pub fn count_words(records: &RecordsView<'_>) -> u64
-    ensures words { (vxid : ℕ) → result ≡ min (1 + length (flat_map (record_words vxid) records.now)) (2 ^ 64 - 1) }
+    ensures words { (vxid : ℕ) →
+        result ≡ min (1 + length (flat_map (record_words vxid) records.now)) (2 ^ 64 - 1) }
     ensures tags { All (λ r. IsTag r.tag) records.now }
     ensures payloads { All (λ r. IsPayload r.payload) records.now }
 {

@@ -4,18 +4,18 @@ ghost use Rattle.std.specs.Prelude.{◌≡◌, ◌+◌, ◌*◌, ◌<◌, ◌≤
 ghost use Rattle.vsl_record.specs.declared.record_type.Record.{Record};
 ghost use Rattle.vsl_record.specs.Unit.{LogUnit};
 ghost use Rattle.vsl_record.specs.Views.{Spells, StartsWith};
-ghost use Rattle.vsl_record.specs.Words.{words_in};
+ghost use Rattle.vsl_record.specs.Words.{id_of, words_in};
 
-use crate::laws::are_bytes;
 use crate::lent::RecordView;
 use crate::mark::Mark;
-use crate::reading::{header_word, read_unit_bytes, second_word};
+use crate::reading::read_unit_bytes;
 use crate::records::Records;
 use crate::unit::{TOP_BYTE, Unit, VXID_END, Vxid};
 use log_model::NoMemory;
 use std::alloc::Global;
 use std::marker::Model;
 use vsl_tags::Tag;
+use vsl_words::{Version, are_bytes, header_word, id_in};
 
 /// A unit that is lent from the bytes of its words. It copies nothing. Contracts see the words.
 #[derive(Drop)]
@@ -39,9 +39,11 @@ impl<'a> Model for UnitView<'a> {
 /// The record whose words begin these bytes, and the bytes behind them.
 fn first_view(bytes: &[u8]) -> (RecordView<'_>, &[u8])
     requires { (rec : Record) × (rest : List ℕ) × StartsWith (words_in bytes.now) rec rest }
-    ensures record { (rec : Record) (rest : List ℕ) → StartsWith (words_in bytes.now) rec rest → result.0 ≡ rec }
+    ensures record { (rec : Record) (rest : List ℕ) → StartsWith (words_in bytes.now) rec rest →
+        result.0 ≡ rec }
     ensures shorter { length result.1.now < length bytes.now }
-    ensures rest { (rec : Record) (rest : List ℕ) → StartsWith (words_in bytes.now) rec rest → words_in result.1.now ≡ rest }
+    ensures rest { (rec : Record) (rest : List ℕ) → StartsWith (words_in bytes.now) rec rest →
+        words_in result.1.now ≡ rest }
 {
     are_bytes(bytes);
     let head = header_word(bytes);
@@ -49,10 +51,11 @@ fn first_view(bytes: &[u8]) -> (RecordView<'_>, &[u8])
         unreachable!()
     };
     let length = (head % TOP_BYTE) as usize;
-    let (_, behind) = bytes.split_at(8);
-    let (held, rest) = behind.split_at(4 * ((length + 3) / 4));
+    let (_, behind) = bytes.split_at(4);
+    let mark = Mark::of_id(Version::Two, id_in(Version::Two, behind));
+    let (_, behind_id) = behind.split_at(8);
+    let (held, rest) = behind_id.split_at(4 * ((length + 3) / 4));
     let (payload, _) = held.split_at(length);
-    let mark = Mark::of_id(second_word(bytes));
     (RecordView::new(tag, mark, payload), rest)
 }
 
@@ -74,18 +77,26 @@ impl<'a> UnitView<'a> {
         body
     }
 
+    /// The id of every record.
+    fn id(&self) -> u64
+        ensures { (u : LogUnit) → Spells self.now u → result ≡ id_of Version.Two u.vxid u.mark }
+    {
+        let (_, ids) = self.body().split_at(4);
+        id_in(Version::Two, ids)
+    }
+
     /// The VXID.
     pub fn vxid(&self) -> Vxid
         ensures { (u : LogUnit) → Spells self.now u → result ≡ u.vxid }
     {
-        second_word(self.body()) % VXID_END
+        self.id() % VXID_END
     }
 
     /// The mark of every record.
     pub fn mark(&self) -> Mark
         ensures { (u : LogUnit) → Spells self.now u → result ≡ u.mark }
     {
-        Mark::of_id(second_word(self.body()))
+        Mark::of_id(Version::Two, self.id())
     }
 
     /// How many records the unit has: at least one. It walks over them.
@@ -104,7 +115,8 @@ impl<'a> UnitView<'a> {
     /// The record at this place, from 0. It walks over those before it.
     pub fn item(&self, place: usize) -> RecordView<'a>
         requires { (u : LogUnit) → Spells self.now u → place < length u.records }
-        ensures { (u : LogUnit) (rec : Record) → Spells self.now u → slice_get u.records place ≡ Some rec → result ≡ rec }
+        ensures { (u : LogUnit) (rec : Record) → Spells self.now u →
+            slice_get u.records place ≡ Some rec → result ≡ rec }
     {
         let mut rest = self.body();
         for _ in 0..place {
@@ -118,7 +130,7 @@ impl<'a> UnitView<'a> {
     pub fn to_unit(&self, alloc: Global) -> Result<Unit, NoMemory>
         ensures { (u : LogUnit) → Spells self.now u → IfOk result (λ unit. unit ≡ u) }
     {
-        match read_unit_bytes(Records::new(alloc), self.bytes) {
+        match read_unit_bytes(Version::Two, Records::new(alloc), self.bytes) {
             Ok((unit, _)) => Ok(unit),
             Err(_) => Err(NoMemory),
         }

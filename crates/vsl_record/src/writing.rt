@@ -1,19 +1,19 @@
 //! The words of a unit, one of them or all.
 
-ghost use Rattle.std.specs.Prelude.{◌≡◌, ◌+◌, ◌*◌, ◌<◌, ◌≤◌, ◌++◌, length, slice_index, IfOk, OnOk};
+ghost use Rattle.std.specs.Prelude.{◌≡◌, ◌+◌, ◌*◌, ◌/◌, ◌%◌, ◌<◌, ◌≤◌, ◌++◌, length, slice_index, IfOk};
 ghost use Rattle.std.specs.List.{flat_map};
-ghost use Rattle.vsl_record.specs.Payload.{most_payload};
 ghost use Rattle.vsl_record.specs.Unit.{vxid_end};
 ghost use Rattle.vsl_record.specs.inside.Writing.{Wrote};
-ghost use Rattle.vsl_record.specs.Words.{header_mark, mark_bits, most_words, packed, record_words, unit_words, word_bytes};
+ghost use Rattle.vsl_record.specs.Words.{header_mark, most_words, record_words, unit_words, word_bytes};
 
 use crate::lent::{RecordView, RecordsView};
 use crate::unit::{HEADER_MARK, TOP_BYTE, Unit, Vxid, count_words};
 use log_model::NoMemory;
 use std::alloc::Global;
+use vsl_words::{NEXT_WORD, packed_word};
 
 impl Unit {
-    /// How many words the unit has, its header word included: 3 to 1,048,576.
+    /// How many words the unit has, its header word included: 4 to 2,097,152.
     pub fn words(&self) -> usize
         ensures words { result ≡ length (unit_words self.now) }
         ensures most { result ≤ most_words }
@@ -57,14 +57,6 @@ impl RecordView<'_> {
         TOP_BYTE * u32::from(self.tag().number()) + self.payload().len() as u32
     }
 
-    /// The second word: the VXID and the mark.
-    pub(crate) fn id_word(&self, vxid: Vxid) -> u32
-        requires { vxid < vxid_end }
-        ensures { result ≡ vxid + mark_bits self.now.mark }
-    {
-        vxid + self.mark().bits()
-    }
-
     /// The word at this place of the record's, in a unit of this VXID.
     fn word_at(&self, vxid: Vxid, place: usize) -> u32
         requires in_range { vxid < vxid_end }
@@ -73,8 +65,9 @@ impl RecordView<'_> {
     {
         match place {
             0 => self.head_word(),
-            1 => self.id_word(vxid),
-            _ => payload_word(self.payload(), place - 2),
+            1 => low_word(self.mark().id(vxid)),
+            2 => high_word(self.mark().id(vxid)),
+            _ => packed_word(self.payload(), place - 3),
         }
     }
 
@@ -82,17 +75,32 @@ impl RecordView<'_> {
     fn write_bytes(&self, vxid: Vxid, out: &mut [u8], at: usize) -> usize
         requires in_range { vxid < vxid_end }
         requires room { at + 4 * length (record_words vxid self.now) ≤ length out.old }
-        ensures written { Wrote at (at + 4 * length (record_words vxid self.now)) (word_bytes (record_words vxid self.now)) out.old out.new }
+        ensures written { Wrote at (at + 4 * length (record_words vxid self.now))
+            (word_bytes (record_words vxid self.now)) out.old out.new }
         ensures size { result ≡ 4 * length (record_words vxid self.now) }
     {
         let payload = self.payload();
         let padding = &[0; 3][..(4 - payload.len() % 4) % 4];
         write_at(out, at, &self.head_word().to_le_bytes());
-        write_at(out, at + 4, &self.id_word(vxid).to_le_bytes());
-        write_at(out, at + 8, payload);
-        write_at(out, at + 8 + payload.len(), padding);
-        8 + payload.len() + padding.len()
+        write_at(out, at + 4, &self.mark().id(vxid).to_le_bytes());
+        write_at(out, at + 12, payload);
+        write_at(out, at + 12 + payload.len(), padding);
+        12 + payload.len() + padding.len()
     }
+}
+
+/// The lower word of an id.
+pub(crate) fn low_word(id: u64) -> u32
+    ensures { result ≡ id % 4294967296 }
+{
+    (id % NEXT_WORD) as u32
+}
+
+/// The higher word of an id.
+pub(crate) fn high_word(id: u64) -> u32
+    ensures { result ≡ id / 4294967296 }
+{
+    (id / NEXT_WORD) as u32
 }
 
 /// Writes bytes from a place on.
@@ -109,7 +117,8 @@ fn write_at(out: &mut [u8], at: usize, bytes: &[u8])
 fn write_records(vxid: Vxid, records: &RecordsView<'_>, out: &mut [u8], at: usize)
     requires in_range { vxid < vxid_end }
     requires room { at + 4 * length (flat_map (record_words vxid) records.now) ≤ length out.old }
-    ensures { Wrote at (at + 4 * length (flat_map (record_words vxid) records.now)) (word_bytes (flat_map (record_words vxid) records.now)) out.old out.new }
+    ensures { Wrote at (at + 4 * length (flat_map (record_words vxid) records.now))
+        (word_bytes (flat_map (record_words vxid) records.now)) out.old out.new }
 {
     let mut place = at;
     for i in 0..records.len() {
@@ -133,29 +142,6 @@ fn body_word(vxid: Vxid, records: &RecordsView<'_>, place: usize) -> u32
         left -= size;
     }
     0
-}
-
-/// The word at this place of a payload's.
-fn payload_word(bytes: &[u8], place: usize) -> u32
-    requires short { length bytes.now ≤ most_payload }
-    requires inside { place < length (packed bytes.now) }
-    ensures { result ≡ slice_index (packed bytes.now) place }
-{
-    let (_, rest) = bytes.split_at(4 * place);
-    first_packed(rest)
-}
-
-/// The first word of a payload's, or 0 where it has none.
-pub(crate) fn first_packed(bytes: &[u8]) -> u32
-    ensures { result ≡ slice_index (packed bytes.now) 0 }
-{
-    match bytes {
-        [] => 0,
-        [a] => u32::from_le_bytes([*a, 0, 0, 0]),
-        [a, b] => u32::from_le_bytes([*a, *b, 0, 0]),
-        [a, b, c] => u32::from_le_bytes([*a, *b, *c, 0]),
-        [a, b, c, d, ..] => u32::from_le_bytes([*a, *b, *c, *d]),
-    }
 }
 
 /// The words of a unit.

@@ -1,8 +1,5 @@
-use Rattle.vsl_record.proofs.ViewLemmas.{spelled_id, spelled_two}
+use Rattle.vsl_record.proofs.ViewLemmas.{spelled_parts}
 use Rattle.vsl_record.proofs.views.UnitView.vxid.Goals as goal
 
-pub second_word-requires : goal.second_word-requires
-second_word-requires c = spelled_two _ _ c.body.ensures.unit.0 c.body.ensures.unit.1 c.body.ensures.words
-
 pub returns : goal.returns
-returns c = λ u s. rw c.second_word.ensures at (spelled_id _ _ u s c.body.ensures.words).0
+returns c = λ u s. (spelled_parts _ u _ s (c.id.ensures u s)).0

@@ -6,10 +6,10 @@ use Rattle.std.proofs.lemmas.Grind.{common_steps}
 use Rattle.std.proofs.lemmas.Int.Digits.{digits_value_more}
 use Rattle.std.proofs.lemmas.Str.Parse.{digits_value-take-le}
 use Rattle.vsl_decimal.proofs.DecimalLemmas.{digit_is}
-use Rattle.vsl_decimal.proofs.whole.whole_number.Goals as goal
+use Rattle.vsl_decimal.proofs.whole.wide_number.Goals as goal
 
-pub returns-then-value-from : goal.returns-then-value-from
-returns-then-value-from c =
+pub returns-then-value-tenth : goal.returns-then-value-tenth
+returns-then-value-tenth c =
     let digit = c.if-not-is_ascii_digit.ensures.cases in
     let is = digit_is _ digit.0 digit.1 in
     let more = digits_value_more 10 c.args.text.now c.loop-digit.digit-index c.loop-digit-test.true in

@@ -1,8 +1,8 @@
 use Rattle.std.proofs.Common.{◌∙◌, ap, arith}
 use Rattle.std.proofs.lemmas.List.{take_all}
-use Rattle.vsl_record.specs.Words.{word_bytes, words_in}
-use Rattle.vsl_record.proofs.WordLemmas.{words_in_again}
-use Rattle.vsl_record.proofs.words.bytes_of.Goals as goal
+use Rattle.vsl_words.specs.Words.{word_bytes, words_in}
+use Rattle.vsl_words.proofs.WordLemmas.{words_in_again}
+use Rattle.vsl_words.proofs.bytes.bytes_of.Goals as goal
 
 pub returns : goal.returns
 returns c =

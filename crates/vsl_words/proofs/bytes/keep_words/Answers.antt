@@ -1,7 +1,7 @@
 use Rattle.std.proofs.Common.{ap, ◌∙◌, arith}
-use Rattle.vsl_record.specs.Words.{words_in}
-use Rattle.vsl_record.proofs.WordLemmas.{length-words_in, words_in-take}
-use Rattle.vsl_record.proofs.reading.keep_words.Goals as goal
+use Rattle.vsl_words.specs.Words.{words_in}
+use Rattle.vsl_words.proofs.WordLemmas.{length-words_in, words_in-take}
+use Rattle.vsl_words.proofs.bytes.keep_words.Goals as goal
 
 pub split_at-requires : goal.split_at-requires
 split_at-requires c = omega (arith, c.requires.enough, length-words_in c.args.bytes.now)
