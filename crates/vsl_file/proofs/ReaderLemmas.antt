@@ -6,8 +6,9 @@ use Rattle.std.proofs.Math.Seq.{take-add}
 use Rattle.bytes.proofs.Ranges.{take-append_past}
 use Rattle.vio.specs.World.{Seen, Reading, Read, ReadSome, OnlyCounts, FaultsRose}
 use Rattle.vio.proofs.WholeLemmas.{Read-counts, Read-none, Read-then, Read-nothing, FaultsRose-later}
+use Rattle.vsl_words.specs.declared.version.Version.{Version}
 use Rattle.vsl_record.specs.Unit.{LogUnit}
-use Rattle.vsl_file.specs.File.{unit_bytes, stops_early}
+use Rattle.vsl_file.specs.File.{unit_bytes_of, stops_early}
 use Rattle.vsl_file.specs.inside.FileReading.{IsHeadSize, IsBroken, BeginsWithUnit}
 use Rattle.vsl_file.specs.inside.ReaderSteps.{Filled, HoldsSized, GoesOn, HasEnded, TookUnit, TookEnd, TookDamaged, TookTooLarge, CutShort}
 use Rattle.vsl_file.proofs.UnitLemmas.{short_stops, stopped_begins_none}
@@ -64,8 +65,8 @@ Filled-behind h n m a b x new s t kept less within is read = record {
 }
 
 -- a header counts as much however the bytes go on
-pub sized_more : (size : ℕ) (a b added : List ℕ) → b ≡ a ++ added → IsHeadSize size a → IsHeadSize size b
-sized_more size a b added is sized =
+pub sized_more : (ver : Version) (size : ℕ) (a b added : List ℕ) → b ≡ a ++ added → IsHeadSize ver size a → IsHeadSize ver size b
+sized_more ver size a b added is sized =
     let on : (more : List ℕ) → b ++ more ≡ a ++ (added ++ more) = λ more. ap (λ (x : List ℕ). x ++ more) is ∙ append_assoc a added more in
     record {
       least = sized.least;
@@ -76,9 +77,9 @@ sized_more size a b added is sized =
 
 -- ---- what a step took
 
-pub took_unit : (h most : ℕ) (u : LogUnit) (size : ℕ) (old held new : List ℕ) (s t : Seen)
-    → Filled h old held s t → HoldsSized size old held → length held ≤ most → BeginsWithUnit held u (drop size held) → new ≡ drop size held → TookUnit h most u size old new s t
-took_unit h most u size old held new s t filled holds within begins is =
+pub took_unit : (ver : Version) (h most : ℕ) (u : LogUnit) (size : ℕ) (old held new : List ℕ) (s t : Seen)
+    → Filled h old held s t → HoldsSized ver size old held → length held ≤ most → BeginsWithUnit ver held u (drop size held) → new ≡ drop size held → TookUnit ver h most u size old new s t
+took_unit ver h most u size old held new s t filled holds within begins is =
     let left : length new ≡ length held - size = ap length is ∙ length-drop size held in
     record {
       held = held;
@@ -86,16 +87,16 @@ took_unit h most u size old held new s t filled holds within begins is =
       is_unit = begins.is_unit;
       size_is = holds.sized.only u [] (drop size held) begins.is_unit (append-nil held ∙ begins.parts);
       least = holds.sized.least;
-      parts = begins.parts ∙ ap (λ (x : List ℕ). unit_bytes u ++ x) (sym is);
+      parts = begins.parts ∙ ap (λ (x : List ℕ). unit_bytes_of ver u ++ x) (sym is);
       short = λ small. omega (arith, left, holds.short small, holds.enough);
       within = omega (arith, left, holds.enough, within);
     }
 
 -- what is broken has a word
-broken_some : (bytes : List ℕ) → IsBroken bytes → 4 ≤ length bytes
-broken_some bytes broken =
+broken_some : (ver : Version) (bytes : List ℕ) → IsBroken ver bytes → 4 ≤ length bytes
+broken_some ver bytes broken =
     elim (cases_lt (length bytes) 4) [
-      | inl short ↦ absurd (both_ways (stops_early bytes) (ap stops_early (sym (append-nil bytes)) ∙ broken.stays []) (short_stops bytes short))
+      | inl short ↦ absurd (both_ways (stops_early ver bytes) (ap (stops_early ver) (sym (append-nil bytes)) ∙ broken.stays []) (short_stops ver bytes short))
       | inr enough ↦ enough
     ]
 
@@ -106,15 +107,15 @@ not_empty : (a b : List ℕ) → 0 < length a → a ++ b ≢ []
 not_empty a b some e = omega (arith, some, ap length e, length-append a b)
 
 -- the first word, or all bytes that it counts, are no unit's
-pub took_broken : (h most : ℕ) (old new : List ℕ) (s t : Seen) → Filled h old new s t → length new ≤ most → IsBroken new → TookDamaged h most old new s t
-took_broken h most old new s t filled within broken =
-    let some : 0 < length new = omega (arith, broken_some new broken) in
+pub took_broken : (ver : Version) (h most : ℕ) (old new : List ℕ) (s t : Seen) → Filled h old new s t → length new ≤ most → IsBroken ver new → TookDamaged ver h most old new s t
+took_broken ver h most old new s t filled within broken =
+    let some : 0 < length new = omega (arith, broken_some ver new broken) in
     record {
       filled = filled;
       rest = λ more told. let is = some_taken most new more some within in record {
         some = rw is (not_empty new (take (most - length new) more) some);
         none = rw is (broken.never (take (most - length new) more));
-        stays = λ large. ap stops_early is ∙ broken.stays (take (most - length new) more);
+        stays = λ large. ap (stops_early ver) is ∙ broken.stays (take (most - length new) more);
       };
     }
 
@@ -123,15 +124,15 @@ pub not_none : (bytes : List ℕ) → eqb (length bytes) 0 ≡ false → 0 < len
 not_none bytes e = omega (arith, eqb-false (length bytes) 0 e)
 
 -- the bytes end before the end of a unit
-pub took_cut : (h most : ℕ) (old new : List ℕ) (s m t : Seen) → Filled h old new s m → length new ≤ most → stops_early new ≡ true → 0 < length new → HasEnded h m t → TookDamaged h most old new s t
-took_cut h most old new s m t filled within stops some ended = record {
+pub took_cut : (ver : Version) (h most : ℕ) (old new : List ℕ) (s m t : Seen) → Filled h old new s m → length new ≤ most → stops_early ver new ≡ true → 0 < length new → HasEnded h m t → TookDamaged ver h most old new s t
+took_cut ver h most old new s m t filled within stops some ended = record {
   filled = Filled-nothing filled ended.read;
   rest = λ more told.
       let is : new ++ more ≡ new = ap (λ (x : List ℕ). new ++ x) (ended.end more told) ∙ append-nil new in
       let all : take most (new ++ more) ≡ new = ap (take most) is ∙ take_all most new within in
       record {
         some = λ e. omega (arith, some, ap length (sym all ∙ e));
-        none = rw all (stopped_begins_none new stops);
+        none = rw all (stopped_begins_none ver new stops);
         stays = λ large. absurd (omega (arith, large, within, ap length is));
       };
 }
@@ -141,8 +142,8 @@ pub took_end : (h : ℕ) (old new : List ℕ) (s m t : Seen) → Filled h old ne
 took_end h old new s m t filled none ended = record { filled = Filled-nothing filled ended.read; none = nil_from_length new none; end = ended.end }
 
 -- the file goes on where no more may be held
-pub took_too_large : (h most : ℕ) (old new : List ℕ) (s m t : Seen) → Filled h old new s m → stops_early new ≡ true → length new ≡ most → GoesOn h m t → TookTooLarge h most old new s t
-took_too_large h most old new s m t filled stops full on = record {
+pub took_too_large : (ver : Version) (h most : ℕ) (old new : List ℕ) (s m t : Seen) → Filled h old new s m → stops_early ver new ≡ true → length new ≡ most → GoesOn h m t → TookTooLarge ver h most old new s t
+took_too_large ver h most old new s m t filled stops full on = record {
   added = filled.added;
   aside = on.aside;
   is = filled.is;
@@ -152,5 +153,5 @@ took_too_large h most old new s m t filled stops full on = record {
 }
 
 -- a read failed while a unit was read, or where it was to be seen whether the file goes on
-pub cut_short : {h : ℕ} {old new : List ℕ} {s t : Seen} → Filled h old new s t → stops_early new ≡ true → FaultsRose Reading h s t → CutShort h old new s t
+pub cut_short : {ver : Version} {h : ℕ} {old new : List ℕ} {s t : Seen} → Filled h old new s t → stops_early ver new ≡ true → FaultsRose Reading h s t → CutShort ver h old new s t
 cut_short p stops rose = record { filled = p; stops = stops; rose = rose }

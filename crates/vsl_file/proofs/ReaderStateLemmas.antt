@@ -1,133 +1,137 @@
 -- A reader of a file: what each step leaves of what it represents.
-use Rattle.std.proofs.Common.{◌≡◌, ℕ, ◌+◌, ◌<◌, ◌≤◌, inr, Bool, true, false, List, [], ◌∷◌, ◌++◌, length, Some, Result, Ok, Err, sym, ap, subst, ◌∙◌, append_assoc, arith}
+use Rattle.std.proofs.Common.{◌≡◌, ℕ, ◌+◌, ◌<◌, ◌≤◌, inr, List, [], ◌∷◌, ◌++◌, length, Option, Some, None, false, Result, Ok, Err, sym, ap, subst, ◌∙◌, append_assoc, arith}
 use Rattle.std.specs.List.{AllByRecursion}
-use Rattle.std.proofs.lemmas.Bool.{both_ways}
 use Rattle.std.proofs.lemmas.List.{append-nil, length-append}
 use Rattle.std.proofs.lemmas.List.Concat.{flat_map-append, flat_map-cons}
 use Rattle.vio.specs.World.{Seen, Reading, Read, ReadSome, FaultsRose, IsAtEnd}
 use Rattle.vio.proofs.WholeLemmas.{Read-then, FaultsRose-later}
 use Rattle.vsl_record.specs.Unit.{LogUnit, Log}
-use Rattle.vsl_record.specs.Words.{IsUnit}
+use Rattle.vsl_words.specs.declared.version.Version.{Version}
+use Rattle.vsl_record.specs.Words.{IsUnitOf}
 use Rattle.vsl_file.specs.declared.fault.FileFault.{FileFault}
 use Rattle.vsl_file.specs.declared.fault.FileFault.TheVariants as faults
 use Rattle.vsl_file.specs.declared.reader.FileStep.{FileStep}
 use Rattle.vsl_file.specs.declared.reader.FileStep.TheVariants as steps
-use Rattle.vsl_file.specs.File.{unit_bytes, log_bytes, file_header, most_bytes, FileEnding, Whole, Damaged, TooLarge, IsFile, HoldsWhole}
+use Rattle.vsl_file.specs.File.{unit_bytes_of, log_bytes_of, file_header_of, most_bytes, FileEnding, Whole, Damaged, TooLarge, IsFile, HoldsWhole}
 use Rattle.vsl_file.specs.inside.ReaderSteps.{Filled, TookUnit, TookEnd, TookDamaged, TookTooLarge, CutShort, TookHeader, Began}
-use Rattle.vsl_file.specs.ReaderState.{ReaderState, Represents, used, GaveUnit, GaveEnd, EndsSo, StoppedSo, Stepped}
+use Rattle.vsl_file.specs.ReaderState.{ReaderState, Represents, AreUnitsOf, used, GaveUnit, GaveEnd, EndsSo, StoppedSo, Stepped}
 use Rattle.vsl_file.proofs.FileLemmas.{ends_whole, ends_damaged, ends_too_large}
+use Rattle.vsl_file.proofs.HeaderLemmas.{length-header}
 
 -- the bytes of units with one more
-log_more : (units : Log) (u : LogUnit) → log_bytes (units ++ u ∷ []) ≡ log_bytes units ++ unit_bytes u
-log_more units u = flat_map-append unit_bytes units (u ∷ []) ∙ ap (λ (x : List ℕ). log_bytes units ++ x) (flat_map-cons unit_bytes u [] ∙ append-nil (unit_bytes u))
+log_more : (ver : Version) (units : Log) (u : LogUnit) → log_bytes_of ver (units ++ u ∷ []) ≡ log_bytes_of ver units ++ unit_bytes_of ver u
+log_more ver units u = flat_map-append (unit_bytes_of ver) units (u ∷ []) ∙ ap (λ (x : List ℕ). log_bytes_of ver units ++ x) (flat_map-cons (unit_bytes_of ver) u [] ∙ append-nil (unit_bytes_of ver u))
 
 -- units with one more are units
-all_more : (units : Log) (u : LogUnit) → AllByRecursion IsUnit units → IsUnit u → AllByRecursion IsUnit (units ++ u ∷ [])
-all_more [] u all one = (one, tt)
-all_more (v ∷ units) u all one = (all.0, all_more units u all.1 one)
+all_more : (ver : Version) (units : Log) (u : LogUnit) → AllByRecursion (IsUnitOf ver) units → IsUnitOf ver u → AllByRecursion (IsUnitOf ver) (units ++ u ∷ [])
+all_more ver [] u all one = (one, tt)
+all_more ver (v ∷ units) u all one = (all.0, all_more ver units u all.1 one)
 
 -- the bytes of a file that is read so far
-abbrev so_far : Log → List ℕ
-so_far units = file_header ++ log_bytes units
+abbrev so_far : Version → Log → List ℕ
+so_far ver units = file_header_of ver ++ log_bytes_of ver units
 
 -- what was taken and is taken now, where the header was read
-parts_on : (old : ReaderState) (taken : List ℕ) (units : Log) (held : List ℕ) (s t : Seen) (f : Filled old.handle old.rest held s t) → Represents old taken units → old.begun ≡ true → taken ++ f.added ≡ so_far units ++ held
-parts_on old taken units held s t f p begun =
-    ap (λ (x : List ℕ). x ++ f.added) (p.parts ∙ ap (λ (b : Bool). used b units ++ old.rest) begun) ∙ append_assoc (so_far units) old.rest f.added ∙ ap (λ (x : List ℕ). so_far units ++ x) (sym f.is)
+parts_on : (ver : Version) (old : ReaderState) (taken : List ℕ) (units : Log) (held : List ℕ) (s t : Seen) (f : Filled old.handle old.rest held s t) → Represents old taken units → old.version ≡ Some ver → taken ++ f.added ≡ so_far ver units ++ held
+parts_on ver old taken units held s t f p begun =
+    ap (λ (x : List ℕ). x ++ f.added) (p.parts ∙ ap (λ (o : Option Version). used o units ++ old.rest) begun) ∙ append_assoc (so_far ver units) old.rest f.added ∙ ap (λ (x : List ℕ). so_far ver units ++ x) (sym f.is)
 
-place_on : (old : ReaderState) (taken : List ℕ) (units : Log) → Represents old taken units → old.begun ≡ true → old.place ≡ length (so_far units)
-place_on old taken units p begun = p.place ∙ ap (λ (b : Bool). length (used b units)) begun
+place_on : (ver : Version) (old : ReaderState) (taken : List ℕ) (units : Log) → Represents old taken units → old.version ≡ Some ver → old.place ≡ length (so_far ver units)
+place_on ver old taken units p begun = p.place ∙ ap (λ (o : Option Version). length (used o units)) begun
 
-represents_on : (new : ReaderState) (taken : List ℕ) (units : Log) → new.begun ≡ true → new.failed ≡ false → AllByRecursion IsUnit units → taken ≡ so_far units ++ new.rest → new.place ≡ length (so_far units) → length new.rest < 65536
+units_on : (ver : Version) (old : ReaderState) (taken : List ℕ) (units : Log) → Represents old taken units → old.version ≡ Some ver → AllByRecursion (IsUnitOf ver) units
+units_on ver old taken units p begun = subst (λ (o : Option Version). AreUnitsOf o units) begun p.are_units
+
+represents_on : (ver : Version) (new : ReaderState) (taken : List ℕ) (units : Log) → new.version ≡ Some ver → new.failed ≡ false → AllByRecursion (IsUnitOf ver) units → taken ≡ so_far ver units ++ new.rest → new.place ≡ length (so_far ver units) → length new.rest < 65536
     → new.place + length new.rest ≤ most_bytes → Represents new taken units
-represents_on new taken units begun sound all parts place short most = record {
+represents_on ver new taken units begun sound all parts place short most = record {
   sound = sound;
-  are_units = all;
-  fresh = λ e. absurd (both_ways new.begun e begun);
-  parts = parts ∙ ap (λ (b : Bool). used b units ++ new.rest) (sym begun);
-  place = place ∙ ap (λ (b : Bool). length (used b units)) (sym begun);
+  are_units = subst (λ (o : Option Version). AreUnitsOf o units) (sym begun) all;
+  parts = parts ∙ ap (λ (o : Option Version). used o units ++ new.rest) (sym begun);
+  place = place ∙ ap (λ (o : Option Version). length (used o units)) (sym begun);
   short = short;
-  most = omega (arith, most, place, ap length parts, length-append (so_far units) new.rest);
+  most = omega (arith, most, place, ap length parts, length-append (so_far ver units) new.rest);
 }
 
-pub gave_unit : (u : LogUnit) (size most : ℕ) (old new : ReaderState) (taken : List ℕ) (units : Log) (s t : Seen) → Represents old taken units → old.begun ≡ true → old.place + most ≡ most_bytes
-    → new.begun ≡ old.begun → new.place ≡ old.place + size → new.failed ≡ old.failed → TookUnit old.handle most u size old.rest new.rest s t → GaveUnit u old new taken units s t
-gave_unit u size most old new taken units s t p begun room same_begun place same_failed took =
-    let more : so_far units ++ unit_bytes u ≡ so_far (units ++ u ∷ []) = append_assoc file_header (log_bytes units) (unit_bytes u) ∙ ap (λ (x : List ℕ). file_header ++ x) (sym (log_more units u)) in
-    let parts : taken ++ took.filled.added ≡ so_far (units ++ u ∷ []) ++ new.rest = parts_on old taken units took.held s t took.filled p begun ∙ ap (λ (x : List ℕ). so_far units ++ x) took.parts
-    ∙ sym (append_assoc (so_far units) (unit_bytes u) new.rest) ∙ ap (λ (x : List ℕ). x ++ new.rest) more in
+pub gave_unit : (ver : Version) (u : LogUnit) (size most : ℕ) (old new : ReaderState) (taken : List ℕ) (units : Log) (s t : Seen) → Represents old taken units → old.version ≡ Some ver → old.place + most ≡ most_bytes
+    → new.version ≡ old.version → new.place ≡ old.place + size → new.failed ≡ old.failed → TookUnit ver old.handle most u size old.rest new.rest s t → GaveUnit u old new taken units s t
+gave_unit ver u size most old new taken units s t p begun room same_begun place same_failed took =
+    let more : so_far ver units ++ unit_bytes_of ver u ≡ so_far ver (units ++ u ∷ []) = append_assoc (file_header_of ver) (log_bytes_of ver units) (unit_bytes_of ver u) ∙ ap (λ (x : List ℕ). file_header_of ver ++ x) (sym (log_more ver units u)) in
+    let parts : taken ++ took.filled.added ≡ so_far ver (units ++ u ∷ []) ++ new.rest = parts_on ver old taken units took.held s t took.filled p begun ∙ ap (λ (x : List ℕ). so_far ver units ++ x) took.parts
+    ∙ sym (append_assoc (so_far ver units) (unit_bytes_of ver u) new.rest) ∙ ap (λ (x : List ℕ). x ++ new.rest) more in
     let short : length new.rest < 65536 = took.short p.short in
-    let size_is : length (so_far (units ++ u ∷ [])) ≡ length (so_far units) + length (unit_bytes u) = ap length (sym more) ∙ length-append (so_far units) (unit_bytes u) in
+    let size_is : length (so_far ver (units ++ u ∷ [])) ≡ length (so_far ver units) + length (unit_bytes_of ver u) = ap length (sym more) ∙ length-append (so_far ver units) (unit_bytes_of ver u) in
     record {
       added = took.filled.added;
       read = took.filled.read;
-      represents = represents_on new (taken ++ took.filled.added) (units ++ u ∷ []) (same_begun ∙ begun) (same_failed ∙ p.sound) (all_more units u p.are_units took.is_unit) parts
-          (place ∙ omega (arith, place_on old taken units p begun, size_is, took.size_is)) short (omega (arith, place, room, took.within));
-      ahead = omega (arith, ap length parts, length-append (so_far (units ++ u ∷ [])) new.rest, short);
+      represents = represents_on ver new (taken ++ took.filled.added) (units ++ u ∷ []) (same_begun ∙ begun) (same_failed ∙ p.sound) (all_more ver units u (units_on ver old taken units p begun) took.is_unit) parts
+          (place ∙ omega (arith, place_on ver old taken units p begun, size_is, took.size_is)) short (omega (arith, place, room, took.within));
+      ahead = subst (λ (o : Option Version). length (taken ++ took.filled.added) < length (used o (units ++ u ∷ [])) + 65536) (sym (same_begun ∙ begun)) (omega (arith, ap length parts, length-append (so_far ver (units ++ u ∷ [])) new.rest, short));
     }
 
-pub gave_end : (most : ℕ) (old new : ReaderState) (taken : List ℕ) (units : Log) (s t : Seen) → Represents old taken units → old.begun ≡ true → old.place + most ≡ most_bytes
-    → new.begun ≡ old.begun → new.place ≡ old.place → new.failed ≡ old.failed → TookEnd old.handle old.rest new.rest s t → GaveEnd old new taken units s t
-gave_end most old new taken units s t p begun room same_begun place same_failed took =
-    let parts = parts_on old taken units new.rest s t took.filled p begun in
-    let place_is : new.place ≡ length (so_far units) = place ∙ place_on old taken units p begun in
+pub gave_end : (ver : Version) (most : ℕ) (old new : ReaderState) (taken : List ℕ) (units : Log) (s t : Seen) → Represents old taken units → old.version ≡ Some ver → old.place + most ≡ most_bytes
+    → new.version ≡ old.version → new.place ≡ old.place → new.failed ≡ old.failed → TookEnd old.handle old.rest new.rest s t → GaveEnd old new taken units s t
+gave_end ver most old new taken units s t p begun room same_begun place same_failed took =
+    let parts = parts_on ver old taken units new.rest s t took.filled p begun in
+    let place_is : new.place ≡ length (so_far ver units) = place ∙ place_on ver old taken units p begun in
     let none : length new.rest ≡ 0 = ap length took.none in
-    let all : taken ++ took.filled.added ≡ so_far units = parts ∙ ap (λ (x : List ℕ). so_far units ++ x) took.none ∙ append-nil (so_far units) in
+    let all : taken ++ took.filled.added ≡ so_far ver units = parts ∙ ap (λ (x : List ℕ). so_far ver units ++ x) took.none ∙ append-nil (so_far ver units) in
     record {
       added = took.filled.added;
       read = took.filled.read;
-      represents = represents_on new (taken ++ took.filled.added) units (same_begun ∙ begun) (same_failed ∙ p.sound) p.are_units parts place_is (omega (arith, none)) (omega (arith, none, place, room));
+      represents = represents_on ver new (taken ++ took.filled.added) units (same_begun ∙ begun) (same_failed ∙ p.sound) (units_on ver old taken units p begun) parts place_is (omega (arith, none)) (omega (arith, none, place, room));
       at_end = took.end;
-      whole = ends_whole (taken ++ took.filled.added) units p.are_units all (omega (arith, ap length all, place, place_is, room));
+      whole = ends_whole ver (taken ++ took.filled.added) units (units_on ver old taken units p begun) all (omega (arith, ap length all, place, place_is, room));
     }
 
-pub gave_damaged : (most : ℕ) (old : ReaderState) (taken : List ℕ) (units : Log) (new : List ℕ) (s t : Seen) → Represents old taken units → old.begun ≡ true → old.place + most ≡ most_bytes
-    → TookDamaged old.handle most old.rest new s t → EndsSo old taken units (Damaged old.place) s t
-gave_damaged most old taken units new s t p begun room took = record {
+pub gave_damaged : (ver : Version) (most : ℕ) (old : ReaderState) (taken : List ℕ) (units : Log) (new : List ℕ) (s t : Seen) → Represents old taken units → old.version ≡ Some ver → old.place + most ≡ most_bytes
+    → TookDamaged ver old.handle most old.rest new s t → EndsSo old taken units (Damaged old.place) s t
+gave_damaged ver most old taken units new s t p begun room took = record {
   added = took.filled.added;
   read = took.filled.read;
   ends = λ more told.
-      let all : taken ++ took.filled.added ++ more ≡ so_far units ++ (new ++ more) =
-      ap (λ (x : List ℕ). x ++ more) (parts_on old taken units new s t took.filled p begun) ∙ append_assoc (so_far units) new more in
-      ends_damaged (taken ++ took.filled.added ++ more) (new ++ more) units old.place most p.are_units all (place_on old taken units p begun) room (took.rest more told);
+      let all : taken ++ took.filled.added ++ more ≡ so_far ver units ++ (new ++ more) =
+      ap (λ (x : List ℕ). x ++ more) (parts_on ver old taken units new s t took.filled p begun) ∙ append_assoc (so_far ver units) new more in
+      ends_damaged ver (taken ++ took.filled.added ++ more) (new ++ more) units old.place most (units_on ver old taken units p begun) all (place_on ver old taken units p begun) room (took.rest more told);
 }
 
-pub gave_too_large : (most : ℕ) (old : ReaderState) (taken : List ℕ) (units : Log) (new : List ℕ) (s t : Seen) → Represents old taken units → old.begun ≡ true → old.place + most ≡ most_bytes
-    → TookTooLarge old.handle most old.rest new s t → EndsSo old taken units TooLarge s t
-gave_too_large most old taken units new s t p begun room took = record {
+pub gave_too_large : (ver : Version) (most : ℕ) (old : ReaderState) (taken : List ℕ) (units : Log) (new : List ℕ) (s t : Seen) → Represents old taken units → old.version ≡ Some ver → old.place + most ≡ most_bytes
+    → TookTooLarge ver old.handle most old.rest new s t → EndsSo old taken units TooLarge s t
+gave_too_large ver most old taken units new s t p begun room took = record {
   added = took.added ++ took.aside ∷ [];
   read = took.read;
   ends = λ more told.
-      let parts : taken ++ took.added ≡ so_far units ++ new =
-      ap (λ (x : List ℕ). x ++ took.added) (p.parts ∙ ap (λ (b : Bool). used b units ++ old.rest) begun) ∙ append_assoc (so_far units) old.rest took.added ∙ ap (λ (x : List ℕ). so_far units ++ x) (sym took.is) in
-      let full : length (taken ++ took.added) ≡ most_bytes = omega (arith, ap length parts, length-append (so_far units) new, place_on old taken units p begun, took.full, room) in
+      let parts : taken ++ took.added ≡ so_far ver units ++ new =
+      ap (λ (x : List ℕ). x ++ took.added) (p.parts ∙ ap (λ (o : Option Version). used o units ++ old.rest) begun) ∙ append_assoc (so_far ver units) old.rest took.added ∙ ap (λ (x : List ℕ). so_far ver units ++ x) (sym took.is) in
+      let full : length (taken ++ took.added) ≡ most_bytes = omega (arith, ap length parts, length-append (so_far ver units) new, place_on ver old taken units p begun, took.full, room) in
       let all : taken ++ (took.added ++ took.aside ∷ []) ++ more ≡ taken ++ took.added ++ (took.aside ∷ more) =
       ap (λ (x : List ℕ). x ++ more) (sym (append_assoc taken took.added (took.aside ∷ []))) ∙ append_assoc (taken ++ took.added) (took.aside ∷ []) more in
-      ends_too_large (taken ++ (took.added ++ took.aside ∷ []) ++ more) (taken ++ took.added) new (took.aside ∷ more) units p.are_units parts full took.stops all (omega arith);
+      ends_too_large ver (taken ++ (took.added ++ took.aside ∷ []) ++ more) (taken ++ took.added) new (took.aside ∷ more) units (units_on ver old taken units p begun) parts full took.stops all (omega arith);
 }
 
-pub gave_cut : (old : ReaderState) (new taken : List ℕ) (units : Log) (s t : Seen) → Represents old taken units → old.begun ≡ true → CutShort old.handle old.rest new s t → StoppedSo old taken units s t
-gave_cut old new taken units s t p begun cut = record {
+pub gave_cut : (ver : Version) (old : ReaderState) (new taken : List ℕ) (units : Log) (s t : Seen) → Represents old taken units → old.version ≡ Some ver → CutShort ver old.handle old.rest new s t → StoppedSo old taken units s t
+gave_cut ver old new taken units s t p begun cut = record {
   added = cut.filled.added;
   read = cut.filled.read;
   rose = cut.rose;
-  holds = inr (new, record { are_units = p.are_units; parts = parts_on old taken units new s t cut.filled p begun }, cut.stops);
+  holds = inr (ver, new, record { are_units = units_on ver old taken units p begun; parts = parts_on ver old taken units new s t cut.filled p begun }, cut.stops);
 }
 
 -- ---- a call that begins with the header
 
-pub began : (most : ℕ) (old new : ReaderState) (taken : List ℕ) (units : Log) (s t : Seen) → Represents old taken units → old.begun ≡ false → most ≡ most_bytes
-    → new.begun ≡ true → new.place ≡ 8 → new.failed ≡ old.failed → TookHeader old.handle most old.rest new.rest s t → Began old new taken units s t
-began most old new taken units s t p fresh room begun place same_failed took =
-    let none : units ≡ [] = p.fresh fresh in
-    let header : so_far units ≡ file_header = ap so_far none in
-    let before : taken ≡ old.rest = p.parts ∙ ap (λ (b : Bool). used b units ++ old.rest) fresh in
-    let parts : taken ++ took.filled.added ≡ so_far units ++ new.rest =
+pub began : (ver : Version) (most : ℕ) (old new : ReaderState) (taken : List ℕ) (units : Log) (s t : Seen) → Represents old taken units → old.version ≡ None → most ≡ most_bytes
+    → new.version ≡ Some ver → new.place ≡ 8 → new.failed ≡ old.failed → TookHeader ver old.handle most old.rest new.rest s t → Began old new taken units s t
+began ver most old new taken units s t p fresh room begun place same_failed took =
+    let none : units ≡ [] = subst (λ (o : Option Version). AreUnitsOf o units) fresh p.are_units in
+    let header : so_far ver units ≡ file_header_of ver = ap (so_far ver) none ∙ append-nil (file_header_of ver) in
+    let before : taken ≡ old.rest = p.parts ∙ ap (λ (o : Option Version). used o units ++ old.rest) fresh in
+    let parts : taken ++ took.filled.added ≡ so_far ver units ++ new.rest =
     ap (λ (x : List ℕ). x ++ took.filled.added) before ∙ sym took.filled.is ∙ took.parts ∙ ap (λ (x : List ℕ). x ++ new.rest) (sym header) in
+    let all : AllByRecursion (IsUnitOf ver) units = subst (AllByRecursion (IsUnitOf ver)) (sym none) tt in
     record {
       added = took.filled.added;
       read = took.filled.read;
-      represents = represents_on new (taken ++ took.filled.added) units begun (same_failed ∙ p.sound) p.are_units parts (place ∙ sym (ap length header)) (took.short p.short) (omega (arith, place, took.within, room));
+      represents = represents_on ver new (taken ++ took.filled.added) units begun (same_failed ∙ p.sound) all parts (place ∙ sym (ap length header ∙ length-header ver)) (took.short p.short) (omega (arith, place, took.within, room));
     }
 
 -- what was taken before a read is taken before both
@@ -156,7 +160,7 @@ stepped_after (Ok (steps.Unit v)) old mid new taken units s t u b same p = recor
   added = b.added ++ p.added;
   read = read_both old.handle mid.handle b.added p.added s t u same b.read p.read;
   represents = regroup (λ (x : List ℕ). Represents new x (units ++ v ∷ [])) taken b.added p.added p.represents;
-  ahead = regroup (λ (x : List ℕ). length x < length (so_far (units ++ v ∷ [])) + 65536) taken b.added p.added p.ahead;
+  ahead = regroup (λ (x : List ℕ). length x < length (used new.version (units ++ v ∷ [])) + 65536) taken b.added p.added p.ahead;
 }
 stepped_after (Ok steps.End) old mid new taken units s t u b same p = record {
   added = b.added ++ p.added;

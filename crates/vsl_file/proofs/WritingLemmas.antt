@@ -1,41 +1,33 @@
 -- Writing a unit: the bytes of a record and of its words.
-use Rattle.std.proofs.Common.{◌≡◌, ℕ, suc, ◌+◌, ◌-◌, ◌*◌, ◌/◌, ◌%◌, ◌^◌, ◌<◌, List, [], ◌∷◌, ◌++◌, length, length-append, take, refl, sym, ap, ◌∙◌, append_assoc, arith}
+use Rattle.std.proofs.Common.{◌≡◌, ℕ, suc, ◌+◌, ◌-◌, ◌*◌, ◌/◌, ◌%◌, ◌^◌, ◌<◌, List, [], ◌∷◌, ◌++◌, length, length-append, take, get_or, refl, sym, ap, ◌∙◌, append_assoc, arith}
 use Rattle.std.specs.Prelude.{Result, Ok, Err, OnOk}
 use Rattle.std.specs.Int.{w32, w64, to_le_bytes}
 use Rattle.std.specs.List.{flat_map}
-use Rattle.std.proofs.lemmas.List.{append-nil}
+use Rattle.std.proofs.lemmas.List.{append-nil, take_more}
 use Rattle.std.proofs.lemmas.List.Concat.{flat_map-append, flat_map-cons}
 use Rattle.std.proofs.lemmas.Nat.{le_bytes_4}
 use Rattle.std.proofs.Math.Seq.{take-append-add}
 use Rattle.vsl_record.specs.declared.mark.Mark.{Mark}
 use Rattle.vsl_record.specs.declared.record_type.Record.{Record}
 use Rattle.vsl_record.specs.Unit.{LogUnit}
-use Rattle.vsl_record.specs.Words.{packed, header_mark, mark_bits, word_of, word_bytes, record_words, body_words}
+use Rattle.vsl_record.specs.Words.{packed, header_mark, id_of, word_of, word_bytes, record_words, body_words}
+use Rattle.vsl_words.specs.declared.version.Version.TheVariants.{Two}
 use Rattle.vsl_record.proofs.Steps.{IsBytes, below_cons}
 use Rattle.vsl_file.specs.File.{record_bytes, unit_bytes}
 use Rattle.vsl_file.specs.inside.Writing.{filled}
 
--- the bytes of a word are those of the number modulo 2^32
-pub wrapped_bytes : (n : ℕ) → to_le_bytes w32 (n % 2 ^ 32) ≡ to_le_bytes w32 n
+-- the bytes of a number of 64 bits are those of its two words, and only what it is modulo 2^64 counts
+wrapped_bytes : (n : ℕ) → to_le_bytes w64 (n % 2 ^ 64) ≡ to_le_bytes w32 (n % 4294967296) ++ to_le_bytes w32 (n / 4294967296)
 wrapped_bytes n =
-    let a : n % 2 ^ 32 % 256 ≡ n % 256 = omega arith in
-    let b : n % 2 ^ 32 / 256 % 256 ≡ n / 256 % 256 = omega arith in
-    let c : n % 2 ^ 32 / 65536 % 256 ≡ n / 65536 % 256 = omega arith in
-    let d : n % 2 ^ 32 / 16777216 % 256 ≡ n / 16777216 % 256 = omega arith in
-    cc
-
--- the bytes of two words are those of one number of 64 bits
-two_words : (a b : ℕ) → a < 2 ^ 32 → to_le_bytes w64 (a + 4294967296 * b) ≡ to_le_bytes w32 a ++ to_le_bytes w32 b
-two_words a b fits =
-    let n : ℕ = a + 4294967296 * b in
-    let c0 : n % 256 ≡ a % 256 = omega arith in
-    let c1 : n / 256 % 256 ≡ a / 256 % 256 = omega arith in
-    let c2 : n / 65536 % 256 ≡ a / 65536 % 256 = omega arith in
-    let c3 : n / 16777216 % 256 ≡ a / 16777216 % 256 = omega arith in
-    let c4 : n / 4294967296 % 256 ≡ b % 256 = omega arith in
-    let c5 : n / 1099511627776 % 256 ≡ b / 256 % 256 = omega arith in
-    let c6 : n / 281474976710656 % 256 ≡ b / 65536 % 256 = omega arith in
-    let c7 : n / 72057594037927936 % 256 ≡ b / 16777216 % 256 = omega arith in
+    let m : ℕ = n % 2 ^ 64 in
+    let c0 : m % 256 ≡ n % 4294967296 % 256 = omega arith in
+    let c1 : m / 256 % 256 ≡ n % 4294967296 / 256 % 256 = omega arith in
+    let c2 : m / 65536 % 256 ≡ n % 4294967296 / 65536 % 256 = omega arith in
+    let c3 : m / 16777216 % 256 ≡ n % 4294967296 / 16777216 % 256 = omega arith in
+    let c4 : m / 4294967296 % 256 ≡ n / 4294967296 % 256 = omega arith in
+    let c5 : m / 1099511627776 % 256 ≡ n / 4294967296 / 256 % 256 = omega arith in
+    let c6 : m / 281474976710656 % 256 ≡ n / 4294967296 / 65536 % 256 = omega arith in
+    let c7 : m / 72057594037927936 % 256 ≡ n / 4294967296 / 16777216 % 256 = omega arith in
     cc
 
 -- four bytes are those of their word
@@ -60,12 +52,14 @@ filled_cut old payload all size all_is size_is =
     let size_at : size ≡ length (old ++ payload) + kept = omega (arith, size_is, ap length all_is, length-append (old ++ payload) (0 ∷ 0 ∷ 0 ∷ [])) in
     rw (all_is, size_at) (take-append-add (old ++ payload) (0 ∷ 0 ∷ 0 ∷ []) kept) ∙ append_assoc old payload (take kept (0 ∷ 0 ∷ 0 ∷ []))
 
--- a record's bytes are those of its two words and of its payload
-pub record_whole : (vxid head id : ℕ) (rec : Record) → IsBytes rec.payload → head < 2 ^ 32 → head ≡ 16777216 * rec.tag + length rec.payload → id ≡ (vxid + mark_bits rec.mark) % 2 ^ 32 → record_bytes vxid rec ≡ to_le_bytes w64 (head + 4294967296 * id) ++ filled rec.payload
-record_whole vxid head id rec all fits head_is id_is =
-    let words : to_le_bytes w64 (head + 4294967296 * id) ≡ to_le_bytes w32 (16777216 * rec.tag + length rec.payload) ++ to_le_bytes w32 (vxid + mark_bits rec.mark) =
-    two_words head id fits ∙ ap (λ (n : ℕ). to_le_bytes w32 n ++ to_le_bytes w32 id) head_is ∙ ap (λ (x : List ℕ). to_le_bytes w32 (16777216 * rec.tag + length rec.payload) ++ x) (ap (to_le_bytes w32) id_is ∙ wrapped_bytes (vxid + mark_bits rec.mark)) in
-    ap (λ (x : List ℕ). to_le_bytes w32 (16777216 * rec.tag + length rec.payload) ++ to_le_bytes w32 (vxid + mark_bits rec.mark) ++ x) (packed_bytes rec.payload all) ∙ ap (λ (x : List ℕ). x ++ filled rec.payload) (sym words)
+-- a record's bytes are those of its first word, of its id, and of its payload
+pub record_whole : (vxid head id : ℕ) (rec : Record) → IsBytes rec.payload → head ≡ 16777216 * rec.tag + length rec.payload → id ≡ id_of Two vxid rec.mark % 2 ^ 64
+    → record_bytes vxid rec ≡ to_le_bytes w32 head ++ (to_le_bytes w64 id ++ filled rec.payload)
+record_whole vxid head id rec all head_is id_is =
+    let first : List ℕ = to_le_bytes w32 (16777216 * rec.tag + length rec.payload) in
+    let ids : to_le_bytes w64 id ≡ to_le_bytes w32 (id_of Two vxid rec.mark % 4294967296) ++ to_le_bytes w32 (id_of Two vxid rec.mark / 4294967296) = ap (to_le_bytes w64) id_is ∙ wrapped_bytes (id_of Two vxid rec.mark) in
+    ap (λ (x : List ℕ). first ++ (to_le_bytes w32 (id_of Two vxid rec.mark % 4294967296) ++ to_le_bytes w32 (id_of Two vxid rec.mark / 4294967296) ++ x)) (packed_bytes rec.payload all)
+    ∙ ap (λ (x : List ℕ). first ++ (x ++ filled rec.payload)) (sym ids) ∙ ap (λ (n : ℕ). to_le_bytes w32 n ++ (to_le_bytes w64 id ++ filled rec.payload)) (sym head_is)
 
 -- the bytes of records' words are the records' bytes
 pub body_bytes : (vxid : ℕ) (records : List Record) → word_bytes (flat_map (record_words vxid) records) ≡ flat_map (record_bytes vxid) records
@@ -96,3 +90,8 @@ on_ok_each P (Err e) each = tt
 pub unit_of_parts : (u : LogUnit) (vxid : ℕ) (records : List Record) → vxid ≡ u.vxid → records ≡ u.records → unit_bytes (record { vxid = vxid; mark = u.mark; records = records }) ≡ unit_bytes u
 unit_of_parts u vxid records vxid_is records_is =
     ap (λ (v : ℕ). unit_bytes (record { vxid = v; mark = u.mark; records = records })) vxid_is ∙ ap (λ (rs : List Record). unit_bytes (record { vxid = u.vxid; mark = u.mark; records = rs })) records_is
+
+-- one record more adds its bytes
+pub body_more : (f : Record → List ℕ) (records : List Record) (i : ℕ) (rec : Record) → i < length records → rec ≡ get_or records i rec → flat_map f (take (i + 1) records) ≡ flat_map f (take i records) ++ f rec
+body_more f records i rec within is =
+    ap (flat_map f) (take_more records i rec within ∙ ap (λ (r : Record). take i records ++ r ∷ []) (sym is)) ∙ flat_map-append f (take i records) (rec ∷ []) ∙ ap (λ (x : List ℕ). flat_map f (take i records) ++ x) (append-nil (f rec))

@@ -1,36 +1,41 @@
 -- What a reader of a file keeps, and what it represents (this project's choice).
-use Rattle.std.specs.Prelude.{◌≡◌, ℕ, ◌+◌, ◌<◌, ◌≤◌, Bool, true, false, List, [], ◌∷◌, ◌++◌, length, Some, Result, Ok, Err}
+use Rattle.std.specs.Prelude.{◌≡◌, ℕ, ◌+◌, ◌<◌, ◌≤◌, Bool, false, List, [], ◌∷◌, ◌++◌, length, Option, Some, None, Result, Ok, Err}
 use Rattle.std.specs.List.{AllByRecursion}
 use Rattle.vio.specs.World.{Seen, Reading, Read, ReadSome, FaultsRose, IsAtEnd}
 use Rattle.vsl_record.specs.Unit.{LogUnit, Log}
-use Rattle.vsl_record.specs.Words.{IsUnit}
+use Rattle.vsl_words.specs.declared.version.Version.{Version}
+use Rattle.vsl_record.specs.Words.{IsUnitOf}
 use Rattle.vsl_file.specs.declared.fault.FileFault.{FileFault}
 use Rattle.vsl_file.specs.declared.fault.FileFault.TheVariants as faults
 use Rattle.vsl_file.specs.declared.reader.FileStep.{FileStep}
 use Rattle.vsl_file.specs.declared.reader.FileStep.TheVariants as steps
-use Rattle.vsl_file.specs.File.{file_header, log_bytes, most_bytes, FileEnding, Whole, NotALog, Damaged, TooLarge, IsFile, HoldsWhole}
+use Rattle.vsl_file.specs.File.{file_header_of, log_bytes_of, most_bytes, FileEnding, Whole, NotALog, Damaged, TooLarge, IsFile, HoldsWhole}
 
--- what a reader keeps: its handle, whether the header was read, how many bytes it used, those that it took and hasn't used, and whether
--- it answered a fault
+-- what a reader keeps: its handle, the version of the file, once its header was read, how many bytes it used, those that it
+-- took and hasn't used, and whether it answered a fault
 pub record ReaderState : Type 0 where
   pub handle : ℕ
-  pub begun : Bool
+  pub version : Option Version
   pub place : ℕ
   pub rest : List ℕ
   pub failed : Bool
 
 -- the bytes that were used for these units
-abbrev pub used : Bool → Log → List ℕ
-used false units = []
-used true units = file_header ++ log_bytes units
+abbrev pub used : Option Version → Log → List ℕ
+used None units = []
+used (Some v) units = file_header_of v ++ log_bytes_of v units
+
+-- units of a file of this version, or none where the header wasn't read
+abbrev pub AreUnitsOf : Option Version → Log → Type 0
+AreUnitsOf None units = units ≡ []
+AreUnitsOf (Some v) units = AllByRecursion (IsUnitOf v) units
 
 -- the reader took these first bytes of a file, and gave these units
 pub record Represents (r : ReaderState) (taken : List ℕ) (units : Log) : Type 0 where
   pub sound : r.failed ≡ false
-  pub are_units : AllByRecursion IsUnit units
-  pub fresh : r.begun ≡ false → units ≡ []
-  pub parts : taken ≡ used r.begun units ++ r.rest
-  pub place : r.place ≡ length (used r.begun units)
+  pub are_units : AreUnitsOf r.version units
+  pub parts : taken ≡ used r.version units ++ r.rest
+  pub place : r.place ≡ length (used r.version units)
   pub short : length r.rest < 65536
   pub most : length taken ≤ most_bytes
 
@@ -40,7 +45,7 @@ pub record GaveUnit (u : LogUnit) (old new : ReaderState) (taken : List ℕ) (un
   pub added : List ℕ
   pub read : Read old.handle added before now
   pub represents : Represents new (taken ++ added) (units ++ u ∷ [])
-  pub ahead : length (taken ++ added) < length (file_header ++ log_bytes (units ++ u ∷ [])) + 65536
+  pub ahead : length (taken ++ added) < length (used new.version (units ++ u ∷ [])) + 65536
 
 -- the file ended, and was whole
 pub record GaveEnd (old new : ReaderState) (taken : List ℕ) (units : Log) (before now : Seen) : Type 0 where

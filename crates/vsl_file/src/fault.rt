@@ -11,7 +11,7 @@ use vio::{Failed, NoMemory};
 pub enum FileFault {
     /// The file is no log.
     NotALog {
-        /// The first byte that isn't the header's, or the file's length where it ends inside the header.
+        /// The first byte at which the file begins as no version's header, or its length where it ends inside one.
         at: u64,
     },
     /// A unit isn't whole and correct.

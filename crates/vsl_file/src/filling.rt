@@ -21,8 +21,10 @@ pub fn read_behind<W: World>(
     requires { place ≤ length bytes.old }
     ensures fits { IfOk result (λ n. place + n ≤ length bytes.old) }
     ensures kept { take place bytes.new ≡ take place bytes.old }
-    ensures read { IfOk result (λ n. Read handle (take n (drop place bytes.new)) (W.seen world.old) (W.seen world.new)) }
-    ensures end { IfOk result (λ n. n ≡ 0 → place < length bytes.old → IsAtEnd handle (W.seen world.new)) }
+    ensures read { IfOk result
+        (λ n. Read handle (take n (drop place bytes.new)) (W.seen world.old) (W.seen world.new)) }
+    ensures end { IfOk result (λ n. n ≡ 0 → place < length bytes.old →
+        IsAtEnd handle (W.seen world.new)) }
 
     ensures same { OnErr result (OnlyCounts (W.seen world.old) (W.seen world.new)) }
     ensures rose { OnErr result (FaultsRose Reading handle (W.seen world.old) (W.seen world.new)) }
@@ -39,14 +41,17 @@ fn fill<W: World>(
     world: &mut W,
 ) -> Result<usize, StepFault>
     requires { length buffer.old.items ≤ most }
-    ensures filled { Filled handle buffer.old.items buffer.new.items (W.seen world.old) (W.seen world.new) }
+    ensures filled { Filled handle buffer.old.items buffer.new.items (W.seen world.old)
+        (W.seen world.new) }
     ensures within { length buffer.new.items ≤ most }
     ensures size { IfOk result (λ n. length buffer.new.items ≡ length buffer.old.items + n) }
     ensures few { IfOk result (λ n. n ≤ 65536) }
-    ensures end { IfOk result (λ n. n ≡ 0 → length buffer.new.items < most → IsAtEnd handle (W.seen world.new)) }
+    ensures end { IfOk result (λ n. n ≡ 0 → length buffer.new.items < most →
+        IsAtEnd handle (W.seen world.new)) }
 
     ensures kept { OnErr result (buffer.new.items ≡ buffer.old.items) }
-    ensures rose { IsErrOf result StepFault.Failed → FaultsRose Reading handle (W.seen world.old) (W.seen world.new) }
+    ensures rose { IsErrOf result StepFault.Failed →
+        FaultsRose Reading handle (W.seen world.old) (W.seen world.new) }
 {
     let length = buffer.len();
     let room = PIECE.min(most - length);
@@ -72,17 +77,21 @@ pub(crate) fn fill_to<W: World>(
     handle: u32,
     world: &mut W,
 ) -> Result<bool, StepFault>
-    requires size { size ≤ 4194304 }
+    requires size { size ≤ 8388608 }
     requires most { length buffer.old.items ≤ most }
-    ensures filled { Filled handle buffer.old.items buffer.new.items (W.seen world.old) (W.seen world.new) }
+    ensures filled { Filled handle buffer.old.items buffer.new.items (W.seen world.old)
+        (W.seen world.new) }
     ensures within { length buffer.new.items ≤ most }
     ensures enough { IfOk result (λ b. b ≡ true → size ≤ length buffer.new.items) }
-    ensures bound { IfOk result (λ _. length buffer.new.items ≤ max (length buffer.old.items) (size + 65535)) }
+    ensures bound { IfOk result
+        (λ _. length buffer.new.items ≤ max (length buffer.old.items) (size + 65535)) }
     ensures short { IfOk result (λ b. b ≡ false → length buffer.new.items < size) }
-    ensures end { IfOk result (λ b. b ≡ false → length buffer.new.items < most → IsAtEnd handle (W.seen world.new)) }
+    ensures end { IfOk result (λ b. b ≡ false → length buffer.new.items < most →
+        IsAtEnd handle (W.seen world.new)) }
 
     ensures cut { OnErr result (length buffer.new.items < size) }
-    ensures rose { IsErrOf result StepFault.Failed → FaultsRose Reading handle (W.seen world.old) (W.seen world.new) }
+    ensures rose { IsErrOf result StepFault.Failed →
+        FaultsRose Reading handle (W.seen world.old) (W.seen world.new) }
 {
     while buffer.len() < size {
         let n = fill(buffer, most, handle, world)?;

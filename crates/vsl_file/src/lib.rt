@@ -1,4 +1,4 @@
-//! Log files: a header and units, each word as four bytes.
+//! Log files: a header and units, each word as four bytes, in version 1 or 2 of the words.
 //!
 //! `FileReader` gives the units of a file one after the other, as far as they are whole and correct, and
 //! says how the file ends. It reads in pieces of 64 KiB, one pass, and holds at most one unit and a piece.

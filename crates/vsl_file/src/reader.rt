@@ -1,6 +1,6 @@
 //! Reading the units of a file, one after the other.
 
-ghost use Rattle.std.specs.Prelude.{◌≡◌, ◌+◌, ◌≤◌, ℕ, List, [], true, false, is_err, length, Ok, Err, IfOk, OnOk};
+ghost use Rattle.std.specs.Prelude.{◌≡◌, ◌+◌, ◌≤◌, ℕ, List, [], true, is_err, length, Some, None, Ok, Err, IfOk};
 ghost use Rattle.vio.specs.World.{ReadSome};
 ghost use Rattle.vsl_file.specs.File.{most_bytes};
 ghost use Rattle.vsl_file.specs.inside.ReaderSteps.{BeganSo};
@@ -9,13 +9,13 @@ ghost use Rattle.vsl_record.specs.Unit.{LogUnit, Log};
 
 use crate::fault::{FileFault, StepFault};
 use crate::filling::PIECE;
-use crate::header::{HEADER, take_header};
+use crate::header::{HEADER, Header, take_header};
 use crate::steps::{Taken, take_unit};
 use bytes::BytesMut;
 use std::alloc::Global;
 use std::marker::Model;
 use vio::{NoMemory, World};
-use vsl_record::{Records, Unit};
+use vsl_record::{Records, Unit, Version};
 
 /// The most bytes of a file that are read: 2^40.
 const MOST_BYTES: u64 = 1_099_511_627_776;
@@ -35,7 +35,8 @@ pub enum FileStep {
 pub struct FileReader {
     alloc: Global,
     handle: u32,
-    begun: bool,
+    /// The version of the file, once its header was read.
+    version: Option<Version>,
     place: u64,
     buffer: BytesMut,
     /// Records that aren't needed, in whose memory the next unit will stand.
@@ -44,14 +45,21 @@ pub struct FileReader {
 }
 
 impl Model for FileReader {
-    ghost use Rattle.std.specs.Prelude.{◌≡◌, ◌+◌, ◌≤◌, false, length};
+    ghost use Rattle.std.specs.Prelude.{◌≡◌, ◌+◌, ◌≤◌, None, length};
     ghost use Rattle.vsl_file.specs.ReaderState.{ReaderState};
 
     ghost Value = { ReaderState };
 
-    ghost view = { λ r. record { handle = r.handle; begun = r.begun; place = r.place; rest = r.buffer.items; failed = r.failed } };
+    ghost view = { λ r. record {
+      handle = r.handle;
+      version = r.version;
+      place = r.place;
+      rest = r.buffer.items;
+      failed = r.failed;
+    } };
 
-    ghost invariant = { λ r. (r.place + length r.buffer.items ≤ 1099511627776) × (r.begun ≡ false → r.place ≡ 0) };
+    ghost invariant = { λ r. (r.place + length r.buffer.items ≤ 1099511627776) ×
+        (r.version ≡ None → r.place ≡ 0) };
 }
 
 impl FileReader {
@@ -63,7 +71,7 @@ impl FileReader {
         Ok(FileReader {
             alloc,
             handle,
-            begun: false,
+            version: None,
             place: 0,
             buffer: BytesMut::with_capacity(alloc, 2 * PIECE)?,
             room: Records::new(alloc),
@@ -77,8 +85,10 @@ impl FileReader {
     /// Of a file of more than 2^40 bytes the first 2^40 are read as a file, and one more byte shows that it
     /// goes on.
     pub fn next<W: World>(&mut self, world: &mut W) -> Result<FileStep, FileFault>
-        ensures stepped { (taken : List ℕ) (units : Log) → Represents self.old taken units → Stepped result self.old self.new taken units (W.seen world.old) (W.seen world.new) }
-        ensures further { (u : LogUnit) → result ≡ Ok (FileStep.Unit u) → self.old.place + 12 ≤ self.new.place }
+        ensures stepped { (taken : List ℕ) (units : Log) → Represents self.old taken units →
+            Stepped result self.old self.new taken units (W.seen world.old) (W.seen world.new) }
+        ensures further { (u : LogUnit) → result ≡ Ok (FileStep.Unit u) →
+            self.old.place + 12 ≤ self.new.place }
         ensures within { self.new.place ≤ most_bytes }
         ensures reads { ReadSome self.old.handle (W.seen world.old) (W.seen world.new) }
 
@@ -95,6 +105,13 @@ impl FileReader {
         step
     }
 
+    /// The version of the file's words, once its header was read.
+    pub fn version(&self) -> Option<Version>
+        ensures { result ≡ self.now.version }
+    {
+        self.version
+    }
+
     /// Takes back a unit that isn't needed: the next one will stand in its memory.
     pub fn give_back(&mut self, unit: Unit)
         ensures { self.new ≡ self.old }
@@ -106,52 +123,58 @@ impl FileReader {
 
     /// Gives the next unit, after the header.
     fn step<W: World>(&mut self, world: &mut W) -> Result<FileStep, FileFault>
-        ensures stepped { (taken : List ℕ) (units : Log) → Represents self.old taken units → Stepped result self.old self.new taken units (W.seen world.old) (W.seen world.new) }
-        ensures further { (u : LogUnit) → result ≡ Ok (FileStep.Unit u) → self.old.place + 12 ≤ self.new.place }
+        ensures stepped { (taken : List ℕ) (units : Log) → Represents self.old taken units →
+            Stepped result self.old self.new taken units (W.seen world.old) (W.seen world.new) }
+        ensures further { (u : LogUnit) → result ≡ Ok (FileStep.Unit u) →
+            self.old.place + 12 ≤ self.new.place }
         ensures reads { ReadSome self.old.handle (W.seen world.old) (W.seen world.new) }
         ensures failed { self.new.failed ≡ self.old.failed }
         ensures handle { self.new.handle ≡ self.old.handle }
     {
-        if self.begun {
-            return self.take(world);
+        if let Some(version) = self.version {
+            return self.take(version, world);
         }
-        self.begin(world)?;
-        self.take(world)
+        let version = self.begin(world)?;
+        self.take(version, world)
     }
 
-    /// Takes the header.
-    fn begin<W: World>(&mut self, world: &mut W) -> Result<(), FileFault>
-        requires { self.old.begun ≡ false }
-        ensures began { (taken : List ℕ) (units : Log) → Represents self.old taken units → BeganSo result self.old self.new taken units (W.seen world.old) (W.seen world.new) }
-        ensures begun { OnOk result (self.new.begun ≡ true) }
+    /// Takes the header, and says of which version it is.
+    fn begin<W: World>(&mut self, world: &mut W) -> Result<Version, FileFault>
+        requires { self.old.version ≡ None }
+        ensures began { (taken : List ℕ) (units : Log) → Represents self.old taken units →
+            BeganSo result self.old self.new taken units (W.seen world.old) (W.seen world.new) }
+        ensures version { IfOk result (λ v. self.new.version ≡ Some v) }
         ensures place { self.old.place ≤ self.new.place }
         ensures reads { ReadSome self.old.handle (W.seen world.old) (W.seen world.new) }
         ensures failed { self.new.failed ≡ self.old.failed }
         ensures handle { self.new.handle ≡ self.old.handle }
     {
         match take_header(&mut self.buffer, MOST_BYTES as usize, self.handle, world) {
-            Ok(None) => {
-                self.begun = true;
+            Ok(Header::Found(version)) => {
+                self.version = Some(version);
                 self.place = HEADER.len() as u64;
-                Ok(())
+                Ok(version)
             }
-            Ok(Some(at)) => Err(FileFault::NotALog { at: at as u64 }),
+            Ok(Header::Missing(at)) => Err(FileFault::NotALog { at: at as u64 }),
             Err(StepFault::Failed) => Err(FileFault::ReadFault),
             Err(StepFault::NoMemory) => Err(FileFault::NoMemory),
         }
     }
 
     /// Takes a unit.
-    fn take<W: World>(&mut self, world: &mut W) -> Result<FileStep, FileFault>
-        requires { self.old.begun ≡ true }
-        ensures stepped { (taken : List ℕ) (units : Log) → Represents self.old taken units → Stepped result self.old self.new taken units (W.seen world.old) (W.seen world.new) }
-        ensures further { (u : LogUnit) → result ≡ Ok (FileStep.Unit u) → self.old.place + 12 ≤ self.new.place }
+    fn take<W: World>(&mut self, version: Version, world: &mut W) -> Result<FileStep, FileFault>
+        requires { self.old.version ≡ Some version }
+        ensures stepped { (taken : List ℕ) (units : Log) → Represents self.old taken units →
+            Stepped result self.old self.new taken units (W.seen world.old) (W.seen world.new) }
+        ensures further { (u : LogUnit) → result ≡ Ok (FileStep.Unit u) →
+            self.old.place + 12 ≤ self.new.place }
         ensures reads { ReadSome self.old.handle (W.seen world.old) (W.seen world.new) }
         ensures failed { self.new.failed ≡ self.old.failed }
         ensures handle { self.new.handle ≡ self.old.handle }
     {
         let most = (MOST_BYTES - self.place) as usize;
         match take_unit(
+            version,
             self.alloc,
             &mut self.room,
             &mut self.buffer,

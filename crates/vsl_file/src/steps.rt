@@ -12,13 +12,10 @@ use bytes::BytesMut;
 use std::alloc::Global;
 use std::mem;
 use vio::{Failed, NoMemory, World};
-use vsl_record::{MAX_UNIT_WORDS, Records, TOP_BYTE, UNIT_MARK, Unit, WordFault, read_unit_bytes};
+use vsl_record::{Records, TOP_BYTE, UNIT_MARK, Unit, Version, WordFault, read_unit_bytes};
 
 /// The bytes of a word.
 pub(crate) const WORD: usize = 4;
-
-/// The fewest words of a unit: its header, and two of a record.
-const FEWEST_WORDS: u32 = 3;
 
 /// What is held where the next unit begins.
 pub(crate) enum Held {
@@ -43,39 +40,47 @@ pub(crate) enum Taken {
     TooLarge,
 }
 
-/// Whether a word can be the header of a unit.
-fn is_unit_header(head: u32) -> bool
-    ensures { result ≡ is_unit_header head }
+/// Whether a word can be the header of a unit: it counts no fewer words than itself and a record without a payload are.
+fn is_unit_header(version: Version, head: u32) -> bool
+    ensures { result ≡ is_unit_header version head }
 {
-    let words = head % TOP_BYTE;
-    head / TOP_BYTE == UNIT_MARK && words >= FEWEST_WORDS && words as usize <= MAX_UNIT_WORDS
+    let words = (head % TOP_BYTE) as usize;
+    let least = 2 + version.id_size();
+    let most = version.most_words();
+    head / TOP_BYTE == UNIT_MARK && words >= least && words <= most
 }
 
 /// How many bytes the unit that begins the bytes has, as its header says, where that can be a unit's header.
-fn head_size(bytes: &[u8]) -> Option<usize>
+fn head_size(version: Version, bytes: &[u8]) -> Option<usize>
     requires { 4 ≤ length bytes.now }
-    ensures some { IfSome result (λ size. IsHeadSize size bytes.now) }
-    ensures none { IfNone result (IsBroken bytes.now) }
+    ensures some { IfSome result (λ size. IsHeadSize version size bytes.now) }
+    ensures none { IfNone result (IsBroken version bytes.now) }
 {
     let [a, b, c, d, ..] = bytes else {
         return None;
     };
     let head = u32::from_le_bytes([*a, *b, *c, *d]);
-    if !is_unit_header(head) {
+    if !is_unit_header(version, head) {
         return None;
     }
     Some(WORD * (head % TOP_BYTE) as usize)
 }
 
 /// Reads the unit of this size that begins the bytes. It stands in the memory of the records that are given.
-fn read_sized(room: Records, bytes: &[u8], size: usize) -> Result<Option<Unit>, NoMemory>
-    requires sized { IsHeadSize size bytes.now }
+fn read_sized(
+    version: Version,
+    room: Records,
+    bytes: &[u8],
+    size: usize,
+) -> Result<Option<Unit>, NoMemory>
+    requires sized { IsHeadSize version size bytes.now }
     requires enough { size ≤ length bytes.now }
-    ensures some { IfOk result (λ o. IfSome o (λ u. BeginsWithUnit bytes.now u (drop size bytes.now))) }
-    ensures none { IfOk result (λ o. IfNone o (IsBroken bytes.now)) }
+    ensures some { IfOk result
+        (λ o. IfSome o (λ u. BeginsWithUnit version bytes.now u (drop size bytes.now))) }
+    ensures none { IfOk result (λ o. IfNone o (IsBroken version bytes.now)) }
 {
     let (part, _) = bytes.split_at(size);
-    match read_unit_bytes(room, part) {
+    match read_unit_bytes(version, room, part) {
         Ok((unit, _)) => Ok(Some(unit)),
         Err(fault) if fault == WordFault::NoMemory => Err(NoMemory),
         Err(_) => Ok(None),
@@ -85,23 +90,28 @@ fn read_sized(room: Records, bytes: &[u8], size: usize) -> Result<Option<Unit>, 
 /// Reads until as many bytes are held as the next unit's header counts. The header is looked at before
 /// more is asked for.
 fn hold_unit<W: World>(
+    version: Version,
     buffer: &mut BytesMut,
     most: usize,
     handle: u32,
     world: &mut W,
 ) -> Result<Held, StepFault>
     requires { length buffer.old.items ≤ most }
-    ensures filled { Filled handle buffer.old.items buffer.new.items (W.seen world.old) (W.seen world.new) }
+    ensures filled { Filled handle buffer.old.items buffer.new.items (W.seen world.old)
+        (W.seen world.new) }
     ensures within { length buffer.new.items ≤ most }
-    ensures holds { IfOk result (λ held. Holds handle most held buffer.old.items buffer.new.items (W.seen world.new)) }
+    ensures holds { IfOk result
+        (λ held. Holds version handle most held buffer.old.items buffer.new.items
+        (W.seen world.new)) }
 
-    ensures stops { OnErr result (stops_early buffer.new.items ≡ true) }
-    ensures rose { IsErrOf result StepFault.Failed → FaultsRose Reading handle (W.seen world.old) (W.seen world.new) }
+    ensures stops { OnErr result (stops_early version buffer.new.items ≡ true) }
+    ensures rose { IsErrOf result StepFault.Failed →
+        FaultsRose Reading handle (W.seen world.old) (W.seen world.new) }
 {
     if !fill_to(buffer, WORD, most, handle, world)? {
         return Ok(Held::Stopped);
     }
-    let Some(size) = head_size(buffer.as_slice()) else {
+    let Some(size) = head_size(version, buffer.as_slice()) else {
         return Ok(Held::Broken);
     };
     if !fill_to(buffer, size, most, handle, world)? {
@@ -115,8 +125,10 @@ fn hold_unit<W: World>(
 fn goes_on<W: World>(held: usize, most: usize, handle: u32, world: &mut W) -> Result<bool, Failed>
     requires within { held ≤ most }
     requires end { held < most → IsAtEnd handle (W.seen world.old) }
-    ensures more { IfOk result (λ b. b ≡ true → (held ≡ most) × GoesOn handle (W.seen world.old) (W.seen world.new)) }
-    ensures none { IfOk result (λ b. b ≡ false → HasEnded handle (W.seen world.old) (W.seen world.new)) }
+    ensures more { IfOk result (λ b. b ≡ true →
+        (held ≡ most) × GoesOn handle (W.seen world.old) (W.seen world.new)) }
+    ensures none { IfOk result (λ b. b ≡ false →
+        HasEnded handle (W.seen world.old) (W.seen world.new)) }
     ensures reads { ReadSome handle (W.seen world.old) (W.seen world.new) }
 
     ensures same { OnErr result (OnlyCounts (W.seen world.old) (W.seen world.new)) }
@@ -132,6 +144,7 @@ fn goes_on<W: World>(held: usize, most: usize, handle: u32, world: &mut W) -> Re
 
 /// Takes the unit that begins what is left. It stands in the memory of the records that are given, which are let go.
 pub(crate) fn take_unit<W: World>(
+    version: Version,
     alloc: Global,
     room: &mut Records,
     buffer: &mut BytesMut,
@@ -140,15 +153,20 @@ pub(crate) fn take_unit<W: World>(
     world: &mut W,
 ) -> Result<Taken, StepFault>
     requires { length buffer.old.items ≤ most }
-    ensures took { IfOk result (λ t. Took handle most t buffer.old.items buffer.new.items (W.seen world.old) (W.seen world.new)) }
+    ensures took { IfOk result
+        (λ t. Took version handle most t buffer.old.items buffer.new.items (W.seen world.old)
+        (W.seen world.new)) }
     ensures within { length buffer.new.items ≤ most }
     ensures reads { ReadSome handle (W.seen world.old) (W.seen world.new) }
 
-    ensures failed { IsErrOf result StepFault.Failed → CutShort handle buffer.old.items buffer.new.items (W.seen world.old) (W.seen world.new) }
+    ensures failed { IsErrOf result StepFault.Failed →
+        CutShort version handle buffer.old.items buffer.new.items (W.seen world.old)
+        (W.seen world.new) }
 {
-    match hold_unit(buffer, most, handle, world)? {
+    match hold_unit(version, buffer, most, handle, world)? {
         Held::Sized(size) => {
             let Some(unit) = read_sized(
+                version,
                 mem::replace(room, Records::new(alloc)),
                 buffer.as_slice(),
                 size,

@@ -18,9 +18,6 @@ use vio::NoMemory;
 use vsl_record::{HEADER_MARK, Mark, RecordView, RecordsView, TOP_BYTE, Unit, Vxid, count_words};
 use vsl_tags::Tag;
 
-/// One more than the highest word.
-const WORD_END: u64 = 0x1_0000_0000;
-
 /// What fills the last word of a payload, at most.
 const FILLING: [u8; 3] = [0; 3];
 
@@ -60,14 +57,15 @@ pub fn put_record(
     out: &mut Vec<u8>,
 ) -> Result<(), NoMemory>
     requires { length payload.now ≤ most_payload }
-    ensures written { Puts result out.old.items out.new.items (record_bytes vxid (record { tag = tag; mark = mark; payload = payload.now })) }
+    ensures written { Puts result out.old.items out.new.items
+        (record_bytes vxid (record { tag = tag; mark = mark; payload = payload.now })) }
     ensures rec { IsRecordOf mark (record { tag = tag; mark = mark; payload = payload.now }) }
 {
     are_bytes(payload);
     let head = TOP_BYTE * u32::from(tag.number()) + payload.len() as u32;
     let id = vxid.wrapping_add(mark.bits());
-    let both = u64::from(head) + WORD_END * u64::from(id);
-    out.extend_from_slice(&both.to_le_bytes())?;
+    out.extend_from_slice(&head.to_le_bytes())?;
+    out.extend_from_slice(&id.to_le_bytes())?;
     put_payload(payload, out)
 }
 
@@ -97,7 +95,9 @@ fn put_head(words: usize, out: &mut Vec<u8>) -> Result<(), NoMemory>
 #[tactic(auto, using(log_model::proofs::PrefixLemmas::adding))]
 pub fn put_unit_of(words: usize, body: &[u8], out: &mut Vec<u8>) -> Result<(), NoMemory>
     requires { words ≤ most_words }
-    ensures { (u : LogUnit) → words ≡ length (unit_words u) → body.now ≡ flat_map (record_bytes u.vxid) u.records → Puts result out.old.items out.new.items (unit_bytes u) }
+    ensures { (u : LogUnit) → words ≡ length (unit_words u) →
+        body.now ≡ flat_map (record_bytes u.vxid) u.records →
+        Puts result out.old.items out.new.items (unit_bytes u) }
 {
     put_head(words, out)?;
     out.extend_from_slice(body)?;
@@ -107,8 +107,12 @@ pub fn put_unit_of(words: usize, body: &[u8], out: &mut Vec<u8>) -> Result<(), N
 /// Adds the header and the records of a unit, or a part of them.
 #[tactic(auto, using(log_model::proofs::PrefixLemmas::adding))]
 fn put_words(vxid: Vxid, records: &RecordsView<'_>, out: &mut Vec<u8>) -> Result<(), NoMemory>
-    requires { (mark : LogMark) → length (unit_words (record { vxid = vxid; mark = mark; records = records.now })) ≤ most_words }
-    ensures { (mark : LogMark) → Puts result out.old.items out.new.items (unit_bytes (record { vxid = vxid; mark = mark; records = records.now })) }
+    requires { (mark : LogMark) →
+        length (unit_words (record { vxid = vxid; mark = mark; records = records.now })) ≤
+        most_words }
+    ensures { (mark : LogMark) →
+        Puts result out.old.items out.new.items
+        (unit_bytes (record { vxid = vxid; mark = mark; records = records.now })) }
 {
     let words = count_words(records) as usize;
     out.reserve(WORD * words + FILLING.len())?;
@@ -119,8 +123,12 @@ fn put_words(vxid: Vxid, records: &RecordsView<'_>, out: &mut Vec<u8>) -> Result
 /// Adds the bytes of the unit of these records, whose marks they tell. After want of memory the list is as
 /// it was. Any VXID is taken, and whether the records are a unit's is for the caller.
 pub fn put_records(vxid: Vxid, records: &RecordsView<'_>, out: &mut Vec<u8>) -> Result<(), NoMemory>
-    requires { (mark : LogMark) → length (unit_words (record { vxid = vxid; mark = mark; records = records.now })) ≤ most_words }
-    ensures ok { OnOk result ((mark : LogMark) → out.new.items ≡ out.old.items ++ unit_bytes (record { vxid = vxid; mark = mark; records = records.now })) }
+    requires { (mark : LogMark) →
+        length (unit_words (record { vxid = vxid; mark = mark; records = records.now })) ≤
+        most_words }
+    ensures ok { OnOk result ((mark : LogMark) →
+        out.new.items ≡ out.old.items ++ unit_bytes
+        (record { vxid = vxid; mark = mark; records = records.now })) }
     ensures err { OnErr result (out.new.items ≡ out.old.items) }
 {
     let before = out.len();
@@ -131,7 +139,9 @@ pub fn put_records(vxid: Vxid, records: &RecordsView<'_>, out: &mut Vec<u8>) -> 
 /// Adds the header and the record of a unit of one record, or a part of them.
 #[tactic(auto, using(log_model::proofs::PrefixLemmas::adding))]
 fn put_one(vxid: Vxid, rec: &RecordView<'_>, out: &mut Vec<u8>) -> Result<(), NoMemory>
-    ensures { (mark : LogMark) → Puts result out.old.items out.new.items (unit_bytes (record { vxid = vxid; mark = mark; records = rec.now ∷ [] })) }
+    ensures { (mark : LogMark) →
+        Puts result out.old.items out.new.items
+        (unit_bytes (record { vxid = vxid; mark = mark; records = rec.now ∷ [] })) }
 {
     put_head(1 + rec.words(), out)?;
     put_record(vxid, rec.mark(), rec.tag(), rec.payload(), out)
@@ -139,7 +149,9 @@ fn put_one(vxid: Vxid, rec: &RecordView<'_>, out: &mut Vec<u8>) -> Result<(), No
 
 /// Adds the bytes of the unit of one record, as `put_records` adds those of more.
 pub fn put_alone(vxid: Vxid, rec: &RecordView<'_>, out: &mut Vec<u8>) -> Result<(), NoMemory>
-    ensures ok { OnOk result ((mark : LogMark) → out.new.items ≡ out.old.items ++ unit_bytes (record { vxid = vxid; mark = mark; records = rec.now ∷ [] })) }
+    ensures ok { OnOk result ((mark : LogMark) →
+        out.new.items ≡ out.old.items ++ unit_bytes
+        (record { vxid = vxid; mark = mark; records = rec.now ∷ [] })) }
     ensures err { OnErr result (out.new.items ≡ out.old.items) }
 {
     let before = out.len();

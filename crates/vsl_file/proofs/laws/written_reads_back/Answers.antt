@@ -3,4 +3,4 @@ use Rattle.vsl_file.proofs.FileLemmas.{ends_whole}
 use Rattle.vsl_file.proofs.laws.written_reads_back.Goals as goal
 
 pub returns : goal.returns
-returns c = λ units all small. ends_whole _ units all refl small
+returns c = λ v units all small. ends_whole v _ units all refl small

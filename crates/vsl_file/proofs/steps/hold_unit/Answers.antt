@@ -16,7 +16,7 @@ returns-clause-holds g c =
     let sized = rw c.as_slice.ensures at c.in-Some.ensures.some in
     let second = c.fill_to-2.ensures.filled in
     record {
-      sized = sized_more c.in-Some.size c.fill_to.new.buffer.items c.fill_to-2.new.buffer.items second.added second.is sized;
+      sized = sized_more c.args.version c.in-Some.size c.fill_to.new.buffer.items c.fill_to-2.new.buffer.items second.added second.is sized;
       enough = c.in_ok-fill_to-2.ensures.enough c.if-not-branch-2.false;
       short = λ small. omega (arith, small, sized.least, c.in_ok-fill_to.ensures.bound, c.in_ok-fill_to-2.ensures.bound);
     }

@@ -6,21 +6,21 @@ use Rattle.vsl_file.proofs.reader.FileReader.take.Goals as goal
 pub returns-in-Ok-Whole-clause-stepped : goal.returns-in-Ok-Whole-clause-stepped
 unfolding most_bytes
 returns-in-Ok-Whole-clause-stepped g c = rw (← c.self.view_is) (λ taken units p.
-    gave_unit c.in-Ok-Whole.unit c.in-Ok-Whole.size _ _ _ taken units _ _ p (rw (← c.self.view_is) at c.requires) (omega arith) refl refl refl (rw c.in-Ok-Whole.field-0-is at c.in-Ok-Whole.ensures.took))
+    gave_unit c.args.version c.in-Ok-Whole.unit c.in-Ok-Whole.size _ _ _ taken units _ _ p (rw (← c.self.view_is) at c.requires) (omega arith) refl refl refl (rw c.in-Ok-Whole.field-0-is at c.in-Ok-Whole.ensures.took))
 
 pub returns-in-Ok-Damaged-clause-stepped : goal.returns-in-Ok-Damaged-clause-stepped
 unfolding most_bytes
 returns-in-Ok-Damaged-clause-stepped g c = rw (← c.self.view_is) (λ taken units p.
-    gave_damaged _ _ taken units _ _ _ p (rw (← c.self.view_is) at c.requires) (omega arith) (rw c.in-Ok-Damaged.field-0-is at c.in-Ok-Damaged.ensures.took))
+    gave_damaged c.args.version _ _ taken units _ _ _ p (rw (← c.self.view_is) at c.requires) (omega arith) (rw c.in-Ok-Damaged.field-0-is at c.in-Ok-Damaged.ensures.took))
 
 pub returns-in-Ok-TooLarge-clause-stepped : goal.returns-in-Ok-TooLarge-clause-stepped
 unfolding most_bytes
 returns-in-Ok-TooLarge-clause-stepped g c = rw (← c.self.view_is) (λ taken units p.
-    gave_too_large _ _ taken units _ _ _ p (rw (← c.self.view_is) at c.requires) (omega arith) (rw c.in-Ok-TooLarge.field-0-is at c.in-Ok-TooLarge.ensures.took))
+    gave_too_large c.args.version _ _ taken units _ _ _ p (rw (← c.self.view_is) at c.requires) (omega arith) (rw c.in-Ok-TooLarge.field-0-is at c.in-Ok-TooLarge.ensures.took))
 
 pub returns-in-Err-Failed-clause-stepped : goal.returns-in-Err-Failed-clause-stepped
 returns-in-Err-Failed-clause-stepped g c = rw (← c.self.view_is) (λ taken units p.
-    gave_cut _ _ taken units _ _ p (rw (← c.self.view_is) at c.requires) (c.in-Err-Failed.ensures.failed (ap Err c.in-Err-Failed.field-0-is)))
+    gave_cut c.args.version _ _ taken units _ _ p (rw (← c.self.view_is) at c.requires) (c.in-Err-Failed.ensures.failed (ap Err c.in-Err-Failed.field-0-is)))
 
 pub returns-in-Ok-Whole-clause-further : goal.returns-in-Ok-Whole-clause-further
 returns-in-Ok-Whole-clause-further g c = rw (← c.self.view_is) (λ u is. let took = rw c.in-Ok-Whole.field-0-is at c.in-Ok-Whole.ensures.took in omega (arith, took.least))
