@@ -35,8 +35,10 @@ AreListings reclen seg contents listings = AllZip (IsFeed reclen seg) contents l
 -- feed is used, nor of the others: it is likely another file than was meant. Its number tells it, because one name may
 -- be given twice
 abbrev pub HasBytesFault : ℕ → List ℕ → List ℕ → FeedFault → Type 0
-HasBytesFault n name bytes (TooLarge called limit) = (called ≡ name) × (limit ≡ most_feed_bytes) × (most_feed_bytes < length bytes)
-HasBytesFault n name bytes (BadListing feed line) = (feed ≡ n) × (length bytes ≤ most_feed_bytes) × IsFirstBad bytes line
+HasBytesFault n name bytes (TooLarge called limit) = (called ≡ name) × (limit ≡ most_feed_bytes) ×
+    (most_feed_bytes < length bytes)
+HasBytesFault n name bytes (BadListing feed line) = (feed ≡ n) × (length bytes ≤ most_feed_bytes) ×
+    IsFirstBad bytes line
 HasBytesFault n name bytes fault = ⊥
 
 -- of the contents of feeds of these names one has this fault, and those before it are listings
@@ -95,12 +97,15 @@ pub record FeedPasses (reclen seg : ℕ) (feed : Feed) (listing : Listing) (call
 abbrev pub FeedStops : Feed → FeedFault → List Call → Type 0
 FeedStops feed (NoOpen name) calls = (name ≡ feed.name) × IsRefusedBy most_feed_bytes feed.name named.NoOpen calls
 FeedStops feed (ReadFault name) calls = (name ≡ feed.name) × IsRefusedBy most_feed_bytes feed.name named.Failed calls
-FeedStops feed (TooLarge name limit) calls = (name ≡ feed.name) × (limit ≡ most_feed_bytes) × IsRefusedBy most_feed_bytes feed.name named.TooLarge calls
-FeedStops feed (BadListing number line) calls = (number ≡ feed.number) × (bytes : List ℕ) × IsReadBy most_feed_bytes feed.name bytes calls × IsFirstBad bytes line
+FeedStops feed (TooLarge name limit) calls = (name ≡ feed.name) × (limit ≡ most_feed_bytes) ×
+    IsRefusedBy most_feed_bytes feed.name named.TooLarge calls
+FeedStops feed (BadListing number line) calls = (number ≡ feed.number) × (bytes : List ℕ) ×
+    IsReadBy most_feed_bytes feed.name bytes calls × IsFirstBad bytes line
 
 -- feeds of these names were read by these calls, and these are their listings
 abbrev pub AreFeedsRead : ℕ → ℕ → List (List ℕ) → List Listing → List Call → Type 0
-AreFeedsRead reclen seg names listings calls = Passed (FeedPasses reclen seg) FeedStops (feeds_from 0 names) listings calls
+AreFeedsRead reclen seg names listings calls = Passed (FeedPasses reclen seg) FeedStops
+    (feeds_from 0 names) listings calls
 
 -- one of the feeds of these names stopped the reading with this fault, those before it were read, and no call was made behind it
 abbrev pub StoppedByFeed : ℕ → ℕ → List (List ℕ) → FeedFault → List Call → Type 0

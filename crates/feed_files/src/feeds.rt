@@ -43,7 +43,8 @@ fn read_feed<W: World>(
     world: &mut W,
 ) -> Result<Listing, Halt<FeedFault>>
     requires { reclen ≤ most_payload }
-    ensures took { Called (TookFeed reclen shape place name.now result) (W.seen world.old) (W.seen world.new) }
+    ensures took { Called (TookFeed reclen shape place name.now result) (W.seen world.old)
+        (W.seen world.new) }
 {
     let Ok(feed) = u32::try_from(place) else {
         return Err(Halt::NoMemory);
@@ -73,7 +74,8 @@ pub fn read_feeds<W: World>(
     world: &mut W,
 ) -> Result<Vec<Listing>, Halt<FeedFault>>
     requires { reclen ≤ most_payload }
-    ensures took { Called (TookSteps (FeedPasses reclen shape) FeedStops (λ listings found. found ≡ listings.items)
+    ensures took { Called (TookSteps (FeedPasses reclen shape) FeedStops
+        (λ listings found. found ≡ listings.items)
         names.now (feeds_from 0 names.now) result) (W.seen world.old) (W.seen world.new) }
 {
     let mut listings = Vec::new(alloc);

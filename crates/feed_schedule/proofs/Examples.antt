@@ -70,7 +70,7 @@ letters (suc n) = 120 ∷ letters n
 
 -- a unit of 64 words, the words of a segment
 abbrev long : ℕ → LogUnit
-long vxid = told vxid (letters 244)
+long vxid = told vxid (letters 240)
 
 long_words : length (unit_words (long 1)) ≡ 64
 long_words = refl

@@ -57,7 +57,8 @@ pub record IsAt (r : ReplayState) (s : Stage) : Type 0 where
 
 -- what is still to come of a stage: what the reader meets in its turns, up to its end
 abbrev pub IsToCome : ℕ → Stage → List Item → Type 0
-IsToCome seg s more = (n : ℕ) × (has_ended (after_turns n seg s).reading ≡ true) × (met (after_turns n seg s) ≡ met s ++ more)
+IsToCome seg s more = (n : ℕ) × (has_ended (after_turns n seg s).reading ≡ true) ×
+    (met (after_turns n seg s) ≡ met s ++ more)
 
 -- these items are still to come
 abbrev pub Represents : ReplayState → List Item → Type 0
@@ -66,6 +67,8 @@ Represents r more = (s : Stage) × IsAt r s × IsToCome r.ring.seg s more
 -- what the reader met was the first of the items that were to come, and the others still are; at the end none was to come. What was taken stands in the cursor, and an
 -- overrun comes with how many units were missed
 abbrev pub Meets : Advanced → List Item → ReplayState → Type 0
-Meets Took more now = (u : LogUnit) × (rest : List Item) × (more ≡ items.Unit u ∷ rest) × Represents now rest × Spells now.cursor.words u
-Meets (Overrun at seen missed) more now = (rest : List Item) × (more ≡ items.Overrun at seen ∷ items.Missed missed ∷ rest) × Represents now rest
+Meets Took more now = (u : LogUnit) × (rest : List Item) × (more ≡ items.Unit u ∷ rest) × Represents now rest ×
+    Spells now.cursor.words u
+Meets (Overrun at seen missed) more now = (rest : List Item) ×
+    (more ≡ items.Overrun at seen ∷ items.Missed missed ∷ rest) × Represents now rest
 Meets Ended more now = (more ≡ []) × Represents now []

@@ -82,7 +82,11 @@ after_writer k s = record s { log = s.log ++ put_by k s.writers; writers = witho
 -- the reader takes the unit that is due; where there is none it waits, or has ended where all writers left. It waits
 -- for the turn of a writer, so that no turn goes by in which nothing can happen
 abbrev pub after_taking : ℕ → Option LogUnit → Stage → Stage
-after_taking seg (Some u) s = record s { number = s.number + 1; place = tail unit_words seg (take (s.number + 1) s.log); history = with_unit u s.history }
+after_taking seg (Some u) s = record s {
+  number = s.number + 1;
+  place = tail unit_words seg (take (s.number + 1) s.log);
+  history = with_unit u s.history;
+}
 after_taking seg None s = record s { reading = if count_writers s.writers == 0 then Ended else Waits }
 
 -- the segment to which the writers have come
@@ -102,7 +106,8 @@ after_overrun seg s =
     record s {
       number = first;
       place = unwrap_or (segment_start unit_words seg s.log from) 0;
-      history = UnitRun (record { segment = from; first = first; missed = first - s.number; units = [] }) ∷ Overrun (s.place / seg) (last_segment seg s) ∷ s.history;
+      history = UnitRun (record { segment = from; first = first; missed = first - s.number; units = [] }) ∷ Overrun
+          (s.place / seg) (last_segment seg s) ∷ s.history;
     }
 
 -- the reader has a turn
@@ -139,7 +144,8 @@ chosen_by (Some x) active = next_draw x % active
 -- one turn: its draw is made, and the one that was chosen has it. A draw is made also where one alone may have the
 -- turn, so that it can be counted which draw is which turn's
 abbrev pub after_turn : ℕ → Stage → Stage
-after_turn seg s = if has_ended s.reading then s else after_turn_of seg (chosen_by s.drawn (count_active s)) (record s { drawn = option_map next_draw s.drawn })
+after_turn seg s = if has_ended s.reading then s else after_turn_of seg (chosen_by s.drawn (count_active s))
+    (record s { drawn = option_map next_draw s.drawn })
 
 -- so many turns
 abbrev pub after_turns : ℕ → ℕ → Stage → Stage

@@ -14,7 +14,8 @@ count_turns writers = length (waiting writers) + count_writers writers
 abbrev pub put_in : ℕ → Option ℕ → List (Option Log) → Log
 put_in zero drawn writers = []
 put_in (suc n) drawn writers =
-    put_by (chosen_by drawn (count_writers writers)) writers ++ put_in n (option_map next_draw drawn) (without_next (chosen_by drawn (count_writers writers)) writers)
+    put_by (chosen_by drawn (count_writers writers)) writers ++ put_in n (option_map next_draw drawn)
+    (without_next (chosen_by drawn (count_writers writers)) writers)
 
 -- in this order of turns, drawn from a seed on, or none for feed after feed, these feeds give this log, which nobody reads, when all writers have left
 abbrev pub IsUnread : Option ℕ → List Log → Log → Type 0

@@ -96,11 +96,13 @@ impl Counting {
     /// A writer has a turn: it puts its next unit, or leaves where none is left, and counts that.
     fn turn(&mut self)
         requires active { 0 < self.old.active }
-        requires written { (seg : ℕ) × (order : Option ℕ) × (feeds : List Log) × HasWritten seg order feeds self.old }
+        requires written { (seg : ℕ) × (order : Option ℕ) × (feeds : List Log) ×
+            HasWritten seg order feeds self.old }
         requires tallied { (listings : List Listing) × HasTallied listings self.old }
         ensures written { (seg : ℕ) (order : Option ℕ) (feeds : List Log) →
             HasWritten seg order feeds self.old → HasWritten seg order feeds self.new }
-        ensures tallied { (listings : List Listing) → HasTallied listings self.old → HasTallied listings self.new }
+        ensures tallied { (listings : List Listing) → HasTallied listings self.old →
+            HasTallied listings self.new }
         ensures fewer { count_turns self.new.writers.items < count_turns self.old.writers.items }
     {
         let chosen = choose(&mut self.turns, self.active);
@@ -121,7 +123,8 @@ impl Counting {
         requires left { count_writers self.writers.items ≡ 0 }
         requires few { self.ring.wraps ≤ 2 ^ 53 }
         requires tallied { (listings : List Listing) × HasTallied listings self }
-        ensures { IfOk result (λ values. (listings : List Listing) → HasTallied listings self → values ≡ counter_values listings self.ring.wraps) }
+        ensures { IfOk result (λ values. (listings : List Listing) → HasTallied listings self →
+            values ≡ counter_values listings self.ring.wraps) }
     {
         let Counting {
             ring,

@@ -92,7 +92,13 @@ impl Model for Replay {
 
     ghost use Rattle.feed_schedule.specs.inside.Turning.{stated, IsSteady};
 
-    ghost view = { λ r. record { ring = r.ring; cursor = r.cursor; writers = r.writers.items; reading = stated r.reading; drawn = r.turns } };
+    ghost view = { λ r. record {
+      ring = r.ring;
+      cursor = r.cursor;
+      writers = r.writers.items;
+      reading = stated r.reading;
+      drawn = r.turns;
+    } };
 
     ghost invariant = { λ r. IsSteady r.active (record {
       ring = r.ring;
@@ -136,10 +142,12 @@ impl Writer {
     pub(crate) fn write(&mut self, ring: &mut PlainRing, active: u32) -> u32
         requires stays { IsSome self.old }
         requires open { ring.old.ended ≡ false }
-        requires room { (u : LogUnit) → put_by 0 (self.old ∷ []) ≡ u ∷ [] → put_fault ring.old u ≡ None }
+        requires room { (u : LogUnit) → put_by 0 (self.old ∷ []) ≡ u ∷ [] →
+            put_fault ring.old u ≡ None }
         requires active { 0 < active }
         ensures writer { without_next 0 (self.old ∷ []) ≡ self.new ∷ [] }
-        ensures put { (log : Log) → IsRingOf ring.old log → IsRingOf ring.new (log ++ put_by 0 (self.old ∷ [])) }
+        ensures put { (log : Log) → IsRingOf ring.old log →
+            IsRingOf ring.new (log ++ put_by 0 (self.old ∷ [])) }
         ensures active { result + 1 ≡ length (put_by 0 (self.old ∷ [])) + active }
         ensures ended { ring.new.ended ≡ (result == 0) }
         ensures shape { ring.new.seg ≡ ring.old.seg }
@@ -250,8 +258,10 @@ impl Replay {
     fn choose(&mut self) -> u32
         requires { has_ended self.old.reading ≡ false }
         ensures stage { (s : Stage) → IsAt self.old s → IsAt self.new (with_draw s) }
-        ensures choice { (s : Stage) → IsAt self.old s → result ≡ chosen_by s.drawn (count_active s) }
-        ensures reader { count_writers self.old.writers ≤ result → is_reading self.old.reading ≡ true }
+        ensures choice { (s : Stage) → IsAt self.old s →
+            result ≡ chosen_by s.drawn (count_active s) }
+        ensures reader { count_writers self.old.writers ≤ result →
+            is_reading self.old.reading ≡ true }
         ensures seg { self.new.ring.seg ≡ self.old.ring.seg }
         ensures writers { self.new.writers ≡ self.old.writers }
         ensures reading { self.new.reading ≡ self.old.reading }
@@ -279,7 +289,8 @@ impl Replay {
     /// The reader has a turn; what it met, unless it waits.
     fn read(&mut self) -> Option<Advanced>
         requires { is_reading self.old.reading ≡ true }
-        ensures leads { (s : Stage) → IsAt self.old s → Leads result self.new s (after_reader self.old.ring.seg s) }
+        ensures leads { (s : Stage) → IsAt self.old s →
+            Leads result self.new s (after_reader self.old.ring.seg s) }
         ensures seg { self.new.ring.seg ≡ self.old.ring.seg }
         ensures fewer { IsNone result → turns_to_come self.new < turns_to_come self.old }
         ensures waits { IsNone result → has_ended self.new.reading ≡ false }
@@ -307,7 +318,8 @@ impl Replay {
     /// One turn; what the reader met, where it was its turn and it doesn't wait.
     fn turn(&mut self) -> Option<Advanced>
         requires { has_ended self.old.reading ≡ false }
-        ensures leads { (s : Stage) → IsAt self.old s → Leads result self.new s (after_turn self.old.ring.seg s) }
+        ensures leads { (s : Stage) → IsAt self.old s →
+            Leads result self.new s (after_turn self.old.ring.seg s) }
         ensures seg { self.new.ring.seg ≡ self.old.ring.seg }
         ensures fewer { IsNone result → turns_to_come self.new < turns_to_come self.old }
         ensures waits { IsNone result → has_ended self.new.reading ≡ false }

@@ -56,7 +56,9 @@ fn read<R: Wait, G: Gate, W: World, O: Output>(
     requires pass { source.old.pass ≡ new_pass source.old.ring.now }
     requires output { O.is_ready output.old (W.seen world.old) }
     requires new { O.is_new output.old }
-    ensures { HasRead (O.alone output.old) (O.writes output.old) (O.printed output.old output.new) (O.ended output.old) (O.starved output.old) result source.old.pass source.new.pass (W.seen world.old) (W.seen world.new) }
+    ensures { HasRead (O.alone output.old) (O.writes output.old) (O.printed output.old output.new)
+        (O.ended output.old) (O.starved output.old) result source.old.pass source.new.pass
+        (W.seen world.old) (W.seen world.new) }
 {
     run(world, source, output)
 }
@@ -82,7 +84,10 @@ fn read_beside<R: Wait, G: Gate, W: World, O: Output>(
     requires pass { source.old.pass ≡ new_pass source.old.ring.now }
     requires output { O.is_ready output.old (W.seen world.old) }
     requires new { O.is_new output.old }
-    ensures { ReadBeside (λ s. s.pass) (O.alone output.old) (O.writes output.old) (O.printed output.old output.new) (O.ended output.old) (O.starved output.old) result source.old source.new output.old output.new (W.seen world.old) (W.seen world.new) }
+    ensures { ReadBeside (λ s. s.pass) (O.alone output.old) (O.writes output.old)
+        (O.printed output.old output.new) (O.ended output.old)
+        (O.starved output.old) result source.old source.new output.old output.new (W.seen world.old)
+        (W.seen world.new) }
 {
     if have_begun(source.rt, begun) {
         Some(read(world, source, output))
@@ -113,12 +118,15 @@ pub fn run_beside<R: Threads + Wait + Sync, W: World, O: Output, G: Gate>(
     gate: &G,
 ) -> Beside<O::Ending>
     requires ready { AllReady ring.now counters.now workers.items }
-    requires room { (room.items ≡ []) × (vec_len workers ≤ vec_capacity room) × (vec_len workers < 2 ^ 32) }
+    requires room { (room.items ≡ []) × (vec_len workers ≤ vec_capacity room) ×
+        (vec_len workers < 2 ^ 32) }
     requires pass { pass ≡ new_pass ring.now }
     requires output { O.is_ready output.old (W.seen world.old) }
     requires new { O.is_new output.old }
     ensures fed { AllFed ring.now counters.now (listings_of workers.items) result.fed.items }
-    ensures read { HasRead (O.alone output.old) (O.writes output.old) (O.printed output.old output.new) (O.ended output.old) (O.starved output.old) result.ran pass result.pass (W.seen world.old) (W.seen world.new) }
+    ensures read { HasRead (O.alone output.old) (O.writes output.old)
+        (O.printed output.old output.new) (O.ended output.old)
+        (O.starved output.old) result.ran pass result.pass (W.seen world.old) (W.seen world.new) }
 {
     let mut work = Work {
         workers: Some((workers, room)),
@@ -135,8 +143,13 @@ pub fn run_beside<R: Threads + Wait + Sync, W: World, O: Output, G: Gate>(
             ensures { WorkFed ring.entry.now counters.entry.now todo.entry.now result.items }
         { run_once(rt, alloc, ring, counters, todo, flag, gate) },
         &mut || -> Option<Result<RunEnded<O::Ending, Never>, NoMemory>>
-            requires { IsSync G.row × (source.now.pass ≡ new_pass source.now.ring.now) × O.is_ready output.now (W.seen world.now) × O.is_new output.now }
-            ensures { ReadBeside (λ s. s.pass) (O.alone output.entry.now) (O.writes output.entry.now) (O.printed output.entry.now output.exit.now) (O.ended output.entry.now) (O.starved output.entry.now) result source.entry.now source.exit.now output.entry.now output.exit.now (W.seen world.entry.now) (W.seen world.exit.now) }
+            requires { IsSync G.row × (source.now.pass ≡ new_pass source.now.ring.now) ×
+                O.is_ready output.now (W.seen world.now) × O.is_new output.now }
+            ensures { ReadBeside (λ s. s.pass) (O.alone output.entry.now)
+                (O.writes output.entry.now) (O.printed output.entry.now output.exit.now)
+                (O.ended output.entry.now)
+                (O.starved output.entry.now) result source.entry.now source.exit.now
+                output.entry.now output.exit.now (W.seen world.entry.now) (W.seen world.exit.now) }
         { read_beside(world, source, output, flag) },
     );
     // Where no thread could be made the workers have left by now.

@@ -11,7 +11,9 @@ ghost use Rattle.live_run.specs.Runs.{feeds_of, live_value};
 /// The counters are those of the log: what each comes to by the listings is a sum over the units of any log that interleaves
 /// them, whatever the threads' order, with the listings' cuts, the units that wrapped and the waits.
 pub fn counts_are_of_the_log()
-    ensures { (listings : List Listing) (log : Log) (which waits wraps : ℕ) → IsInterleaving log (feeds_of listings) →
+    ensures { (listings : List Listing) (log : Log) (which waits wraps : ℕ) →
+        IsInterleaving log (feeds_of listings) →
         live_value which listings waits wraps ≡ sum_by (unit_share which) log
-        + (sum_by (λ l. cut_raise (slice_get causes which) l.cuts) listings + (wrap_raise (slice_get causes which) wraps + wait_raise (slice_get causes which) waits)) }
+        + (sum_by (λ l. cut_raise (slice_get causes which) l.cuts) listings +
+        (wrap_raise (slice_get causes which) wraps + wait_raise (slice_get causes which) waits)) }
 {}

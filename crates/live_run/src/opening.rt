@@ -34,8 +34,10 @@ fn workers_of(
 ) -> Result<Vec<Worker>, NoMemory>
     requires passes { vec_len passes ≡ vec_len listings }
     requires counts { vec_len counts ≡ vec_len listings }
-    ensures passes { IfOk result (λ workers. passes.items ≡ reverse (map (λ w. w.pass) workers.items)) }
-    ensures counts { IfOk result (λ workers. counts.items ≡ reverse (map (λ w. w.counts) workers.items)) }
+    ensures passes { IfOk result
+        (λ workers. passes.items ≡ reverse (map (λ w. w.pass) workers.items)) }
+    ensures counts { IfOk result
+        (λ workers. counts.items ≡ reverse (map (λ w. w.counts) workers.items)) }
     ensures listings { IfOk result (λ workers. listings_of workers.items ≡ listings.items) }
 {
     let mut workers = Vec::with_capacity(alloc, listings.len())?;

@@ -6,11 +6,13 @@ use mathlib.Core.Logic.{dite}
 use mathlib.Core.Option.{none}
 use native.Mathlib.Decide.{dec_lt, dec_le}
 use Rattle.atomic_table.specs.Table.{State, Me, step, keeps, Allows}
+use Rattle.vsl_words.specs.declared.version.Version.TheVariants.{Two}
 use Rattle.vsl_record.specs.Unit.{LogUnit, Log}
 use Rattle.vsl_record.specs.Words.{IsUnit, header_mark, unit_words}
+use Rattle.vsl_record.proofs.UnitReadingLemmas.{length_unit_words-at_least}
 use Rattle.ring_layout.specs.declared.history.HistoryItem.{HistoryItem}
 use Rattle.ring_layout.specs.declared.history.HistoryItem.TheVariants.{UnitRun, Overrun}
-use Rattle.ring_layout.specs.Places.{last_tail, stays, start_at, end_at, tail_from, tail, word_at, segment_start, AreFit, end_mark, wrap_mark}
+use Rattle.ring_layout.specs.Places.{fewest_words, last_tail, stays, start_at, end_at, tail_from, tail, word_at, segment_start, AreFit, end_mark, wrap_mark}
 use Rattle.ring_layout.specs.Content.{HoldsLog}
 use Rattle.ring_layout.specs.Copied.{IsDueAt, AreCopied}
 use Rattle.ring_layout.specs.History.{HasRun, last_seen, next_number, first_number, UnitStarts, MayFollow, IsReadBack, with_unit}
@@ -401,7 +403,7 @@ module _ (key : RingKey) where
 
   -- a word that is none of a log's
   pub finds_nothing : (slots id x : ℕ) (me : M) (r : ReaderView) → me.0.readers ≡ r ∷ [] → 0 < key.seg → r.lost ≡ None → r.unchecked ≡ Words (x ∷ []) → x ≢ end_mark → (x ≡ wrap_mark → r.place % (8 * key.seg) + key.seg < 8 * key.seg)
-      → (header_mark < x → x ≤ header_mark + key.seg → r.place % (8 * key.seg) + (x - header_mark) < 8 * key.seg → ⊥)
+      → (header_mark + fewest_words ≤ x → x ≤ header_mark + key.seg → r.place % (8 * key.seg) + (x - header_mark) < 8 * key.seg → ⊥)
       → Allows (HoldsOneLog words key) slots id me 8 (λ z. z) (Reads (Checks FindsNothing) (step slots 8 0 0 none) me)
   finds_nothing slots id x me r one pos free unchecked no_end no_wrap no_unit = checks FindsNothing slots id me r one free (λ s k h near.
       let w = k.shared in
@@ -418,7 +420,7 @@ module _ (key : RingKey) where
       let sized = has_word words seg w.log r.number t.1.0 k.are_words.fit t.1.1 in
       let n : ℕ = length (words t.1.0) in
       let fits : r.place % (8 * seg) + n < 8 * seg = subst (λ (z : ℕ). z % (8 * seg) + n < 8 * seg) (sym t.1.2) (in_stretch seg (tail words seg (take r.number w.log)) n pos sized.1) in
-      let some_word = sized.0 in
+      let least = length_unit_words-at_least Two t.1.0 (kth_of IsUnit w.log r.number t.1.0 k.are_words.units t.1.1) in
       let most = sized.1 in
       let n_is : x - header_mark ≡ n = omega arith in
       no_unit (omega arith) (omega arith) (subst (λ (z : ℕ). r.place % (8 * seg) + z < 8 * seg) (sym n_is) fits)) rest) c.0))

@@ -31,7 +31,8 @@ module _ (words : LogUnit → List ℕ) (seg : ℕ) (log : Log) where
   -- a cursor stands where its newest run stands, or at the start of the next unit
   abbrev pub CursorStands : ℕ → List (HistoryItem LogUnit) → Type 0
   CursorStands p [] = ⊥
-  CursorStands p (UnitRun r ∷ is) = RunStands words seg log r.segment r.first (length r.units) p ⊎ UnitStarts words seg log (r.first + length r.units) p
+  CursorStands p (UnitRun r ∷ is) = RunStands words seg log r.segment r.first (length r.units) p ⊎
+      UnitStarts words seg log (r.first + length r.units) p
   CursorStands p (Overrun a b ∷ is) = ⊥
 
   -- a place was the log's tail once: it is the tail of the log's first units
@@ -46,7 +47,8 @@ module _ (words : LogUnit → List ℕ) (seg : ℕ) (log : Log) where
   AreObserved c (FinishedSeen n ∷ os) = AreObserved c os
   AreObserved c (WordSeen p x ∷ os) = (x ≡ end_mark → c < p / seg + 8 → WasTail p) × AreObserved c os
   AreObserved c (StartSeen s p ∷ os) = (c < s + 8 → segment_start words seg log s ≡ Some p) × AreObserved c os
-  AreObserved c (NumberSeen s n ∷ os) = (c < s + 8 → (s ≤ tail words seg log / seg) × (n ≡ first_number words seg log s)) × AreObserved c os
+  AreObserved c (NumberSeen s n ∷ os) =
+      (c < s + 8 → (s ≤ tail words seg log / seg) × (n ≡ first_number words seg log s)) × AreObserved c os
 
 -- a reader over the whole log: what it took and found is of the log, its cursor stands where its history ends, and where it ended, the log does
 pub record IsDone (words : LogUnit → List ℕ) (seg : ℕ) (log : Log) (r : ReaderView) : Type 0 where

@@ -28,7 +28,17 @@ pub record ReaderState : Type 0 where
 
 -- a reader that took nothing
 abbrev pub new_reader : ReaderView
-new_reader = record { place = 0; number = 0; lost = None; items = UnitRun (record { segment = 0; first = 0; missed = 0; units = [] }) ∷ []; unchecked = Nothing; loaded = 0; finished_seen = 0; observed = []; ended = false }
+new_reader = record {
+  place = 0;
+  number = 0;
+  lost = None;
+  items = UnitRun (record { segment = 0; first = 0; missed = 0; units = [] }) ∷ [];
+  unchecked = Nothing;
+  loaded = 0;
+  finished_seen = 0;
+  observed = [];
+  ended = false;
+}
 
 -- the pass of such a reader
 abbrev pub new_pass : RingSet → ReaderState
@@ -82,7 +92,8 @@ pub record TookNothing (place : ℕ) (old new : ReaderState) : Type 0 where
 abbrev pub IsAnswer : ReaderState → Step → ReaderState → Type 0
 IsAnswer old Took new = TookUnit old new
 IsAnswer old (NotYet p) new = TookNothing p old new × (new.reader.finished_seen < old.ring.writers)
-IsAnswer old Ended new = TookNothing new.reader.place old new × (old.ring.writers ≤ new.reader.finished_seen) × (new.reader.ended ≡ true)
+IsAnswer old Ended new = TookNothing new.reader.place old new × (old.ring.writers ≤ new.reader.finished_seen) ×
+    (new.reader.ended ≡ true)
 IsAnswer old (Lost at seen) new = WasOverrun at seen old new
 
 -- a call looked at this place: that of the cursor, or the next lap's, where it went on
@@ -93,7 +104,8 @@ IsReadAt old p = (p ≡ old.reader.place) ⊎ (p ≡ (old.reader.place / (8 * ol
 pub record FoundAt (place word : ℕ) (old new : ReaderState) : Type 0 where
   pub here : IsReadAt old place
   pub before : List Observation
-  pub observed : new.reader.observed ≡ CounterSeen new.reader.loaded ∷ WordSeen place word ∷ FinishedSeen new.reader.finished_seen ∷ (before ++ old.reader.observed)
+  pub observed : new.reader.observed ≡ CounterSeen new.reader.loaded ∷ WordSeen place word ∷
+      FinishedSeen new.reader.finished_seen ∷ (before ++ old.reader.observed)
 
 -- a call found this counter last
 pub record FoundCounter (seen : ℕ) (old new : ReaderState) : Type 0 where
@@ -104,7 +116,8 @@ pub record FoundCounter (seen : ℕ) (old new : ReaderState) : Type 0 where
 -- where it was overrun. So a clause can say what this call looked at, for every answer and not for the last alone; the
 -- program keeps none of it
 abbrev pub HasFound : ReaderState → Step → ReaderState → Type 0
-HasFound old Took new = (place : ℕ) × ((word : ℕ) × FoundAt place word old new × (new.reader.place ≡ place + length new.words))
+HasFound old Took new = (place : ℕ) ×
+    ((word : ℕ) × FoundAt place word old new × (new.reader.place ≡ place + length new.words))
 HasFound old (NotYet p) new = FoundAt p end_mark old new
 HasFound old Ended new = FoundAt new.reader.place end_mark old new
 HasFound old (Lost at seen) new = FoundCounter seen old new
@@ -112,13 +125,15 @@ HasFound old (Lost at seen) new = FoundCounter seen old new
 -- a cursor that was overrun and didn't seek is overrun in the same segment again, by the counter, which is all that the call looks at
 pub record StaysLost (old : ReaderState) (step : Step) (new : ReaderState) : Type 0 where
   pub again : (at : ℕ) → old.reader.lost ≡ Some at → step ≡ Lost at new.reader.loaded
-  pub observed : (at : ℕ) → old.reader.lost ≡ Some at → new.reader.observed ≡ CounterSeen new.reader.loaded ∷ old.reader.observed
+  pub observed : (at : ℕ) → old.reader.lost ≡ Some at →
+      new.reader.observed ≡ CounterSeen new.reader.loaded ∷ old.reader.observed
 
 -- a call that seeks found a counter first, then a place as the start of the segment four behind it, then the number of that segment's first unit, and then another counter
 pub record HasLooked (segment place number seen : ℕ) (old new : ReaderState) : Type 0 where
   pub counter : ℕ
   pub segment_is : segment ≡ counter - seek_distance
-  pub observed : new.reader.observed ≡ CounterSeen seen ∷ NumberSeen segment number ∷ StartSeen segment place ∷ CounterSeen counter ∷ old.reader.observed
+  pub observed : new.reader.observed ≡ CounterSeen seen ∷ NumberSeen segment number ∷ StartSeen segment place ∷
+      CounterSeen counter ∷ old.reader.observed
 
 -- a reader goes on at this place in this segment, to which no counter is six segments ahead yet, with a run of no unit, which isn't its first. The run begins with the unit
 -- of this number, and tells how many were missed since the run before
@@ -129,9 +144,12 @@ pub record GoesOn (segment place number : ℕ) (old new : ReaderState) : Type 0 
   pub not_lost : new.reader.lost ≡ None
   pub later : 0 < length old.reader.items
   pub behind : next_number old.reader.items ≤ number
-  pub items : new.reader.items ≡ UnitRun (record { segment = segment; first = number; missed = number - next_number old.reader.items; units = [] }) ∷ old.reader.items
+  pub items : new.reader.items ≡ UnitRun
+      (record { segment = segment; first = number; missed = number - next_number old.reader.items; units = [] }) ∷
+      old.reader.items
 
 -- where a reader that sought goes on: at the start of the segment four behind the counter that this call found first; or it was overrun there
 abbrev pub IsSought : ReaderState → Sought → ReaderState → Type 0
 IsSought old (sought.At s p n) new = GoesOn s p n old new
-IsSought old (sought.Lost at seen) new = WasOverrun at seen old new × ((p : ℕ) × ((n : ℕ) × HasLooked at p n seen old new))
+IsSought old (sought.Lost at seen) new = WasOverrun at seen old new ×
+    ((p : ℕ) × ((n : ℕ) × HasLooked at p n seen old new))

@@ -42,8 +42,10 @@ pub record HasPut (u : LogUnit) (old new : WriterState) : Type 0 where
 -- comes
 abbrev pub IsRefused : LogUnit → WriterState → PutFault → WriterState → Type 0
 IsRefused u old (TooLong n) new = (old.ring.seg < length (unit_words u)) × (n ≡ length (unit_words u)) × (new ≡ old)
-IsRefused u old Busy new = (length (unit_words u) ≤ old.ring.seg) × (new ≡ record old { busy = old.busy + 1 }) × (1 < old.ring.writers)
-IsRefused u old (Exhausted t) new = (length (unit_words u) ≤ old.ring.seg) × (last_tail < end_at old.ring.seg t (length (unit_words u))) × (new ≡ record old { found = max old.found t })
+IsRefused u old Busy new = (length (unit_words u) ≤ old.ring.seg) × (new ≡ record old { busy = old.busy + 1 }) ×
+    (1 < old.ring.writers)
+IsRefused u old (Exhausted t) new = (length (unit_words u) ≤ old.ring.seg) ×
+    (last_tail < end_at old.ring.seg t (length (unit_words u))) × (new ≡ record old { found = max old.found t })
 
 -- the writer, once it found the write token taken so often more
 abbrev pub with_busy : ℕ → WriterState → WriterState

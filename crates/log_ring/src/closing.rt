@@ -30,7 +30,11 @@ impl Model for ClosedRing {
 
     ghost Value = { ClosedState };
 
-    ghost view = { λ c. record { log = c.seat.me.0.log; histories = map history_of c.seat.me.0.readers; busy = c.seat.me.0.busy } };
+    ghost view = { λ c. record {
+      log = c.seat.me.0.log;
+      histories = map history_of c.seat.me.0.readers;
+      busy = c.seat.me.0.busy;
+    } };
 }
 
 /// One seat that stands for all writers, in their order.
@@ -78,13 +82,15 @@ pub fn close(ring: Ring, writers: Vec<LeftWriter>, readers: Vec<ReaderPass>) -> 
     requires all { vec_len writers ≡ ring.writers }
     requires theirs { AreReadersOf ring readers.items }
     ensures log { IsInterleaving result.log (map units_put writers.items) }
-    ensures entries { IsInterleaving (entries_from unit_words ring.seg 0 result.log) (map entries_of writers.items) }
+    ensures entries { IsInterleaving (entries_from unit_words ring.seg 0 result.log)
+        (map entries_of writers.items) }
     ensures busy { result.busy ≡ sum_by busy_of writers.items }
     ensures histories { result.histories ≡ map history_taken readers.items }
     ensures found { AllByRecursion (HasReached ring.seg result.log) writers.items }
     ensures readers { AllByRecursion (IsDoneWith ring.seg result.log) readers.items }
     ensures counted { AllByRecursion (AddUp result.log) result.histories }
-    ensures alike { AllByRecursion (λ reader. AllByRecursion (AgreesWith reader) readers.items) readers.items }
+    ensures alike { AllByRecursion
+        (λ reader. AllByRecursion (AgreesWith reader) readers.items) readers.items }
 {
     let mut seat = join_readers(&ring, writers, readers);
     ring.table.shared.load::<Settling>(&mut seat, 0);

@@ -2,7 +2,7 @@
 
 ghost use Rattle.std.specs.Prelude.{◌≡◌, ◌≢◌, ℕ, ◌+◌, ◌-◌, ◌*◌, ◌%◌, ◌^◌, ◌<◌, ◌≤◌, List, [], ◌∷◌, length, slice_index, Some, None};
 ghost use Rattle.vsl_record.specs.Words.{header_mark, unit_words};
-ghost use Rattle.ring_layout.specs.Places.{seek_distance, end_mark, wrap_mark};
+ghost use Rattle.ring_layout.specs.Places.{fewest_words, seek_distance, end_mark, wrap_mark};
 ghost use Rattle.log_ring.specs.declared.rule.Unchecked.TheVariants.{Words, Start, Numbered};
 ghost use Rattle.log_ring.specs.inside.Rule.{first_ring_word};
 ghost use Rattle.log_ring.specs.inside.Steps.{IsReaderOf, IsReadingOf};
@@ -43,12 +43,19 @@ impl Ring {
     /// A further word of the unit at a cursor's place, which lies in this word of the table.
     pub(crate) fn load_more(&self, seat: &mut RingSeat, at: usize) -> u64
         requires reader { IsReadingOf self.now seat.old.table_id seat.old.me }
-        requires copied { (reader_of seat.old.me.0).unchecked ≡ Words (unchecked_words (reader_of seat.old.me.0).unchecked) }
+        requires copied { (reader_of seat.old.me.0).unchecked ≡ Words
+            (unchecked_words (reader_of seat.old.me.0).unchecked) }
         requires behind { 0 < length (unchecked_words (reader_of seat.old.me.0).unchecked) }
-        requires unit { slice_index (unchecked_words (reader_of seat.old.me.0).unchecked) 0 ≢ end_mark }
-        requires starts { slice_index (unchecked_words (reader_of seat.old.me.0).unchecked) 0 ≢ wrap_mark }
-        requires inside { header_mark + length (unchecked_words (reader_of seat.old.me.0).unchecked) < slice_index (unchecked_words (reader_of seat.old.me.0).unchecked) 0 }
-        requires at { at ≡ first_ring_word + ((reader_of seat.old.me.0).place + length (unchecked_words (reader_of seat.old.me.0).unchecked)) % (8 * self.now.seg) }
+        requires unit { slice_index
+            (unchecked_words (reader_of seat.old.me.0).unchecked) 0 ≢ end_mark }
+        requires starts { slice_index
+            (unchecked_words (reader_of seat.old.me.0).unchecked) 0 ≢ wrap_mark }
+        requires inside { header_mark + length
+            (unchecked_words (reader_of seat.old.me.0).unchecked) < slice_index
+            (unchecked_words (reader_of seat.old.me.0).unchecked) 0 }
+        requires at { at ≡ first_ring_word +
+            ((reader_of seat.old.me.0).place + length
+            (unchecked_words (reader_of seat.old.me.0).unchecked)) % (8 * self.now.seg) }
         ensures same { seat.new.table_id ≡ seat.old.table_id }
         ensures loaded { Becomes LoadsMore seat.old.me result seat.new.me }
     {
@@ -78,10 +85,14 @@ impl Ring {
     /// The counter, where a unit was copied.
     pub(crate) fn check_unit(&self, seat: &mut RingSeat) -> u64
         requires reader { IsReadingOf self.now seat.old.table_id seat.old.me }
-        requires copied { (reader_of seat.old.me.0).unchecked ≡ Words (unchecked_words (reader_of seat.old.me.0).unchecked) }
-        requires unit { slice_index (unchecked_words (reader_of seat.old.me.0).unchecked) 0 ≢ end_mark }
-        requires starts { slice_index (unchecked_words (reader_of seat.old.me.0).unchecked) 0 ≢ wrap_mark }
-        requires whole { slice_index (unchecked_words (reader_of seat.old.me.0).unchecked) 0 ≡ header_mark + length (unchecked_words (reader_of seat.old.me.0).unchecked) }
+        requires copied { (reader_of seat.old.me.0).unchecked ≡ Words
+            (unchecked_words (reader_of seat.old.me.0).unchecked) }
+        requires unit { slice_index
+            (unchecked_words (reader_of seat.old.me.0).unchecked) 0 ≢ end_mark }
+        requires starts { slice_index
+            (unchecked_words (reader_of seat.old.me.0).unchecked) 0 ≢ wrap_mark }
+        requires whole { slice_index (unchecked_words (reader_of seat.old.me.0).unchecked) 0 ≡
+            header_mark + length (unchecked_words (reader_of seat.old.me.0).unchecked) }
         ensures same { seat.new.table_id ≡ seat.old.table_id }
         ensures checked { Becomes (Checks (FindsUnit unit_words)) seat.old.me result seat.new.me }
     {
@@ -95,8 +106,11 @@ impl Ring {
         requires reader { IsReadingOf self.now seat.old.table_id seat.old.me }
         requires copied { (reader_of seat.old.me.0).unchecked ≡ Words (head ∷ []) }
         requires no_end { head ≢ end_mark }
-        requires no_lap { head ≡ wrap_mark → (reader_of seat.old.me.0).place % (8 * self.now.seg) + self.now.seg < 8 * self.now.seg }
-        requires no_unit { header_mark < head → head ≤ header_mark + self.now.seg → (reader_of seat.old.me.0).place % (8 * self.now.seg) + (head - header_mark) < 8 * self.now.seg → ⊥ }
+        requires no_lap { head ≡ wrap_mark →
+            (reader_of seat.old.me.0).place % (8 * self.now.seg) + self.now.seg < 8 * self.now.seg }
+        requires no_unit { header_mark + fewest_words ≤ head → head ≤ header_mark + self.now.seg →
+            (reader_of seat.old.me.0).place % (8 * self.now.seg) +
+            (head - header_mark) < 8 * self.now.seg → ⊥ }
         ensures same { seat.new.table_id ≡ seat.old.table_id }
         ensures checked { Becomes (Checks FindsNothing) seat.old.me result seat.new.me }
     {
@@ -143,7 +157,9 @@ impl Ring {
     pub(crate) fn load_number(&self, seat: &mut RingSeat, segment: u64) -> u64
         requires reader { IsReaderOf self.now seat.old.table_id seat.old.me }
         requires segment { segment ≡ (reader_of seat.old.me.0).loaded - seek_distance }
-        requires unchecked { (reader_of seat.old.me.0).unchecked ≡ Start ((reader_of seat.old.me.0).loaded - seek_distance) (unchecked_start (reader_of seat.old.me.0).unchecked) }
+        requires unchecked { (reader_of seat.old.me.0).unchecked ≡ Start
+            ((reader_of seat.old.me.0).loaded - seek_distance)
+            (unchecked_start (reader_of seat.old.me.0).unchecked) }
         ensures same { seat.new.table_id ≡ seat.old.table_id }
         ensures loaded { Becomes LoadsNumber seat.old.me result seat.new.me }
     {
@@ -157,7 +173,10 @@ impl Ring {
     pub(crate) fn check_start(&self, seat: &mut RingSeat, at: u64) -> u64
         requires reader { IsReaderOf self.now seat.old.table_id seat.old.me }
         requires lost { (reader_of seat.old.me.0).lost ≡ Some at }
-        requires unchecked { (reader_of seat.old.me.0).unchecked ≡ Numbered ((reader_of seat.old.me.0).loaded - seek_distance) (unchecked_start (reader_of seat.old.me.0).unchecked) (unchecked_number (reader_of seat.old.me.0).unchecked) }
+        requires unchecked { (reader_of seat.old.me.0).unchecked ≡ Numbered
+            ((reader_of seat.old.me.0).loaded - seek_distance)
+            (unchecked_start (reader_of seat.old.me.0).unchecked)
+            (unchecked_number (reader_of seat.old.me.0).unchecked) }
         ensures same { seat.new.table_id ≡ seat.old.table_id }
         ensures checked { Becomes Seeks seat.old.me result seat.new.me }
     {

@@ -48,8 +48,10 @@ impl Ring {
     ) -> Result<(Ring, RingSeat), AllocError>
         requires some { 0 < writers }
         requires few { writers ≤ most_writers }
-        ensures ring { IfOk result (λ made. (made.0.seg ≡ shape) × (made.0.writers ≡ writers) × (made.0.readers ≡ readers)) }
-        ensures seat { IfOk result (λ made. IsFirstSeat made.0 writers readers made.1.table_id made.1.me) }
+        ensures ring { IfOk result (λ made. (made.0.seg ≡ shape) × (made.0.writers ≡ writers) ×
+            (made.0.readers ≡ readers)) }
+        ensures seat { IfOk result
+            (λ made. IsFirstSeat made.0 writers readers made.1.table_id made.1.me) }
     {
         let words = first_words(alloc, shape)?;
         let key = RingKey {
@@ -98,7 +100,8 @@ impl Ring {
         requires first { IsFirstSeat self.now self.now.writers readers seat.old.table_id seat.old.me }
         requires all { writers ≡ self.now.writers }
         ensures passes { IfOk result (λ passes. passes.items ≡ new_passes self.now readers) }
-        ensures rest { IfOk result (λ _. IsFirstSeat self.now self.now.writers 0 seat.new.table_id seat.new.me) }
+        ensures rest { IfOk result
+            (λ _. IsFirstSeat self.now self.now.writers 0 seat.new.table_id seat.new.me) }
     {
         let size = WORD * self.shape.seg() as usize;
         let mut passes = Vec::with_capacity(alloc, readers as usize)?;
@@ -116,9 +119,12 @@ impl Ring {
         requires some { 0 < writers }
         requires few { writers ≤ most_writers }
         requires few_readers { readers ≤ most_readers }
-        ensures ring { IfOk result (λ opened. (opened.ring.seg ≡ shape) × (opened.ring.writers ≡ writers) × (opened.ring.readers ≡ readers)) }
-        ensures writers { IfOk result (λ opened. opened.writers.items ≡ new_writers opened.ring writers) }
-        ensures readers { IfOk result (λ opened. opened.readers.items ≡ new_passes opened.ring readers) }
+        ensures ring { IfOk result (λ opened. (opened.ring.seg ≡ shape) ×
+            (opened.ring.writers ≡ writers) × (opened.ring.readers ≡ readers)) }
+        ensures writers { IfOk result
+            (λ opened. opened.writers.items ≡ new_writers opened.ring writers) }
+        ensures readers { IfOk result
+            (λ opened. opened.readers.items ≡ new_passes opened.ring readers) }
     {
         let mut passes = Vec::with_capacity(alloc, writers as usize)?;
         let (ring, mut seat) = Ring::of_shape(alloc, shape, writers, readers)?;

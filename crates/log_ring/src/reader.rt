@@ -4,7 +4,7 @@ ghost use Rattle.std.specs.Prelude.{◌≡◌, ◌≢◌, ℕ, ◌+◌, ◌-◌,
 ghost use Rattle.vsl_record.specs.Unit.{LogUnit};
 ghost use Rattle.vsl_record.specs.Views.{Spells};
 ghost use Rattle.vsl_record.specs.Words.{header_mark};
-ghost use Rattle.ring_layout.specs.Places.{end_mark, wrap_mark};
+ghost use Rattle.ring_layout.specs.Places.{end_mark, fewest_words, wrap_mark};
 ghost use Rattle.ring_layout.specs.History.{next_number};
 ghost use Rattle.log_ring.specs.declared.rule.Unchecked.TheVariants.{Words};
 ghost use Rattle.log_ring.specs.Readers.{new_reader, new_pass, IsSought, IsAnswer, HasFound, StaysLost};
@@ -14,7 +14,8 @@ ghost use Rattle.log_ring.specs.inside.Steps.{HasMoved, IsReaderSeat, FoundWord,
 use crate::pause::{NoPause, Pause, stop};
 use crate::ring::{Ring, RingSeat};
 use ring_layout::{
-    END_MARK, OVERRUN_DISTANCE, SEEK_DISTANCE, SEGMENTS, Sought, Step, WORD, WRAP_MARK, segment_of,
+    END_MARK, FEWEST_WORDS, OVERRUN_DISTANCE, SEEK_DISTANCE, SEGMENTS, Sought, Step, WORD,
+    WRAP_MARK, segment_of,
 };
 use std::marker::Model;
 use vsl_record::{HEADER_MARK, UnitView};
@@ -47,9 +48,14 @@ impl Model for ReaderPass {
 
     ghost Value = { ReaderState };
 
-    ghost view = { λ p. reader_seen p.seat.table_id p.seat.me.0 (words_in (take p.used p.bytes.items)) p.taken };
+    ghost view = { λ p. reader_seen p.seat.table_id p.seat.me.0
+        (words_in (take p.used p.bytes.items)) p.taken };
 
-    ghost invariant = { λ p. IsReaderSeat p.seat.me × (p.place ≡ (reader_of p.seat.me.0).place) × (p.lost ≡ (reader_of p.seat.me.0).lost) × (p.writers ≡ p.seat.me.0.ring.writers) × (p.place ≤ last_tail) × (length p.bytes.items ≡ 4 * p.seat.me.0.ring.seg) × (p.used ≤ 4 * p.seat.me.0.ring.seg) × (p.number ≡ (reader_of p.seat.me.0).number) × (p.number ≤ last_tail) × (p.number ≡ next_number (reader_of p.seat.me.0).items) };
+    ghost invariant = { λ p. IsReaderSeat p.seat.me × (p.place ≡ (reader_of p.seat.me.0).place) ×
+        (p.lost ≡ (reader_of p.seat.me.0).lost) × (p.writers ≡ p.seat.me.0.ring.writers) ×
+        (p.place ≤ last_tail) × (length p.bytes.items ≡ 4 * p.seat.me.0.ring.seg) ×
+        (p.used ≤ 4 * p.seat.me.0.ring.seg) × (p.number ≡ (reader_of p.seat.me.0).number) ×
+        (p.number ≤ last_tail) × (p.number ≡ next_number (reader_of p.seat.me.0).items) };
 }
 
 impl ReaderPass {
@@ -182,7 +188,10 @@ impl ReaderPass {
         requires copied { self.old.reader.unchecked ≡ Words (wrap_mark ∷ []) }
         ensures overrun { IfSome result (λ step. IsAnswer self.old step self.new) }
         ensures word { FoundWord self.old.reader.place wrap_mark self.new result }
-        ensures moved { IfNone result ((self.new.reader.lost ≡ None) × (self.new.reader.items ≡ self.old.reader.items) × (self.new.reader.place ≡ (self.old.reader.place / (8 * self.old.ring.seg) + 1) * (8 * self.old.ring.seg))) }
+        ensures moved { IfNone result
+            ((self.new.reader.lost ≡ None) × (self.new.reader.items ≡ self.old.reader.items) ×
+            (self.new.reader.place ≡ (self.old.reader.place / (8 * self.old.ring.seg) + 1) *
+            (8 * self.old.ring.seg))) }
         ensures checked { HasChecked self.old self.new }
         ensures same { self.new.ring ≡ self.old.ring }
     {
@@ -211,8 +220,13 @@ impl ReaderPass {
         requires reading { self.old.reader.lost ≡ None }
         requires copied { self.old.reader.unchecked ≡ Words (head ∷ []) }
         requires no_end { head ≢ end_mark }
-        requires no_lap { head ≡ wrap_mark → self.old.reader.place % (8 * self.old.ring.seg) + self.old.ring.seg < 8 * self.old.ring.seg }
-        requires no_unit { header_mark < head → head ≤ header_mark + self.old.ring.seg → self.old.reader.place % (8 * self.old.ring.seg) + (head - header_mark) < 8 * self.old.ring.seg → ⊥ }
+        requires no_lap { head ≡ wrap_mark →
+            self.old.reader.place % (8 * self.old.ring.seg) + self.old.ring.seg < 8 *
+            self.old.ring.seg }
+        requires no_unit { header_mark + fewest_words ≤ head →
+            head ≤ header_mark + self.old.ring.seg →
+            self.old.reader.place % (8 * self.old.ring.seg) +
+            (head - header_mark) < 8 * self.old.ring.seg → ⊥ }
         ensures answer { IsAnswer self.old result self.new }
         ensures word { FoundWord self.old.reader.place head self.new (Some result) }
         ensures checked { HasChecked self.old self.new }
@@ -240,7 +254,8 @@ impl ReaderPass {
         requires head { head ≡ header_mark + count }
         requires some { 0 < count }
         requires fits { count ≤ self.old.ring.seg }
-        requires in_lap { self.old.reader.place % (8 * self.old.ring.seg) + count < 8 * self.old.ring.seg }
+        requires in_lap { self.old.reader.place %
+            (8 * self.old.ring.seg) + count < 8 * self.old.ring.seg }
         ensures answer { IsAnswer self.old result self.new }
         ensures word { FoundWord self.old.reader.place head self.new (Some result) }
         ensures checked { HasChecked self.old self.new }
@@ -299,11 +314,17 @@ impl ReaderPass {
     /// How many words the unit of this header has, if it is the header of a unit at the cursor's place.
     fn unit_size(&self, ring: &Ring, head: u32) -> Option<u64>
         requires ours { self.now.ring ≡ ring.now }
-        ensures unit { IfSome result (λ count. (head ≡ header_mark + count) × (0 < count) × (count ≤ self.now.ring.seg)) }
-        ensures in_lap { IfSome result (λ count. self.now.reader.place % (8 * self.now.ring.seg) + count < 8 * self.now.ring.seg) }
-        ensures none { IfNone result (header_mark < head → head ≤ header_mark + self.now.ring.seg → self.now.reader.place % (8 * self.now.ring.seg) + (head - header_mark) < 8 * self.now.ring.seg → ⊥) }
+        ensures unit { IfSome result (λ count. (head ≡ header_mark + count) ×
+            (fewest_words ≤ count) × (count ≤ self.now.ring.seg)) }
+        ensures in_lap { IfSome result
+            (λ count. self.now.reader.place %
+            (8 * self.now.ring.seg) + count < 8 * self.now.ring.seg) }
+        ensures none { IfNone result (header_mark + fewest_words ≤ head →
+            head ≤ header_mark + self.now.ring.seg →
+            self.now.reader.place % (8 * self.now.ring.seg) +
+            (head - header_mark) < 8 * self.now.ring.seg → ⊥) }
     {
-        if head <= HEADER_MARK {
+        if head < HEADER_MARK + FEWEST_WORDS {
             return None;
         }
         let seg = u64::from(ring.shape.seg());
@@ -321,7 +342,11 @@ impl ReaderPass {
     /// Whether a unit at the cursor's place may wrap.
     fn may_wrap(&self, ring: &Ring) -> bool
         requires ours { self.now.ring ≡ ring.now }
-        ensures { MatchBool result (8 * self.now.ring.seg ≤ self.now.reader.place % (8 * self.now.ring.seg) + self.now.ring.seg) (self.now.reader.place % (8 * self.now.ring.seg) + self.now.ring.seg < 8 * self.now.ring.seg) }
+        ensures { MatchBool result
+            (8 * self.now.ring.seg ≤ self.now.reader.place %
+            (8 * self.now.ring.seg) + self.now.ring.seg)
+            (self.now.reader.place % (8 * self.now.ring.seg) + self.now.ring.seg < 8 *
+            self.now.ring.seg) }
     {
         let seg = u64::from(ring.shape.seg());
         let lap = SEGMENTS as u64 * seg;

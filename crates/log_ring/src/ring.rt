@@ -29,5 +29,7 @@ impl Model for Ring {
 
     ghost view = { λ r. set_of r.table.shared.table_id r.table.shared.key };
 
-    ghost invariant = { λ r. (r.table.shared.table_id.words ≡ first_ring_word + 8 * r.table.shared.key.seg) × (r.shape ≡ r.table.shared.key.seg) × IsSegment r.table.shared.key.seg × (0 < r.table.shared.key.writers) };
+    ghost invariant = { λ r. (r.table.shared.table_id.words ≡
+        first_ring_word + 8 * r.table.shared.key.seg) × (r.shape ≡ r.table.shared.key.seg) ×
+        IsSegment r.table.shared.key.seg × (0 < r.table.shared.key.writers) };
 }

@@ -79,9 +79,13 @@ impl Ring {
         requires free { seat.old.me.0.progress ≡ Free }
         requires stays { seat.old.me.0.finished < length seat.old.me.0.writers }
         ensures same { seat.new.table_id ≡ seat.old.table_id }
-        ensures taken { seat.new.me ≡ (after_acquire unit_words N.unit result seat.old.me.0, seat.old.me.1) }
+        ensures taken { seat.new.me ≡ (
+          after_acquire unit_words N.unit result seat.old.me.0,
+          seat.old.me.1,
+        ) }
         ensures busy { result ≡ 0 → 1 < seat.old.me.0.ring.writers }
-        ensures found { 0 < result → (length (first_entries seat.old.me.0.writers) < result) × (result ≤ last_tail + 1) }
+        ensures found { 0 < result → (length (first_entries seat.old.me.0.writers) < result) ×
+            (result ≤ last_tail + 1) }
     {
         self.table.shared.swap::<Acquiring<N>>(seat, WRITE_TOKEN, 0)
     }
@@ -109,7 +113,8 @@ impl Ring {
         step: &mut u64,
     )
         requires ours { seat.old.table_id ≡ self.now.table }
-        requires begun { seat.old.me.0.progress ≡ Storing (begun unit_words self.now.seg tail unit.now) }
+        requires begun { seat.old.me.0.progress ≡ Storing
+            (begun unit_words self.now.seg tail unit.now) }
         requires low { tail ≤ last_tail }
         ensures same { seat.new.table_id ≡ seat.old.table_id }
         ensures released { seat.new.me ≡ (with_progress Free seat.old.me.0, seat.old.me.1) }
@@ -130,9 +135,13 @@ impl Ring {
         step: &mut u64,
     ) -> u64
         requires ours { seat.old.table_id ≡ self.now.table }
-        requires begun { seat.old.me.0.progress ≡ Storing (begun unit_words self.now.seg tail unit.now) }
+        requires begun { seat.old.me.0.progress ≡ Storing
+            (begun unit_words self.now.seg tail unit.now) }
         ensures same { seat.new.table_id ≡ seat.old.table_id }
-        ensures known { seat.new.me ≡ (with_progress (Storing (known self.now.seg tail result unit.now)) seat.old.me.0, seat.old.me.1) }
+        ensures known { seat.new.me ≡ (
+          with_progress (Storing (known self.now.seg tail result unit.now)) seat.old.me.0,
+          seat.old.me.1,
+        ) }
         ensures low { result ≤ last_tail }
     {
         stop(pause, step);
@@ -147,10 +156,16 @@ impl Ring {
         pause: &mut P,
         step: &mut u64,
     )
-        requires placed { IsPutAt self.now seat.old.table_id put.now.tail put.now.unit.now put.now.placed }
-        requires known { seat.old.me.0.progress ≡ Storing (known self.now.seg put.now.tail put.now.count put.now.unit.now) }
+        requires placed { IsPutAt self.now seat.old.table_id put.now.tail put.now.unit.now
+            put.now.placed }
+        requires known { seat.old.me.0.progress ≡ Storing
+            (known self.now.seg put.now.tail put.now.count put.now.unit.now) }
         ensures same { seat.new.table_id ≡ seat.old.table_id }
-        ensures announced { seat.new.me ≡ (with_progress (Storing (announced self.now.seg put.now.tail put.now.count put.now.unit.now)) seat.old.me.0, seat.old.me.1) }
+        ensures announced { seat.new.me ≡ (
+          with_progress (Storing (announced self.now.seg put.now.tail put.now.count
+              put.now.unit.now)) seat.old.me.0,
+          seat.old.me.1,
+        ) }
     {
         let counter = segment_of(self.shape, put.placed.tail);
         if counter > segment_of(self.shape, put.tail) {
@@ -169,11 +184,17 @@ impl Ring {
         pause: &mut P,
         step: &mut u64,
     )
-        requires placed { IsPutAt self.now seat.old.table_id put.now.tail put.now.unit.now put.now.placed }
-        requires announced { seat.old.me.0.progress ≡ Storing (announced self.now.seg put.now.tail put.now.count put.now.unit.now) }
+        requires placed { IsPutAt self.now seat.old.table_id put.now.tail put.now.unit.now
+            put.now.placed }
+        requires announced { seat.old.me.0.progress ≡ Storing
+            (announced self.now.seg put.now.tail put.now.count put.now.unit.now) }
         requires low { put.now.count ≤ last_tail }
         ensures same { seat.new.table_id ≡ seat.old.table_id }
-        ensures started { seat.new.me ≡ (with_progress (Storing (started self.now.seg put.now.tail put.now.count put.now.unit.now)) seat.old.me.0, seat.old.me.1) }
+        ensures started { seat.new.me ≡ (
+          with_progress (Storing (started self.now.seg put.now.tail put.now.count
+              put.now.unit.now)) seat.old.me.0,
+          seat.old.me.1,
+        ) }
     {
         let from = segment_of(self.shape, put.tail) + 1;
         let upto = segment_of(self.shape, put.placed.tail) + 1;
@@ -198,13 +219,23 @@ impl Ring {
 
     /// Stores the start of a segment that the unit enters.
     fn store_start(&self, seat: &mut RingSeat, put: &PlacedUnit<'_>, segment: u64, place: u64)
-        requires placed { IsPutAt self.now seat.old.table_id put.now.tail put.now.unit.now put.now.placed }
-        requires started { seat.old.me.0.progress ≡ Storing (starting self.now.seg put.now.tail put.now.count put.now.unit.now segment) }
+        requires placed { IsPutAt self.now seat.old.table_id put.now.tail put.now.unit.now
+            put.now.placed }
+        requires started { seat.old.me.0.progress ≡ Storing
+            (starting self.now.seg put.now.tail put.now.count put.now.unit.now segment) }
         requires above { put.now.tail / self.now.seg < segment }
         requires upto { segment ≤ put.now.placed.tail / self.now.seg }
-        requires place { place ≡ first_of segment self.now.seg put.now.placed.start put.now.placed.tail }
+        requires place { place ≡ first_of segment self.now.seg put.now.placed.start
+            put.now.placed.tail }
         ensures same { seat.new.table_id ≡ seat.old.table_id }
-        ensures stored { seat.new.me ≡ (with_progress (Storing (record (starting self.now.seg put.now.tail put.now.count put.now.unit.now segment) { start = segment + 1 })) seat.old.me.0, seat.old.me.1) }
+        ensures stored { seat.new.me ≡ (
+          with_progress (Storing (record
+              (starting self.now.seg put.now.tail put.now.count put.now.unit.now segment) {
+                start =
+                    segment + 1;
+              })) seat.old.me.0,
+          seat.old.me.1,
+        ) }
     {
         self.table.shared.store::<Starting>(
             seat,
@@ -215,13 +246,21 @@ impl Ring {
 
     /// Stores the number of the first unit of a segment that the unit enters.
     fn store_number(&self, seat: &mut RingSeat, put: &PlacedUnit<'_>, segment: u64, number: u64)
-        requires placed { IsPutAt self.now seat.old.table_id put.now.tail put.now.unit.now put.now.placed }
-        requires started { seat.old.me.0.progress ≡ Storing (record (starting self.now.seg put.now.tail put.now.count put.now.unit.now segment) { start = segment + 1 }) }
+        requires placed { IsPutAt self.now seat.old.table_id put.now.tail put.now.unit.now
+            put.now.placed }
+        requires started { seat.old.me.0.progress ≡ Storing
+            (record (starting self.now.seg put.now.tail put.now.count put.now.unit.now segment)
+            { start = segment + 1 }) }
         requires above { put.now.tail / self.now.seg < segment }
         requires upto { segment ≤ put.now.placed.tail / self.now.seg }
-        requires number { number ≡ entered_number self.now.seg put.now.count put.now.placed.start segment }
+        requires number { number ≡
+            entered_number self.now.seg put.now.count put.now.placed.start segment }
         ensures same { seat.new.table_id ≡ seat.old.table_id }
-        ensures stored { seat.new.me ≡ (with_progress (Storing (starting self.now.seg put.now.tail put.now.count put.now.unit.now (segment + 1))) seat.old.me.0, seat.old.me.1) }
+        ensures stored { seat.new.me ≡ (
+          with_progress (Storing (starting self.now.seg put.now.tail put.now.count
+              put.now.unit.now (segment + 1))) seat.old.me.0,
+          seat.old.me.1,
+        ) }
     {
         self.table.shared.store::<Numbering>(
             seat,
@@ -238,10 +277,16 @@ impl Ring {
         pause: &mut P,
         step: &mut u64,
     )
-        requires placed { IsPutAt self.now seat.old.table_id put.now.tail put.now.unit.now put.now.placed }
-        requires started { seat.old.me.0.progress ≡ Storing (started self.now.seg put.now.tail put.now.count put.now.unit.now) }
+        requires placed { IsPutAt self.now seat.old.table_id put.now.tail put.now.unit.now
+            put.now.placed }
+        requires started { seat.old.me.0.progress ≡ Storing
+            (started self.now.seg put.now.tail put.now.count put.now.unit.now) }
         ensures same { seat.new.table_id ≡ seat.old.table_id }
-        ensures written { seat.new.me ≡ (with_progress (Storing (written self.now.seg put.now.tail put.now.count put.now.unit.now)) seat.old.me.0, seat.old.me.1) }
+        ensures written { seat.new.me ≡ (
+          with_progress (Storing (written self.now.seg put.now.tail put.now.count
+              put.now.unit.now)) seat.old.me.0,
+          seat.old.me.1,
+        ) }
     {
         let count = (put.placed.tail - put.placed.start) as usize;
         let at = self.word_of(put.placed.start);
@@ -269,14 +314,27 @@ impl Ring {
         at: usize,
         word: u32,
     )
-        requires placed { IsPutAt self.now seat.old.table_id put.now.tail put.now.unit.now put.now.placed }
-        requires started { seat.old.me.0.progress ≡ Storing (record (started self.now.seg put.now.tail put.now.count put.now.unit.now) { word = place }) }
+        requires placed { IsPutAt self.now seat.old.table_id put.now.tail put.now.unit.now
+            put.now.placed }
+        requires started { seat.old.me.0.progress ≡ Storing
+            (record (started self.now.seg put.now.tail put.now.count put.now.unit.now) {
+              word =
+                  place;
+            }) }
         requires inside { place < length (unit_words put.now.unit.now) }
-        requires behind { first_word unit_words self.now.seg put.now.tail (length (unit_words put.now.unit.now)) ≤ place }
+        requires behind { first_word unit_words self.now.seg put.now.tail
+            (length (unit_words put.now.unit.now)) ≤ place }
         requires at { at ≡ first_ring_word + (put.now.placed.start + place) % (8 * self.now.seg) }
         requires word { word ≡ slice_index (unit_words put.now.unit.now) place }
         ensures same { seat.new.table_id ≡ seat.old.table_id }
-        ensures stored { seat.new.me ≡ (with_progress (Storing (record (started self.now.seg put.now.tail put.now.count put.now.unit.now) { word = place + 1 })) seat.old.me.0, seat.old.me.1) }
+        ensures stored { seat.new.me ≡ (
+          with_progress (Storing (record
+              (started self.now.seg put.now.tail put.now.count put.now.unit.now) {
+                word =
+                    place + 1;
+              })) seat.old.me.0,
+          seat.old.me.1,
+        ) }
     {
         self.table
             .shared
@@ -291,10 +349,16 @@ impl Ring {
         pause: &mut P,
         step: &mut u64,
     )
-        requires placed { IsPutAt self.now seat.old.table_id put.now.tail put.now.unit.now put.now.placed }
-        requires written { seat.old.me.0.progress ≡ Storing (written self.now.seg put.now.tail put.now.count put.now.unit.now) }
+        requires placed { IsPutAt self.now seat.old.table_id put.now.tail put.now.unit.now
+            put.now.placed }
+        requires written { seat.old.me.0.progress ≡ Storing
+            (written self.now.seg put.now.tail put.now.count put.now.unit.now) }
         ensures same { seat.new.table_id ≡ seat.old.table_id }
-        ensures marked { seat.new.me ≡ (with_progress (Storing (marked self.now.seg put.now.tail put.now.count put.now.unit.now)) seat.old.me.0, seat.old.me.1) }
+        ensures marked { seat.new.me ≡ (
+          with_progress (Storing (marked self.now.seg put.now.tail put.now.count
+              put.now.unit.now)) seat.old.me.0,
+          seat.old.me.1,
+        ) }
     {
         stop(pause, step);
         self.table
@@ -310,11 +374,17 @@ impl Ring {
         pause: &mut P,
         step: &mut u64,
     )
-        requires placed { IsPutAt self.now seat.old.table_id put.now.tail put.now.unit.now put.now.placed }
-        requires marked { seat.old.me.0.progress ≡ Storing (marked self.now.seg put.now.tail put.now.count put.now.unit.now) }
+        requires placed { IsPutAt self.now seat.old.table_id put.now.tail put.now.unit.now
+            put.now.placed }
+        requires marked { seat.old.me.0.progress ≡ Storing
+            (marked self.now.seg put.now.tail put.now.count put.now.unit.now) }
         requires low { put.now.count ≤ last_tail }
         ensures same { seat.new.table_id ≡ seat.old.table_id }
-        ensures counted { seat.new.me ≡ (with_progress (Storing (counted self.now.seg put.now.tail put.now.count put.now.unit.now)) seat.old.me.0, seat.old.me.1) }
+        ensures counted { seat.new.me ≡ (
+          with_progress (Storing (counted self.now.seg put.now.tail put.now.count
+              put.now.unit.now)) seat.old.me.0,
+          seat.old.me.1,
+        ) }
     {
         stop(pause, step);
         self.table
@@ -330,8 +400,10 @@ impl Ring {
         pause: &mut P,
         step: &mut u64,
     )
-        requires placed { IsPutAt self.now seat.old.table_id put.now.tail put.now.unit.now put.now.placed }
-        requires counted { seat.old.me.0.progress ≡ Storing (counted self.now.seg put.now.tail put.now.count put.now.unit.now) }
+        requires placed { IsPutAt self.now seat.old.table_id put.now.tail put.now.unit.now
+            put.now.placed }
+        requires counted { seat.old.me.0.progress ≡ Storing
+            (counted self.now.seg put.now.tail put.now.count put.now.unit.now) }
         requires one { seat.old.me.0.writers ≡ first_writer_of seat.old.me.0 ∷ [] }
         requires stays { seat.old.me.0.finished ≡ 0 }
         ensures same { seat.new.table_id ≡ seat.old.table_id }
@@ -347,7 +419,8 @@ impl Ring {
 
     /// The word that is stored last, at the tail.
     fn last_word(&self, put: &PlacedUnit<'_>) -> u32
-        requires placed { IsPlaced self.now.seg put.now.tail (length (unit_words put.now.unit.now)) put.now.placed }
+        requires placed { IsPlaced self.now.seg put.now.tail
+            (length (unit_words put.now.unit.now)) put.now.placed }
         ensures { result ≡ last_word unit_words self.now.seg put.now.tail put.now.unit.now }
     {
         if put.placed.wraps {
@@ -365,8 +438,10 @@ impl Ring {
         pause: &mut P,
         step: &mut u64,
     )
-        requires placed { IsPutAt self.now seat.old.table_id put.now.tail put.now.unit.now put.now.placed }
-        requires stored { seat.old.me.0.progress ≡ Stored (counted self.now.seg put.now.tail put.now.count put.now.unit.now) }
+        requires placed { IsPutAt self.now seat.old.table_id put.now.tail put.now.unit.now
+            put.now.placed }
+        requires stored { seat.old.me.0.progress ≡ Stored
+            (counted self.now.seg put.now.tail put.now.count put.now.unit.now) }
         ensures same { seat.new.table_id ≡ seat.old.table_id }
         ensures released { seat.new.me ≡ (with_progress Free seat.old.me.0, seat.old.me.1) }
     {
@@ -384,13 +459,18 @@ impl Ring {
         pause: &mut P,
         step: &mut u64,
     )
-        requires placed { IsPutAt self.now seat.old.table_id put.now.tail put.now.unit.now put.now.placed }
-        requires known { seat.old.me.0.progress ≡ Storing (known self.now.seg put.now.tail put.now.count put.now.unit.now) }
+        requires placed { IsPutAt self.now seat.old.table_id put.now.tail put.now.unit.now
+            put.now.placed }
+        requires known { seat.old.me.0.progress ≡ Storing
+            (known self.now.seg put.now.tail put.now.count put.now.unit.now) }
         requires low { put.now.count ≤ last_tail }
         requires one { seat.old.me.0.writers ≡ first_writer_of seat.old.me.0 ∷ [] }
         requires stays { seat.old.me.0.finished ≡ 0 }
         ensures same { seat.new.table_id ≡ seat.old.table_id }
-        ensures put { seat.new.me ≡ (with_put put.now.tail put.now.unit.now seat.old.me.0, seat.old.me.1) }
+        ensures put { seat.new.me ≡ (
+          with_put put.now.tail put.now.unit.now seat.old.me.0,
+          seat.old.me.1,
+        ) }
     {
         self.announce(seat, put, pause, step);
         self.store_starts(seat, put, pause, step);

@@ -13,7 +13,7 @@ use crate::storing::PlacedUnit;
 use ring_layout::{PutFault, place_after};
 use std::marker::{Brand, Model};
 use std::sync::Wait;
-use vsl_record::Unit;
+use vsl_record::{Unit, is_unit};
 
 /// The right to put units into a ring, and what was put by it. Contracts see these.
 #[derive(Drop)]
@@ -32,7 +32,8 @@ impl Model for WriterPass {
 
     ghost view = { λ p. writer_of p.seat.table_id p.seat.me.0 };
 
-    ghost invariant = { λ p. IsWriterSeat p.seat.me × (p.wraps ≡ count_wrapped p.seat.me.0.ring.seg (first_entries p.seat.me.0.writers)) };
+    ghost invariant = { λ p. IsWriterSeat p.seat.me ×
+        (p.wraps ≡ count_wrapped p.seat.me.0.ring.seg (first_entries p.seat.me.0.writers)) };
 }
 
 impl WriterPass {
@@ -41,7 +42,8 @@ impl WriterPass {
     /// and never waits. After a refusal the log has nothing of this call.
     pub fn try_put(&mut self, ring: &Ring, unit: &Unit) -> Result<(), PutFault>
         requires ours { self.old.ring ≡ ring.now }
-        ensures { MatchResult result (λ _. HasPut unit.now self.old self.new) (λ fault. IsRefused unit.now self.old fault self.new) }
+        ensures { MatchResult result (λ _. HasPut unit.now self.old self.new)
+            (λ fault. IsRefused unit.now self.old fault self.new) }
     {
         self.try_put_with(ring, unit, &mut NoPause)
     }
@@ -54,7 +56,8 @@ impl WriterPass {
         pause: &mut P,
     ) -> Result<(), PutFault>
         requires ours { self.old.ring ≡ ring.now }
-        ensures { MatchResult result (λ _. HasPut unit.now self.old self.new) (λ fault. IsRefused unit.now self.old fault self.new) }
+        ensures { MatchResult result (λ _. HasPut unit.now self.old self.new)
+            (λ fault. IsRefused unit.now self.old fault self.new) }
     {
         let words = unit.words();
         if words > ring.shape.seg() as usize {
@@ -77,7 +80,8 @@ impl WriterPass {
         requires unit { unit.now ≡ N.unit }
         requires words { words ≡ length (unit_words unit.now) }
         requires fits { words ≤ ring.now.seg }
-        ensures { MatchResult result (λ _. HasPut unit.now self.old self.new) (λ fault. IsRefused unit.now self.old fault self.new) }
+        ensures { MatchResult result (λ _. HasPut unit.now self.old self.new)
+            (λ fault. IsRefused unit.now self.old fault self.new) }
     {
         let token = ring.acquire::<N>(&mut self.seat);
         if token == 0 {
@@ -85,6 +89,7 @@ impl WriterPass {
         }
         let tail = token - 1;
         let mut step: u64 = 0;
+        is_unit(unit);
         let Some(placed) = place_after(ring.shape, tail, words) else {
             ring.withdraw(&mut self.seat, tail, unit, pause, &mut step);
             return Err(PutFault::Exhausted { tail });
@@ -107,7 +112,8 @@ impl WriterPass {
     /// 2^64 - 1.
     pub fn put<R: Wait>(&mut self, rt: &R, ring: &Ring, unit: &Unit) -> Result<u64, PutFault>
         requires ours { self.old.ring ≡ ring.now }
-        ensures { MatchResult result (λ busy. HasWaited unit.now self.old busy self.new) (λ fault. IsRefusedAtLast unit.now self.old fault self.new) }
+        ensures { MatchResult result (λ busy. HasWaited unit.now self.old busy self.new)
+            (λ fault. IsRefusedAtLast unit.now self.old fault self.new) }
     {
         let mut busy: u64 = 0;
         for _ in rt.forever() {
@@ -154,7 +160,8 @@ impl Model for LeftWriter {
 
     ghost view = { λ p. writer_of p.seat.table_id p.seat.me.0 };
 
-    ghost invariant = { λ p. IsLeftSeat p.seat.me × (p.wraps ≡ count_wrapped p.seat.me.0.ring.seg (first_entries p.seat.me.0.writers)) };
+    ghost invariant = { λ p. IsLeftSeat p.seat.me ×
+        (p.wraps ≡ count_wrapped p.seat.me.0.ring.seg (first_entries p.seat.me.0.writers)) };
 }
 
 impl LeftWriter {

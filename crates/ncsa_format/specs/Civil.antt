@@ -19,7 +19,8 @@ pub record Day : Type 0 where
 abbrev pub next_day : Day → Day
 next_day d =
     if nat_lt d.day (days_in_month (pos d.year) d.month) then record d { day = d.day + 1 } else
-    (if nat_lt d.month 12 then record d { month = d.month + 1; day = 1 } else record { year = d.year + 1; month = 1; day = 1 })
+    (if nat_lt d.month 12 then record d { month = d.month + 1; day = 1 }
+    else record { year = d.year + 1; month = 1; day = 1 })
 
 -- the day so many days after 1 January 1970
 unfoldable pub day_at : ℕ → Day
@@ -83,4 +84,5 @@ time_text (forms.Text all) time = flat_map (part_text (time / scale)) all
 -- the form of `%t`, as `[02/Jan/2023:03:04:05 +0000]`
 abbrev pub stamp_parts : List TimePart
 stamp_parts =
-    parts.Byte 91 ∷ parts.Day ∷ parts.Byte 47 ∷ parts.MonthName ∷ parts.Byte 47 ∷ parts.Year ∷ parts.Byte 58 ∷ parts.Clock ∷ parts.Byte 32 ∷ parts.Zone ∷ parts.Byte 93 ∷ []
+    parts.Byte 91 ∷ parts.Day ∷ parts.Byte 47 ∷ parts.MonthName ∷ parts.Byte 47 ∷ parts.Year ∷ parts.Byte 58 ∷
+    parts.Clock ∷ parts.Byte 32 ∷ parts.Zone ∷ parts.Byte 93 ∷ []

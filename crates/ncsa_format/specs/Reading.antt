@@ -42,7 +42,8 @@ onto (Some x) (Some xs) = Some (x ∷ xs)
 abbrev pub time_parts : List ℕ → Option (List TimePart)
 time_parts [] = Some []
 time_parts (b ∷ []) = if b == percent then None else Some (parts.Byte b ∷ [])
-time_parts (b ∷ c ∷ text) = if b == percent then onto (part_named c) (time_parts text) else onto (Some (parts.Byte b)) (time_parts (c ∷ text))
+time_parts (b ∷ c ∷ text) = if b == percent then onto (part_named c) (time_parts text) else onto (Some (parts.Byte b))
+    (time_parts (c ∷ text))
 
 -- the form of a time that a name asks for
 abbrev pub form_named : List ℕ → Option TimeForm
@@ -163,11 +164,13 @@ behind_percent (b ∷ text) = if b == percent then Some (Byte percent, text) els
 -- the piece that a backslash begins: a line feed before `n`, a tab before `t`, and else itself
 abbrev pub behind_backslash : List ℕ → Piece × List ℕ
 behind_backslash [] = (Byte 92, [])
-behind_backslash (b ∷ text) = if b == 110 then (Byte 10, text) else (if b == 116 then (Byte 9, text) else (Byte 92, b ∷ text))
+behind_backslash (b ∷ text) = if b == 110 then (Byte 10, text)
+    else (if b == 116 then (Byte 9, text) else (Byte 92, b ∷ text))
 
 -- the piece that a byte begins before a text, and what stands behind it
 abbrev pub piece_at : ℕ → List ℕ → Option (Piece × List ℕ)
-piece_at b text = if b == percent then behind_percent text else (if b == 92 then Some (behind_backslash text) else Some (Byte b, text))
+piece_at b text = if b == percent then behind_percent text
+    else (if b == 92 then Some (behind_backslash text) else Some (Byte b, text))
 
 -- a piece before those of the rest
 abbrev pub before : Piece → Result (List Piece) ℕ → Result (List Piece) ℕ

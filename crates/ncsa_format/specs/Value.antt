@@ -52,22 +52,26 @@ is_backend kind = false
 -- of a request: the first record of a client's, the last of a backend's. That is what a client asked first, and what
 -- was sent to a backend last, behind what VCL changed
 abbrev pub requested : ℕ → ℕ → Part → Member → Option (List ℕ)
-requested client backend part m = if is_backend m.kind then last_of (in_tag backend part) m.records else first_of (in_tag client part) m.records
+requested client backend part m = if is_backend m.kind then last_of (in_tag backend part) m.records else first_of
+    (in_tag client part) m.records
 
 -- of a response: the last record of a client's, the first of a backend's. That is what a client was answered last, and
 -- what a backend answered first, before VCL changes it
 abbrev pub responded : ℕ → ℕ → Part → Member → Option (List ℕ)
-responded client backend part m = if is_backend m.kind then first_of (in_tag backend part) m.records else last_of (in_tag client part) m.records
+responded client backend part m = if is_backend m.kind then first_of (in_tag backend part) m.records else last_of
+    (in_tag client part) m.records
 
 -- of a header that is named: the last record, of a client's and of a backend's. So headers of a client's request are as
 -- VCL set them, and the user and the host of its request line as the client sent them: `%r` and `%{Host}i` may tell two
 -- hosts
 abbrev pub headed : ℕ → ℕ → Part → Member → Option (List ℕ)
-headed client backend part m = if is_backend m.kind then last_of (in_tag backend part) m.records else last_of (in_tag client part) m.records
+headed client backend part m = if is_backend m.kind then last_of (in_tag backend part) m.records else last_of
+    (in_tag client part) m.records
 
 -- of a Timestamp: the last record with a label, which is another for a client than for a backend
 abbrev pub stamped : List ℕ → List ℕ → Member → Option (List ℕ)
-stamped client backend m = last_of (in_tag TIMESTAMP (value_after (if is_backend m.kind then backend else client))) m.records
+stamped client backend m =
+    last_of (in_tag TIMESTAMP (value_after (if is_backend m.kind then backend else client))) m.records
 
 -- ---- parts of values
 
@@ -184,7 +188,8 @@ request_line method host url protocol = unwrap_or method (codes "-") ++ codes " 
 -- what a formatter gives for a transaction, where it isn't missing. `%q` is nothing without a query, and not missing,
 -- because it stands behind `%U`
 abbrev pub value_of : Formatter → Member → Option (List ℕ)
-value_of Host m = if is_backend m.kind then field_in 3 (first_of (in_tag BACKEND_OPEN whole) m.records) else field_in 1 (first_of (in_tag REQ_START whole) m.records)
+value_of Host m = if is_backend m.kind then field_in 3 (first_of (in_tag BACKEND_OPEN whole) m.records) else field_in 1
+    (first_of (in_tag REQ_START whole) m.records)
 value_of LogName m = None
 value_of User m = option_and_then user_of (requested REQ_HEADER BEREQ_HEADER (value_after (codes "Authorization")) m)
 value_of Stamp m = option_map (time_text (forms.Text stamp_parts)) (start_time m)

@@ -14,7 +14,8 @@ use vsl_tags::named::TIMESTAMP;
 
 /// What the first record of a tag that gives something gives.
 pub(crate) fn first_of<'a>(member: &'a Member, tag: u8, wanted: Wanted) -> Option<&'a [u8]>
-    ensures { option_copied result ≡ first_of (in_tag tag (part_of wanted.entry)) member.now.records }
+    ensures { option_copied result ≡ first_of
+        (in_tag tag (part_of wanted.entry)) member.now.records }
 {
     let records = member.records.view();
     for i in 0..records.len() {
@@ -30,7 +31,8 @@ pub(crate) fn first_of<'a>(member: &'a Member, tag: u8, wanted: Wanted) -> Optio
 
 /// What the last record of a tag that gives something gives.
 pub(crate) fn last_of<'a>(member: &'a Member, tag: u8, wanted: Wanted) -> Option<&'a [u8]>
-    ensures { option_copied result ≡ last_of (in_tag tag (part_of wanted.entry)) member.now.records }
+    ensures { option_copied result ≡ last_of
+        (in_tag tag (part_of wanted.entry)) member.now.records }
 {
     let records = member.records.view();
     for i in (0..records.len()).rev() {

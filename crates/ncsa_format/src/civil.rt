@@ -72,7 +72,8 @@ pub(crate) fn put_number(out: &mut Vec<u8>, n: u64) -> Result<(), NoMemory>
 /// Adds a number with a byte before it, as many times as fill its columns.
 fn put_padded(out: &mut Vec<u8>, fill: u8, columns: usize, n: u64) -> Result<(), NoMemory>
     requires { columns ≤ 6 }
-    ensures { Puts result out.old.items out.new.items (quoted (replicate (columns - length (decimal n)) fill ++ decimal n)) }
+    ensures { Puts result out.old.items out.new.items
+        (quoted (replicate (columns - length (decimal n)) fill ++ decimal n)) }
 {
     let mut buffer = Buffer::new();
     let digits = buffer.format(n).as_bytes();
@@ -174,7 +175,8 @@ fn put_part(out: &mut Vec<u8>, moment: &Moment, part: TimePart) -> Result<(), No
 /// Adds the parts of a time at a second.
 pub(crate) fn put_parts(out: &mut Vec<u8>, second: u64, parts: &[TimePart]) -> Result<(), NoMemory>
     requires { second ≤ last_second }
-    ensures { Puts result out.old.items out.new.items (quoted (flat_map (part_text second) parts.now)) }
+    ensures { Puts result out.old.items out.new.items
+        (quoted (flat_map (part_text second) parts.now)) }
 {
     let moment = moment_of(second);
     for part in parts {

@@ -69,7 +69,8 @@ fn put_logged(
     sides: Sides,
     member: &Member,
 ) -> Result<(), NoMemory>
-    ensures { OnOk result (out.new.items ≡ out.old.items ++ flat_map (line_of format.now) (filter (is_logged sides) (member.now ∷ []))) }
+    ensures { OnOk result (out.new.items ≡ out.old.items ++ flat_map (line_of format.now)
+        (filter (is_logged sides) (member.now ∷ []))) }
 {
     if is_logged(sides, member) {
         line(format, member, out)
@@ -85,7 +86,8 @@ fn put_lines(
     sides: Sides,
     group: &Group,
 ) -> Result<(), NoMemory>
-    ensures { OnOk result (out.new.items ≡ out.old.items ++ group_lines format.now sides group.now) }
+    ensures { OnOk result (out.new.items ≡ out.old.items ++
+        group_lines format.now sides group.now) }
 {
     for member in group.members.as_slice() {
         put_logged(out, format, sides, member)?;
@@ -102,7 +104,8 @@ impl NcsaConsumer {
         keep: Option<u32>,
     ) -> Result<NcsaConsumer, NoMemory>
         ensures keep { IfOk result (λ c. keep_of c ≡ keep) }
-        ensures output { IfOk result (λ c. output_of c ≡ (λ groups ended. access_text format sides groups)) }
+        ensures output { IfOk result
+            (λ c. output_of c ≡ (λ groups ended. access_text format sides groups)) }
         ensures new { IfOk result (λ c. IsAccessLog c [] false []) }
     {
         let text = Vec::with_capacity(alloc, FIRST_BYTES)?;

@@ -47,7 +47,8 @@ fn has_line(member: &Member) -> bool
 
 /// Adds a run of a format for a transaction, or a part of it.
 fn put_run(alloc: Global, out: &mut Vec<u8>, run: &Run, member: &Member) -> Result<(), NoMemory>
-    ensures { Puts result out.old.items out.new.items (flat_map (piece_text member.now) (run_pieces run.now)) }
+    ensures { Puts result out.old.items out.new.items
+        (flat_map (piece_text member.now) (run_pieces run.now)) }
 {
     match run {
         Run::Text(text) => {
@@ -60,7 +61,8 @@ fn put_run(alloc: Global, out: &mut Vec<u8>, run: &Run, member: &Member) -> Resu
 
 /// Adds runs of a format for a transaction, or a part of them.
 fn put_runs(alloc: Global, out: &mut Vec<u8>, runs: &[Run], member: &Member) -> Result<(), NoMemory>
-    ensures { Puts result out.old.items out.new.items (flat_map (piece_text member.now) (pieces_in runs.now)) }
+    ensures { Puts result out.old.items out.new.items
+        (flat_map (piece_text member.now) (pieces_in runs.now)) }
 {
     for run in runs {
         put_run(alloc, out, run, member)?;

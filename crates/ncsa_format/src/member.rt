@@ -30,7 +30,8 @@ pub(crate) fn address_of(member: &Member) -> Option<&[u8]>
 
 /// A header of the request with this name: the first of a client's, the last of a backend's.
 pub(crate) fn header_of<'a>(member: &'a Member, name: &[u8]) -> Option<&'a [u8]>
-    ensures { option_copied result ≡ requested REQ_HEADER BEREQ_HEADER (value_after name.now) member.now }
+    ensures { option_copied result ≡ requested REQ_HEADER BEREQ_HEADER
+        (value_after name.now) member.now }
 {
     requested(member, REQ_HEADER, BEREQ_HEADER, Wanted::After(name))
 }
@@ -90,7 +91,8 @@ pub(crate) fn handling_of(member: &Member) -> Option<&[u8]>
 
 /// What VCL logged under a key: the first.
 pub(crate) fn logged<'a>(member: &'a Member, key: &Label) -> Option<&'a [u8]>
-    ensures { option_copied result ≡ first_of (in_tag VCL_LOG (value_after key.now)) member.now.records }
+    ensures { option_copied result ≡ first_of
+        (in_tag VCL_LOG (value_after key.now)) member.now.records }
 {
     first_of(member, VCL_LOG, Wanted::After(key.as_slice()))
 }
@@ -102,7 +104,8 @@ pub(crate) fn record_part<'a>(
     prefix: &Option<Label>,
     number: Option<u32>,
 ) -> Option<&'a [u8]>
-    ensures { option_copied result ≡ first_of (in_tag tag (part_with prefix.now number)) member.now.records }
+    ensures { option_copied result ≡ first_of
+        (in_tag tag (part_with prefix.now number)) member.now.records }
 {
     first_of(member, tag, Wanted::Part(prefix, number))
 }

@@ -50,7 +50,8 @@ fn tag_part(
     prefix: &[u8],
     field: &[u8],
 ) -> Result<Option<Formatter>, NoMemory>
-    ensures { IfOk result (λ f. f ≡ tag_part (tag_called name.now) (prefix_asked prefix.now) (field_asked field.now)) }
+    ensures { IfOk result (λ f. f ≡ tag_part (tag_called name.now) (prefix_asked prefix.now)
+        (field_asked field.now)) }
 {
     let Some(tag) = tag_called(name) else {
         return Ok(None);

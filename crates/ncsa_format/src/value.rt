@@ -96,7 +96,8 @@ fn user_of(alloc: Global, header: &[u8]) -> Result<Option<Vec<u8>>, NoMemory>
 
 /// Adds the user of an Authorization header.
 fn put_user(alloc: Global, out: &mut Vec<u8>, header: Option<&[u8]>) -> Result<(), NoMemory>
-    ensures { Puts result out.old.items out.new.items (printed (option_and_then user_of (option_copied header.entry))) }
+    ensures { Puts result out.old.items out.new.items
+        (printed (option_and_then user_of (option_copied header.entry))) }
 {
     let Some(header) = header else {
         return put_printed(out, None);
@@ -109,7 +110,8 @@ fn put_user(alloc: Global, out: &mut Vec<u8>, header: Option<&[u8]>) -> Result<(
 
 /// The time that a text tells, where it is printed, in units of 10^-18 seconds.
 fn printed_time(text: Option<&[u8]>) -> Option<u128>
-    ensures time { result ≡ option_and_then printed_time (option_and_then decimal_of (option_copied text.entry)) }
+    ensures time { result ≡ option_and_then printed_time
+        (option_and_then decimal_of (option_copied text.entry)) }
     ensures within { IfSome result (λ time. time ≤ last_second * scale) }
 {
     let time = read_decimal(text?)?;
@@ -125,7 +127,9 @@ fn printed_time(text: Option<&[u8]>) -> Option<u128>
 
 /// Adds the time that a text tells, as `%t` prints it.
 fn put_stamp(out: &mut Vec<u8>, text: Option<&[u8]>) -> Result<(), NoMemory>
-    ensures { Puts result out.old.items out.new.items (printed (option_map (time_text (forms.Text stamp_parts)) (option_and_then printed_time (option_and_then decimal_of (option_copied text.entry))))) }
+    ensures { Puts result out.old.items out.new.items
+        (printed (option_map (time_text (forms.Text stamp_parts))
+        (option_and_then printed_time (option_and_then decimal_of (option_copied text.entry))))) }
 {
     match printed_time(text) {
         Some(time) => put_parts(out, (time / 1_000_000_000_000_000_000) as u64, &STAMP),
@@ -135,7 +139,9 @@ fn put_stamp(out: &mut Vec<u8>, text: Option<&[u8]>) -> Result<(), NoMemory>
 
 /// Adds the time that a text tells, in a form.
 fn put_time_in(out: &mut Vec<u8>, text: Option<&[u8]>, form: &TimeForm) -> Result<(), NoMemory>
-    ensures { Puts result out.old.items out.new.items (printed (option_map (time_text form.now) (option_and_then printed_time (option_and_then decimal_of (option_copied text.entry))))) }
+    ensures { Puts result out.old.items out.new.items
+        (printed (option_map (time_text form.now)
+        (option_and_then printed_time (option_and_then decimal_of (option_copied text.entry))))) }
 {
     match printed_time(text) {
         Some(time) => put_time(out, time, form),
@@ -156,7 +162,8 @@ fn put_signed(out: &mut Vec<u8>, n: Option<i128>) -> Result<(), NoMemory>
 
 /// The whole microseconds of a time that a text tells, cut toward zero.
 fn micros_in(text: Option<&[u8]>) -> Option<i128>
-    ensures { result ≡ option_map micros_of (option_and_then decimal_of (option_copied text.entry)) }
+    ensures { result ≡ option_map micros_of
+        (option_and_then decimal_of (option_copied text.entry)) }
 {
     let time = read_decimal(text?)?;
     Some(time.scaled / 1_000_000_000_000)
@@ -164,7 +171,8 @@ fn micros_in(text: Option<&[u8]>) -> Option<i128>
 
 /// The whole seconds of a time that a text tells.
 fn seconds_in(text: Option<&[u8]>) -> Option<i128>
-    ensures { result ≡ option_map integral_part (option_and_then decimal_of (option_copied text.entry)) }
+    ensures { result ≡ option_map integral_part
+        (option_and_then decimal_of (option_copied text.entry)) }
 {
     let time = read_decimal(text?)?;
     Some(integral(time))
@@ -173,7 +181,8 @@ fn seconds_in(text: Option<&[u8]>) -> Option<i128>
 /// A URL up to its query.
 #[tactic(auto, using(crate::proofs::CutLemmas::front_is))]
 fn path_of(url: Option<&[u8]>) -> Option<&[u8]>
-    ensures { option_copied result ≡ option_map (λ u. take (query_place u) u) (option_copied url.entry) }
+    ensures { option_copied result ≡ option_map (λ u. take (query_place u) u)
+        (option_copied url.entry) }
 {
     let (path, _) = cut(url?, b'?');
     Some(path)
@@ -182,7 +191,8 @@ fn path_of(url: Option<&[u8]>) -> Option<&[u8]>
 /// The query of a URL, with its question mark; empty where there is none.
 #[tactic(auto, using(crate::proofs::CutLemmas::behind_is))]
 fn query_of(url: Option<&[u8]>) -> &[u8]
-    ensures { result.now ≡ unwrap_or (option_map (λ u. drop (query_place u) u) (option_copied url.entry)) [] }
+    ensures { result.now ≡ unwrap_or
+        (option_map (λ u. drop (query_place u) u) (option_copied url.entry)) [] }
 {
     match url {
         Some(url) => {
@@ -202,7 +212,8 @@ fn text_or<'a>(text: Option<&'a [u8]>, other: &'a [u8]) -> &'a [u8]
 
 /// Adds the host of a request line.
 fn put_host(out: &mut Vec<u8>, host: Option<&[u8]>) -> Result<(), NoMemory>
-    ensures { Puts result out.old.items out.new.items (quoted (host_of (option_copied host.entry))) }
+    ensures { Puts result out.old.items out.new.items
+        (quoted (host_of (option_copied host.entry))) }
 {
     let Some(host) = host else {
         return put_plain(out, b"http://localhost");
@@ -216,7 +227,8 @@ fn put_host(out: &mut Vec<u8>, host: Option<&[u8]>) -> Result<(), NoMemory>
 
 /// Adds a request line: the method, the host, the URL and the protocol.
 fn put_request_line(out: &mut Vec<u8>, member: &Member) -> Result<(), NoMemory>
-    ensures { Puts result out.old.items out.new.items (printed (value_of formatters.RequestLine member.now)) }
+    ensures { Puts result out.old.items out.new.items
+        (printed (value_of formatters.RequestLine member.now)) }
 {
     put_quoted(out, text_or(method_of(member), b"-"))?;
     put_plain(out, b" ")?;
@@ -257,7 +269,8 @@ pub(crate) fn put_value(
     formatter: &Formatter,
     member: &Member,
 ) -> Result<(), NoMemory>
-    ensures { Puts result out.old.items out.new.items (printed (value_of formatter.now member.now)) }
+    ensures { Puts result out.old.items out.new.items
+        (printed (value_of formatter.now member.now)) }
 {
     match formatter {
         Formatter::Host => put_printed(out, address_of(member)),
@@ -288,7 +301,7 @@ pub(crate) fn put_value(
         Formatter::HitMiss => put_printed(out, hit_or_miss(handling_of(member))),
         Formatter::Handling => put_printed(out, handling_of(member)),
         Formatter::Mark => put_quoted(out, text_for(member.kind, b"c", b"b")),
-        Formatter::Vxid => put_number(out, u64::from(member.vxid)),
+        Formatter::Vxid => put_number(out, member.vxid),
         Formatter::LogKey(key) => put_printed(out, logged(member, key)),
         Formatter::TagPart { tag, prefix, field } => {
             put_printed(out, record_part(member, tag.number(), prefix, *field))

@@ -36,26 +36,30 @@ goes_on (Ok (Some ending)) = false
 goes_on (Err e) = false
 
 -- what a source answers that gave these items: one more, all were given, or it stops, with a fault or for want of memory
-abbrev pub CameTo : {F : Type 0} → (List Item → Bool → Type 0) → (F → List Item → Type 0) → (List Item → Type 0) → Result (Option Item) (Halt F) → List Item → Type 0
+abbrev pub CameTo : {F : Type 0} → (List Item → Bool → Type 0) → (F → List Item → Type 0) →
+    (List Item → Type 0) → Result (Option Item) (Halt F) → List Item → Type 0
 CameTo gave stopped starved (Ok (Some item)) met = gave (met ++ item ∷ []) false
 CameTo gave stopped starved (Ok None) met = gave met true
 CameTo gave stopped starved (Err (halts.Fault fault)) met = stopped fault met
 CameTo gave stopped starved (Err halts.NoMemory) met = starved met
 
 -- what an output answers before all items: it goes on, ends at once, or had no memory
-abbrev pub BeginTo : {E M : Type 0} → (List Item → Type 0) → (E → List Item → List Item → Bool → Type 0) → (List Item → Bool → Type 0) → Result (Option E) M → Type 0
+abbrev pub BeginTo : {E M : Type 0} → (List Item → Type 0) → (E → List Item → List Item → Bool → Type 0) →
+    (List Item → Bool → Type 0) → Result (Option E) M → Type 0
 BeginTo printed ended starved (Ok None) = printed []
 BeginTo printed ended starved (Ok (Some ending)) = ended ending [] [] false
 BeginTo printed ended starved (Err e) = starved [] false
 
 -- what an output answers that printed these items and is given one more: it goes on, ends with it, or had no memory
-abbrev pub ItemTo : {E M : Type 0} → (List Item → Type 0) → (E → List Item → List Item → Bool → Type 0) → (List Item → Bool → Type 0) → Result (Option E) M → List Item → Item → Type 0
+abbrev pub ItemTo : {E M : Type 0} → (List Item → Type 0) → (E → List Item → List Item → Bool → Type 0) →
+    (List Item → Bool → Type 0) → Result (Option E) M → List Item → Item → Type 0
 ItemTo printed ended starved (Ok None) done item = printed (done ++ item ∷ [])
 ItemTo printed ended starved (Ok (Some ending)) done item = ended ending done (item ∷ []) false
 ItemTo printed ended starved (Err e) done item = starved (done ++ item ∷ []) false
 
 -- the same at the end
-abbrev pub EndTo : {E M : Type 0} → (E → List Item → List Item → Bool → Type 0) → (List Item → Bool → Type 0) → Result E M → List Item → Type 0
+abbrev pub EndTo : {E M : Type 0} → (E → List Item → List Item → Bool → Type 0) →
+    (List Item → Bool → Type 0) → Result E M → List Item → Type 0
 EndTo ended starved (Ok ending) done = ended ending done [] true
 EndTo ended starved (Err e) done = starved done true
 
@@ -63,7 +67,8 @@ EndTo ended starved (Err e) done = starved done true
 module _ {F E : Type 0} (gave : List Call → List Item → Bool → Type 0) (stopped : F → List Call → List Item → Type 0) (printed : List Call → List Item → Type 0) (ended : E → List Call → List Item → List Item → Bool → Type 0) (writes : List ℕ) where
   abbrev pub EndsBy : RunEnd E F → List Call → List Item → List Item → Bool → Type 0
   EndsBy (ends.ByOutput ending) calls done last all =
-      (came : List Call) × (wrote : List Call) × (calls ≡ came ++ wrote) × AreOn [] writes wrote × gave came (done ++ last) all × ended ending calls done last all
+      (came : List Call) × (wrote : List Call) × (calls ≡ came ++ wrote) × AreOn [] writes wrote ×
+      gave came (done ++ last) all × ended ending calls done last all
   EndsBy (ends.BySource fault) calls done last all = (last ≡ []) × stopped fault calls done × printed calls done
 
   -- a run that ended: the items that were printed whole, the one at which it ended if there is one, and whether they are all
@@ -79,7 +84,8 @@ module _ {F E : Type 0} (gave : List Call → List Item → Bool → Type 0) (st
 pub record RanShort (gave : List Call → List Item → Bool → Type 0) (lacking : List Call → List Item → Type 0) (printed : List Call → List Item → Type 0) (starved : List Call → List Item → Bool → Type 0) (calls : List Call) : Type 0 where
   pub met : List Item
   pub all : Bool
-  pub ends : (gave calls met all × starved calls met all) ⊎ ((gave calls met all ⊎ lacking calls met) × printed calls met)
+  pub ends : (gave calls met all × starved calls met all) ⊎
+      ((gave calls met all ⊎ lacking calls met) × printed calls met)
 
 -- a run that began: nothing came, and what stands before all items was printed
 pub record Started (gave : List Call → List Item → Bool → Type 0) (printed : List Call → List Item → Type 0) (calls : List Call) : Type 0 where

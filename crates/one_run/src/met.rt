@@ -33,7 +33,8 @@ impl Met {
     /// With an item more.
     pub(crate) fn and(self, item: &Item) -> Met
         requires { HasRoom self }
-        ensures count { (list : List Item) → IsMet self list → IsMet result (list ++ item.now ∷ []) }
+        ensures count { (list : List Item) → IsMet self list →
+            IsMet result (list ++ item.now ∷ []) }
         ensures more { result.units + result.items ≡ self.units + self.items + 1 }
     {
         match item {

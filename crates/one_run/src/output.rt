@@ -40,7 +40,11 @@ pub trait Output: Drop {
     fn begin<W: World>(&mut self, world: &mut W) -> Result<Option<Self::Ending>, NoMemory>
         requires new { is_new self.old }
         requires ready { is_ready self.old (W.seen world.old) }
-        ensures begins { MadeBut (alone self.old) (goes_on result) [] (writes self.old) (λ calls. BeginTo (λ now. printed self.old self.new calls now) (λ ending now last all. ended self.old ending calls now last all) (λ now all. starved self.old calls now all) result) (W.seen world.old) (W.seen world.new) }
+        ensures begins { MadeBut (alone self.old) (goes_on result) [] (writes self.old)
+            (λ calls. BeginTo (λ now. printed self.old self.new calls now)
+            (λ ending now last all. ended self.old ending calls now last all)
+            (λ now all. starved self.old calls now all) result) (W.seen world.old)
+            (W.seen world.new) }
         ensures ready { result ≡ Ok None → is_ready self.new (W.seen world.new) };
 
     /// Prints an item; how it ended with it, or nothing where it goes on.
@@ -50,19 +54,31 @@ pub trait Output: Drop {
         item: &Item,
     ) -> Result<Option<Self::Ending>, NoMemory>
         requires ready { is_ready self.old (W.seen world.old) }
-        ensures prints { (start : Self) (calls : List Call) (done : List Item) → printed start self.old calls done →
-            MadeBut (alone start) (goes_on result) [] (writes start) (λ more. ItemTo (λ now. printed start self.new (calls ++ more) now) (λ ending now last all. ended start ending (calls ++ more) now last all) (λ now all. starved start (calls ++ more) now all) result done item.now) (W.seen world.old) (W.seen world.new) }
+        ensures prints { (start : Self) (calls : List Call) (done : List Item) →
+            printed start self.old calls done →
+            MadeBut (alone start) (goes_on result) [] (writes start)
+            (λ more. ItemTo (λ now. printed start self.new (calls ++ more) now)
+            (λ ending now last all. ended start ending (calls ++ more) now last all)
+            (λ now all. starved start (calls ++ more) now all) result done item.now)
+            (W.seen world.old) (W.seen world.new) }
         ensures ready { result ≡ Ok None → is_ready self.new (W.seen world.new) };
 
     /// Prints the rest, after all items.
     fn end<W: World>(&mut self, world: &mut W) -> Result<Self::Ending, NoMemory>
         requires ready { is_ready self.old (W.seen world.old) }
-        ensures prints { (start : Self) (calls : List Call) (done : List Item) → printed start self.old calls done →
-            MadeBut (alone start) false [] (writes start) (λ more. EndTo (λ ending now last all. ended start ending (calls ++ more) now last all) (λ now all. starved start (calls ++ more) now all) result done) (W.seen world.old) (W.seen world.new) };
+        ensures prints { (start : Self) (calls : List Call) (done : List Item) →
+            printed start self.old calls done →
+            MadeBut (alone start) false [] (writes start)
+            (λ more. EndTo (λ ending now last all. ended start ending (calls ++ more) now last all)
+            (λ now all. starved start (calls ++ more) now all) result done) (W.seen world.old)
+            (W.seen world.new) };
 
     /// What is read changes nothing of what was printed.
-    ghost stays: { (start now : Self) (calls more : List Call) (done : List Item) (reads : List ℕ) → printed start now calls done → AreOn reads [] more → printed start now (calls ++ more) done };
+    ghost stays: { (start now : Self) (calls more : List Call) (done : List Item) (reads : List ℕ) →
+        printed start now calls done → AreOn reads [] more →
+        printed start now (calls ++ more) done };
 
     /// And it may still be given an item.
-    ghost ready_still: { (now : Self) (reads : List ℕ) (more : List Call) (s t : Seen) → is_ready now s → AreOn reads [] more → Did more s t → is_ready now t };
+    ghost ready_still: { (now : Self) (reads : List ℕ) (more : List Call) (s t : Seen) →
+        is_ready now s → AreOn reads [] more → Did more s t → is_ready now t };
 }

@@ -35,10 +35,20 @@ fn run_on<W: World, S: Source, O: Output>(
     requires source { S.is_ready source.old }
     requires fresh { S.gave source.old source.old [] [] false }
     requires output { O.is_ready output.old (W.seen world.old) }
-    ensures ran { IfOk result (λ r. (start : O) (before : Seen) → MadeBut (O.alone start) true (S.reads source.old) (O.writes start) (Started (S.gave source.old source.old) (O.printed start output.old)) before (W.seen world.old) → MadeBut (O.alone start) false (S.reads source.old) (O.writes start)
-        (Ran (S.gave source.old source.new) (λ fault calls met. S.stopped source.old fault calls met (W.seen world.new)) (O.printed start output.new) (O.ended start) (O.writes start) r.end r.met) before (W.seen world.new)) }
-    ensures short { OnErr result ((start : O) (before : Seen) → MadeBut (O.alone start) true (S.reads source.old) (O.writes start) (Started (S.gave source.old source.old) (O.printed start output.old)) before (W.seen world.old) → MadeBut (O.alone start) false (S.reads source.old) (O.writes start)
-        (RanShort (S.gave source.old source.new) (S.starved source.old source.new) (O.printed start output.new) (O.starved start)) before (W.seen world.new)) }
+    ensures ran { IfOk result (λ r. (start : O) (before : Seen) →
+        MadeBut (O.alone start) true (S.reads source.old) (O.writes start)
+        (Started (S.gave source.old source.old) (O.printed start output.old)) before
+        (W.seen world.old) → MadeBut (O.alone start) false (S.reads source.old) (O.writes start)
+        (Ran (S.gave source.old source.new)
+        (λ fault calls met. S.stopped source.old fault calls met (W.seen world.new))
+        (O.printed start output.new) (O.ended start) (O.writes start) r.end r.met) before
+        (W.seen world.new)) }
+    ensures short { OnErr result ((start : O) (before : Seen) →
+        MadeBut (O.alone start) true (S.reads source.old) (O.writes start)
+        (Started (S.gave source.old source.old) (O.printed start output.old)) before
+        (W.seen world.old) → MadeBut (O.alone start) false (S.reads source.old) (O.writes start)
+        (RanShort (S.gave source.old source.new) (S.starved source.old source.new)
+        (O.printed start output.new) (O.starved start)) before (W.seen world.new)) }
 {
     let mut met = Met::none();
     loop {
@@ -84,10 +94,17 @@ pub fn run<W: World, S: Source, O: Output>(
     requires fresh { S.gave source.old source.old [] [] false }
     requires output { O.is_ready output.old (W.seen world.old) }
     requires new { O.is_new output.old }
-    ensures ran { IfOk result (λ r. MadeBut (O.alone output.old) false (S.reads source.old) (O.writes output.old)
-        (Ran (S.gave source.old source.new) (λ fault calls met. S.stopped source.old fault calls met (W.seen world.new)) (O.printed output.old output.new) (O.ended output.old) (O.writes output.old) r.end r.met) (W.seen world.old) (W.seen world.new)) }
-    ensures short { OnErr result (MadeBut (O.alone output.old) false (S.reads source.old) (O.writes output.old)
-        (RanShort (S.gave source.old source.new) (S.starved source.old source.new) (O.printed output.old output.new) (O.starved output.old)) (W.seen world.old) (W.seen world.new)) }
+    ensures ran { IfOk result
+        (λ r. MadeBut (O.alone output.old) false (S.reads source.old) (O.writes output.old)
+        (Ran (S.gave source.old source.new)
+        (λ fault calls met. S.stopped source.old fault calls met (W.seen world.new))
+        (O.printed output.old output.new) (O.ended output.old) (O.writes output.old) r.end r.met)
+        (W.seen world.old) (W.seen world.new)) }
+    ensures short { OnErr result
+        (MadeBut (O.alone output.old) false (S.reads source.old) (O.writes output.old)
+        (RanShort (S.gave source.old source.new) (S.starved source.old source.new)
+        (O.printed output.old output.new) (O.starved output.old)) (W.seen world.old)
+        (W.seen world.new)) }
 {
     match output.begin(world)? {
         None => run_on(world, source, output),

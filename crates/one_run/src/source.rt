@@ -37,8 +37,13 @@ pub trait Source: Drop {
     /// Gives the next item; none at the end.
     fn next<W: World>(&mut self, world: &mut W) -> Result<Option<Item>, Halt<Self::Fault>>
         requires ready { is_ready self.old }
-        ensures came { (start : Self) (calls : List Call) (met : List Item) → gave start self.old calls met false →
-            Made (has_come result) (reads start) [] (λ more. CameTo (λ now all. gave start self.new (calls ++ more) now all) (λ fault now. stopped start fault (calls ++ more) now (W.seen world.new)) (λ now. starved start self.new (calls ++ more) now) result met) (W.seen world.old) (W.seen world.new) }
+        ensures came { (start : Self) (calls : List Call) (met : List Item) →
+            gave start self.old calls met false →
+            Made (has_come result) (reads start) []
+            (λ more. CameTo (λ now all. gave start self.new (calls ++ more) now all)
+            (λ fault now. stopped start fault (calls ++ more) now (W.seen world.new))
+            (λ now. starved start self.new (calls ++ more) now) result met) (W.seen world.old)
+            (W.seen world.new) }
         ensures ready { IfOk result (λ _. is_ready self.new) };
 
     /// Takes back an item that isn't needed: its memory may serve those that come.
@@ -47,5 +52,7 @@ pub trait Source: Drop {
     {}
 
     /// What is written changes nothing of what came.
-    ghost stays: { (start now : Self) (calls more : List Call) (met : List Item) (all : Bool) (writes : List ℕ) → gave start now calls met all → AreOn [] writes more → gave start now (calls ++ more) met all };
+    ghost stays: { (start now : Self) (calls more : List Call) (met : List Item) (all : Bool)
+        (writes : List ℕ) → gave start now calls met all → AreOn [] writes more →
+        gave start now (calls ++ more) met all };
 }

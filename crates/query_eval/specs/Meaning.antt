@@ -34,7 +34,8 @@ use Rattle.vsl_pattern.specs.Patterns.{is_match, pattern_text, pattern_caseless}
 -- single records, and of a session the session alone (this project's choice)
 abbrev pub meets_level : Option Level → ℕ → Bool
 meets_level None level = true
-meets_level (Some l) level = elim l.bound [ Exactly ↦ level == l.number | AtLeast ↦ nat_le l.number level | AtMost ↦ nat_le level l.number ]
+meets_level (Some l) level =
+    elim l.bound [ Exactly ↦ level == l.number | AtLeast ↦ nat_le l.number level | AtMost ↦ nat_le level l.number ]
 
 -- a payload from behind its prefix on, where a prefix is asked for
 abbrev pub behind_prefix : Option (List ℕ) → List ℕ → Option (List ℕ)
@@ -72,7 +73,8 @@ compared whole number = if whole then integral_part number else number
 -- a number is there and satisfies a comparison
 abbrev pub number_satisfies : Comparison → ℤ → Bool → Option ℤ → Bool
 number_satisfies comparison operand whole None = false
-number_satisfies comparison operand whole (Some number) = compares comparison (int_cmp (compared whole number) (compared whole operand))
+number_satisfies comparison operand whole (Some number) =
+    compares comparison (int_cmp (compared whole number) (compared whole operand))
 
 -- a text as it is compared
 abbrev pub folded : Bool → List ℕ → List ℕ
@@ -86,9 +88,11 @@ is_so false truth = not truth
 -- what of a payload is asked satisfies what is asked
 abbrev pub satisfies : Check → List ℕ → Bool
 satisfies Selected text = true
-satisfies (Number comparison operand whole) text = number_satisfies comparison operand.scaled whole (decimal_of (trimmed text))
+satisfies (Number comparison operand whole) text = number_satisfies comparison operand.scaled whole
+    (decimal_of (trimmed text))
 satisfies (Text equal caseless operand) text = is_so equal (bytes_eq (folded caseless text) (folded caseless operand))
-satisfies (Pattern matches pattern) text = is_so matches (is_match (pattern_caseless pattern) (pattern_text pattern) text)
+satisfies (Pattern matches pattern) text =
+    is_so matches (is_match (pattern_caseless pattern) (pattern_text pattern) text)
 
 -- ---- groups
 
@@ -100,7 +104,8 @@ subject_satisfies check (Some text) = satisfies check text
 -- a record is selected, its member's level left aside, and satisfies what is asked. So `ne`, `!=` and `!~` want a record,
 -- too: where `not` is wanted, it is written (this project's choice)
 abbrev pub record_marks : Test → Record → Bool
-record_marks test rec = has_tag test.criterion.tags rec.tag && subject_satisfies test.check (subject test.criterion rec.payload)
+record_marks test rec = has_tag test.criterion.tags rec.tag && subject_satisfies test.check
+    (subject test.criterion rec.payload)
 
 -- a record of a member of this level is selected, and satisfies what is asked
 abbrev pub record_satisfies : Test → ℕ → Record → Bool

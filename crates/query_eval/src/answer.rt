@@ -44,7 +44,8 @@ impl Answer {
 
     /// Adds a member of this level, with the marks of its records. It takes no memory.
     pub fn member(&mut self, query: &Query, level: u32, marks: &Marks)
-        ensures { (members : List Member) (member : Member) → self.old ≡ answer_of query.now members →
+        ensures { (members : List Member) (member : Member) →
+            self.old ≡ answer_of query.now members →
             level ≡ member.level → marks.now ≡ marks_of query.now member.records →
             self.new ≡ answer_of query.now (members ++ member ∷ []) }
     {
@@ -71,7 +72,8 @@ impl Answer {
 /// Makes those of the truths true whose test's level is met, and has its mark.
 fn join_marks(truths: &mut [bool], steps: &[StepOver<Test>], level: u32, marks: &[bool])
     ensures len { length truths.new ≡ length truths.old }
-    ensures truths { truths.new ≡ joined truths.old (marked_of level (tests_in steps.now) marks.now) }
+    ensures truths { truths.new ≡ joined truths.old
+        (marked_of level (tests_in steps.now) marks.now) }
 {
     let mut left = steps;
     for i in 0..truths.len() {

@@ -50,7 +50,8 @@ impl<'q> Asked<'q> {
     /// Whether one of the records satisfies the test, its level left aside.
     fn sees<M: Marking>(&mut self, alloc: Global, marking: &M) -> Result<bool, AllocError>
         ensures test { self.new.test.now ≡ self.old.test.now }
-        ensures answer { IfOk result (λ b. b ≡ list_any (record_marks self.old.test.now) (M.records marking.now)) }
+        ensures answer { IfOk result
+            (λ b. b ≡ list_any (record_marks self.old.test.now) (M.records marking.now)) }
     {
         marking.marks(alloc, self.test, &mut self.matching)
     }
@@ -63,7 +64,9 @@ impl<'q> Asked<'q> {
         marking: &M,
     ) -> Result<(), AllocError>
         ensures test { self.new.test.now ≡ self.old.test.now }
-        ensures mark { OnOk result (mark.new ≡ (mark.old || list_any (record_marks self.old.test.now) (M.records marking.now))) }
+        ensures mark { OnOk result
+            (mark.new ≡ (mark.old || list_any (record_marks self.old.test.now)
+            (M.records marking.now))) }
     {
         if *mark {
             return Ok(());
@@ -114,7 +117,8 @@ fn mark_all<M: Marking>(
     ensures tests { map (λ a. a.test.now) all.new ≡ map (λ a. a.test.now) all.old }
     ensures len { length marks.new ≡ length marks.old }
     ensures marks { OnOk result (marks.new ≡
-        joined marks.old (map (λ test. list_any (record_marks test) (M.records marking.now)) (map (λ a. a.test.now) all.old))) }
+        joined marks.old (map (λ test. list_any (record_marks test) (M.records marking.now))
+        (map (λ a. a.test.now) all.old))) }
 {
     for i in 0..all.len() {
         if marks.len() <= i {
@@ -132,7 +136,10 @@ fn sees_any<M: Marking>(
     marking: &M,
 ) -> Result<bool, AllocError>
     ensures tests { map (λ a. a.test.now) all.new ≡ map (λ a. a.test.now) all.old }
-    ensures answer { IfOk result (λ b. b ≡ list_any (λ truth. truth) (map (λ test. list_any (record_marks test) (M.records marking.now)) (map (λ a. a.test.now) all.old))) }
+    ensures answer { IfOk result
+        (λ b. b ≡ list_any (λ truth. truth)
+        (map (λ test. list_any (record_marks test) (M.records marking.now))
+        (map (λ a. a.test.now) all.old))) }
 {
     for i in 0..all.len() {
         if all[i].sees(alloc, marking)? {
@@ -150,7 +157,8 @@ pub struct Asker<'q> {
     query: &'q Query,
     tests: Vec<Asked<'q>>,
     truths: Vec<bool>,
-    ghost same: { (f : Test → Bool) → map f (map (λ a. a.test.now) tests.items) ≡ map f (tests_of query.now) },
+    ghost same: { (f : Test → Bool) →
+        map f (map (λ a. a.test.now) tests.items) ≡ map f (tests_of query.now) },
 }
 
 impl<'q> Asker<'q> {
@@ -205,8 +213,13 @@ impl<'q> Asker<'q> {
     /// Whether one of the records satisfies some test of the query, its level left aside. Where none does, what marks are
     /// of the records before stays what it is.
     pub fn sees<M: Marking>(&mut self, marking: &M) -> Result<bool, NoMemory>
-        ensures answer { IfOk result (λ b. b ≡ list_any (λ test. list_any (record_marks test) (M.records marking.now)) (tests_of (asker_query self.old))) }
-        ensures unseen { (records : List Record) → IfOk result (λ b. b ≡ false → marks_of (asker_query self.old) (records ++ M.records marking.now) ≡ marks_of (asker_query self.old) records) }
+        ensures answer { IfOk result
+            (λ b. b ≡ list_any (λ test. list_any (record_marks test) (M.records marking.now))
+            (tests_of (asker_query self.old))) }
+        ensures unseen { (records : List Record) →
+            IfOk result (λ b. b ≡ false →
+            marks_of (asker_query self.old) (records ++ M.records marking.now) ≡ marks_of
+            (asker_query self.old) records) }
         ensures same { asker_query self.new ≡ asker_query self.old }
     {
         Ok(sees_any(self.alloc, &mut self.tests, marking)?)
@@ -216,8 +229,10 @@ impl<'q> Asker<'q> {
     /// one that satisfies it. Where each mark is true already, no record is looked at. It takes memory for a pattern where
     /// a record is asked, the first time.
     pub fn add<M: Marking>(&mut self, marks: &mut Marks, marking: &M) -> Result<(), NoMemory>
-        ensures marks { (records : List Record) → marks.old ≡ marks_of (asker_query self.old) records →
-            OnOk result (marks.new ≡ marks_of (asker_query self.old) (records ++ M.records marking.now)) }
+        ensures marks { (records : List Record) →
+            marks.old ≡ marks_of (asker_query self.old) records →
+            OnOk result (marks.new ≡ marks_of (asker_query self.old)
+            (records ++ M.records marking.now)) }
         ensures same { asker_query self.new ≡ asker_query self.old }
     {
         mark_all(

@@ -57,7 +57,8 @@ fn member_satisfies<'t>(
 fn next_of(test: &Test, records: &RecordsView<'_>, from: usize) -> usize
     requires { from ≤ length records.now }
     ensures behind { from ≤ result }
-    ensures passed { list_any (record_marks test.now) (take result records.now) ≡ list_any (record_marks test.now) (take from records.now) }
+    ensures passed { list_any (record_marks test.now) (take result records.now) ≡ list_any
+        (record_marks test.now) (take from records.now) }
 {
     for i in from..records.len() {
         if test.criterion.tags.has(records.tag(i)) {
@@ -115,7 +116,8 @@ fn payload_marks<'t>(
     payload: &[u8],
 ) -> Result<bool, AllocError>
     requires ready { IsReady test.now.check matching.old }
-    ensures answer { IfOk result (λ b. b ≡ subject_satisfies test.now.check (subject test.now.criterion payload.now)) }
+    ensures answer { IfOk result
+        (λ b. b ≡ subject_satisfies test.now.check (subject test.now.criterion payload.now)) }
     ensures answered { has_pattern test.now.check ≡ false → IsOk result }
     ensures ready { IsReady test.now.check matching.new }
 {

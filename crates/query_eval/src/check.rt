@@ -47,7 +47,8 @@ pub(crate) fn satisfies<'c>(
 
 /// Whether the text is a number that satisfies the comparison with the operand.
 fn number_satisfies(comparison: Comparison, operand: Decimal, whole: bool, text: &[u8]) -> bool
-    ensures { result ≡ number_satisfies comparison operand.scaled whole (decimal_of (trimmed text.now)) }
+    ensures { result ≡ number_satisfies comparison operand.scaled whole
+        (decimal_of (trimmed text.now)) }
 {
     match read_decimal(trim(text)) {
         Some(number) => compares(comparison, order(whole, number, operand)),
@@ -99,7 +100,8 @@ fn is_match<'p>(
     text: &[u8],
 ) -> Result<bool, AllocError>
     requires ready { IfSome matching.old (IsMatchingOf pattern.now) }
-    ensures answer { IfOk result (λ b. b ≡ is_match (pattern_caseless pattern.now) (pattern_text pattern.now) text.now) }
+    ensures answer { IfOk result
+        (λ b. b ≡ is_match (pattern_caseless pattern.now) (pattern_text pattern.now) text.now) }
     ensures ready { IfSome matching.new (IsMatchingOf pattern.now) }
 {
     if let Some(made) = matching {

@@ -20,7 +20,8 @@ use txn_rows::Group;
 pub fn holds(alloc: Global, query: &Query, group: &Group) -> Result<bool, AllocError>
     ensures answer { IfOk result (λ b. b ≡ is_held query.now group.now) }
     ensures always { query.now.always ≡ true → IsOk result }
-    ensures one { (test : AsTest) → query.now.steps.items ≡ kinds.Test test ∷ [] → has_pattern test.check ≡ false → IsOk result }
+    ensures one { (test : AsTest) → query.now.steps.items ≡ kinds.Test test ∷ [] →
+        has_pattern test.check ≡ false → IsOk result }
 {
     if query.always {
         return Ok(true);

@@ -26,7 +26,8 @@ pub trait Marking {
         matching: &mut Option<Matching<'t>>,
     ) -> Result<bool, AllocError>
         requires ready { IsReady test.now.check matching.old }
-        ensures answer { IfOk result (λ b. b ≡ list_any (record_marks test.now) (records self.now)) }
+        ensures answer { IfOk result
+            (λ b. b ≡ list_any (record_marks test.now) (records self.now)) }
         ensures ready { IsReady test.now.check matching.new };
 }
 

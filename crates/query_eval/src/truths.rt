@@ -114,7 +114,8 @@ impl Left {
     fn behind<'a>(&self, steps: &Steps<'a>) -> Option<Steps<'a>>
         ensures some { IfSome result (λ behind. (0 < self.now.count) ×
             (behind_decided self.now.last 0 steps.now ≡ Some behind)) }
-        ensures none { IfNone result (0 < self.now.count → behind_decided self.now.last 0 steps.now ≡ None) }
+        ensures none { IfNone result (0 < self.now.count →
+            behind_decided self.now.last 0 steps.now ≡ None) }
     {
         if self.count == 0 {
             return None;
@@ -126,7 +127,8 @@ impl Left {
     /// operand and the operator.
     fn take(&mut self, step: StepOver<bool>, steps: &mut Steps<'_>)
         requires { self.old.count + 1 < 2 ^ 64 }
-        ensures left { (left : List Bool) → AreLeft self.old.last self.old.count (step ∷ steps.old) left →
+        ensures left { (left : List Bool) →
+            AreLeft self.old.last self.old.count (step ∷ steps.old) left →
             AreLeft self.new.last self.new.count steps.new left }
         ensures count { self.new.count ≤ self.old.count + 1 }
         ensures fewer { length steps.new ≤ length steps.old }
@@ -154,7 +156,8 @@ impl Left {
 
     /// Takes the operator that the truth below the last one doesn't decide. Where there aren't two, none is left.
     fn join(&mut self)
-        ensures two { 1 < self.old.count → (self.new.last ≡ self.old.last) × (self.new.count + 1 ≡ self.old.count) }
+        ensures two { 1 < self.old.count → (self.new.last ≡ self.old.last) ×
+            (self.new.count + 1 ≡ self.old.count) }
         ensures fewer { self.old.count ≤ 1 → (self.new.last ≡ false) × (self.new.count ≡ 0) }
     {
         if self.count <= 1 {

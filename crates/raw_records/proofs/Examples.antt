@@ -62,8 +62,8 @@ no_tags : map meaning (codes "7 Nope c" ∷ codes "7 Backend b 22 a b" ∷ codes
 unfolding meaning unindented record_line record_of record_from parts_of some_parts without_spaces behind_spaces digits_of behind_digits word_of behind_word tag_called mark_of payload_behind marked
 no_tags = refl
 
--- 11 digits, a VXID past the last, and both with no tag's name
-no_vxids : map meaning (codes "00000000007 CLI c" ∷ codes "1073741824 CLI c" ∷ codes "00000000007 Nope c" ∷ codes "1073741824 Nope - x" ∷ []) ≡ replicate 4 (Err OtherVxid)
+-- 20 digits, a VXID past the last, and both with no tag's name
+no_vxids : map meaning (codes "00000000000000000007 CLI c" ∷ codes "4611686018427387904 CLI c" ∷ codes "00000000000000000007 Nope c" ∷ codes "4611686018427387904 Nope - x" ∷ []) ≡ replicate 4 (Err OtherVxid)
 unfolding meaning unindented record_line record_of record_from parts_of some_parts without_spaces behind_spaces digits_of behind_digits word_of behind_word tag_called mark_of payload_behind marked
 no_vxids = refl
 

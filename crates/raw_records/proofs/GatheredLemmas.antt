@@ -10,7 +10,7 @@ use Rattle.vsl_record.proofs.PayloadLemmas.{length-packed}
 use Rattle.raw_records.specs.Gathered.{with_record}
 
 -- how many words a record has
-pub record_size : (vxid : ℕ) (rec : Record) → length (record_words vxid rec) ≡ 2 + (length rec.payload + 3) / 4
+pub record_size : (vxid : ℕ) (rec : Record) → length (record_words vxid rec) ≡ 3 + (length rec.payload + 3) / 4
 record_size vxid rec = omega (arith, length-packed rec.payload)
 
 -- the words of a unit with a record more

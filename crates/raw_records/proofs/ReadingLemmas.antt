@@ -1,5 +1,5 @@
 -- Reading a line finds its meaning, and finds none where there is none.
-use Rattle.std.proofs.Common.{◌≡◌, ◌≢◌, ℕ, zero, suc, ◌<◌, ◌≤◌, Bool, true, false, ◌==◌, leb, cond, List, [], ◌∷◌, ◌++◌, length, replicate, Option, Some, None, Result, Ok, Err, refl, sym, ap, subst, ◌∙◌, arith}
+use Rattle.std.proofs.Common.{◌≡◌, ◌≢◌, ℕ, zero, suc, ◌-◌, ◌<◌, ◌≤◌, Bool, true, false, ◌==◌, leb, cond, List, [], ◌∷◌, ◌++◌, length, replicate, Option, Some, None, Result, Ok, Err, refl, sym, ap, subst, ◌∙◌, arith}
 use Rattle.std.specs.Prelude.{IfSome, if◌then◌else◌, not}
 use Rattle.std.specs.Char.{is_ascii_digit}
 use Rattle.std.specs.List.{AllByRecursion, AllPass, prefix_len, position_or_len, take_while}
@@ -14,7 +14,8 @@ use Rattle.vsl_record.specs.declared.mark.Mark.{Mark}
 use Rattle.vsl_record.specs.declared.mark.Mark.TheVariants.{Client, Backend, Plain}
 use Rattle.vsl_decimal.specs.Whole.{whole_number}
 use Rattle.vsl_decimal.proofs.WholeLemmas.{Writes, whole_number-reads, whole_number-writes}
-use Rattle.txn_rows.specs.Claim.{vxid_named}
+use Rattle.vsl_record.specs.Unit.{vxid_end}
+use Rattle.txn_rows.specs.Claim.{most_digits, vxid_named}
 use Rattle.vsl_select.specs.RawLine.{mark_letter}
 use Rattle.raw_records.specs.declared.line.LineFault.{LineFault}
 use Rattle.raw_records.specs.declared.line.LineFault.TheVariants.{OtherForm, OtherVxid, UnknownTag}
@@ -110,16 +111,16 @@ IsWord name = AllByRecursion (λ b. is_space b ≡ false) name
 
 pub vxid_found : (digits : List ℕ) (vxid : ℕ) → IsVxid digits vxid → vxid_named digits ≡ Some vxid
 vxid_found digits vxid is =
-    rw (le-leb (length digits) 10 is.2) (whole_number-reads 0 1073741823 digits vxid (is.0, is.1, is.3, omega arith, omega (arith, is.4)))
+    rw (le-leb (length digits) most_digits is.2) (whole_number-reads 0 (vxid_end - 1) digits vxid (is.0, is.1, is.3, omega arith, omega (arith, is.4)))
 
-few_digits : (digits : List ℕ) (vxid : ℕ) (few : Bool) → leb (length digits) 10 ≡ few → (if few then whole_number 0 1073741823 digits else None) ≡ Some vxid → IsVxid digits vxid
+few_digits : (digits : List ℕ) (vxid : ℕ) (few : Bool) → leb (length digits) most_digits ≡ few → (if few then whole_number 0 (vxid_end - 1) digits else None) ≡ Some vxid → IsVxid digits vxid
 few_digits digits vxid false is e = absurd cc
 few_digits digits vxid true is e =
-    let writes = subst (λ o. IfSome o (Writes 0 1073741823 digits)) e (whole_number-writes 0 1073741823 digits) in
+    let writes = subst (λ o. IfSome o (Writes 0 (vxid_end - 1) digits)) e (whole_number-writes 0 (vxid_end - 1) digits) in
     (writes.0, writes.1, leb-true _ _ is, writes.2, omega (arith, writes.4))
 
 pub IsVxid-from : (digits : List ℕ) (vxid : ℕ) → vxid_named digits ≡ Some vxid → IsVxid digits vxid
-IsVxid-from digits vxid e = few_digits digits vxid (leb (length digits) 10) refl e
+IsVxid-from digits vxid e = few_digits digits vxid (leb (length digits) most_digits) refl e
 
 -- the name of a tag has no space
 name_word : (name : List ℕ) → AllPass (λ b. leb 33 b) name → IsWord name

@@ -26,7 +26,8 @@ logged u = map (λ rec. record { vxid = u.vxid; rec = rec }) u.records
 -- the units of records behind a unit that was begun: a record that goes into it becomes its last, and one that doesn't begins the next
 abbrev pub gathered_from : (LogUnit → LoggedRecord → Bool) → LogUnit → List LoggedRecord → Log
 gathered_from goes begun [] = begun ∷ []
-gathered_from goes begun (l ∷ ls) = if goes begun l then gathered_from goes (with_record begun l.rec) ls else begun ∷ gathered_from goes (unit_of l) ls
+gathered_from goes begun (l ∷ ls) = if goes begun l then gathered_from goes (with_record begun l.rec) ls
+    else begun ∷ gathered_from goes (unit_of l) ls
 
 -- the units of records, each as long as it can be: a unit ends before the first record that doesn't go into it
 abbrev pub gathered : (LogUnit → LoggedRecord → Bool) → List LoggedRecord → Log
@@ -41,4 +42,5 @@ has_end u = list_any (λ rec. rec.tag == end_tag) u.records
 -- batch has no End. A listing doesn't tell which records were written at once, and those of VXID 0 don't belong
 -- together
 abbrev pub goes_on : LogUnit → LoggedRecord → Bool
-goes_on batch l = (batch.vxid == l.vxid) && not (l.vxid == 0) && is_same_mark batch.mark l.rec.mark && not (has_end batch)
+goes_on batch l = (batch.vxid == l.vxid) && not (l.vxid == 0) && is_same_mark batch.mark l.rec.mark && not
+    (has_end batch)

@@ -9,7 +9,8 @@ use Rattle.raw_records.specs.Lines.{Line, BlankLine, CommentLine, RecordLine}
 abbrev pub line_of : LineRead → Line
 line_of Blank = BlankLine
 line_of Comment = CommentLine
-line_of (Record vxid tag mark payload) = RecordLine (record { vxid = vxid; rec = record { tag = tag; mark = mark; payload = payload.now } })
+line_of (Record vxid tag mark payload) =
+    RecordLine (record { vxid = vxid; rec = record { tag = tag; mark = mark; payload = payload.now } })
 
 -- a record's line has a VXID in range
 abbrev pub IsInRange : Line → Type 0

@@ -9,6 +9,7 @@ use Rattle.vsl_tags.specs.Called.{IsTagName}
 use Rattle.vsl_record.specs.declared.mark.Mark.{Mark}
 use Rattle.vsl_record.specs.declared.record_type.Record.{Record}
 use Rattle.vsl_record.specs.Unit.{vxid_end}
+use Rattle.txn_rows.specs.Claim.{most_digits}
 use Rattle.vsl_select.specs.RawLine.{mark_letter}
 use Rattle.raw_records.specs.declared.line.LineFault.{LineFault}
 use Rattle.raw_records.specs.declared.line.LineFault.TheVariants.{OtherForm, OtherVxid, UnknownTag}
@@ -66,13 +67,10 @@ pub record HasForm (w : WrittenRecord) : Type 0 where
   pub some_word : 0 < length w.name
   pub before_mark : 0 < w.before_mark
 
--- the most digits of a VXID
-abbrev pub most_digits : ℕ
-most_digits = 10
-
--- a VXID is 1 to 10 digits, with a value in range; leading zeros are read
+-- a VXID is 1 to 19 digits, with a value in range; leading zeros are read
 abbrev pub IsVxid : List ℕ → ℕ → Type 0
-IsVxid digits vxid = AllDigits 10 digits × (0 < length digits) × (length digits ≤ most_digits) × (digits_value 10 digits ≡ vxid) × (vxid < vxid_end)
+IsVxid digits vxid = AllDigits 10 digits × (0 < length digits) × (length digits ≤ most_digits) ×
+    (digits_value 10 digits ≡ vxid) × (vxid < vxid_end)
 
 -- the payload that is written; none is an empty one. Nothing is unescaped: a tab was printed as `\x09`, and so was a
 -- payload of these four bytes, so nobody knows which it was
@@ -100,9 +98,12 @@ IsLine bytes (RecordLine l) = (w : WrittenRecord) × IsWritten w l × (bytes ≡
 -- or with a VXID and a word that is no tag's name. A tag that isn't known is refused, since records would be lost in
 -- silence else; varnishlog's own -x leaves out what isn't wanted
 abbrev pub IsRefused : List ℕ → LineFault → Type 0
-IsRefused bytes OtherForm = ¬ (IsLine bytes BlankLine) × ¬ (IsLine bytes CommentLine) × ((w : WrittenRecord) → HasForm w → bytes ≢ print_record w)
-IsRefused bytes OtherVxid = (w : WrittenRecord) × HasForm w × (bytes ≡ print_record w) × ((vxid : ℕ) → ¬ (IsVxid w.vxid vxid))
-IsRefused bytes UnknownTag = (w : WrittenRecord) × HasForm w × (bytes ≡ print_record w) × ((vxid : ℕ) × IsVxid w.vxid vxid) × ((tag : ℕ) → ¬ (IsTagName tag w.name))
+IsRefused bytes OtherForm = ¬ (IsLine bytes BlankLine) × ¬ (IsLine bytes CommentLine) ×
+    ((w : WrittenRecord) → HasForm w → bytes ≢ print_record w)
+IsRefused bytes OtherVxid = (w : WrittenRecord) × HasForm w × (bytes ≡ print_record w) ×
+    ((vxid : ℕ) → ¬ (IsVxid w.vxid vxid))
+IsRefused bytes UnknownTag = (w : WrittenRecord) × HasForm w × (bytes ≡ print_record w) ×
+    ((vxid : ℕ) × IsVxid w.vxid vxid) × ((tag : ℕ) → ¬ (IsTagName tag w.name))
 
 -- the byte that ends a line
 abbrev pub line_feed : ℕ
@@ -115,7 +116,8 @@ HasNoFeed bytes = All (λ b. (b == line_feed) ≡ false) bytes
 -- the first line that ends with a line feed, without it and a carriage return before it, and what follows. So texts of
 -- either kind of line end are read; on a last line that isn't ended a carriage return may be of the payload
 abbrev pub IsEndedLine : List ℕ → List ℕ → List ℕ → Type 0
-IsEndedLine bytes line rest = (text : List ℕ) × HasNoFeed text × (bytes ≡ text ++ line_feed ∷ rest) × (line ≡ strip_carriage_return text)
+IsEndedLine bytes line rest = (text : List ℕ) × HasNoFeed text × (bytes ≡ text ++ line_feed ∷ rest) ×
+    (line ≡ strip_carriage_return text)
 
 -- the lines of a listing mean these, each the one at its place
 abbrev pub HasLines : List ℕ → List Line → Type 0

@@ -37,7 +37,7 @@ pub enum LineRead<'a> {
 pub enum LineFault {
     /// It is no blank line, no comment, and isn't written as a record.
     OtherForm,
-    /// It is written as a record, and what stands for the VXID has more than 10 digits, or is 2^30 or more.
+    /// It is written as a record, and what stands for the VXID has more than 19 digits, or is 2^62 or more.
     OtherVxid,
     /// It is written as a record with a VXID, and no tag has this name.
     UnknownTag,

@@ -15,8 +15,8 @@ stays_in_its_lap = (refl, refl)
 wraps_at_its_lap : (start_at 64 448 64 ≡ 512) × (end_at 64 448 64 ≡ 576)
 wraps_at_its_lap = (refl, refl)
 
--- ten words before the last tail a unit of 3 words stays, and one of 64 would wrap past it
-near_the_last_tail : (start_at 64 (2 ^ 62 - 10) 3 ≡ 2 ^ 62 - 10) × (end_at 64 (2 ^ 62 - 10) 3 ≡ 2 ^ 62 - 7) × (end_at 64 (2 ^ 62 - 10) 64 ≡ 2 ^ 62 + 64)
+-- ten words before the last tail a unit of 4 words stays, and one of 64 would wrap past it
+near_the_last_tail : (start_at 64 (2 ^ 62 - 10) 4 ≡ 2 ^ 62 - 10) × (end_at 64 (2 ^ 62 - 10) 4 ≡ 2 ^ 62 - 6) × (end_at 64 (2 ^ 62 - 10) 64 ≡ 2 ^ 62 + 64)
 near_the_last_tail = (refl, refl, refl)
 
 -- of a log of two units, named by numbers: a history that ends with the second reaches its tail, and one that ends with the first or with an overrun doesn't

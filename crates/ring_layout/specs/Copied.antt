@@ -12,5 +12,8 @@ module _ {U : Type 0} (words : U → List ℕ) (seg : ℕ) where
   abbrev pub AreCopied : List U → ℕ → ℕ → List ℕ → Type 0
   AreCopied log p k xs =
       ((xs ≡ end_mark ∷ []) × (k ≤ length log) × (p ≡ tail words seg (take k log)))
-      ⊎ ((xs ≡ wrap_mark ∷ []) × ((u : U) × (slice_get log k ≡ Some u) × (p ≡ tail words seg (take k log)) × (stays seg p (length (words u)) ≡ false)))
-      ⊎ ((0 < length xs) × UnitStarts words seg log k p × ((u : U) → slice_get log k ≡ Some u → xs ≡ take (length xs) (words u)))
+      ⊎ ((xs ≡ wrap_mark ∷ []) ×
+      ((u : U) × (slice_get log k ≡ Some u) × (p ≡ tail words seg (take k log)) ×
+      (stays seg p (length (words u)) ≡ false)))
+      ⊎ ((0 < length xs) × UnitStarts words seg log k p ×
+      ((u : U) → slice_get log k ≡ Some u → xs ≡ take (length xs) (words u)))

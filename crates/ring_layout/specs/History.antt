@@ -46,7 +46,8 @@ module _ {U : Type 0} (words : U → List ℕ) (seg : ℕ) where
   -- how many units start below a place, of those behind a tail
   abbrev pub starts_below : ℕ → List U → ℕ → ℕ
   starts_below t [] p = 0
-  starts_below t (u ∷ us) p = (if nat_lt (start_at seg t (length (words u))) p then 1 else 0) + starts_below (end_at seg t (length (words u))) us p
+  starts_below t (u ∷ us) p = (if nat_lt (start_at seg t (length (words u))) p then 1 else 0) + starts_below
+      (end_at seg t (length (words u))) us p
 
   -- the number of the first unit that starts in a segment or later
   abbrev pub first_number : List U → ℕ → ℕ
@@ -54,11 +55,13 @@ module _ {U : Type 0} (words : U → List ℕ) (seg : ℕ) where
 
   -- a run of this segment, with so many units from this number on, stands at this place: behind its last unit, or at its segment's start where it has none
   abbrev pub RunStands : List U → ℕ → ℕ → ℕ → ℕ → Type 0
-  RunStands log s first count p = (count ≡ 0 → segment_start words seg log s ≡ Some p) × (0 < count → p ≡ tail words seg (take (first + count) log))
+  RunStands log s first count p = (count ≡ 0 → segment_start words seg log s ≡ Some p) ×
+      (0 < count → p ≡ tail words seg (take (first + count) log))
 
   -- the k-th unit starts at this place
   abbrev pub UnitStarts : List U → ℕ → ℕ → Type 0
-  UnitStarts log k p = (u : U) × (slice_get log k ≡ Some u) × (p ≡ start_at seg (tail words seg (take k log)) (length (words u)))
+  UnitStarts log k p = (u : U) × (slice_get log k ≡ Some u) ×
+      (p ≡ start_at seg (tail words seg (take k log)) (length (words u)))
 
   -- a run is of units that follow one another in the log, and begins in a segment up to the tail's
   pub record IsRun (log : List U) (r : Run U) : Type 0 where
@@ -70,7 +73,8 @@ module _ {U : Type 0} (words : U → List ℕ) (seg : ℕ) where
   -- overrun, or the same again
   abbrev pub MayFollow : List U → ℕ → List (HistoryItem U) → Type 0
   MayFollow log a [] = ⊥
-  MayFollow log a (UnitRun r ∷ is) = (p : ℕ) × (a ≡ p / seg) × (RunStands log r.segment r.first (length r.units) p ⊎ UnitStarts log (r.first + length r.units) p)
+  MayFollow log a (UnitRun r ∷ is) = (p : ℕ) × (a ≡ p / seg) ×
+      (RunStands log r.segment r.first (length r.units) p ⊎ UnitStarts log (r.first + length r.units) p)
   MayFollow log a (Overrun a' b' ∷ is) = (a ≡ a') ⊎ (b' ≤ a + seek_distance)
 
   -- a run goes on after these items, the newest of which is an overrun by the counter b: it begins four segments behind a counter that is no smaller, with the first unit
@@ -91,7 +95,8 @@ module _ {U : Type 0} (words : U → List ℕ) (seg : ℕ) where
   abbrev pub IsReadBack : ℕ → List U → List (HistoryItem U) → Type 0
   IsReadBack most log [] = Unit {0}
   IsReadBack most log (UnitRun r ∷ is) = IsRun log r × MayBegin most log r is × IsReadBack most log is
-  IsReadBack most log (Overrun a b ∷ is) = (a + overrun_distance ≤ b) × (b ≤ most) × (last_seen is ≤ b) × MayFollow log a is × IsReadBack most log is
+  IsReadBack most log (Overrun a b ∷ is) = (a + overrun_distance ≤ b) × (b ≤ most) × (last_seen is ≤ b) ×
+      MayFollow log a is × IsReadBack most log is
 
   -- the items, the oldest first, are what a reader may have taken of a whole log
   abbrev pub IsReadHistory : List U → List (HistoryItem U) → Type 0

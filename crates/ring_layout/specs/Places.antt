@@ -7,6 +7,10 @@ use Rattle.std.specs.Option.{option_or}
 abbrev pub IsSegment : ℕ → Type 0
 IsSegment seg = (64 ≤ seg) × (seg ≤ 1048576)
 
+-- the fewest words of a unit: those of one record without a payload
+abbrev pub fewest_words : ℕ
+fewest_words = 4
+
 -- the last tail that a ring has
 abbrev pub last_tail : ℕ
 last_tail = 2 ^ 62
@@ -59,7 +63,8 @@ module _ {U : Type 0} (words : U → List ℕ) (seg : ℕ) where
   -- what a unit that is put at a tail has at a place: the wrap mark at the tail where it wraps, or one of its words
   abbrev pub placed_word : ℕ → U → ℕ → Option ℕ
   placed_word t u q = option_or (if_some ((q == t) && not (stays seg t (length (words u)))) wrap_mark)
-      (if_some (nat_le (start_at seg t (length (words u))) q && nat_lt q (end_at seg t (length (words u)))) (slice_index (words u) (q - start_at seg t (length (words u)))))
+      (if_some (nat_le (start_at seg t (length (words u))) q && nat_lt q (end_at seg t (length (words u))))
+      (slice_index (words u) (q - start_at seg t (length (words u)))))
 
   -- what units that are put from a tail on have at a place
   abbrev pub words_from : ℕ → List U → ℕ → Option ℕ
@@ -69,7 +74,8 @@ module _ {U : Type 0} (words : U → List ℕ) (seg : ℕ) where
   -- their starts and ends, in order
   abbrev pub ends_from : ℕ → List U → List ℕ
   ends_from t [] = []
-  ends_from t (u ∷ us) = start_at seg t (length (words u)) ∷ end_at seg t (length (words u)) ∷ ends_from (end_at seg t (length (words u))) us
+  ends_from t (u ∷ us) = start_at seg t (length (words u)) ∷ end_at seg t (length (words u)) ∷ ends_from
+      (end_at seg t (length (words u))) us
 
   -- the tail of a log, which begins at 0
   abbrev pub tail : List U → ℕ

@@ -24,6 +24,9 @@ pub use words::{WORD, copy_words, read_word, write_unit, write_word};
 /// How many segments a ring has.
 pub const SEGMENTS: usize = 8;
 
+/// The fewest words of a unit: those of one record without a payload.
+pub const FEWEST_WORDS: u32 = 4;
+
 /// A cursor is overrun where the writers came so many segments ahead of its own.
 pub const OVERRUN_DISTANCE: u64 = 6;
 

@@ -1,7 +1,7 @@
 //! Segments, and where a unit is put.
 
 ghost use Rattle.std.specs.Prelude.{◌≡◌, ◌≤◌, ◌<◌, ◌*◌, ◌/◌, ◌^◌, ◌↔◌, not, IfSome, IsSome, IsNone, OnSome};
-ghost use Rattle.ring_layout.specs.Places.{IsSegment, end_at, last_tail, stays, start_at};
+ghost use Rattle.ring_layout.specs.Places.{IsSegment, end_at, fewest_words, last_tail, stays, start_at};
 
 use std::marker::Model;
 
@@ -65,9 +65,11 @@ impl Shape {
     }
 }
 
-/// Where a unit of so many words is put at a tail; nowhere where the new tail would be above 2^62.
+/// Where a unit of so many words is put at a tail; nowhere where the new tail would be above 2^62. A unit has four words
+/// or more, and here at most a segment's.
 pub fn place_after(shape: Shape, tail: u64, words: u32) -> Option<Placed>
-    requires { words ≤ shape }
+    requires some { fewest_words ≤ words }
+    requires fits { words ≤ shape }
     ensures start { IfSome result (λ placed. placed.start ≡ start_at shape tail words) }
     ensures tail { IfSome result (λ placed. placed.tail ≡ end_at shape tail words) }
     ensures wraps { IfSome result (λ placed. placed.wraps ≡ not (stays shape tail words)) }

@@ -48,9 +48,11 @@ pub record TookUnit (cursor : CursorState) (log : Log) (k : ℕ) : Type 0 where
 
 -- what `next` answers where the cursor stands at the k-th unit of a log that the ring stands for, and what it leaves
 abbrev pub Answers : RingState → Log → ℕ → Step → CursorState → CursorState → Type 0
-Answers ring log k (Lost at seen) old new = IsOverrun ring old × (at ≡ old.place / old.seg) × (seen ≡ ring.counter) × (new ≡ record old { lost = Some at })
+Answers ring log k (Lost at seen) old new = IsOverrun ring old × (at ≡ old.place / old.seg) × (seen ≡ ring.counter) ×
+    (new ≡ record old { lost = Some at })
 Answers ring log k Took old new = ¬ IsOverrun ring old × TookUnit new log k
-Answers ring log k (NotYet place) old new = ¬ IsOverrun ring old × (k ≡ length log) × (ring.ended ≡ false) × (place ≡ old.place) × (new ≡ old)
+Answers ring log k (NotYet place) old new = ¬ IsOverrun ring old × (k ≡ length log) × (ring.ended ≡ false) ×
+    (place ≡ old.place) × (new ≡ old)
 Answers ring log k Ended old new = ¬ IsOverrun ring old × (k ≡ length log) × (ring.ended ≡ true) × (new ≡ old)
 
 -- the cursor stands at the start of a segment, where the first unit of a log is due that starts there or later

@@ -24,7 +24,8 @@ pub record RingState : Type 0 where
 -- how many units wrap of those that are put from a tail on
 abbrev pub wraps_from : ℕ → ℕ → Log → ℕ
 wraps_from seg t [] = 0
-wraps_from seg t (u ∷ us) = (if stays seg t (length (unit_words u)) then 0 else 1) + wraps_from seg (end_at seg t (length (unit_words u))) us
+wraps_from seg t (u ∷ us) = (if stays seg t (length (unit_words u)) then 0 else 1) + wraps_from seg
+    (end_at seg t (length (unit_words u))) us
 
 -- how many units of a log wrap
 abbrev pub count_wraps : ℕ → Log → ℕ
@@ -51,4 +52,5 @@ pub record IsRingOf (ring : RingState) (log : Log) : Type 0 where
 abbrev pub put_fault : RingState → LogUnit → Option PutFault
 put_fault ring u =
     if nat_lt ring.seg (length (unit_words u)) then Some (TooLong (length (unit_words u)))
-    else (if nat_lt last_tail (end_at ring.seg ring.tail (length (unit_words u))) then Some (Exhausted ring.tail) else None)
+    else (if nat_lt last_tail (end_at ring.seg ring.tail (length (unit_words u))) then Some (Exhausted ring.tail)
+    else None)

@@ -36,7 +36,14 @@ impl Model for PlainCursor {
 
     ghost Value = { CursorState };
 
-    ghost view = { λ c. record { seg = c.shape; place = c.place; number = c.number; lost = c.lost; words = words_in (take c.used c.bytes.items); taken = c.taken } };
+    ghost view = { λ c. record {
+      seg = c.shape;
+      place = c.place;
+      number = c.number;
+      lost = c.lost;
+      words = words_in (take c.used c.bytes.items);
+      taken = c.taken;
+    } };
 
     ghost invariant = { λ c. (length c.bytes.items ≡ 4 * c.shape) × (c.used ≤ 4 * c.shape) };
 }
@@ -65,10 +72,13 @@ impl PlainCursor {
     /// ring stands for.
     pub fn next(&mut self, ring: &PlainRing) -> Step
         requires shape { self.old.seg ≡ ring.now.seg }
-        requires stands { self.old.lost ≡ None → (log : Log) × (k : ℕ) × IsRingOf ring.now log × Stands self.old log k }
-        ensures answers { (log : Log) (k : ℕ) → IsRingOf ring.now log → Stands self.old log k → Answers ring.now log k result self.old self.new }
+        requires stands { self.old.lost ≡ None → (log : Log) × (k : ℕ) × IsRingOf ring.now log ×
+            Stands self.old log k }
+        ensures answers { (log : Log) (k : ℕ) → IsRingOf ring.now log → Stands self.old log k →
+            Answers ring.now log k result self.old self.new }
         ensures lost { self.new.lost ≡ overrun_at result }
-        ensures still_lost { (at : ℕ) → self.old.lost ≡ Some at → (result ≡ Step.Lost at ring.now.counter) × (self.new ≡ self.old) }
+        ensures still_lost { (at : ℕ) → self.old.lost ≡ Some at →
+            (result ≡ Step.Lost at ring.now.counter) × (self.new ≡ self.old) }
         ensures shape { self.new.seg ≡ self.old.seg }
     {
         let seen = ring.counter();
@@ -88,7 +98,8 @@ impl PlainCursor {
         requires shape { self.old.seg ≡ ring.now.seg }
         requires near { ¬ IsOverrun ring.now self.old }
         requires stands { (log : Log) × (k : ℕ) × IsRingOf ring.now log × Stands self.old log k }
-        ensures answers { (log : Log) (k : ℕ) → IsRingOf ring.now log → Stands self.old log k → Answers ring.now log k result self.old self.new }
+        ensures answers { (log : Log) (k : ℕ) → IsRingOf ring.now log → Stands self.old log k →
+            Answers ring.now log k result self.old self.new }
         ensures lost { self.new.lost ≡ overrun_at result }
         ensures shape { self.new.seg ≡ self.old.seg }
     {
@@ -110,8 +121,10 @@ impl PlainCursor {
     pub fn seek(&mut self, ring: &PlainRing) -> Sought
         requires lost { IsSome self.old.lost }
         requires shape { self.old.seg ≡ ring.now.seg }
-        ensures at { result ≡ Sought.At (ring.now.counter - seek_distance) self.new.place self.new.number }
-        ensures stands { (log : Log) → IsRingOf ring.now log → StandsAtStart self.new log (ring.now.counter - seek_distance) }
+        ensures at { result ≡ Sought.At
+            (ring.now.counter - seek_distance) self.new.place self.new.number }
+        ensures stands { (log : Log) → IsRingOf ring.now log →
+            StandsAtStart self.new log (ring.now.counter - seek_distance) }
         ensures words { self.new.words ≡ self.old.words }
         ensures taken { self.new.taken ≡ self.old.taken }
         ensures shape { self.new.seg ≡ self.old.seg }

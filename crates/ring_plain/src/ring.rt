@@ -55,9 +55,20 @@ impl Model for PlainRing {
 
     ghost Value = { RingState };
 
-    ghost view = { λ r. record { seg = r.shape; starts = r.starts; numbers = r.numbers; units = r.units; words = words_in r.bytes.items; tail = r.tail; counter = r.counter; wraps = r.wraps; ended = r.ended } };
+    ghost view = { λ r. record {
+      seg = r.shape;
+      starts = r.starts;
+      numbers = r.numbers;
+      units = r.units;
+      words = words_in r.bytes.items;
+      tail = r.tail;
+      counter = r.counter;
+      wraps = r.wraps;
+      ended = r.ended;
+    } };
 
-    ghost invariant = { λ r. IsSegment r.shape × (length r.bytes.items ≡ 32 * r.shape) × (length r.starts ≡ 8) × (length r.numbers ≡ 8) × (r.units ≤ r.tail) × (r.wraps ≤ r.tail) };
+    ghost invariant = { λ r. IsSegment r.shape × (length r.bytes.items ≡ 32 * r.shape) ×
+        (length r.starts ≡ 8) × (length r.numbers ≡ 8) × (r.units ≤ r.tail) × (r.wraps ≤ r.tail) };
 }
 
 /// The number of the word in which a place lies.
@@ -95,7 +106,8 @@ fn store_words(bytes: &mut [u8], shape: Shape, tail: u64, placed: Placed, unit: 
     requires start { placed.start ≡ start_at shape tail (length (unit_words unit.now)) }
     requires tail { placed.tail ≡ end_at shape tail (length (unit_words unit.now)) }
     requires wraps { placed.wraps ≡ not (stays shape tail (length (unit_words unit.now))) }
-    ensures { words_in bytes.new ≡ words_with shape tail (unit_words unit.now) (words_in bytes.old) }
+    ensures { words_in bytes.new ≡ words_with shape tail (unit_words unit.now)
+        (words_in bytes.old) }
 {
     if placed.wraps {
         write_word(bytes, word_of(shape, tail), WRAP_MARK);
@@ -129,7 +141,8 @@ impl PlainRing {
     /// Puts a unit at the tail. It takes no memory. After a refusal the ring is as it was.
     pub fn put(&mut self, unit: &Unit) -> Result<(), PutFault>
         requires { self.old.ended ≡ false }
-        ensures put { OnOk result ((log : Log) → IsRingOf self.old log → IsRingOf self.new (log ++ unit.now ∷ [])) }
+        ensures put { OnOk result ((log : Log) → IsRingOf self.old log →
+            IsRingOf self.new (log ++ unit.now ∷ [])) }
         ensures refused { result_err result ≡ put_fault self.old unit.now }
         ensures unchanged { OnErr result (self.new ≡ self.old) }
         ensures shape { self.new.seg ≡ self.old.seg }
@@ -141,10 +154,10 @@ impl PlainRing {
                 words: words as u64,
             });
         }
+        is_unit(unit);
         let Some(placed) = place_after(self.shape, self.tail, words as u32) else {
             return Err(PutFault::Exhausted { tail: self.tail });
         };
-        is_unit(unit);
         self.store(placed, unit);
         Ok(())
     }
@@ -152,9 +165,12 @@ impl PlainRing {
     /// Stores a unit where it is put.
     fn store(&mut self, placed: Placed, unit: &Unit)
         requires fits { length (unit_words unit.now) ≤ self.old.seg }
-        requires start { placed.start ≡ start_at self.old.seg self.old.tail (length (unit_words unit.now)) }
-        requires tail { placed.tail ≡ end_at self.old.seg self.old.tail (length (unit_words unit.now)) }
-        requires wraps { placed.wraps ≡ not (stays self.old.seg self.old.tail (length (unit_words unit.now))) }
+        requires start { placed.start ≡ start_at self.old.seg self.old.tail
+            (length (unit_words unit.now)) }
+        requires tail { placed.tail ≡ end_at self.old.seg self.old.tail
+            (length (unit_words unit.now)) }
+        requires wraps { placed.wraps ≡ not
+            (stays self.old.seg self.old.tail (length (unit_words unit.now))) }
         ensures { self.new ≡ ring_with self.old unit.now }
     {
         let Placed { start, tail, .. } = placed;
@@ -250,8 +266,10 @@ impl PlainRing {
     /// The words of the unit that is due at a place, if there is one.
     pub(crate) fn due_unit(&self, place: u64) -> Option<Stretch>
         requires near { self.now.counter < place / self.now.seg + overrun_distance }
-        requires due { (log : Log) × (k : ℕ) × IsRingOf self.now log × IsDueAt unit_words self.now.seg log k place }
-        ensures { (log : Log) (k : ℕ) → IsRingOf self.now log → IsDueAt unit_words self.now.seg log k place → IsDue self.now log k result }
+        requires due { (log : Log) × (k : ℕ) × IsRingOf self.now log ×
+            IsDueAt unit_words self.now.seg log k place }
+        ensures { (log : Log) (k : ℕ) → IsRingOf self.now log →
+            IsDueAt unit_words self.now.seg log k place → IsDue self.now log k result }
     {
         let start = self.unit_place(place);
         let head = self.word_at(start);
@@ -268,7 +286,8 @@ impl PlainRing {
     pub(crate) fn copy(&self, place: u64, count: usize, to: &mut [u8])
         requires lap { place % (8 * self.now.seg) + count ≤ 8 * self.now.seg }
         requires room { 4 * count ≤ length to.old }
-        ensures { words_in (take (4 * count) to.new) ≡ take count (drop (place % (8 * self.now.seg)) self.now.words) }
+        ensures { words_in (take (4 * count) to.new) ≡ take count
+            (drop (place % (8 * self.now.seg)) self.now.words) }
     {
         copy_words(to, &self.bytes, word_of(self.shape, place), count);
     }

@@ -1,14 +1,15 @@
 -- What a log file gave, read by read.
-use Rattle.std.proofs.Common.{◌≡◌, ℕ, ◌+◌, ◌<◌, Bool, true, false, Err, List, [], ◌∷◌, ◌++◌, length, length-append, refl, sym, ap, subst, ◌∙◌, append_assoc, arith, inl}
+use Rattle.std.proofs.Common.{◌≡◌, ℕ, ◌+◌, ◌<◌, Bool, true, false, Option, Err, List, [], ◌∷◌, ◌++◌, length, length-append, refl, sym, ap, subst, ◌∙◌, append_assoc, arith, inl}
 use Rattle.std.proofs.lemmas.List.{map-append}
 use Rattle.vio.specs.World.{Seen, Reading, Read}
 use Rattle.vio.specs.Calls.{Mark, Went, MetEnd, FailedEach, Call, Take, AreOn, Marks, taken_by, is_end, fails}
 use Rattle.vio.proofs.TouchLemmas.{one_of_right}
 use Rattle.vio.proofs.CallLemmas.{did_take, taken_append, taken_here, read_last}
+use Rattle.vsl_words.specs.declared.version.Version.{Version}
 use Rattle.vsl_record.specs.Unit.{LogUnit, Log}
 use Rattle.ring_layout.specs.declared.item.Item.{Item}
 use Rattle.ring_layout.specs.declared.item.Item.TheVariants as items
-use Rattle.vsl_file.specs.File.{FileEnding, NotALog, Damaged, TooLarge, Whole, IsFile, HoldsWhole, file_header, log_bytes}
+use Rattle.vsl_file.specs.File.{FileEnding, NotALog, Damaged, TooLarge, Whole, IsFile, HoldsWhole}
 use Rattle.vsl_file.specs.ReaderState.{ReaderState, Represents, GaveUnit, GaveEnd, EndsSo, Refused, used}
 use Rattle.vsl_file.specs.declared.fault.FileFault.{FileFault}
 use Rattle.vsl_file.specs.declared.fault.FileFault.TheVariants as file_faults
@@ -21,30 +22,29 @@ use Rattle.run_sources.specs.Laws.{taken_stays}
 
 begins_so : (r : ReaderState) (taken : List ℕ) (units : Log) → Represents r taken units → BeginsLog taken units
 begins_so r taken units p =
-    record { begun = r.begun; rest = r.rest; are_units = p.are_units; fresh = p.fresh; parts = p.parts; most = omega (arith, p.most, ap length p.parts, length-append (used r.begun units) r.rest) }
+    record { version = r.version; rest = r.rest; are_units = p.are_units; parts = p.parts; most = omega (arith, p.most, ap length p.parts, length-append (used r.version units) r.rest) }
 
 -- more bytes begin with the same
 begins_on : (taken more : List ℕ) (units : Log) → BeginsLog taken units → BeginsLog (taken ++ more) units
 begins_on taken more units p = record {
-  begun = p.begun;
+  version = p.version;
   rest = p.rest ++ more;
   are_units = p.are_units;
-  fresh = p.fresh;
-  parts = ap (λ (x : List ℕ). x ++ more) p.parts ∙ append_assoc (used p.begun units) p.rest more;
+  parts = ap (λ (x : List ℕ). x ++ more) p.parts ∙ append_assoc (used p.version units) p.rest more;
   most = p.most;
 }
 
-few_by : (begun : Bool) (taken rest : List ℕ) (units : Log) → taken ≡ used begun units ++ rest → length rest < 65536 → length taken < length (file_header ++ log_bytes units) + 65536
-few_by false taken rest units parts short = omega (arith, ap length parts, length-append [] rest, short)
-few_by true taken rest units parts short = omega (arith, ap length parts, length-append (file_header ++ log_bytes units) rest, short)
+few_by : (v : Option Version) (taken rest : List ℕ) (units : Log) → taken ≡ used v units ++ rest → length rest < 65536 → length taken < length (used v units) + 65536
+few_by v taken rest units parts short = omega (arith, ap length parts, length-append (used v units) rest, short)
 
 -- what a reader gave, of the bytes alone
 pub file_came : (start now : FileItems) (calls : List Call) (met : List Item) (all : Bool) → FileGave start now calls met all → FileCame start.reader.handle calls met all
+unfolding begins_so
 file_came start now calls met all p = let taken = taken_by start.reader.handle calls in record {
   units = p.units;
   are = p.are;
   begins = begins_so now.reader taken p.units p.represents;
-  few = few_by now.reader.begun taken now.reader.rest p.units p.represents.parts p.represents.short;
+  few = few_by now.reader.version taken now.reader.rest p.units p.represents.parts p.represents.short;
   whole = p.whole;
 }
 

@@ -1,17 +1,16 @@
 -- What came of a log whose handle told what it had left.
-use Rattle.std.proofs.Common.{◌≡◌, ℕ, ◌≤◌, Bool, true, false, List, [], ◌++◌, length, Some, refl, sym, ap, subst, ◌∙◌, append_assoc}
-use Rattle.std.specs.List.{AllByRecursion}
+use Rattle.std.proofs.Common.{◌≡◌, ℕ, ◌≤◌, Bool, true, false, List, [], ◌++◌, length, Option, Some, None, refl, sym, ap, subst, ◌∙◌, append_assoc}
 use Rattle.std.proofs.lemmas.List.{append-nil, map-append}
 use Rattle.vio.specs.World.{Seen}
 use Rattle.vio.specs.Calls.{Call, Did, taken_by}
 use Rattle.vio.proofs.CallLemmas.{did_apart}
 use Rattle.vio.proofs.CallLaws.{did_lose, did_end}
+use Rattle.vsl_words.specs.declared.version.Version.{Version}
 use Rattle.vsl_record.specs.Unit.{Log}
-use Rattle.vsl_record.specs.Words.{IsUnit}
 use Rattle.ring_layout.specs.declared.item.Item.{Item}
 use Rattle.ring_layout.specs.declared.item.Item.TheVariants as items
-use Rattle.vsl_file.specs.File.{FileEnding, NotALog, Damaged, TooLarge, Whole, IsFile, is_whole, file_header, log_bytes, most_bytes}
-use Rattle.vsl_file.specs.ReaderState.{used}
+use Rattle.vsl_file.specs.File.{FileEnding, NotALog, Damaged, TooLarge, Whole, IsFile, is_whole, file_header_of, log_bytes_of, most_bytes}
+use Rattle.vsl_file.specs.ReaderState.{AreUnitsOf, used}
 use Rattle.vsl_file.proofs.FileLemmas.{first_units, one_content_of}
 use Rattle.run_sources.specs.declared.file_items.FileStop.{FileStop}
 use Rattle.run_sources.specs.declared.file_items.FileStop.TheVariants as stops
@@ -19,11 +18,11 @@ use Rattle.run_sources.specs.Sources.{FileBegins, FileCame, FileEnds, FileStoppe
 use Rattle.run_sources.specs.Told.{AreOf, TellsLog, named_ending}
 
 -- units that begin the first bytes of a file are its first ones
-begun_first : (begun : Bool) (bytes taken more rest : List ℕ) (units us : Log) (ending : FileEnding) → AllByRecursion IsUnit units → (begun ≡ false → units ≡ []) → taken ≡ used begun units ++ rest → length (used begun units) ≤ most_bytes → bytes ≡ taken ++ more → IsFile bytes us ending
+begun_first : (v : Option Version) (bytes taken more rest : List ℕ) (units us : Log) (ending : FileEnding) → AreUnitsOf v units → taken ≡ used v units ++ rest → length (used v units) ≤ most_bytes → bytes ≡ taken ++ more → IsFile bytes us ending
     → (others : Log) × (us ≡ units ++ others)
-begun_first false bytes taken more rest units us ending all fresh parts most is file = (us, ap (λ (xs : Log). xs ++ us) (sym (fresh refl)))
-begun_first true bytes taken more rest units us ending all fresh parts most is file =
-    first_units bytes units us ending (rest ++ more) all most (is ∙ ap (λ (x : List ℕ). x ++ more) parts ∙ append_assoc (file_header ++ log_bytes units) rest more) file
+begun_first None bytes taken more rest units us ending none parts most is file = (us, ap (λ (xs : Log). xs ++ us) (sym none))
+begun_first (Some v) bytes taken more rest units us ending all parts most is file =
+    first_units v bytes units us ending (rest ++ more) all most (is ∙ ap (λ (x : List ℕ). x ++ more) parts ∙ append_assoc (file_header_of v ++ log_bytes_of v units) rest more) file
 
 module _ (h : ℕ) (units : Log) (ending : FileEnding) (before : Seen) (tells : TellsLog h units ending before) (calls : List Call) (now : Seen) (did : Did calls before now) where
   -- what calls took is the first of what was told, and the rest is left
@@ -34,7 +33,7 @@ module _ (h : ℕ) (units : Log) (ending : FileEnding) (before : Seen) (tells : 
   pub begun_are : (met : List Item) → FileBegins h calls met → AreOf met false (unit_items units) (is_whole ending)
   begun_are met p =
       let first = taken_first in let b = p.begins in
-      let others = begun_first b.begun tells.bytes (taken_by h calls) first.0 b.rest p.units units ending b.are_units b.fresh b.parts b.most first.1 tells.file in
+      let others = begun_first b.version tells.bytes (taken_by h calls) first.0 b.rest p.units units ending b.are_units b.parts b.most first.1 tells.file in
       record {
         rest = unit_items others.0;
         parts = ap (λ (us : Log). unit_items us) others.1 ∙ map-append items.Unit p.units others.0 ∙ ap (λ (xs : List Item). xs ++ unit_items others.0) (sym p.are);

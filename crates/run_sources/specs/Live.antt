@@ -24,7 +24,8 @@ count_seeks (NumberSeen segment number ∷ observed) = count_seeks observed
 
 -- a pass sought behind each overrun that it met, but behind the last where it has yet to
 abbrev pub HasSought : ReaderState → Type 0
-HasSought pass = count_overruns (met_by pass) ≤ count_seeks pass.reader.observed + (if is_some pass.reader.lost then 1 else 0)
+HasSought pass = count_overruns (met_by pass) ≤ count_seeks pass.reader.observed +
+    (if is_some pass.reader.lost then 1 else 0)
 
 -- what a pass met grew by these items; where they are all, it ended. So none of its overruns is told twice: it sought before it met the next
 pub record LiveGave (start now : ReaderState) (met : List Item) (all : Bool) : Type 0 where
@@ -35,4 +36,5 @@ pub record LiveGave (start now : ReaderState) (met : List Item) (all : Bool) : T
 
 -- it grew by these items and a unit, which it lends, and for whose copy there was no memory
 abbrev pub LiveStarved : ReaderState → ReaderState → List Item → Type 0
-LiveStarved start now met = (unit : LogUnit) × Spells now.words unit × LiveGave start now (met ++ items.Unit unit ∷ []) false
+LiveStarved start now met = (unit : LogUnit) × Spells now.words unit ×
+    LiveGave start now (met ++ items.Unit unit ∷ []) false

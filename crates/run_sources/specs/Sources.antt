@@ -1,17 +1,16 @@
 -- Of what the items of a source came: the bytes of a log file, the turns of feeds over a ring, or units that are at hand (this project's choice).
 use Rattle.std.specs.Prelude.{◌≡◌, ℕ, ◌+◌, ◌<◌, ◌≤◌, Bool, true, false, List, [], ◌∷◌, ◌++◌, length, map, Option, Some, None}
-use Rattle.std.specs.List.{AllByRecursion}
 use Rattle.log_model.specs.declared.fault.Halt.{Halt}
 use Rattle.log_model.specs.declared.fault.Halt.TheVariants as halts
 use Rattle.vio.specs.World.{Seen}
 use Rattle.vio.specs.Touches.{IsOneOf}
 use Rattle.vio.specs.Calls.{Call, taken_by, has_read, is_end, Take, FailedEach}
+use Rattle.vsl_words.specs.declared.version.Version.{Version}
 use Rattle.vsl_record.specs.Unit.{Log}
-use Rattle.vsl_record.specs.Words.{IsUnit}
 use Rattle.ring_layout.specs.declared.item.Item.{Item}
 use Rattle.ring_layout.specs.declared.item.Item.TheVariants as items
-use Rattle.vsl_file.specs.File.{FileEnding, NotALog, Damaged, TooLarge, Whole, IsFile, HoldsWhole, file_header, log_bytes, most_bytes}
-use Rattle.vsl_file.specs.ReaderState.{Represents, used}
+use Rattle.vsl_file.specs.File.{FileEnding, NotALog, Damaged, TooLarge, Whole, IsFile, HoldsWhole, most_bytes}
+use Rattle.vsl_file.specs.ReaderState.{AreUnitsOf, Represents, used}
 use Rattle.vsl_file.specs.declared.fault.FileFault.{FileFault}
 use Rattle.vsl_file.specs.declared.fault.FileFault.TheVariants as file_faults
 use Rattle.feed_schedule.specs.Replaying as replaying
@@ -47,22 +46,21 @@ pub record FileGave (start now : FileItems) (calls : List Call) (met : List Item
   pub represents : Represents now.reader (taken_by start.reader.handle calls) units
   pub whole : all ≡ true → IsReadWhole start.reader.handle calls units
 
--- the bytes begin with a log of these units; where none of its header was read there are none
+-- the bytes begin with a log of these units, of a version; where none of its header was read there are none
 pub record BeginsLog (taken : List ℕ) (units : Log) : Type 0 where
-  pub begun : Bool
+  pub version : Option Version
   pub rest : List ℕ
-  pub are_units : AllByRecursion IsUnit units
-  pub fresh : begun ≡ false → units ≡ []
-  pub parts : taken ≡ used begun units ++ rest
-  pub most : length (used begun units) ≤ most_bytes
+  pub are_units : AreUnitsOf version units
+  pub parts : taken ≡ used version units ++ rest
+  pub most : length (used version units) ≤ most_bytes
 
--- of the bytes alone: the items lie at their beginning, with fewer than 65,536 bytes past the last of them, or past the header; all of them where the file
--- ended and is whole
+-- of the bytes alone: the items lie at their beginning, with fewer than 65,536 bytes past the last of them, past the header,
+-- or where none was read in all; all of them where the file ended and is whole
 pub record FileCame (h : ℕ) (calls : List Call) (met : List Item) (all : Bool) : Type 0 where
   pub units : Log
   pub are : met ≡ unit_items units
   pub begins : BeginsLog (taken_by h calls) units
-  pub few : length (taken_by h calls) < length (file_header ++ log_bytes units) + 65536
+  pub few : length (taken_by h calls) < length (used begins.version units) + 65536
   pub whole : all ≡ true → IsReadWhole h calls units
 
 -- the items lie at the beginning of the bytes that were taken
@@ -103,11 +101,13 @@ owed (Some units) = items.Missed units ∷ []
 
 -- these items are still to come: what the last overrun cost, where that wasn't given yet, and what the reader meets in the turns that are left
 abbrev pub HasToCome : FeedItems → List Item → Type 0
-HasToCome feeds every = (rest : List Item) × (every ≡ owed feeds.missed ++ rest) × replaying.Represents feeds.replay rest
+HasToCome feeds every = (rest : List Item) × (every ≡ owed feeds.missed ++ rest) ×
+    replaying.Represents feeds.replay rest
 
 -- of whatever was to come these items came first; all of them or not, and what is left is still to come
 pub record FeedsGave (start now : FeedItems) (met : List Item) (all : Bool) : Type 0 where
-  pub came : (every : List Item) → HasToCome start every → (rest : List Item) × (every ≡ met ++ rest) × HasToCome now rest × (all ≡ true → rest ≡ [])
+  pub came : (every : List Item) → HasToCome start every → (rest : List Item) × (every ≡ met ++ rest) ×
+      HasToCome now rest × (all ≡ true → rest ≡ [])
 
 -- of whatever was to come these items came first
 abbrev pub FeedsBegan : FeedItems → List Item → Type 0

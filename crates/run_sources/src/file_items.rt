@@ -13,7 +13,7 @@ use vsl_file::{FileFault, FileReader, FileStep};
 /// Why a log file stops.
 #[derive(Clone, Copy, Debug, PartialEq, Eq)]
 pub enum FileStop {
-    /// It is no log: this is the first byte that isn't the header's, or the length where it ends inside the header.
+    /// It is no log: this is the first byte at which it begins as no header, or its length where it ends inside one.
     NotALog { at: u64 },
     /// The unit that begins at this byte isn't whole and correct.
     Damaged { at: u64 },
@@ -63,7 +63,8 @@ impl Source for FileItems {
 
     ghost gave = { λ start now calls met all. FileGave start now calls met all };
 
-    ghost stopped = { λ start fault calls met world. FileStopped start.reader.handle fault calls met world };
+    ghost stopped = { λ start fault calls met world.
+        FileStopped start.reader.handle fault calls met world };
 
     ghost starved = { λ start now calls met. FileBegins start.reader.handle calls met };
 

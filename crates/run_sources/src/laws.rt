@@ -16,5 +16,7 @@ ghost use Rattle.run_sources.specs.Live.{LiveGave};
 pub fn items_are_the_history()
     ensures { (ring : RingSet) (pass : ReaderState) (log : Log) (met : List Item) (all : Bool) →
         LiveGave (new_pass ring) pass met all → IsDoneWith ring.seg log pass →
-        (met ≡ items_of (history_taken pass)) × IsReadHistory unit_words ring.seg log (history_taken pass) × (all ≡ true → ReachesTail log (history_taken pass)) }
+        (met ≡ items_of (history_taken pass)) ×
+        IsReadHistory unit_words ring.seg log (history_taken pass) ×
+        (all ≡ true → ReachesTail log (history_taken pass)) }
 {}

@@ -51,5 +51,5 @@ IsBegunUnit-more u rec words more has_end ends items is tag payload mark few siz
 })
 
 -- a record with no more of its payload than is kept fits in a segment
-pub one_fits : (vxid : ℕ) (rec : Record) (most seg : ℕ) → IsSegment seg → most ≤ 4 * (seg - 3) → length rec.payload ≤ most → length (unit_words (unit_of (record { vxid = vxid; rec = rec }))) ≤ seg
+pub one_fits : (vxid : ℕ) (rec : Record) (most seg : ℕ) → IsSegment seg → most ≤ 4 * (seg - 4) → length rec.payload ≤ most → length (unit_words (unit_of (record { vxid = vxid; rec = rec }))) ≤ seg
 one_fits vxid rec most seg segment fits few = omega (arith, record_size vxid rec, unit_size vxid rec)

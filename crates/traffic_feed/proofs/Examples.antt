@@ -59,7 +59,7 @@ of_no_transaction = refl
 end_inside : units_at 64 (line_of 7 a ∷ line_of 7 last ∷ line_of 7 b ∷ []) ≡ unit 7 Client (a ∷ last ∷ []) ∷ unit 7 Client (b ∷ []) ∷ []
 end_inside = refl
 
--- with 64 words a segment, a record of 239 bytes has 62 words, and one of 240 bytes too; with a header that is 63, so a record more is cut off
+-- with 64 words a segment, a record of 239 bytes has 63 words, and one of 240 bytes too; with a header that is 64, so a record more is cut off
 abbrev long : ℕ → Record
 long n = record_of_tag 24 Client (replicate n 120)
 
@@ -67,7 +67,7 @@ cut_once : (units_at 64 (line_of 7 (long 239) ∷ line_of 7 a ∷ line_of 7 b �
 cut_once = (refl, refl)
 
 -- a unit may fill its segment: 1, 59 and 4 words are 64, and another word is too much
-filled : (units_at 64 (line_of 7 (long 228) ∷ line_of 7 (long 8) ∷ []) ≡ unit 7 Client (long 228 ∷ long 8 ∷ []) ∷ []) × (listing_cuts 255 64 (line_of 7 (long 228) ∷ line_of 7 (long 9) ∷ []) ≡ 1)
+filled : (units_at 64 (line_of 7 (long 224) ∷ line_of 7 (long 4) ∷ []) ≡ unit 7 Client (long 224 ∷ long 4 ∷ []) ∷ []) × (listing_cuts 255 64 (line_of 7 (long 224) ∷ line_of 7 (long 5) ∷ []) ≡ 1)
 filled = (refl, refl)
 
 -- where the batch ends anyway, nothing is cut
@@ -75,7 +75,7 @@ no_cut : listing_cuts 255 64 (line_of 7 (long 239) ∷ line_of 7 c ∷ line_of 7
 no_cut = refl
 
 -- payloads are cut to what is asked for, and to what a segment has room for
-shortened_payloads : (listing_units 3 64 (line_of 7 (long 5) ∷ []) ≡ unit 7 Client (long 3 ∷ []) ∷ []) × (units_at 64 (line_of 7 (long 250) ∷ []) ≡ unit 7 Client (long 244 ∷ []) ∷ [])
+shortened_payloads : (listing_units 3 64 (line_of 7 (long 5) ∷ []) ≡ unit 7 Client (long 3 ∷ []) ∷ []) × (units_at 64 (line_of 7 (long 250) ∷ []) ≡ unit 7 Client (long 240 ∷ []) ∷ [])
 shortened_payloads = (refl, refl)
 
 -- ---- a whole listing

@@ -29,7 +29,7 @@ use Rattle.traffic_feed.proofs.BatchLemmas.{gathered_units}
 use Rattle.traffic_feed.proofs.BegunUnitLemmas.{IsBegunUnit-one, IsBegunUnit-more, one_fits}
 use Rattle.traffic_feed.proofs.BoundLemmas.{closed}
 use Rattle.traffic_feed.proofs.GatheringLemmas.{marks_on}
-use Rattle.traffic_feed.proofs.MadeBounds.{vxid_in_range}
+use Rattle.traffic_feed.proofs.MadeBounds.{vxid_in_range, vxid_small}
 use Rattle.traffic_feed.proofs.MakingLemmas.{made_more}
 use Rattle.traffic_feed.proofs.PartlyLemmas.{seg_folded}
 
@@ -147,7 +147,7 @@ sizes_bytes headers x few = below_append 256 _ _ (below_append 256 _ _ (decimal_
 -- the text of a number is bytes
 number_bytes : (number : Number) (k x : ℕ) → k < request_end → IsBytes (number_text number k x)
 number_bytes Nothing k x few = IsBytes-from [] refl
-number_bytes (VxidOf whose) k x few = decimal_bytes (vxid_of whose k) (omega (arith, vxid_in_range whose k few))
+number_bytes (VxidOf whose) k x few = decimal_bytes (vxid_of whose k) (vxid_small whose k few)
 number_bytes Seconds k x few = decimal_bytes (1650000000 + k) (omega (arith, few))
 number_bytes Item k x few = decimal_bytes (x % 100) (omega arith)
 number_bytes SizesFetched k x few = sizes_bytes 180 x (omega arith)

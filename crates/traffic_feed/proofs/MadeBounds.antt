@@ -47,14 +47,14 @@ payload_bytes_append (RecordLine l ∷ xs) ys = omega (arith, payload_bytes_appe
 -- so many lines with payloads of so many bytes add no more records than lines, no more words than these have room for, and as many records as cuts or more
 record Adds (old new : Gathered) (lines bytes : ℕ) : Type 0 where
   records : record_count (closed new) ≤ record_count (closed old) + lines
-  words : 4 * word_count (closed new) ≤ 4 * word_count (closed old) + 15 * lines + bytes
+  words : 4 * word_count (closed new) ≤ 4 * word_count (closed old) + 19 * lines + bytes
   cuts : new.cuts + record_count (closed old) ≤ old.cuts + record_count (closed new)
 
 -- how many words a record has, with its own unit and without
-one_unit : (l : LoggedRecord) (most : ℕ) → 4 * length (unit_words (unit_of (shortened most l))) ≤ 15 + length l.rec.payload
+one_unit : (l : LoggedRecord) (most : ℕ) → 4 * length (unit_words (unit_of (shortened most l))) ≤ 19 + length l.rec.payload
 one_unit l most = omega (arith, unit_size l.vxid (shortened most l).rec, record_size l.vxid (shortened most l).rec, length-take most l.rec.payload)
 
-one_record : (vxid : ℕ) (l : LoggedRecord) (most : ℕ) → 4 * length (record_words vxid (shortened most l).rec) ≤ 15 + length l.rec.payload
+one_record : (vxid : ℕ) (l : LoggedRecord) (most : ℕ) → 4 * length (record_words vxid (shortened most l).rec) ≤ 19 + length l.rec.payload
 one_record vxid l most = omega (arith, record_size vxid (shortened most l).rec, length-take most l.rec.payload)
 
 -- a record in a unit of its own, with a cut or without one
@@ -138,18 +138,21 @@ sizes_bytes headers x few = omega (
   digits_few (x % 1000 + headers) (omega (arith, few)),
 )
 
--- VXIDs are in range
+-- VXIDs have 32 bits, and are in range
+pub vxid_small : (whose : Whose) (k : ℕ) → k < request_end → vxid_of whose k < 4294967296
+vxid_small Fetch k few = omega (arith, few)
+vxid_small Request k few = omega (arith, few)
+vxid_small Miss k few = omega (arith, few)
+vxid_small Hit k few = omega (arith, few)
+vxid_small Session k few = omega (arith, few)
+
 pub vxid_in_range : (whose : Whose) (k : ℕ) → k < request_end → vxid_of whose k < vxid_end
-vxid_in_range Fetch k few = omega (arith, few)
-vxid_in_range Request k few = omega (arith, few)
-vxid_in_range Miss k few = omega (arith, few)
-vxid_in_range Hit k few = omega (arith, few)
-vxid_in_range Session k few = omega (arith, few)
+vxid_in_range whose k few = omega (arith, vxid_small whose k few)
 
 -- the text of a number
 number_bytes : (number : Number) (k x : ℕ) → k < request_end → length (number_text number k x) ≤ most_digits number
 number_bytes Nothing k x few = omega arith
-number_bytes (VxidOf whose) k x few = digits_few (vxid_of whose k) (omega (arith, vxid_in_range whose k few))
+number_bytes (VxidOf whose) k x few = digits_few (vxid_of whose k) (vxid_small whose k few)
 number_bytes Seconds k x few = digits_few (1650000000 + k) (omega (arith, few))
 number_bytes Item k x few = digits_few (x % 100) (omega arith)
 number_bytes SizesFetched k x few = sizes_bytes 180 x (omega arith)

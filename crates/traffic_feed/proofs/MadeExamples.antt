@@ -61,7 +61,7 @@ never_cut : made_cuts 1 7 255 65536 ≡ 0
 unfolding digits
 never_cut = refl
 
-request_words : length (unit_words (unit 2 request)) ≡ 75
+request_words : length (unit_words (unit 2 request)) ≡ 88
 request_words = refl
 
 -- with 64 words a segment the request is cut before its second Timestamp

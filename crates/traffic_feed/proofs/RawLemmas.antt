@@ -94,7 +94,7 @@ written_is most l told =
     let small : l.vxid < 2 ^ 64 = omega (arith, told.vxid) in
     let numeral = decimal_is_IsNumeral l.vxid small in
     record {
-      vxid = (numeral.0.1, numeral.0.0, length-decimal-le 10 l.vxid (omega arith) (omega (arith, told.vxid)) small, numeral.1, told.vxid);
+      vxid = (numeral.0.1, numeral.0.0, length-decimal-le 19 l.vxid (omega arith) (omega (arith, told.vxid)) small, numeral.1, told.vxid);
       before_name = omega arith;
       name = (told.tag, refl);
       before_mark = omega arith;

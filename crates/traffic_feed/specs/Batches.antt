@@ -10,7 +10,7 @@ use Rattle.raw_records.specs.Lines.{LoggedRecord, Line, BlankLine, CommentLine, 
 -- the most bytes that are kept of a payload: as many as are asked for, and no more than a unit of one record has room
 -- for in a segment. So each record goes in; a letter may be cut apart, since payloads are bytes
 abbrev pub most_kept : ℕ → ℕ → ℕ
-most_kept reclen seg = min reclen (4 * (seg - 3))
+most_kept reclen seg = min reclen (4 * (seg - 4))
 
 -- the records between blank lines, shortened; comments don't count
 abbrev pub sections : ℕ → List Line → List (List LoggedRecord)

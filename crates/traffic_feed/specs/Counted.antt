@@ -118,7 +118,8 @@ abbrev pub raise : Cause → Record → ℕ
 raise (EachTag tag) rec = one_if (rec.tag == tag)
 raise EachRequest rec = one_if ((rec.tag == begin_tag) && is_request (claim_of rec.payload))
 raise EachFetch rec = one_if ((rec.tag == begin_tag) && is_fetch (claim_of rec.payload))
-raise (EachCall name) rec = one_if ((rec.tag == VCL_CALL) && bytes_eq (str_to_ascii_lowercase rec.payload) (str_to_ascii_lowercase name))
+raise (EachCall name) rec =
+    one_if ((rec.tag == VCL_CALL) && bytes_eq (str_to_ascii_lowercase rec.payload) (str_to_ascii_lowercase name))
 raise (EachField n) rec = if rec.tag == REQ_ACCT then field_value (field_of rec.payload n) else 0
 raise EachRecord rec = 1
 raise EachUnit rec = 0

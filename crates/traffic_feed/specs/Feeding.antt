@@ -33,7 +33,9 @@ pub record IsReady (ring : RingSet) (counters : CounterSet) (writer : WriterStat
 -- by how much a worker raises a counter: by the units that it put, the cuts of its listing, its waits, and its units that wrapped
 abbrev pub fed_share : ℕ → Log → ℕ → ℕ → ℕ → ℕ
 fed_share which units cuts waits wraps =
-    sum_by (unit_share which) units + (cut_raise (slice_get causes which) cuts + (wait_raise (slice_get causes which) waits + wrap_raise (slice_get causes which) wraps))
+    sum_by (unit_share which) units +
+    (cut_raise (slice_get causes which) cuts +
+    (wait_raise (slice_get causes which) waits + wrap_raise (slice_get causes which) wraps))
 
 -- how many units of a writer wrapped
 abbrev pub wraps_of : WriterState → ℕ
@@ -54,7 +56,8 @@ pub record IsFed (ring : RingSet) (counters : CounterSet) (listing : Listing) (f
   pub put : IsPrefix (units_put fed.left) listing.units
   pub all : fed.full ≡ None → units_put fed.left ≡ listing.units
   pub full : (tail : ℕ) → fed.full ≡ Some tail → IsFullAt ring.seg tail listing.units fed.left
-  pub counted : (which : ℕ) → which < counter_count → own_sum which fed.counts ≡ fed_share which (units_put fed.left) listing.cuts fed.busy (wraps_of fed.left)
+  pub counted : (which : ℕ) → which < counter_count →
+      own_sum which fed.counts ≡ fed_share which (units_put fed.left) listing.cuts fed.busy (wraps_of fed.left)
   -- where the ring was full, the waits of the last put aren't told
   pub busy : fed.full ≡ None → fed.busy ≡ min fed.left.busy most_waits
   pub most : fed.busy ≤ min fed.left.busy most_waits

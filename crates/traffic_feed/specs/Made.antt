@@ -60,7 +60,10 @@ number_text SizesSent k x = sizes_of 200 x
 abbrev pub row_lines : ℕ → ℕ → Whose → ℕ → List ℕ → Number → List ℕ → List Line
 row_lines k x whose tag before number behind =
     if is_said whose (is_miss x) then
-    RecordLine (record { vxid = vxid_of whose k; rec = record { tag = tag; mark = mark_of whose; payload = before ++ number_text number k x ++ behind } }) ∷ []
+    RecordLine (record {
+      vxid = vxid_of whose k;
+      rec = record { tag = tag; mark = mark_of whose; payload = before ++ number_text number k x ++ behind };
+    }) ∷ []
     else []
 
 -- the lines of the k-th request, for which x was drawn. They come in the order in which they end: the request to the

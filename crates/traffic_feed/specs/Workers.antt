@@ -29,4 +29,5 @@ AllFed ring counters (l ∷ ls) (f ∷ fs) = IsFed ring counters l f × AllFed r
 
 -- a gate was asked before each put of each worker, whose number is its place
 abbrev pub AllAsked : (ℕ → ℕ → Type 0) → List Fed → Type 0
-AllAsked was_asked fed = (place : ℕ) (f : Fed) → slice_get fed place ≡ Some f → WasAskedEach (was_asked place) f.left.entries f.full
+AllAsked was_asked fed = (place : ℕ) (f : Fed) → slice_get fed place ≡ Some f →
+    WasAskedEach (was_asked place) f.left.entries f.full

@@ -33,7 +33,8 @@ impl Model for BegunUnit {
 
     ghost view = { λ u. record { vxid = u.vxid; mark = u.mark; records = u.records.items } };
 
-    ghost invariant = { λ u. IsBegunUnit (record { vxid = u.vxid; mark = u.mark; records = u.records.items }) u.words u.has_end };
+    ghost invariant = { λ u. IsBegunUnit
+        (record { vxid = u.vxid; mark = u.mark; records = u.records.items }) u.words u.has_end };
 }
 
 impl BegunUnit {
@@ -59,7 +60,8 @@ impl BegunUnit {
 
     /// Whether its batch goes on with a record of this VXID and mark.
     pub fn goes_on(&self, vxid: Vxid, mark: Mark) -> bool
-        ensures { (l : LoggedRecord) → l.vxid ≡ vxid → l.rec.mark ≡ mark → result ≡ goes_on self.now l }
+        ensures { (l : LoggedRecord) → l.vxid ≡ vxid → l.rec.mark ≡ mark →
+            result ≡ goes_on self.now l }
     {
         self.vxid == vxid && vxid != 0 && self.mark == mark && !self.has_end
     }

@@ -25,7 +25,8 @@ fn add(counts: &mut CounterPass, counters: &Counters, which: u32, n: u64)
     ensures same { counts.new.counters ≡ counts.old.counters }
     ensures whole { length counts.new.sums ≡ length counts.old.sums }
     ensures added { own_sum which counts.new ≡ own_sum which counts.old + n }
-    ensures others { (other : ℕ) → other ≢ which → own_sum other counts.new ≡ own_sum other counts.old }
+    ensures others { (other : ℕ) → other ≢ which →
+        own_sum other counts.new ≡ own_sum other counts.old }
 {
     if n == 0 {
         return;
@@ -43,7 +44,8 @@ pub fn count_unit(counts: &mut CounterPass, counters: &Counters, unit: &Unit)
     requires low { (which : ℕ) → which < counter_count → own_sum which counts.old < 2 ^ 55 }
     ensures same { counts.new.counters ≡ counts.old.counters }
     ensures whole { length counts.new.sums ≡ length counts.old.sums }
-    ensures counted { (which : ℕ) → which < counter_count → own_sum which counts.new ≡ own_sum which counts.old + unit_share which unit.now }
+    ensures counted { (which : ℕ) → which < counter_count →
+        own_sum which counts.new ≡ own_sum which counts.old + unit_share which unit.now }
 {
     let shares = shares(unit);
     for which in 0..CUTS {

@@ -48,8 +48,10 @@ fn put_counted<R: Wait>(
     requires fits { length (unit_words unit.now) ≤ ring.now.seg }
     ensures same { counts.new.counters ≡ counts.old.counters }
     ensures put { IfOk result (λ waits. HasWaited unit.now pass.old waits pass.new) }
-    ensures counted { OnOk result (HasAdded (λ which. unit_share which unit.now) counts.old counts.new) }
-    ensures full { IfErr result (λ tail. IsRefusedAtLast unit.now pass.old (PutFault.Exhausted tail) pass.new) }
+    ensures counted { OnOk result
+        (HasAdded (λ which. unit_share which unit.now) counts.old counts.new) }
+    ensures full { IfErr result
+        (λ tail. IsRefusedAtLast unit.now pass.old (PutFault.Exhausted tail) pass.new) }
     ensures kept { OnErr result (counts.new ≡ counts.old) }
 {
     match pass.put(rt, ring, unit) {
@@ -78,7 +80,8 @@ fn put_all<R: Wait, G: Gate>(
     requires counts { counts.old ≡ new_pass counters.now }
     requires within { All (IsWithin ring.now.seg) units.now }
     requires few { record_count units.now ≤ most_records }
-    ensures stopped { StoppedAt ring.now counters.now units.now result.1 pass.new counts.new result.0 }
+    ensures stopped { StoppedAt ring.now counters.now units.now result.1 pass.new counts.new
+        result.0 }
     ensures number { pass.new.number ≡ pass.old.number }
     ensures asked { WasAskedEach (G.was_asked gate.now worker) pass.new.entries result.1 }
 {

@@ -40,9 +40,16 @@ impl Model for Gathering {
 
     ghost Value = { Gathered };
 
-    ghost view = { λ g. record { most = g.most; seg = g.seg; units = g.units; cuts = g.cuts; begun = g.begun } };
+    ghost view = { λ g. record {
+      most = g.most;
+      seg = g.seg;
+      units = g.units;
+      cuts = g.cuts;
+      begun = g.begun;
+    } };
 
-    ghost invariant = { λ g. IsGathering (record { most = g.most; seg = g.seg; units = g.units; cuts = g.cuts; begun = g.begun }) };
+    ghost invariant = { λ g. IsGathering
+        (record { most = g.most; seg = g.seg; units = g.units; cuts = g.cuts; begun = g.begun }) };
 }
 
 /// A record with a copy of a payload that isn't too long.
@@ -66,7 +73,7 @@ impl Gathering {
         let seg = shape.seg() as usize;
         Gathering {
             alloc,
-            most: (reclen as usize).min(4 * (seg - 3)),
+            most: (reclen as usize).min(4 * (seg - 4)),
             seg,
             units: Units::new(alloc),
             cuts: 0,
@@ -97,7 +104,8 @@ impl Gathering {
 
     /// Whether the batch of the unit that was begun goes on with a record of this VXID and mark.
     fn goes_on(&self, vxid: Vxid, mark: Mark) -> bool
-        ensures { (l : LoggedRecord) → l.vxid ≡ vxid → l.rec.mark ≡ mark → result ≡ begun_goes_on self.now.begun l }
+        ensures { (l : LoggedRecord) → l.vxid ≡ vxid → l.rec.mark ≡ mark →
+            result ≡ begun_goes_on self.now.begun l }
     {
         match &self.begun {
             Some(begun) => begun.goes_on(vxid, mark),
@@ -107,7 +115,8 @@ impl Gathering {
 
     /// Whether the unit that was begun has room for a record.
     fn has_room(&self, rec: &RecordView<'_>) -> bool
-        ensures { (l : LoggedRecord) → l.rec ≡ rec.now → result ≡ begun_has_room self.now.seg self.now.begun l }
+        ensures { (l : LoggedRecord) → l.rec ≡ rec.now →
+            result ≡ begun_has_room self.now.seg self.now.begun l }
     {
         match &self.begun {
             Some(begun) => begun.has_room(self.seg, rec),
@@ -117,9 +126,11 @@ impl Gathering {
 
     /// Adds a record to the unit that was begun.
     fn push(&mut self, rec: Record) -> Result<(), NoMemory>
-        requires room { IsTrue (begun_has_room self.old.seg self.old.begun (record { vxid = 0; rec = rec })) }
+        requires room { IsTrue (begun_has_room self.old.seg self.old.begun
+            (record { vxid = 0; rec = rec })) }
         requires mark { IfSome self.old.begun (λ u. rec.mark ≡ u.mark) }
-        ensures { OnOk result (IfSome self.old.begun (λ u. self.new ≡ record self.old { begun = Some (with_record u rec) })) }
+        ensures { OnOk result (IfSome self.old.begun
+            (λ u. self.new ≡ record self.old { begun = Some (with_record u rec) })) }
     {
         match &mut self.begun {
             Some(begun) => begun.push(rec),
@@ -132,7 +143,8 @@ impl Gathering {
         requires in_range { vxid < vxid_end }
         requires few { length rec.payload ≤ self.old.most }
         requires cuts { self.old.cuts + 1 < 2 ^ 64 }
-        ensures { OnOk result (self.new ≡ taken_by self.old.begun self.old (record { vxid = vxid; rec = rec })) }
+        ensures { OnOk result (self.new ≡ taken_by self.old.begun self.old
+            (record { vxid = vxid; rec = rec })) }
     {
         if !self.goes_on(vxid, rec.mark) {
             return self.begin(vxid, rec);

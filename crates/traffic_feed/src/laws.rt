@@ -36,8 +36,10 @@ pub fn each_record_once()
 
 /// Batches and units are as long as they can be: of two in a row, the first record of the second doesn't go into the first.
 pub fn units_are_longest()
-    ensures { (goes : LogUnit → LoggedRecord → Bool) (ls : List LoggedRecord) (before behind : Log) (u v : LogUnit) →
-        gathered goes ls ≡ before ++ u ∷ v ∷ behind → IfSome (slice_get (logged v) 0) (λ l. goes u l ≡ false) }
+    ensures { (goes : LogUnit → LoggedRecord → Bool) (ls : List LoggedRecord) (before behind : Log)
+        (u v : LogUnit) →
+        gathered goes ls ≡ before ++ u ∷ v ∷ behind →
+        IfSome (slice_get (logged v) 0) (λ l. goes u l ≡ false) }
 {}
 
 /// A log is read back from its raw lines, uncut: where each unit fits in a segment and is printed as it is, and each two in a row
@@ -52,8 +54,10 @@ pub fn raw_lines_read_back()
 pub fn made_traffic_is_within()
     ensures fits { (count seed reclen seg : ℕ) → IsSegment seg → count ≤ 100000 →
         reclen ≤ most_payload → All (IsWithin seg) (made_units count seed reclen seg) }
-    ensures few_records { (count seed reclen seg : ℕ) → count ≤ 100000 → record_count (made_units count seed reclen seg) ≤ 25 * count }
-    ensures few_words { (count seed reclen seg : ℕ) → count ≤ 100000 → word_count (made_units count seed reclen seg) ≤ 256 * count }
+    ensures few_records { (count seed reclen seg : ℕ) → count ≤ 100000 →
+        record_count (made_units count seed reclen seg) ≤ 25 * count }
+    ensures few_words { (count seed reclen seg : ℕ) → count ≤ 100000 →
+        word_count (made_units count seed reclen seg) ≤ 256 * count }
     ensures few_cuts { (count seed reclen seg : ℕ) → count ≤ 100000 →
         made_cuts count seed reclen seg ≤ record_count (made_units count seed reclen seg) }
 {}

@@ -35,15 +35,19 @@ pub fn read_listing(
     shape: Shape,
 ) -> Result<Listing, ListFault>
     requires { reclen ≤ most_payload }
-    ensures read { IfOk result (λ listing. IsListing bytes.now reclen shape listing.units listing.cuts) }
-    ensures refused { (line : ℕ) → result ≡ Err (ListFault.BadLine line) → IsFirstBad bytes.now line }
+    ensures read { IfOk result
+        (λ listing. IsListing bytes.now reclen shape listing.units listing.cuts) }
+    ensures refused { (line : ℕ) → result ≡ Err (ListFault.BadLine line) →
+        IsFirstBad bytes.now line }
 
     ensures only { (units : Log) (cuts : ℕ) → IsListing bytes.now reclen shape units cuts →
         (result ≡ Ok (record { units = units; cuts = cuts })) ⊎ (result ≡ Err ListFault.NoMemory) }
-    ensures faulty { (line : ℕ) → IsFirstBad bytes.now line → (result ≡ Err (ListFault.BadLine line)) ⊎ (result ≡ Err ListFault.NoMemory) }
+    ensures faulty { (line : ℕ) → IsFirstBad bytes.now line →
+        (result ≡ Err (ListFault.BadLine line)) ⊎ (result ≡ Err ListFault.NoMemory) }
 
     ensures within { IfOk result (λ listing. All (IsWithin shape) listing.units) }
-    ensures few_records { IfOk result (λ listing. record_count listing.units ≤ (length bytes.now + 1) / 8) }
+    ensures few_records { IfOk result
+        (λ listing. record_count listing.units ≤ (length bytes.now + 1) / 8) }
     ensures few_words { IfOk result (λ listing. word_count listing.units ≤ length bytes.now + 1) }
     ensures few_cuts { IfOk result (λ listing. listing.cuts ≤ record_count listing.units) }
 {

@@ -57,9 +57,9 @@ fn vxid_of(whose: Whose, k: u32) -> Vxid
     ensures in_range { result < vxid_end }
 {
     match whose {
-        Whose::Fetch => 3 * k + 3,
-        Whose::Request | Whose::Miss | Whose::Hit => 3 * k + 2,
-        Whose::Session => 3 * k + 1,
+        Whose::Fetch => 3 * u64::from(k) + 3,
+        Whose::Request | Whose::Miss | Whose::Hit => 3 * u64::from(k) + 2,
+        Whose::Session => 3 * u64::from(k) + 1,
     }
 }
 
@@ -74,7 +74,7 @@ fn mark_of(whose: Whose) -> Mark
 }
 
 /// Adds a number in decimal digits.
-fn put_decimal(text: &mut Vec<u8>, n: u32) -> Result<(), NoMemory>
+fn put_decimal(text: &mut Vec<u8>, n: u64) -> Result<(), NoMemory>
     ensures { OnOk result (text.new.items ≡ text.old.items ++ decimal n) }
 {
     let mut buffer = Buffer::new();
@@ -87,9 +87,9 @@ fn put_sizes(text: &mut Vec<u8>, headers: u32, x: u32) -> Result<(), NoMemory>
     requires { headers ≤ 1000 }
     ensures { OnOk result (text.new.items ≡ text.old.items ++ sizes_of headers x) }
 {
-    put_decimal(text, x % 1000)?;
+    put_decimal(text, u64::from(x % 1000))?;
     text.push(b' ')?;
-    put_decimal(text, x % 1000 + headers)
+    put_decimal(text, u64::from(x % 1000 + headers))
 }
 
 /// Adds a number of the k-th request, for which x was drawn.
@@ -100,8 +100,8 @@ fn put_number(text: &mut Vec<u8>, number: Number, k: u32, x: u32) -> Result<(), 
     match number {
         Number::Nothing => Ok(()),
         Number::VxidOf(whose) => put_decimal(text, vxid_of(whose, k)),
-        Number::Seconds => put_decimal(text, 1_650_000_000 + k),
-        Number::Item => put_decimal(text, x % 100),
+        Number::Seconds => put_decimal(text, u64::from(1_650_000_000 + k)),
+        Number::Item => put_decimal(text, u64::from(x % 100)),
         Number::SizesFetched => put_sizes(text, 180, x),
         Number::SizesSent => put_sizes(text, 200, x),
     }
@@ -133,7 +133,9 @@ impl Maker {
         requires few { k < request_end }
         requires tag { IsTag tag }
         requires cuts { self.old.gathering.cuts + 1 < 2 ^ 64 }
-        ensures state { OnOk result (self.new.gathering ≡ fold stepped self.old.gathering (row_lines k x whose tag before.now number behind.now)) }
+        ensures state { OnOk result
+            (self.new.gathering ≡ fold stepped self.old.gathering
+            (row_lines k x whose tag before.now number behind.now)) }
         ensures few_cuts { OnOk result (self.new.gathering.cuts ≤ self.old.gathering.cuts + 1) }
     {
         if !is_said(whose, x) {
@@ -158,7 +160,8 @@ impl Maker {
         requires cuts { self.old.gathering.cuts + length rows.now < 2 ^ 64 }
         ensures state { OnOk result (self.new.gathering ≡ fold stepped self.old.gathering
             (flat_map (λ row. row_lines k x row.0 row.1 row.2.now row.3 row.4.now) rows.now)) }
-        ensures few_cuts { OnOk result (self.new.gathering.cuts ≤ self.old.gathering.cuts + length rows.now) }
+        ensures few_cuts { OnOk result
+            (self.new.gathering.cuts ≤ self.old.gathering.cuts + length rows.now) }
     {
         for row in rows {
             self.say(row.0, row.1, row.2, row.3, row.4, k, x)?;
@@ -170,8 +173,10 @@ impl Maker {
     pub fn make(&mut self, k: u32, x: u32) -> Result<(), NoMemory>
         requires few { k < request_end }
         requires cuts { self.old.gathering.cuts + row_count < 2 ^ 64 }
-        ensures state { OnOk result (self.new.gathering ≡ fold stepped self.old.gathering (request_lines k x)) }
-        ensures few_cuts { OnOk result (self.new.gathering.cuts ≤ self.old.gathering.cuts + row_count) }
+        ensures state { OnOk result
+            (self.new.gathering ≡ fold stepped self.old.gathering (request_lines k x)) }
+        ensures few_cuts { OnOk result
+            (self.new.gathering.cuts ≤ self.old.gathering.cuts + row_count) }
     {
         self.say_all(&ROWS, k, x)
     }

@@ -26,7 +26,8 @@ const UNITS: u32 = 17;
 fn add_raise(sums: &mut Sums, which: u32, rec: &RecordView<'_>)
     requires counter { which < counter_count }
     requires low { slice_index sums.old which < 2 ^ 63 }
-    ensures { sums.new ≡ slice_set sums.old which (slice_index sums.old which + raise_at (slice_get causes which) rec.now) }
+    ensures { sums.new ≡ slice_set sums.old which
+        (slice_index sums.old which + raise_at (slice_get causes which) rec.now) }
 {
     sums[which as usize] += raised(which, rec);
 }
@@ -68,7 +69,8 @@ fn add_raises(sums: &mut Sums, rec: &RecordView<'_>)
 /// By how much records raise each counter, in all.
 fn raised_by_all(records: &RecordsView<'_>) -> Sums
     requires few { length records.now < 2 ^ 20 }
-    ensures { (which : ℕ) → which < counter_count → slice_index result which ≡ sum_by (raise_at (slice_get causes which)) records.now }
+    ensures { (which : ℕ) → which < counter_count →
+        slice_index result which ≡ sum_by (raise_at (slice_get causes which)) records.now }
 {
     let mut sums = [0; COUNTERS as usize];
     for i in 0..records.len() {
@@ -80,7 +82,8 @@ fn raised_by_all(records: &RecordsView<'_>) -> Sums
 /// By how much a unit raises each counter.
 #[tactic(auto, using(crate::proofs::CountedLemmas::records_few))]
 pub(crate) fn shares(unit: &Unit) -> Sums
-    ensures shares { (which : ℕ) → which < counter_count → slice_index result which ≡ unit_share which unit.now }
+    ensures shares { (which : ℕ) → which < counter_count →
+        slice_index result which ≡ unit_share which unit.now }
     ensures small { (which : ℕ) → which < counter_count → slice_index result which ≤ 2 ^ 52 }
 {
     let mut sums = raised_by_all(&unit.records());

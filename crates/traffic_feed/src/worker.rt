@@ -55,9 +55,11 @@ pub fn run_workers<R: Threads + Wait + Sync, G: Gate>(
     gate: &G,
 ) -> Vec<Fed>
     requires ready { AllReady ring.now counters.now workers.items }
-    requires room { (room.items ≡ []) × (vec_len workers ≤ vec_capacity room) × (vec_len workers < 2 ^ 32) }
+    requires room { (room.items ≡ []) × (vec_len workers ≤ vec_capacity room) ×
+        (vec_len workers < 2 ^ 32) }
     ensures fed { AllFed ring.now counters.now (listings_of workers.items) result.items }
-    ensures numbers { map (λ f. f.left.number) result.items ≡ map (λ w. w.pass.number) workers.items }
+    ensures numbers { map (λ f. f.left.number) result.items ≡ map
+        (λ w. w.pass.number) workers.items }
     ensures asked { AllAsked (G.was_asked gate.now) result.items }
     ensures room { (vec_capacity result ≡ vec_capacity room) × (vec_len result ≡ vec_len workers) }
 {

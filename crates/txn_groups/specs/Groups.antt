@@ -17,7 +17,10 @@ pub record GroupsState : Type 0 where
 
 -- what groups tell
 abbrev pub groups_state : Groups → GroupsState
-groups_state g = record { table = record { options = g.options; state = state_of_trees g.store; failed = g.failed }; queries = g.queries.now }
+groups_state g = record {
+  table = record { options = g.options; state = state_of_trees g.store; failed = g.failed };
+  queries = g.queries.now;
+}
 
 -- a group with the answer of each query
 abbrev pub chosen : List Query → Group → Chosen

@@ -69,7 +69,8 @@ pub fn add_at(
     at_hand: &RecordsView<'_>,
 ) -> Result<(), NoMemory>
     requires { claim ≡ own_claim rec.now }
-    ensures { OnOk result (AreChanged (told_at (with_one rec.now) place) nodes.old.items nodes.new.items) }
+    ensures { OnOk result (AreChanged
+        (told_at (with_one rec.now) place) nodes.old.items nodes.new.items) }
 {
     if place < nodes.len() {
         add_record(&mut nodes[place], rec, claim, at_hand)?;
@@ -83,7 +84,8 @@ pub fn add_run_at(
     place: usize,
     run: &RecordsView<'_>,
 ) -> Result<(), NoMemory>
-    ensures { OnOk result (AreChanged (told_at (longer_by run.now) place) nodes.old.items nodes.new.items) }
+    ensures { OnOk result (AreChanged
+        (told_at (longer_by run.now) place) nodes.old.items nodes.new.items) }
 {
     if place < nodes.len() {
         add_records(&mut nodes[place], run)?;

@@ -26,9 +26,15 @@ pub fn add_to(
 ) -> Result<(), NoMemory>
     requires claim { claim ≡ own_claim rec.now }
     ensures went { (vxid : ℕ) → IsHeld pending.old → newest_in pending.old.index vxid ≡ Some at →
-        OnOk result (Went (record (state_of pending.old) { pending = with_kind vxid rec.now (with_record vxid rec.now (state_of pending.old).pending) }) pending.new) }
+        OnOk result (Went (record
+        (state_of pending.old) {
+          pending =
+              with_kind vxid rec.now (with_record vxid rec.now (state_of pending.old).pending);
+        })
+        pending.new) }
     ensures index { pending.new.index ≡ pending.old.index }
-    ensures changed { OnOk result (AreChanged (told_at (with_one rec.now) at) pending.old.nodes.items pending.new.nodes.items) }
+    ensures changed { OnOk result
+        (AreChanged (told_at (with_one rec.now) at) pending.old.nodes.items pending.new.nodes.items) }
 {
     add_at(&mut pending.nodes, at, rec, claim, at_hand)
 }
@@ -36,9 +42,15 @@ pub fn add_to(
 /// Adds records that tell nothing but themselves to the newest node of their VXID.
 pub fn add_run(pending: &mut Pending, at: usize, run: &RecordsView<'_>) -> Result<(), NoMemory>
     ensures went { (vxid : ℕ) → IsHeld pending.old → newest_in pending.old.index vxid ≡ Some at →
-        OnOk result (Went (record (state_of pending.old) { pending = with_newest vxid (longer_by run.now) (state_of pending.old).pending }) pending.new) }
+        OnOk result (Went (record
+        (state_of pending.old) {
+          pending =
+              with_newest vxid (longer_by run.now) (state_of pending.old).pending;
+        }) pending.new) }
     ensures index { pending.new.index ≡ pending.old.index }
-    ensures changed { OnOk result (AreChanged (told_at (longer_by run.now) at) pending.old.nodes.items pending.new.nodes.items) }
+    ensures changed { OnOk result
+        (AreChanged (told_at (longer_by run.now) at) pending.old.nodes.items
+        pending.new.nodes.items) }
 {
     add_run_at(&mut pending.nodes, at, run)
 }

@@ -20,7 +20,8 @@ use std::alloc::Global;
 /// Adds the member of a node to the answer of the query at a place. A node without marks has no records, and satisfies no
 /// test.
 fn add_member(answer: &mut Answer, query: &Query, place: usize, node: &Node, level: u32)
-    ensures { (members : List Member) → IsMarkedFor query.now place node.now → answer.old ≡ answer_of query.now members →
+    ensures { (members : List Member) → IsMarkedFor query.now place node.now →
+        answer.old ≡ answer_of query.now members →
         answer.new ≡ answer_of query.now (members ++ member_at (Some node.now) level) }
 {
     if let Some(marks) = node.marks.get(place) {
@@ -30,8 +31,10 @@ fn add_member(answer: &mut Answer, query: &Query, place: usize, node: &Node, lev
 
 /// Adds the member of a visit, where a node stands there.
 fn add_visit(answer: &mut Answer, query: &Query, place: usize, nodes: &[Node], visit: Visit)
-    ensures { (x : AsNode) (members : List Member) → StandsAt nodes.now visit.at x → AreMarkedFor query.now place nodes.now → answer.old ≡ answer_of query.now members →
-        answer.new ≡ answer_of query.now (members ++ member_at (slice_get nodes.now visit.at) visit.level) }
+    ensures { (x : AsNode) (members : List Member) → StandsAt nodes.now visit.at x →
+        AreMarkedFor query.now place nodes.now → answer.old ≡ answer_of query.now members →
+        answer.new ≡ answer_of query.now
+        (members ++ member_at (slice_get nodes.now visit.at) visit.level) }
 {
     let Some(node) = nodes.get(visit.at) else {
         return;
@@ -47,7 +50,8 @@ pub fn answer_at(
     nodes: &[Node],
     visits: &[Visit],
 ) -> Result<bool, NoMemory>
-    ensures { AreStanding nodes.now visits.now → AreMarkedFor query.now place nodes.now → IfOk result (λ b. b ≡ is_held query.now (visited_group nodes.now visits.now)) }
+    ensures { AreStanding nodes.now visits.now → AreMarkedFor query.now place nodes.now →
+        IfOk result (λ b. b ≡ is_held query.now (visited_group nodes.now visits.now)) }
 {
     let mut answer = Answer::new(alloc, query)?;
     for i in 0..visits.len() {

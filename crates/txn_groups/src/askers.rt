@@ -15,5 +15,7 @@ pub struct Askers<'q> {
     pub(crate) all: Vec<Asker<'q>>,
     /// Whether no query has a test.
     pub(crate) testless: bool,
-    ghost same: { testless ≡ true → (records : List Record) → map (λ query. marks_of query records) (map asker_query all.items) ≡ map (λ query. marks_of query []) (map asker_query all.items) },
+    ghost same: { testless ≡ true → (records : List Record) →
+        map (λ query. marks_of query records) (map asker_query all.items) ≡ map
+        (λ query. marks_of query []) (map asker_query all.items) },
 }

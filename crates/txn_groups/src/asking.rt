@@ -40,7 +40,8 @@ fn no_marks(alloc: Global, askers: &[Asker<'_>]) -> Result<Vec<Marks>, NoMemory>
 
 /// Whether each query holds for a group.
 fn ask_each(alloc: Global, askers: &mut [Asker<'_>], group: &Group) -> Result<Truths, NoMemory>
-    ensures answers { IfOk result (λ truths. truths ≡ map (λ query. is_held query group.now) (map asker_query askers.old)) }
+    ensures answers { IfOk result
+        (λ truths. truths ≡ map (λ query. is_held query group.now) (map asker_query askers.old)) }
     ensures same { map asker_query askers.new ≡ map asker_query askers.old }
 {
     let mut truths = Truths::new(alloc);
@@ -53,7 +54,10 @@ fn ask_each(alloc: Global, askers: &mut [Asker<'_>], group: &Group) -> Result<Tr
 /// Whether one of the records satisfies some test of some query, its level left aside. Where none does, what marks are of
 /// the records before stays what it is.
 fn see_any<M: Marking>(askers: &mut [Asker<'_>], marking: &M) -> Result<bool, NoMemory>
-    ensures unseen { (records : List Record) → IfOk result (λ b. b ≡ false → marks_for (map asker_query askers.old) (records ++ M.records marking.now) ≡ marks_for (map asker_query askers.old) records) }
+    ensures unseen { (records : List Record) →
+        IfOk result (λ b. b ≡ false →
+        marks_for (map asker_query askers.old) (records ++ M.records marking.now) ≡ marks_for
+        (map asker_query askers.old) records) }
     ensures same { map asker_query askers.new ≡ map asker_query askers.old }
 {
     for i in 0..askers.len() {
@@ -70,7 +74,10 @@ fn add_to_each<M: Marking>(
     marks: &mut Vec<Marks>,
     marking: &M,
 ) -> Result<(), NoMemory>
-    ensures marks { (records : List Record) → marks.old.items ≡ marks_for (map asker_query askers.old) records → OnOk result (marks.new.items ≡ marks_for (map asker_query askers.old) (records ++ M.records marking.now)) }
+    ensures marks { (records : List Record) →
+        marks.old.items ≡ marks_for (map asker_query askers.old) records →
+        OnOk result (marks.new.items ≡ marks_for (map asker_query askers.old)
+        (records ++ M.records marking.now)) }
     ensures same { map asker_query askers.new ≡ map asker_query askers.old }
 {
     for i in 0..askers.len() {
@@ -100,7 +107,9 @@ impl<'q> Askers<'q> {
 
     /// Whether each query holds for the group of the nodes of visits, by the marks that they keep.
     pub(crate) fn answers(&self, nodes: &[Node], visits: &[Visit]) -> Result<Truths, NoMemory>
-        ensures { AreStanding nodes.now visits.now → AreMarked (queries_of self.now) nodes.now → IfOk result (λ truths. truths ≡ map (λ query. is_held query (visited_group nodes.now visits.now)) (queries_of self.now)) }
+        ensures { AreStanding nodes.now visits.now → AreMarked (queries_of self.now) nodes.now →
+            IfOk result (λ truths. truths ≡ map
+            (λ query. is_held query (visited_group nodes.now visits.now)) (queries_of self.now)) }
     {
         let mut truths = Truths::new(self.alloc);
         for i in 0..self.all.len() {
@@ -112,7 +121,8 @@ impl<'q> Askers<'q> {
 
     /// Whether each query holds for a group.
     pub(crate) fn holds(&mut self, group: &Group) -> Result<Truths, NoMemory>
-        ensures answers { IfOk result (λ truths. truths ≡ map (λ query. is_held query group.now) (queries_of self.old)) }
+        ensures answers { IfOk result
+            (λ truths. truths ≡ map (λ query. is_held query group.now) (queries_of self.old)) }
         ensures same { queries_of self.new ≡ queries_of self.old }
     {
         ask_each(self.alloc, &mut self.all, group)
@@ -133,7 +143,10 @@ impl<'q> Askers<'q> {
         marks: &mut RowMarks,
         marking: &M,
     ) -> Result<(), NoMemory>
-        ensures marks { (records : List Record) → AreMarksOf (queries_of self.old) records marks.old → OnOk result (AreMarksOf (queries_of self.old) (records ++ M.records marking.now) marks.new) }
+        ensures marks { (records : List Record) →
+            AreMarksOf (queries_of self.old) records marks.old →
+            OnOk result (AreMarksOf (queries_of self.old)
+            (records ++ M.records marking.now) marks.new) }
         ensures same { queries_of self.new ≡ queries_of self.old }
     {
         if self.testless {

@@ -15,7 +15,9 @@ use txn_rows::ParentLink;
 /// The link of the node at one place to the node at another, where it can have that as its parent: it has none, has not
 /// ended, and is not at the top of the parent's tree. At most so many nodes stand.
 pub fn linking_of(nodes: &[Node], standing: usize, below: usize, above: usize) -> Option<Linking>
-    ensures { (begun : ℕ) (order : List Entry) (rows : List Row) (c : NodeAt nodes.now rows below) (p : NodeAt nodes.now rows above) → AreNodes begun nodes.now order rows → length rows ≤ standing → LinksAs nodes.now rows below above c p result }
+    ensures { (begun : ℕ) (order : List Entry) (rows : List Row) (c : NodeAt nodes.now rows below)
+        (p : NodeAt nodes.now rows above) → AreNodes begun nodes.now order rows →
+        length rows ≤ standing → LinksAs nodes.now rows below above c p result }
 {
     let Some(child) = nodes.get(below) else {
         return None;

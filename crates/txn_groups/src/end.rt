@@ -22,7 +22,9 @@ fn set_ended(nodes: &mut Vec<Node>, place: usize)
 
 /// The last node of a tree counts one less that has not ended.
 fn count_down(nodes: &mut Vec<Node>, last: usize)
-    ensures { AreChanged (λ at x. record x { unended = if at == last then x.unended - 1 else x.unended }) nodes.old.items nodes.new.items }
+    ensures { AreChanged (λ at x.
+        record x { unended = if at == last then x.unended - 1 else x.unended }) nodes.old.items
+        nodes.new.items }
 {
     if last < nodes.len() {
         nodes[last].unended = nodes[last].unended.saturating_sub(1);
@@ -53,7 +55,8 @@ fn force_place(
     place: usize,
     cause: Cause,
 ) -> Result<(), NoMemory>
-    ensures { OnOk result (AreChanged (told_at (forced cause) place) nodes.old.items nodes.new.items) }
+    ensures { OnOk result (AreChanged
+        (told_at (forced cause) place) nodes.old.items nodes.new.items) }
 {
     if place < nodes.len() {
         force_one(alloc, &mut nodes[place], cause)?;
@@ -69,7 +72,8 @@ pub fn force_node(
     last: usize,
     cause: Cause,
 ) -> Result<(), NoMemory>
-    ensures { OnOk result (AreChanged (finished_node (forced cause) place last) nodes.old.items nodes.new.items) }
+    ensures { OnOk result (AreChanged
+        (finished_node (forced cause) place last) nodes.old.items nodes.new.items) }
 {
     force_place(alloc, nodes, place, cause)?;
     count_down(nodes, last);

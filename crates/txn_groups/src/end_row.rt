@@ -29,9 +29,14 @@ pub fn end_row(
     askers: &Askers<'_>,
     out: &mut Vec<Chosen>,
 ) -> Result<(), NoMemory>
-    ensures ok { (queries : List AsQuery) (vxid : ℕ) → IsHeld pending.old → newest_in pending.old.index vxid ≡ Some at → queries_of askers.now ≡ queries → AreMarked queries pending.old.nodes.items →
-        OnOk result (WentBy (chosen queries) grouping (ended_one vxid (state_of pending.old)) pending.new out.old.items out.new.items) }
-    ensures marks { (queries : List AsQuery) (vxid : ℕ) → IsHeld pending.old → newest_in pending.old.index vxid ≡ Some at → queries_of askers.now ≡ queries → AreMarked queries pending.old.nodes.items →
+    ensures ok { (queries : List AsQuery) (vxid : ℕ) → IsHeld pending.old →
+        newest_in pending.old.index vxid ≡ Some at → queries_of askers.now ≡ queries →
+        AreMarked queries pending.old.nodes.items →
+        OnOk result (WentBy (chosen queries) grouping
+        (ended_one vxid (state_of pending.old)) pending.new out.old.items out.new.items) }
+    ensures marks { (queries : List AsQuery) (vxid : ℕ) → IsHeld pending.old →
+        newest_in pending.old.index vxid ≡ Some at → queries_of askers.now ≡ queries →
+        AreMarked queries pending.old.nodes.items →
         OnOk result (AreMarked queries pending.new.nodes.items) }
     ensures err { OnErr result (out.new.items ≡ out.old.items) }
 {

@@ -32,9 +32,15 @@ pub fn force_at(
     askers: &Askers<'_>,
     out: &mut Vec<Chosen>,
 ) -> Result<(), NoMemory>
-    ensures ok { (queries : List AsQuery) (test : Transaction → Bool) (x : AsNode) → IsHeld pending.old → StandsAt pending.old.nodes.items at x → x.ended ≡ false → oldest test (state_of pending.old).pending ≡ Some (transaction_of_node x) → queries_of askers.now ≡ queries → IsAhead queries cause at pending.old.nodes.items →
-        OnOk result (WentBy (chosen queries) grouping (forced_one test cause (state_of pending.old)) pending.new out.old.items out.new.items) }
-    ensures marks { (queries : List AsQuery) (x : AsNode) → IsHeld pending.old → StandsAt pending.old.nodes.items at x → x.ended ≡ false → queries_of askers.now ≡ queries → IsAhead queries cause at pending.old.nodes.items →
+    ensures ok { (queries : List AsQuery) (test : Transaction → Bool) (x : AsNode) →
+        IsHeld pending.old → StandsAt pending.old.nodes.items at x → x.ended ≡ false →
+        oldest test (state_of pending.old).pending ≡ Some (transaction_of_node x) →
+        queries_of askers.now ≡ queries → IsAhead queries cause at pending.old.nodes.items →
+        OnOk result (WentBy (chosen queries) grouping
+        (forced_one test cause (state_of pending.old)) pending.new out.old.items out.new.items) }
+    ensures marks { (queries : List AsQuery) (x : AsNode) → IsHeld pending.old →
+        StandsAt pending.old.nodes.items at x → x.ended ≡ false → queries_of askers.now ≡ queries →
+        IsAhead queries cause at pending.old.nodes.items →
         OnOk result (AreMarked queries pending.new.nodes.items) }
     ensures err { OnErr result (out.new.items ≡ out.old.items) }
 {

@@ -12,7 +12,9 @@ use crate::node::Node;
 /// The last node above another, which tells of their tree, where at most so many nodes stand. It is few steps up, since
 /// each has twice as many nodes below it as the one before.
 pub fn last_of(nodes: &[Node], standing: usize, at: usize) -> usize
-    ensures { (begun : ℕ) (order : List Entry) (rows : List Row) (x : AsNode) → AreNodes begun nodes.now order rows → length rows ≤ standing → StandsAt nodes.now at x → IsLastOf nodes.now rows at result }
+    ensures { (begun : ℕ) (order : List Entry) (rows : List Row) (x : AsNode) →
+        AreNodes begun nodes.now order rows → length rows ≤ standing → StandsAt nodes.now at x →
+        IsLastOf nodes.now rows at result }
 {
     let mut last = at;
     for i in 0..standing {

@@ -30,7 +30,8 @@ pub struct Groups<'q> {
     queries: &'q [Query],
     store: Trees<'q>,
     failed: bool,
-    ghost sound: { failed ≡ false → ∥ IsSound (IsTrees queries.now) state_of_trees options.limit store ∥₁ },
+    ghost sound: { failed ≡ false →
+        ∥ IsSound (IsTrees queries.now) state_of_trees options.limit store ∥₁ },
 }
 
 impl<'q> Groups<'q> {
@@ -42,7 +43,12 @@ impl<'q> Groups<'q> {
         options: GroupOptions,
         queries: &'q [Query],
     ) -> Result<Groups<'q>, NoMemory>
-        ensures { IfOk result (λ g. groups_state g ≡ record { table = record { options = options; state = no_state; failed = false }; queries = queries.now }) }
+        ensures { IfOk result (λ g.
+            groups_state g ≡ record {
+              table =
+                  record { options = options; state = no_state; failed = false };
+              queries = queries.now;
+            }) }
     {
         Ok(Groups {
             options,
@@ -56,13 +62,29 @@ impl<'q> Groups<'q> {
     /// than the limit stay pending. With the last unit of a regular and calm log, but under raw grouping, the groups that
     /// were handed out are its partition.
     pub fn step(&mut self, unit: &Unit, out: &mut Vec<Chosen>) -> Result<(), NoMemory>
-        ensures ok { OnOk result (GroupsStepped (unit_step (groups_state self.old).table.options unit.now (groups_state self.old).table.state) (groups_state self.old) (groups_state self.new) out.old.items out.new.items) }
-        ensures limit { OnOk result (length (groups_state self.new).table.state.pending ≤ (groups_state self.new).table.options.limit) }
-        ensures taken { OnOk result ((taken : List Taken) → HaveTaken taken (groups_state self.old) out.old.items → HaveTaken (taken ++ TakenUnit unit.now ∷ []) (groups_state self.new) out.new.items) }
-        ensures parted { OnOk result ((log : Log) → is_raw (groups_state self.old).table.options.grouping ≡ false → Regular (log ++ unit.now ∷ []) (groups_state self.old).table.options.grouping → Calm (log ++ unit.now ∷ []) (groups_state self.old).table.options →
-            HaveTaken (all_taken log) (groups_state self.old) out.old.items → out.new.items ≡ map (chosen (groups_state self.old).queries) (partition (log ++ unit.now ∷ []) (groups_state self.old).table.options.grouping)) }
-        ensures err { OnErr result (GroupsFailed (unit_step (groups_state self.old).table.options unit.now (groups_state self.old).table.state) (groups_state self.old) (groups_state self.new) out.old.items out.new.items) }
-        ensures failed { (groups_state self.old).table.failed ≡ true → IsErr result × (out.new.items ≡ out.old.items) }
+        ensures ok { OnOk result (GroupsStepped
+            (unit_step (groups_state self.old).table.options unit.now
+            (groups_state self.old).table.state) (groups_state self.old)
+            (groups_state self.new) out.old.items out.new.items) }
+        ensures limit { OnOk result
+            (length (groups_state self.new).table.state.pending ≤
+            (groups_state self.new).table.options.limit) }
+        ensures taken { OnOk result ((taken : List Taken) →
+            HaveTaken taken (groups_state self.old) out.old.items →
+            HaveTaken (taken ++ TakenUnit unit.now ∷ []) (groups_state self.new) out.new.items) }
+        ensures parted { OnOk result ((log : Log) →
+            is_raw (groups_state self.old).table.options.grouping ≡ false →
+            Regular (log ++ unit.now ∷ []) (groups_state self.old).table.options.grouping →
+            Calm (log ++ unit.now ∷ []) (groups_state self.old).table.options →
+            HaveTaken (all_taken log) (groups_state self.old) out.old.items →
+            out.new.items ≡ map (chosen (groups_state self.old).queries)
+            (partition (log ++ unit.now ∷ []) (groups_state self.old).table.options.grouping)) }
+        ensures err { OnErr result
+            (GroupsFailed (unit_step (groups_state self.old).table.options unit.now
+            (groups_state self.old).table.state) (groups_state self.old)
+            (groups_state self.new) out.old.items out.new.items) }
+        ensures failed { (groups_state self.old).table.failed ≡ true →
+            IsErr result × (out.new.items ≡ out.old.items) }
     {
         if self.failed {
             return Err(NoMemory);
@@ -76,9 +98,13 @@ impl<'q> Groups<'q> {
     /// Force-completes the oldest transaction that has not ended, where there is one, and hands out the group that
     /// it completes.
     pub fn force(&mut self, cause: Cause, out: &mut Vec<Chosen>) -> Result<(), NoMemory>
-        ensures ok { OnOk result (GroupsStepped (force cause (groups_state self.old).table.state) (groups_state self.old) (groups_state self.new) out.old.items out.new.items) }
-        ensures err { OnErr result (GroupsFailed (force cause (groups_state self.old).table.state) (groups_state self.old) (groups_state self.new) out.old.items out.new.items) }
-        ensures failed { (groups_state self.old).table.failed ≡ true → IsErr result × (out.new.items ≡ out.old.items) }
+        ensures ok { OnOk result (GroupsStepped (force cause (groups_state self.old).table.state)
+            (groups_state self.old) (groups_state self.new) out.old.items out.new.items) }
+        ensures err { OnErr result
+            (GroupsFailed (force cause (groups_state self.old).table.state) (groups_state self.old)
+            (groups_state self.new) out.old.items out.new.items) }
+        ensures failed { (groups_state self.old).table.failed ≡ true →
+            IsErr result × (out.new.items ≡ out.old.items) }
     {
         if self.failed {
             return Err(NoMemory);
@@ -93,13 +119,25 @@ impl<'q> Groups<'q> {
     /// complete. Nothing stays pending. It serves an overrun and the end of a log. At the end of a regular and calm log, but
     /// under raw grouping, it hands out nothing: the groups that were handed out are the partition already.
     pub fn flush(&mut self, out: &mut Vec<Chosen>) -> Result<(), NoMemory>
-        ensures ok { OnOk result (GroupsStepped (flush (groups_state self.old).table.state) (groups_state self.old) (groups_state self.new) out.old.items out.new.items) }
+        ensures ok { OnOk result (GroupsStepped (flush (groups_state self.old).table.state)
+            (groups_state self.old) (groups_state self.new) out.old.items out.new.items) }
         ensures none { OnOk result (length (groups_state self.new).table.state.pending ≡ 0) }
-        ensures taken { OnOk result ((taken : List Taken) → HaveTaken taken (groups_state self.old) out.old.items → HaveTaken (taken ++ Missed ∷ []) (groups_state self.new) out.new.items) }
-        ensures parted { OnOk result ((log : Log) → is_raw (groups_state self.old).table.options.grouping ≡ false → Regular log (groups_state self.old).table.options.grouping → Calm log (groups_state self.old).table.options →
-            HaveTaken (all_taken log) (groups_state self.old) out.old.items → (out.new.items ≡ out.old.items) × (out.new.items ≡ map (chosen (groups_state self.old).queries) (partition log (groups_state self.old).table.options.grouping))) }
-        ensures err { OnErr result (GroupsFailed (flush (groups_state self.old).table.state) (groups_state self.old) (groups_state self.new) out.old.items out.new.items) }
-        ensures failed { (groups_state self.old).table.failed ≡ true → IsErr result × (out.new.items ≡ out.old.items) }
+        ensures taken { OnOk result ((taken : List Taken) →
+            HaveTaken taken (groups_state self.old) out.old.items →
+            HaveTaken (taken ++ Missed ∷ []) (groups_state self.new) out.new.items) }
+        ensures parted { OnOk result ((log : Log) →
+            is_raw (groups_state self.old).table.options.grouping ≡ false →
+            Regular log (groups_state self.old).table.options.grouping →
+            Calm log (groups_state self.old).table.options →
+            HaveTaken (all_taken log) (groups_state self.old) out.old.items →
+            (out.new.items ≡ out.old.items) ×
+            (out.new.items ≡ map (chosen (groups_state self.old).queries)
+            (partition log (groups_state self.old).table.options.grouping))) }
+        ensures err { OnErr result
+            (GroupsFailed (flush (groups_state self.old).table.state) (groups_state self.old)
+            (groups_state self.new) out.old.items out.new.items) }
+        ensures failed { (groups_state self.old).table.failed ≡ true →
+            IsErr result × (out.new.items ≡ out.old.items) }
     {
         if self.failed {
             return Err(NoMemory);
@@ -138,8 +176,12 @@ impl<'q> Groups<'q> {
     /// query's tests its records satisfy.
     pub fn marks(&self, vxid: Vxid, query: usize) -> Option<&Marks>
         requires { query < length (groups_state self.now).queries }
-        ensures some { (groups_state self.now).table.failed ≡ false → (q : AsQuery) → slice_get (groups_state self.now).queries query ≡ Some q → IfSome result (λ marks. option_map (λ t. marks_of q t.records) (newest vxid (groups_state self.now).table.state.pending) ≡ Some marks.now) }
-        ensures none { (groups_state self.now).table.failed ≡ false → IfNone result (is_pending vxid (groups_state self.now).table.state.pending ≡ false) }
+        ensures some { (groups_state self.now).table.failed ≡ false → (q : AsQuery) →
+            slice_get (groups_state self.now).queries query ≡ Some q →
+            IfSome result (λ marks. option_map (λ t. marks_of q t.records)
+            (newest vxid (groups_state self.now).table.state.pending) ≡ Some marks.now) }
+        ensures none { (groups_state self.now).table.failed ≡ false →
+            IfNone result (is_pending vxid (groups_state self.now).table.state.pending ≡ false) }
     {
         self.store.marks(vxid, query)
     }

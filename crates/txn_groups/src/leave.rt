@@ -34,7 +34,8 @@ fn is_session(kind: Kind) -> bool
 
 /// Whether the first of visits comes to a session.
 fn is_led_by_session(nodes: &[Node], visits: &[Visit]) -> bool
-    ensures { AreStanding nodes.now visits.now → result ≡ is_led_by_session (members_of nodes.now visits.now) }
+    ensures { AreStanding nodes.now visits.now →
+        result ≡ is_led_by_session (members_of nodes.now visits.now) }
 {
     let Some(root) = visits.first() else {
         return false;
@@ -47,7 +48,8 @@ fn is_led_by_session(nodes: &[Node], visits: &[Visit]) -> bool
 
 /// Whether the group of the nodes of visits is reported: request grouping does not report sessions.
 fn is_reported(grouping: Grouping, nodes: &[Node], visits: &[Visit]) -> bool
-    ensures { AreStanding nodes.now visits.now → result ≡ is_reported grouping (visited_group nodes.now visits.now) }
+    ensures { AreStanding nodes.now visits.now →
+        result ≡ is_reported grouping (visited_group nodes.now visits.now) }
 {
     match grouping {
         Grouping::Request => !is_led_by_session(nodes, visits),
@@ -64,8 +66,14 @@ fn hand_out(
     askers: &Askers<'_>,
     out: &mut Vec<Chosen>,
 ) -> Result<(), NoMemory>
-    ensures ok { AreStanding pending.old.nodes.items visits.now → length visits.now ≤ pending.old.rows → AreMarked (queries_of askers.now) pending.old.nodes.items → AreKin pending.old.nodes.items → IsIndex pending.old.nodes.items pending.old.index → AreFree pending.old.nodes.items pending.old.free.items →
-        OnOk result (AreHanded (chosen (queries_of askers.now)) grouping pending.old pending.new visits.now out.old.items out.new.items) }
+    ensures ok { AreStanding pending.old.nodes.items visits.now →
+        length visits.now ≤ pending.old.rows →
+        AreMarked (queries_of askers.now) pending.old.nodes.items → AreKin pending.old.nodes.items →
+        IsIndex pending.old.nodes.items pending.old.index →
+        AreFree pending.old.nodes.items pending.old.free.items →
+        OnOk result (AreHanded (chosen
+        (queries_of askers.now)) grouping pending.old pending.new visits.now out.old.items
+        out.new.items) }
     ensures err { OnErr result (out.new.items ≡ out.old.items) }
 {
     if !is_reported(grouping, &pending.nodes, visits) {
@@ -89,8 +97,12 @@ pub fn leave(
     askers: &Askers<'_>,
     out: &mut Vec<Chosen>,
 ) -> Result<(), NoMemory>
-    ensures ok { (queries : List AsQuery) (rows : List Row) (n : NodeAt pending.old.nodes.items rows last) → HoldsRows pending.old rows → n.node.up ≡ last → queries_of askers.now ≡ queries → AreMarked queries pending.old.nodes.items →
-        OnOk result (LeavesAs (chosen queries) grouping n.row.root rows pending.old pending.new out.old.items out.new.items) }
+    ensures ok { (queries : List AsQuery) (rows : List Row)
+        (n : NodeAt pending.old.nodes.items rows last) → HoldsRows pending.old rows →
+        n.node.up ≡ last → queries_of askers.now ≡ queries →
+        AreMarked queries pending.old.nodes.items →
+        OnOk result (LeavesAs (chosen queries) grouping n.row.root rows pending.old pending.new
+        out.old.items out.new.items) }
     ensures err { OnErr result (out.new.items ≡ out.old.items) }
 {
     let Some(node) = pending.nodes.get(last) else {

@@ -27,7 +27,9 @@ pub struct Linking {
 
 /// The child gets its link.
 fn set_link(nodes: &mut Vec<Node>, l: Linking)
-    ensures { AreChanged (λ at x. record x { parent = if at == l.below then Some l.link else x.parent }) nodes.old.items nodes.new.items }
+    ensures { AreChanged (λ at x.
+        record x { parent = if at == l.below then Some l.link else x.parent }) nodes.old.items
+        nodes.new.items }
 {
     if l.below < nodes.len() {
         nodes[l.below].parent = Some(l.link);
@@ -36,7 +38,12 @@ fn set_link(nodes: &mut Vec<Node>, l: Linking)
 
 /// The parent has one child more, which is its last.
 fn set_children(nodes: &mut Vec<Node>, l: Linking)
-    ensures { AreChanged (λ at x. record x { children = if at == l.above then l.children else x.children; first = if (at == l.above) && is_none l.elder then Some l.below else x.first; last = if at == l.above then Some l.below else x.last }) nodes.old.items nodes.new.items }
+    ensures { AreChanged (λ at x.
+        record x {
+          children = if at == l.above then l.children else x.children;
+          first = if (at == l.above) && is_none l.elder then Some l.below else x.first;
+          last = if at == l.above then Some l.below else x.last;
+        }) nodes.old.items nodes.new.items }
 {
     if l.above < nodes.len() {
         let node = &mut nodes[l.above];
@@ -50,7 +57,9 @@ fn set_children(nodes: &mut Vec<Node>, l: Linking)
 
 /// The child that the parent got last leads to the new one.
 fn set_next(nodes: &mut Vec<Node>, l: Linking)
-    ensures { AreChanged (λ at x. record x { next = if is_place l.elder at then Some l.below else x.next }) nodes.old.items nodes.new.items }
+    ensures { AreChanged (λ at x.
+        record x { next = if is_place l.elder at then Some l.below else x.next }) nodes.old.items
+        nodes.new.items }
 {
     if let Some(elder) = l.elder {
         if elder < nodes.len() {
@@ -61,7 +70,8 @@ fn set_next(nodes: &mut Vec<Node>, l: Linking)
 
 /// The last node of the smaller tree leads to that of the larger.
 fn set_up(nodes: &mut Vec<Node>, l: Linking)
-    ensures { AreChanged (λ at x. record x { up = if at == l.light then l.heavy else x.up }) nodes.old.items nodes.new.items }
+    ensures { AreChanged (λ at x.
+        record x { up = if at == l.light then l.heavy else x.up }) nodes.old.items nodes.new.items }
 {
     if l.light < nodes.len() {
         nodes[l.light].up = l.heavy;
@@ -70,7 +80,12 @@ fn set_up(nodes: &mut Vec<Node>, l: Linking)
 
 /// The last node of the larger tree tells of both.
 fn set_last(nodes: &mut Vec<Node>, l: Linking)
-    ensures { AreChanged (λ at x. record x { size = if at == l.heavy then l.size else x.size; unended = if at == l.heavy then l.unended else x.unended; top = if at == l.heavy then l.top else x.top }) nodes.old.items nodes.new.items }
+    ensures { AreChanged (λ at x.
+        record x {
+          size = if at == l.heavy then l.size else x.size;
+          unended = if at == l.heavy then l.unended else x.unended;
+          top = if at == l.heavy then l.top else x.top;
+        }) nodes.old.items nodes.new.items }
 {
     if l.heavy < nodes.len() {
         let node = &mut nodes[l.heavy];

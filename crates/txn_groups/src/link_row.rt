@@ -12,8 +12,13 @@ use crate::pending::Pending;
 
 /// The newest node of one VXID becomes a child of the newest of another, where it can.
 pub fn link_row(pending: &mut Pending, below: usize, above: usize)
-    ensures went { (child parent : ℕ) → IsHeld pending.old → newest_in pending.old.index child ≡ Some below → newest_in pending.old.index parent ≡ Some above →
-        Went (record (state_of pending.old) { pending = with_link child parent (state_of pending.old).pending }) pending.new }
+    ensures went { (child parent : ℕ) → IsHeld pending.old →
+        newest_in pending.old.index child ≡ Some below →
+        newest_in pending.old.index parent ≡ Some above →
+        Went (record (state_of pending.old) {
+          pending =
+              with_link child parent (state_of pending.old).pending;
+        }) pending.new }
     ensures index { pending.new.index ≡ pending.old.index }
     ensures marks { KeepMarks pending.old.nodes.items pending.new.nodes.items }
 {

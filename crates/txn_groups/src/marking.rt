@@ -23,7 +23,10 @@ pub fn mark_at<M: Marking>(
     place: usize,
     marking: &M,
 ) -> Result<(), NoMemory>
-    ensures marks { (x : AsNode) (records : List Record) → StandsAt nodes.old.items place x → AreMarksOf (queries_of askers.old) records x.marks → OnOk result (IsRemarked (queries_of askers.old) (records ++ M.records marking.now) place nodes.old.items nodes.new.items) }
+    ensures marks { (x : AsNode) (records : List Record) → StandsAt nodes.old.items place x →
+        AreMarksOf (queries_of askers.old) records x.marks →
+        OnOk result (IsRemarked (queries_of askers.old)
+        (records ++ M.records marking.now) place nodes.old.items nodes.new.items) }
     ensures same { queries_of askers.new ≡ queries_of askers.old }
 {
     if place < nodes.len() {
@@ -38,7 +41,8 @@ fn forced_records(
     records: &RecordsView<'_>,
     cause: Cause,
 ) -> Result<Records, NoMemory>
-    ensures { IfOk result (λ more. (t : Transaction) → t.records ≡ records.now → (forced cause t).records ≡ t.records ++ more) }
+    ensures { IfOk result (λ more. (t : Transaction) → t.records ≡ records.now →
+        (forced cause t).records ≡ t.records ++ more) }
 {
     let mut more = Records::new(alloc);
     if records.is_empty() {
@@ -62,7 +66,10 @@ pub fn mark_forced(
     cause: Cause,
 ) -> Result<(), NoMemory>
     requires { place < length nodes.old.items }
-    ensures marks { (x : AsNode) → StandsAt nodes.old.items place x → AreMarksOf (queries_of askers.old) x.records x.marks → OnOk result (IsRemarked (queries_of askers.old) (forced cause (transaction_of_node x)).records place nodes.old.items nodes.new.items) }
+    ensures marks { (x : AsNode) → StandsAt nodes.old.items place x →
+        AreMarksOf (queries_of askers.old) x.records x.marks →
+        OnOk result (IsRemarked (queries_of askers.old)
+        (forced cause (transaction_of_node x)).records place nodes.old.items nodes.new.items) }
     ensures same { queries_of askers.new ≡ queries_of askers.old }
 {
     let node = &nodes[place];

@@ -53,7 +53,28 @@ pub fn empty_node(
     time: Option<u128>,
     older: Option<usize>,
 ) -> Node
-    ensures { result ≡ record { stands = true; serial = serial; vxid = vxid; kind = Kind.Unknown; reason = Reason.Other; records = []; marks = []; parent = None; children = 0; ended = false; time = time; first = None; last = None; next = None; up = at; size = 1; unended = 1; top = at; older = older; newer = None } }
+    ensures { result ≡ record {
+      stands = true;
+      serial = serial;
+      vxid = vxid;
+      kind = Kind.Unknown;
+      reason = Reason.Other;
+      records = [];
+      marks = [];
+      parent = None;
+      children = 0;
+      ended = false;
+      time = time;
+      first = None;
+      last = None;
+      next = None;
+      up = at;
+      size = 1;
+      unended = 1;
+      top = at;
+      older = older;
+      newer = None;
+    } }
 {
     Node {
         stands: true,

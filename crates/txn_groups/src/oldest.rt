@@ -15,7 +15,8 @@ use crate::pending::Pending;
 /// How many entries there are before a serial number.
 fn count_below(order: &[Entry], low: u64) -> usize
     ensures within { result ≤ length order.now }
-    ensures below { (begun : ℕ) → EntriesRise 0 begun order.now → EntriesBelow low (take result order.now) }
+    ensures below { (begun : ℕ) → EntriesRise 0 begun order.now →
+        EntriesBelow low (take result order.now) }
 {
     order.partition_point(|entry| entry.serial < low)
 }
@@ -35,8 +36,10 @@ fn first_open(nodes: &[Node], order: &[Entry]) -> Option<Entry>
 
 /// The place of the oldest transaction that has not ended, where none before a serial number is so.
 pub fn oldest_unfinished(pending: &Pending, low: u64) -> Option<usize>
-    ensures some { IsHeld pending.now → NoneBelow low (state_of pending.now) → IfSome result (λ at. OldestAt pending.now at) }
-    ensures none { IsHeld pending.now → NoneBelow low (state_of pending.now) → IfNone result (list_any is_unfinished (state_of pending.now).pending ≡ false) }
+    ensures some { IsHeld pending.now → NoneBelow low (state_of pending.now) →
+        IfSome result (λ at. OldestAt pending.now at) }
+    ensures none { IsHeld pending.now → NoneBelow low (state_of pending.now) →
+        IfNone result (list_any is_unfinished (state_of pending.now).pending ≡ false) }
     ensures within { IfSome result (λ at. at < length pending.now.nodes.items) }
 {
     let below = count_below(&pending.order, low);
@@ -50,10 +53,13 @@ pub fn oldest_unfinished(pending: &Pending, low: u64) -> Option<usize>
 /// The same, and the serial number is raised: to that of the transaction, or of the next that begins where all have
 /// ended. So no entry is looked at again that is not live or has ended.
 pub fn seek_oldest(pending: &Pending, low: &mut u64) -> Option<usize>
-    ensures some { IsHeld pending.now → IsLow low.old (state_of pending.now) → IfSome result (λ at. OldestAt pending.now at) }
-    ensures none { IsHeld pending.now → IsLow low.old (state_of pending.now) → IfNone result (list_any is_unfinished (state_of pending.now).pending ≡ false) }
+    ensures some { IsHeld pending.now → IsLow low.old (state_of pending.now) →
+        IfSome result (λ at. OldestAt pending.now at) }
+    ensures none { IsHeld pending.now → IsLow low.old (state_of pending.now) →
+        IfNone result (list_any is_unfinished (state_of pending.now).pending ≡ false) }
     ensures within { IfSome result (λ at. at < length pending.now.nodes.items) }
-    ensures raised { IsHeld pending.now → IsLow low.old (state_of pending.now) → IsLow low.new (state_of pending.now) }
+    ensures raised { IsHeld pending.now → IsLow low.old (state_of pending.now) →
+        IsLow low.new (state_of pending.now) }
 {
     let Some(at) = oldest_unfinished(pending, *low) else {
         *low = pending.begun;

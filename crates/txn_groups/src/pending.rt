@@ -60,9 +60,12 @@ fn keep_order(pending: &mut Pending)
 
 /// A node begins behind all others; it tells its place. Where no number is left, that counts as want of memory.
 fn begin_node(alloc: Global, pending: &mut Pending, vxid: Vxid) -> Result<usize, NoMemory>
-    ensures went { IsHeld pending.old → OnOk result (Went (with_new vxid (state_of pending.old)) pending.new) }
-    ensures newest { IfOk result (λ at. IsUpdated pending.old.index pending.new.index vxid (Some at)) }
-    ensures marks { IsHeld pending.old → OnOk result (KeepMarks pending.old.nodes.items pending.new.nodes.items) }
+    ensures went { IsHeld pending.old →
+        OnOk result (Went (with_new vxid (state_of pending.old)) pending.new) }
+    ensures newest { IfOk result
+        (λ at. IsUpdated pending.old.index pending.new.index vxid (Some at)) }
+    ensures marks { IsHeld pending.old →
+        OnOk result (KeepMarks pending.old.nodes.items pending.new.nodes.items) }
 {
     if pending.begun == u64::MAX {
         return Err(NoMemory);
@@ -83,9 +86,12 @@ fn begin_node(alloc: Global, pending: &mut Pending, vxid: Vxid) -> Result<usize,
 
 /// A transaction begins, the newest of all; it tells its place. Where no number is left, that counts as want of memory.
 fn begin(alloc: Global, pending: &mut Pending, vxid: Vxid) -> Result<usize, NoMemory>
-    ensures went { IsHeld pending.old → OnOk result (Went (with_new vxid (state_of pending.old)) pending.new) }
-    ensures newest { IfOk result (λ at. IsUpdated pending.old.index pending.new.index vxid (Some at)) }
-    ensures marks { IsHeld pending.old → OnOk result (KeepMarks pending.old.nodes.items pending.new.nodes.items) }
+    ensures went { IsHeld pending.old →
+        OnOk result (Went (with_new vxid (state_of pending.old)) pending.new) }
+    ensures newest { IfOk result
+        (λ at. IsUpdated pending.old.index pending.new.index vxid (Some at)) }
+    ensures marks { IsHeld pending.old →
+        OnOk result (KeepMarks pending.old.nodes.items pending.new.nodes.items) }
 {
     keep_order(pending);
     begin_node(alloc, pending, vxid)
@@ -103,9 +109,11 @@ fn seek(pending: &mut Pending, vxid: Vxid) -> Option<usize>
 
 /// The place of the newest node of a VXID that has not ended; where there is none, one begins.
 pub fn open_row(alloc: Global, pending: &mut Pending, vxid: Vxid) -> Result<usize, NoMemory>
-    ensures went { IsHeld pending.old → OnOk result (Went (with_transaction vxid (state_of pending.old)) pending.new) }
+    ensures went { IsHeld pending.old →
+        OnOk result (Went (with_transaction vxid (state_of pending.old)) pending.new) }
     ensures newest { IfOk result (λ at. newest_in pending.new.index vxid ≡ Some at) }
-    ensures marks { IsHeld pending.old → OnOk result (KeepMarks pending.old.nodes.items pending.new.nodes.items) }
+    ensures marks { IsHeld pending.old →
+        OnOk result (KeepMarks pending.old.nodes.items pending.new.nodes.items) }
 {
     if let Some(at) = seek(pending, vxid) {
         if !is_ended(&pending.nodes, at) {
@@ -117,10 +125,13 @@ pub fn open_row(alloc: Global, pending: &mut Pending, vxid: Vxid) -> Result<usiz
 
 /// The place of the newest node of a VXID; where there is none, one begins.
 pub fn other_row(alloc: Global, pending: &mut Pending, vxid: Vxid) -> Result<usize, NoMemory>
-    ensures went { IsHeld pending.old → OnOk result (Went (with_other vxid (state_of pending.old)) pending.new) }
+    ensures went { IsHeld pending.old →
+        OnOk result (Went (with_other vxid (state_of pending.old)) pending.new) }
     ensures newest { IfOk result (λ at. newest_in pending.new.index vxid ≡ Some at) }
-    ensures marks { IsHeld pending.old → OnOk result (KeepMarks pending.old.nodes.items pending.new.nodes.items) }
-    ensures keeps { OnOk result ((v at : ℕ) → newest_in pending.old.index v ≡ Some at → newest_in pending.new.index v ≡ Some at) }
+    ensures marks { IsHeld pending.old →
+        OnOk result (KeepMarks pending.old.nodes.items pending.new.nodes.items) }
+    ensures keeps { OnOk result ((v at : ℕ) → newest_in pending.old.index v ≡ Some at →
+        newest_in pending.new.index v ≡ Some at) }
 {
     if let Some(at) = seek(pending, vxid) {
         return Ok(at);

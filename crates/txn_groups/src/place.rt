@@ -32,7 +32,8 @@ pub fn set_newer(nodes: &mut Vec<Node>, older: Option<usize>, place: usize)
 
 /// Writes a node at a place, which may be the next behind all.
 pub fn put_node(nodes: &mut Vec<Node>, at: usize, node: Node) -> Result<(), NoMemory>
-    ensures { OnOk result (at ≤ length nodes.old.items → IsPut nodes.old.items nodes.new.items at node) }
+    ensures { OnOk result (at ≤ length nodes.old.items →
+        IsPut nodes.old.items nodes.new.items at node) }
 {
     if at < nodes.len() {
         nodes[at] = node;

@@ -23,7 +23,9 @@ use vsl_record::{Records, Vxid};
 
 /// The node after one that is taken out leads to the one before it.
 fn set_older_of(nodes: &mut Vec<Node>, newer: Option<usize>, older: Option<usize>)
-    ensures { AreChanged (λ at x. record x { older = if is_place newer at then older else x.older }) nodes.old.items nodes.new.items }
+    ensures { AreChanged (λ at x.
+        record x { older = if is_place newer at then older else x.older }) nodes.old.items
+        nodes.new.items }
 {
     if let Some(newer) = newer {
         if newer < nodes.len() {
@@ -34,7 +36,9 @@ fn set_older_of(nodes: &mut Vec<Node>, newer: Option<usize>, older: Option<usize
 
 /// The node before one that is taken out leads to the one after it.
 fn set_newer_of(nodes: &mut Vec<Node>, older: Option<usize>, newer: Option<usize>)
-    ensures { AreChanged (λ at x. record x { newer = if is_place older at then newer else x.newer }) nodes.old.items nodes.new.items }
+    ensures { AreChanged (λ at x.
+        record x { newer = if is_place older at then newer else x.newer }) nodes.old.items
+        nodes.new.items }
 {
     if let Some(older) = older {
         if older < nodes.len() {
@@ -78,7 +82,7 @@ fn free_node(alloc: Global, nodes: &mut Vec<Node>, at: usize) -> Records
 }
 
 /// The VXID of a parent, or 0.
-fn parent_of(parent: Option<ParentLink>) -> u32
+fn parent_of(parent: Option<ParentLink>) -> Vxid
     ensures { result ≡ parent_vxid parent }
 {
     match parent {
@@ -93,7 +97,9 @@ pub fn take_node(
     pending: &mut Pending,
     visit: Visit,
 ) -> Result<Option<Member>, NoMemory>
-    ensures { (x : AsNode) → StandsAt pending.old.nodes.items visit.at x → 0 < pending.old.rows → AreKin pending.old.nodes.items → IsIndex pending.old.nodes.items pending.old.index → AreFree pending.old.nodes.items pending.old.free.items →
+    ensures { (x : AsNode) → StandsAt pending.old.nodes.items visit.at x → 0 < pending.old.rows →
+        AreKin pending.old.nodes.items → IsIndex pending.old.nodes.items pending.old.index →
+        AreFree pending.old.nodes.items pending.old.free.items →
         IfOk result (TakesOut pending.old pending.new visit) }
 {
     let Some(node) = pending.nodes.get(visit.at) else {
@@ -130,7 +136,10 @@ pub fn take_visits(
     pending: &mut Pending,
     visits: &[Visit],
 ) -> Result<Members, NoMemory>
-    ensures { AreStanding pending.old.nodes.items visits.now → length visits.now ≤ pending.old.rows → AreKin pending.old.nodes.items → IsIndex pending.old.nodes.items pending.old.index → AreFree pending.old.nodes.items pending.old.free.items →
+    ensures { AreStanding pending.old.nodes.items visits.now →
+        length visits.now ≤ pending.old.rows → AreKin pending.old.nodes.items →
+        IsIndex pending.old.nodes.items pending.old.index →
+        AreFree pending.old.nodes.items pending.old.free.items →
         IfOk result (AreTaken pending.old pending.new visits.now) }
 {
     let mut members = Members::new(alloc);

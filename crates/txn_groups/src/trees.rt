@@ -60,8 +60,13 @@ impl<'q> Trees<'q> {
 
     /// The marks of a query, by its place, that the newest pending transaction of a VXID keeps.
     pub(crate) fn marks(&self, vxid: Vxid, query: usize) -> Option<&Marks>
-        ensures some { (queries : List AsQuery) (q : AsQuery) → IsTrees queries self.now → slice_get queries query ≡ Some q → IfSome result (λ marks. option_map (λ t. marks_of q t.records) (newest vxid (state_of_trees self.now).pending) ≡ Some marks.now) }
-        ensures none { (queries : List AsQuery) (q : AsQuery) → IsTrees queries self.now → slice_get queries query ≡ Some q → IfNone result (is_pending vxid (state_of_trees self.now).pending ≡ false) }
+        ensures some { (queries : List AsQuery) (q : AsQuery) → IsTrees queries self.now →
+            slice_get queries query ≡ Some q →
+            IfSome result (λ marks. option_map (λ t. marks_of q t.records)
+            (newest vxid (state_of_trees self.now).pending) ≡ Some marks.now) }
+        ensures none { (queries : List AsQuery) (q : AsQuery) → IsTrees queries self.now →
+            slice_get queries query ≡ Some q →
+            IfNone result (is_pending vxid (state_of_trees self.now).pending ≡ false) }
     {
         let Some(at) = self.pending.index.newest(vxid) else {
             return None;

@@ -49,7 +49,9 @@ fn put_below(later: &mut Visits, first: Option<usize>, level: u32) -> Result<(),
 /// The nodes of a tree in preorder, from its top on: each node, then its first child, then the child that its parent
 /// got next. A level that no `u32` holds counts as want of memory.
 pub fn walk(alloc: Global, nodes: &[Node], top: usize, size: usize) -> Result<Visits, NoMemory>
-    ensures { (begun root : ℕ) (order : List Entry) (rows : List Row) → AreNodes begun nodes.now order rows → IsTopAt nodes.now rows root size top → IfOk result (λ visits. AreVisits nodes.now rows root visits.items) }
+    ensures { (begun root : ℕ) (order : List Entry) (rows : List Row) →
+        AreNodes begun nodes.now order rows → IsTopAt nodes.now rows root size top →
+        IfOk result (λ visits. AreVisits nodes.now rows root visits.items) }
 {
     let mut visits = SmallVec::with_capacity(alloc, size)?;
     let mut later = SmallVec::new(alloc);

@@ -24,7 +24,7 @@ use Rattle.txn_rows.specs.declared.group.Cause.TheVariants.{Overflow, Timeout, F
 use Rattle.txn_rows.specs.declared.group.Member.{Member}
 use Rattle.txn_rows.specs.declared.claim.Claim.{Claim}
 use Rattle.txn_rows.specs.declared.which.Which.{Which}
-use Rattle.txn_rows.specs.Claim.{claim_from, claim_of, kind_named, named, reason_named, vxid_named}
+use Rattle.txn_rows.specs.Claim.{claim_from, claim_of, kind_named, most_digits, named, reason_named, vxid_named}
 use Rattle.txn_rows.specs.Store.{test_of}
 use Rattle.txn_rows.specs.Transaction.{Transaction, cause_text, empty_transaction, is_open, is_unknown, newest, with_newest, claimed_kind, ended, forced, first_mark, oldest, with_oldest}
 use Rattle.txn_rows.specs.Links.{with_parent, can_join, children, root_of, tree_of, path_of, preorder, member_of, group_of}
@@ -40,12 +40,12 @@ use Rattle.txn_partition.proofs.ClaimKeptLemmas.{KeepsClaim, claim_kept, HoldsOf
 named_below : (few : Bool) (text : List ℕ) (n : ℕ) → cond few (whole_number 0 (vxid_end - 1) text) None ≡ Some n → n < vxid_end
 named_below false text n e = absurd (cc)
 named_below true text n e =
-    let writes = subst (λ o. IfSome o (Writes 0 1073741823 text)) e (whole_number-writes 0 1073741823 text) in
+    let writes = subst (λ o. IfSome o (Writes 0 (vxid_end - 1) text)) e (whole_number-writes 0 (vxid_end - 1) text) in
     omega (arith, writes.4)
 
 vxid_below : (o : Option (List ℕ)) (n : ℕ) → named vxid_named o ≡ Some n → n < vxid_end
 vxid_below None n e = absurd (cc)
-vxid_below (Some text) n e = named_below (leb (length text) 10) text n e
+vxid_below (Some text) n e = named_below (leb (length text) most_digits) text n e
 
 from_below : (kind : Option Kind) (vxid : Option ℕ) (reason : Reason) (claim : Claim) → claim_from kind vxid reason ≡ Some claim → vxid ≡ Some claim.vxid
 from_below None vxid reason claim e = absurd (cc)

@@ -40,4 +40,5 @@ pub record WasNamed (grouping : Grouping) (before : List Member) (m : Member) : 
 
 -- each member of a group but the first was named
 abbrev pub ChildrenWereNamed : Grouping → Group → Type 0
-ChildrenWereNamed grouping g = (before : List Member) (m : Member) (behind : List Member) → g.members ≡ before ++ m ∷ behind → before ≢ [] → WasNamed grouping before m
+ChildrenWereNamed grouping g = (before : List Member) (m : Member) (behind : List Member) →
+    g.members ≡ before ++ m ∷ behind → before ≢ [] → WasNamed grouping before m

@@ -40,12 +40,14 @@ pub record Link : Type 0 where
 -- a Begin names the parent of its VXID
 abbrev pub parent_named : Grouping → ℕ → Option Claim → List Link
 parent_named grouping vxid None = []
-parent_named grouping vxid (Some claim) = if gives_parent grouping claim then record { child = vxid; parent = claim.vxid } ∷ [] else []
+parent_named grouping vxid (Some claim) = if gives_parent grouping claim then
+    record { child = vxid; parent = claim.vxid } ∷ [] else []
 
 -- a Link names a child of its VXID
 abbrev pub child_named : Grouping → ℕ → Option Claim → List Link
 child_named grouping vxid None = []
-child_named grouping vxid (Some claim) = if gives_parent grouping claim then record { child = claim.vxid; parent = vxid } ∷ [] else []
+child_named grouping vxid (Some claim) = if gives_parent grouping claim then
+    record { child = claim.vxid; parent = vxid } ∷ [] else []
 
 -- the link that a record makes, if it is a well-formed Begin or Link that gives a parent under this grouping
 abbrev pub links_in : Grouping → Entry → List Link
@@ -96,7 +98,8 @@ first_time (e ∷ entries) = first_known (time_told e) (first_time entries)
 -- the records before the first that names a VXID
 abbrev pub before_named : Grouping → ℕ → List Entry → List Entry
 before_named grouping vxid [] = []
-before_named grouping vxid (e ∷ entries) = if is_in vxid (names_in grouping e) then [] else e ∷ before_named grouping vxid entries
+before_named grouping vxid (e ∷ entries) = if is_in vxid (names_in grouping e) then []
+    else e ∷ before_named grouping vxid entries
 
 -- the time of a VXID: the log time when it is first named, or else the first that is known
 abbrev pub time_named : Grouping → List Entry → ℕ → Option ℕ

@@ -87,11 +87,15 @@ class_member grouping entries vxid = record {
 -- the group of a root: its class in preorder, children in the order of their first links
 abbrev pub class_group : Grouping → List Entry → ℕ → Group
 class_group grouping entries root =
-    record { members = map (class_member grouping entries) (preorder (class_path grouping entries) (class_of grouping entries root)) }
+    record {
+      members = map (class_member grouping entries)
+          (preorder (class_path grouping entries) (class_of grouping entries root));
+    }
 
 -- whether the class of a VXID has an End in the rest of the records
 abbrev pub ends_later : Grouping → List Entry → List Entry → ℕ → Bool
-ends_later grouping entries rest vxid = list_any (λ e. class_root grouping entries e.vxid == class_root grouping entries vxid && e.rec.tag == end_tag) rest
+ends_later grouping entries rest vxid =
+    list_any (λ e. class_root grouping entries e.vxid == class_root grouping entries vxid && e.rec.tag == end_tag) rest
 
 -- the roots of classes, in the order of the last End of each
 abbrev pub ended_roots : Grouping → List Entry → List Entry → List ℕ
@@ -125,11 +129,14 @@ pub record AreRegular (grouping : Grouping) (entries : List Entry) : Type 0 wher
   -- and the last its only End
   pub ends : (vxid : ℕ) → is_in vxid (named grouping entries) ≡ true → IsEnded (records_of vxid entries)
   -- all links of one child name one parent
-  pub one_parent : All (λ (l : Link). parent_of (links_of grouping entries) l.child ≡ Some l.parent) (links_of grouping entries)
+  pub one_parent : All (λ (l : Link). parent_of (links_of grouping entries) l.child ≡ Some l.parent)
+      (links_of grouping entries)
   -- following parents never comes back to the start
-  pub no_return : (child parent n : ℕ) → parent_of (links_of grouping entries) child ≡ Some parent → is_in child (line_up (links_of grouping entries) n (Some parent)) ≡ false
+  pub no_return : (child parent n : ℕ) → parent_of (links_of grouping entries) child ≡ Some parent →
+      is_in child (line_up (links_of grouping entries) n (Some parent)) ≡ false
   -- where an End of a child or of its parent stands, the first link of the two stands before
-  pub linked_before : (before rest : List Entry) → before ++ rest ≡ entries → (child parent : ℕ) → parent_of (links_of grouping entries) child ≡ Some parent →
+  pub linked_before : (before rest : List Entry) → before ++ rest ≡ entries → (child parent : ℕ) →
+      parent_of (links_of grouping entries) child ≡ Some parent →
       (has_end child before || has_end parent before) ≡ true → parent_of (links_of grouping before) child ≡ Some parent
 
 -- a log is regular under a grouping

@@ -16,26 +16,32 @@ ghost use Rattle.txn_partition.specs.Partition.{Calm, Regular, classes, count_vx
 /// to do.
 #[tactic(auto, using(crate::proofs::PartitionLemmas::classes_left, crate::proofs::PartitionLemmas::groups_parted))]
 pub fn groups_are_the_partition()
-    ensures left { (options : GroupOptions) (log : Log) → is_raw options.grouping ≡ false → Regular log options.grouping → Calm log options → (flushed : Bool) →
+    ensures left { (options : GroupOptions) (log : Log) → is_raw options.grouping ≡ false →
+        Regular log options.grouping → Calm log options → (flushed : Bool) →
         left_of options (all_taken log) flushed ≡ classes log options.grouping }
-    ensures reported { (options : GroupOptions) (log : Log) → is_raw options.grouping ≡ false → Regular log options.grouping → Calm log options → (flushed : Bool) →
+    ensures reported { (options : GroupOptions) (log : Log) → is_raw options.grouping ≡ false →
+        Regular log options.grouping → Calm log options → (flushed : Bool) →
         groups_of options (all_taken log) flushed ≡ partition log options.grouping }
 {}
 
 /// The law that each VXID that a regular log names is a member of one of its classes, once.
 #[tactic(auto, using(crate::proofs::ClassOnceLemmas::each_named_once))]
 pub fn each_vxid_once()
-    ensures { (log : Log) (grouping : Grouping) → Regular log grouping → (vxid : ℕ) → is_in vxid (named grouping (entries_of log)) ≡ true → count_vxid vxid (classes log grouping) ≡ 1 }
+    ensures { (log : Log) (grouping : Grouping) → Regular log grouping → (vxid : ℕ) →
+        is_in vxid (named grouping (entries_of log)) ≡ true →
+        count_vxid vxid (classes log grouping) ≡ 1 }
 {}
 
 /// The law that where the units that were taken are units, each member of a group that left has the VXID of a unit,
 /// and records that units can have; those of force-completions too.
 pub fn groups_are_of_units()
-    ensures { (options : GroupOptions) (taken : List Taken) (flushed : Bool) → TakeUnits taken → All IsGroupOfUnits (left_of options taken flushed) }
+    ensures { (options : GroupOptions) (taken : List Taken) (flushed : Bool) → TakeUnits taken →
+        All IsGroupOfUnits (left_of options taken flushed) }
 {}
 
 /// The law that of each group that left, each member but the first has its parent before it, and a Begin of its own
 /// names that, or a Link of the parent's names the member. So no group joins what no record joins.
 pub fn each_child_was_named()
-    ensures { (options : GroupOptions) (taken : List Taken) (flushed : Bool) → All (ChildrenWereNamed options.grouping) (left_of options taken flushed) }
+    ensures { (options : GroupOptions) (taken : List Taken) (flushed : Bool) →
+        All (ChildrenWereNamed options.grouping) (left_of options taken flushed) }
 {}

@@ -59,7 +59,10 @@ then_left first next = record { state = (next first.state).state; groups = first
 
 -- a transaction begins, the newest of all
 abbrev pub with_new : ℕ → State → State
-with_new vxid state = record state { pending = state.pending ++ empty_transaction state.begun vxid state.time ∷ []; begun = state.begun + 1 }
+with_new vxid state = record state {
+  pending = state.pending ++ empty_transaction state.begun vxid state.time ∷ [];
+  begun = state.begun + 1;
+}
 
 -- a record whose VXID has no open transaction begins a new one. So no record behind an End is lost, and no group is
 -- printed twice (this project's choice)
@@ -87,7 +90,8 @@ is_session kind = false
 abbrev pub gives_parent : Grouping → Claim → Bool
 gives_parent Raw claim = false
 gives_parent Vxid claim = false
-gives_parent Request claim = not (claim.vxid == 0) && not (is_session claim.kind) && not (is_first_request claim.kind claim.reason)
+gives_parent Request claim = not (claim.vxid == 0) && not (is_session claim.kind) && not
+    (is_first_request claim.kind claim.reason)
 gives_parent Session claim = not (claim.vxid == 0) && not (is_session claim.kind)
 
 -- a Begin names the parent of its transaction
@@ -147,12 +151,16 @@ left_by None state = nothing_left state
 left_by (Some t) state =
     let root = root_of state.pending t in
     if list_all (λ u. u.ended) (tree_of state.pending root)
-    then record { state = record state { pending = others state.pending root }; groups = group_of state.pending root ∷ [] }
+    then record {
+      state = record state { pending = others state.pending root };
+      groups = group_of state.pending root ∷ [];
+    }
     else nothing_left state
 
 -- the oldest transaction that passes a test is force-completed, where one does, and may complete a group
 abbrev pub forced_one : (Transaction → Bool) → Cause → State → Leaving
-forced_one test cause state = left_by (option_map (forced cause) (oldest test state.pending)) (record state { pending = with_oldest test (forced cause) state.pending })
+forced_one test cause state = left_by (option_map (forced cause) (oldest test state.pending))
+    (record state { pending = with_oldest test (forced cause) state.pending })
 
 -- the newest transaction of a VXID ends, and may complete a group
 abbrev pub ended_one : ℕ → State → Leaving
@@ -200,7 +208,8 @@ after_timeouts seconds before state =
 abbrev pub forced_down : ℕ → ℕ → State → Leaving
 forced_down limit zero state = nothing_left state
 forced_down limit (suc n) state =
-    if nat_lt limit (length state.pending) then then_left (forced_one is_unfinished Overflow state) (forced_down limit n) else nothing_left state
+    if nat_lt limit (length state.pending) then then_left (forced_one is_unfinished Overflow state)
+    (forced_down limit n) else nothing_left state
 
 -- how many pending transactions have not ended
 abbrev pub unfinished : State → ℕ
@@ -215,16 +224,27 @@ after_overflow limit state = forced_down limit (unfinished state) state
 abbrev pub with_all_told : Grouping → ℕ → Record → State → State
 with_all_told grouping vxid rec state =
     let begun = with_transaction vxid state in
-    with_log_time rec (with_claim grouping vxid rec (record begun { pending = with_kind vxid rec (with_record vxid rec begun.pending) }))
+    with_log_time rec (with_claim grouping vxid rec
+    (record begun { pending = with_kind vxid rec (with_record vxid rec begun.pending) }))
 
 -- one record of a transaction: the rules in their order
 abbrev pub grouped : GroupOptions → ℕ → Record → State → Leaving
 grouped options vxid rec state =
-    then_left (then_left (after_end vxid rec (with_all_told options.grouping vxid rec state)) (after_timeouts options.timeout state.time)) (after_overflow options.limit)
+    then_left (then_left (after_end vxid rec (with_all_told options.grouping vxid rec state))
+    (after_timeouts options.timeout state.time)) (after_overflow options.limit)
 
 -- a record as a group by itself
 abbrev pub raw_group : ℕ → Record → Group
-raw_group vxid rec = record { members = record { vxid = vxid; kind = kinds.Record; reason = reasons.Other; level = 0; parent = 0; records = rec ∷ [] } ∷ [] }
+raw_group vxid rec = record {
+  members = record {
+    vxid = vxid;
+    kind = kinds.Record;
+    reason = reasons.Other;
+    level = 0;
+    parent = 0;
+    records = rec ∷ [];
+  } ∷ [];
+}
 
 -- whether each record is a group by itself
 abbrev pub is_raw : Grouping → Bool
@@ -233,7 +253,8 @@ is_raw grouping = false
 
 -- one record
 abbrev pub step : GroupOptions → ℕ → Record → State → Leaving
-step options vxid rec state = if is_raw options.grouping then record { state = state; groups = raw_group vxid rec ∷ [] } else grouped options vxid rec state
+step options vxid rec state = if is_raw options.grouping then record { state = state; groups = raw_group vxid rec ∷ [] }
+    else grouped options vxid rec state
 
 -- records one after another
 abbrev pub steps : GroupOptions → ℕ → List Record → State → Leaving
@@ -246,7 +267,8 @@ passes_over grouping vxid = not (is_raw grouping) && vxid == 0
 
 -- one unit
 abbrev pub unit_step : GroupOptions → LogUnit → State → Leaving
-unit_step options u state = if passes_over options.grouping u.vxid then nothing_left state else steps options u.vxid u.records state
+unit_step options u state = if passes_over options.grouping u.vxid then nothing_left state
+    else steps options u.vxid u.records state
 
 -- the oldest transaction that has not ended is force-completed. No run calls for it by itself: what the limit, the
 -- timeout and the end of a log ask for is done by steps and a flush (this project's choice)

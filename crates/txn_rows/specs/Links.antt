@@ -59,7 +59,11 @@ with_parent None parent pending = pending
 with_parent (Some child) None pending = pending
 with_parent (Some child) (Some parent) pending =
     if can_join pending child parent
-    then with_newest child.vxid (λ t. record t { parent = Some (record { serial = parent.serial; vxid = parent.vxid; number = children pending parent }) }) pending
+    then with_newest child.vxid
+    (λ t. record t {
+      parent =
+          Some (record { serial = parent.serial; vxid = parent.vxid; number = children pending parent });
+    }) pending
     else pending
 
 -- the newest transaction of the first VXID becomes a child of the newest of the second
@@ -112,7 +116,14 @@ parent_vxid (Some link) = link.vxid
 
 -- a transaction that stands at a level, as a member of its group
 abbrev pub member_at : ℕ → Transaction → Member
-member_at level t = record { vxid = t.vxid; kind = t.kind; reason = t.reason; level = level; parent = parent_vxid t.parent; records = t.records }
+member_at level t = record {
+  vxid = t.vxid;
+  kind = t.kind;
+  reason = t.reason;
+  level = level;
+  parent = parent_vxid t.parent;
+  records = t.records;
+}
 
 -- a transaction as a member of its group. One rule tells levels: so a restarted request stands one level below the one
 -- before, as a retry of a fetch does, where vsl-query(7) leaves its level as it was (this project's choice)

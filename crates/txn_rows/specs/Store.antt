@@ -26,7 +26,8 @@ test_of (Late seconds now) = is_late seconds now
 
 -- of the groups that left on the way and are reported a prefix was handed out
 abbrev pub AddsPart : {L : Type 0} → (Group → L) → Grouping → Leaving → List L → List L → Type 0
-AddsPart hand grouping step out_before out_now = GainsPrefix (map hand (reported grouping step.groups)) out_before out_now
+AddsPart hand grouping step out_before out_now =
+    GainsPrefix (map hand (reported grouping step.groups)) out_before out_now
 
 -- what a store names beside: what it hands out for a group
 module _ {S L : Type 0} (holds : S → Type 0) (state_of : S → State) (hand : Group → L) where

@@ -34,7 +34,16 @@ pub record Transaction : Type 0 where
 -- a transaction of which no record was seen
 abbrev pub empty_transaction : ℕ → ℕ → Option ℕ → Transaction
 empty_transaction serial vxid time =
-    record { serial = serial; vxid = vxid; kind = kinds.Unknown; reason = Other; records = []; parent = None; ended = false; time = time }
+    record {
+      serial = serial;
+      vxid = vxid;
+      kind = kinds.Unknown;
+      reason = Other;
+      records = [];
+      parent = None;
+      ended = false;
+      time = time;
+    }
 
 -- whether a transaction of this VXID is pending
 abbrev pub is_pending : ℕ → List Transaction → Bool
@@ -43,7 +52,8 @@ is_pending vxid pending = list_any (λ t. t.vxid == vxid) pending
 -- the newest transaction of this VXID, where one is pending
 abbrev pub newest : ℕ → List Transaction → Option Transaction
 newest vxid [] = None
-newest vxid (t ∷ pending) = if is_pending vxid pending then newest vxid pending else (if t.vxid == vxid then Some t else None)
+newest vxid (t ∷ pending) = if is_pending vxid pending then newest vxid pending
+    else (if t.vxid == vxid then Some t else None)
 
 -- whether the newest transaction of this VXID is there and has not ended
 abbrev pub is_open : ℕ → List Transaction → Bool
@@ -54,7 +64,8 @@ is_open vxid (t ∷ pending) = if is_pending vxid pending then is_open vxid pend
 abbrev pub with_newest : ℕ → (Transaction → Transaction) → List Transaction → List Transaction
 with_newest vxid change [] = []
 with_newest vxid change (t ∷ pending) =
-    if is_pending vxid pending then t ∷ with_newest vxid change pending else (if t.vxid == vxid then change t ∷ pending else t ∷ pending)
+    if is_pending vxid pending then t ∷ with_newest vxid change pending
+    else (if t.vxid == vxid then change t ∷ pending else t ∷ pending)
 
 -- a transaction with a record at its end
 abbrev pub longer : Record → Transaction → Transaction
@@ -80,7 +91,8 @@ claimed_kind (Some claim) t = if is_unknown t.kind then record t { kind = claim.
 
 -- a well-formed Begin gives a transaction of unknown kind its kind and reason (vsl(7), "Begin")
 abbrev pub with_kind : ℕ → Record → List Transaction → List Transaction
-with_kind vxid rec pending = if rec.tag == begin_tag then with_newest vxid (claimed_kind (claim_of rec.payload)) pending else pending
+with_kind vxid rec pending = if rec.tag == begin_tag then with_newest vxid (claimed_kind (claim_of rec.payload)) pending
+    else pending
 
 -- a transaction has ended (vsl(7), "End")
 abbrev pub ended : Transaction → Transaction

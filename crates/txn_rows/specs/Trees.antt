@@ -8,7 +8,16 @@ use Rattle.txn_rows.specs.Links.{leads_to}
 
 -- a row is a transaction, with the serial number at the top of its tree and its path beside it
 abbrev pub transaction_of : Row → Transaction
-transaction_of row = record { serial = row.serial; vxid = row.vxid; kind = row.kind; reason = row.reason; records = row.records; parent = row.parent; ended = row.ended; time = row.time }
+transaction_of row = record {
+  serial = row.serial;
+  vxid = row.vxid;
+  kind = row.kind;
+  reason = row.reason;
+  records = row.records;
+  parent = row.parent;
+  ended = row.ended;
+  time = row.time;
+}
 
 -- the row of a serial number
 abbrev pub row_of : ℕ → List Row → Option Row
@@ -37,8 +46,10 @@ pub record IsBelow (rows : List Row) (row : Row) : Type 0 where
 -- rows stand in trees: each is at the top of one or below another row, no deeper than its tree has rows, and tells how many children it has
 pub record IsForest (rows : List Row) : Type 0 where
   pub linked : (serial : ℕ) (row : Row) → row_of serial rows ≡ Some row → IsTop row ⊎ IsBelow rows row
-  pub shallow : (serial : ℕ) (row : Row) → row_of serial rows ≡ Some row → length row.path < count_by (λ r. r.root == row.root) rows
-  pub counted : (serial : ℕ) (row : Row) → row_of serial rows ≡ Some row → row.children ≡ count_by (λ r. leads_to row.serial r.parent) rows
+  pub shallow : (serial : ℕ) (row : Row) → row_of serial rows ≡ Some row →
+      length row.path < count_by (λ r. r.root == row.root) rows
+  pub counted : (serial : ℕ) (row : Row) → row_of serial rows ≡ Some row →
+      row.children ≡ count_by (λ r. leads_to row.serial r.parent) rows
 
 -- rows are in the order of their serial numbers, all below the next one, and stand in trees
 pub record AreTrees (begun : ℕ) (rows : List Row) : Type 0 where

@@ -90,7 +90,8 @@ fn oldest_unfinished(rows: &[Row]) -> Option<usize>
 /// The place of the oldest of those rows. Times rise: where the oldest row that has not ended isn't late, none is.
 pub(crate) fn oldest_of(which: Which, rows: &[Row]) -> Option<usize>
     ensures some { IfSome result (λ at. IsOldestRow (test_of which) at rows.now) }
-    ensures none { (time : Option ℕ) → RiseTo time (times_of (map transaction_of rows.now)) → IfNone result (list_any (test_of which) (map transaction_of rows.now) ≡ false) }
+    ensures none { (time : Option ℕ) → RiseTo time (times_of (map transaction_of rows.now)) →
+        IfNone result (list_any (test_of which) (map transaction_of rows.now) ≡ false) }
 {
     let Some(at) = oldest_unfinished(rows) else {
         return None;
@@ -119,8 +120,11 @@ pub(crate) fn force_at(
     out: &mut Vec<Group>,
 ) -> Result<(), NoMemory>
     requires { at < length rows.old.items }
-    ensures ok { (test : Transaction → Bool) (begun : ℕ) (time : Option ℕ) → IsOldestRow test at rows.old.items → AreTrees begun rows.old.items →
-        OnOk result (RowsStep grouping (forced_one test cause (state_with begun time rows.old.items)) begun time rows.new.items out.old.items out.new.items) }
+    ensures ok { (test : Transaction → Bool) (begun : ℕ) (time : Option ℕ) →
+        IsOldestRow test at rows.old.items → AreTrees begun rows.old.items →
+        OnOk result (RowsStep grouping
+        (forced_one test cause (state_with begun time rows.old.items)) begun time rows.new.items
+        out.old.items out.new.items) }
     ensures err { OnErr result (out.new.items ≡ out.old.items) }
 {
     force_row(alloc, &mut rows[at], cause)?;

@@ -17,8 +17,13 @@ pub(crate) fn force_all<S: Store>(
     cause: Cause,
     out: &mut Vec<S::Left>,
 ) -> Result<(), NoMemory>
-    ensures ok { (key : S.Key) → IsOrdered (S.holds key) S.state store.old → OnOk result (WentBy (S.holds key) S.state (S.hand key) grouping (forced_all (test_of which) cause (S.state store.old)) store.new out.old.items out.new.items) }
-    ensures err { (key : S.Key) → IsOrdered (S.holds key) S.state store.old → OnErr result (AddsPart (S.hand key) grouping (forced_all (test_of which) cause (S.state store.old)) out.old.items out.new.items) }
+    ensures ok { (key : S.Key) → IsOrdered (S.holds key) S.state store.old →
+        OnOk result (WentBy (S.holds key) S.state (S.hand key) grouping
+        (forced_all (test_of which) cause
+        (S.state store.old)) store.new out.old.items out.new.items) }
+    ensures err { (key : S.Key) → IsOrdered (S.holds key) S.state store.old →
+        OnErr result (AddsPart (S.hand key) grouping
+        (forced_all (test_of which) cause (S.state store.old)) out.old.items out.new.items) }
 {
     let most = store.rows();
     for i in 0..most {
@@ -36,8 +41,12 @@ pub(crate) fn keep_within<S: Store>(
     limit: u32,
     out: &mut Vec<S::Left>,
 ) -> Result<(), NoMemory>
-    ensures ok { (key : S.Key) → IsOrdered (S.holds key) S.state store.old → OnOk result (WentBy (S.holds key) S.state (S.hand key) grouping (after_overflow limit (S.state store.old)) store.new out.old.items out.new.items) }
-    ensures err { (key : S.Key) → IsOrdered (S.holds key) S.state store.old → OnErr result (AddsPart (S.hand key) grouping (after_overflow limit (S.state store.old)) out.old.items out.new.items) }
+    ensures ok { (key : S.Key) → IsOrdered (S.holds key) S.state store.old →
+        OnOk result (WentBy (S.holds key) S.state (S.hand key) grouping
+        (after_overflow limit (S.state store.old)) store.new out.old.items out.new.items) }
+    ensures err { (key : S.Key) → IsOrdered (S.holds key) S.state store.old →
+        OnErr result (AddsPart (S.hand key) grouping
+        (after_overflow limit (S.state store.old)) out.old.items out.new.items) }
 {
     let most = store.rows();
     for i in 0..most {
@@ -58,7 +67,9 @@ pub fn force_oldest<S: Store>(
     cause: Cause,
     out: &mut Vec<S::Left>,
 ) -> Result<(), NoMemory>
-    ensures ok { (key : S.Key) → IsOrdered (S.holds key) S.state store.old → OnOk result (WentBy (S.holds key) S.state (S.hand key) grouping (force cause (S.state store.old)) store.new out.old.items out.new.items) }
+    ensures ok { (key : S.Key) → IsOrdered (S.holds key) S.state store.old →
+        OnOk result (WentBy (S.holds key) S.state (S.hand key) grouping
+        (force cause (S.state store.old)) store.new out.old.items out.new.items) }
     ensures err { OnErr result (out.new.items ≡ out.old.items) }
 {
     store.force_one(grouping, Which::Unfinished, cause, out)?;
@@ -71,8 +82,12 @@ pub fn flush_all<S: Store>(
     grouping: Grouping,
     out: &mut Vec<S::Left>,
 ) -> Result<(), NoMemory>
-    ensures ok { (key : S.Key) → IsOrdered (S.holds key) S.state store.old → OnOk result (WentBy (S.holds key) S.state (S.hand key) grouping (flush (S.state store.old)) store.new out.old.items out.new.items) }
-    ensures err { (key : S.Key) → IsOrdered (S.holds key) S.state store.old → OnErr result (AddsPart (S.hand key) grouping (flush (S.state store.old)) out.old.items out.new.items) }
+    ensures ok { (key : S.Key) → IsOrdered (S.holds key) S.state store.old →
+        OnOk result (WentBy (S.holds key) S.state (S.hand key) grouping
+        (flush (S.state store.old)) store.new out.old.items out.new.items) }
+    ensures err { (key : S.Key) → IsOrdered (S.holds key) S.state store.old →
+        OnErr result (AddsPart (S.hand key) grouping
+        (flush (S.state store.old)) out.old.items out.new.items) }
 {
     force_all(store, grouping, Which::Unfinished, Cause::Flush, out)
 }

@@ -26,7 +26,8 @@ pub struct Join {
 
 /// Whether one row can get another as its parent.
 fn can_join(child: &Row, parent: &Row) -> bool
-    ensures { result ≡ (is_none child.now.parent && not child.now.ended && not (parent.now.root == child.now.serial)) }
+    ensures { result ≡ (is_none child.now.parent && not child.now.ended && not
+        (parent.now.root == child.now.serial)) }
 {
     child.parent.is_none() && !child.ended && parent.root != child.serial
 }
@@ -63,7 +64,17 @@ fn join_rows(alloc: Global, rows: &mut Vec<Row>, join: &Join) -> Result<(), NoMe
 
 /// What joins a row to another.
 fn join_of(alloc: Global, child: &Row, parent: &Row) -> Result<Join, NoMemory>
-    ensures { IfOk result (λ join. join ≡ record { child = child.now.serial; link = record { serial = parent.now.serial; vxid = parent.now.vxid; number = parent.now.children }; root = parent.now.root; path = parent.now.path }) }
+    ensures { IfOk result (λ join.
+        join ≡ record {
+          child = child.now.serial;
+          link = record {
+            serial = parent.now.serial;
+            vxid = parent.now.vxid;
+            number = parent.now.children;
+          };
+          root = parent.now.root;
+          path = parent.now.path;
+        }) }
 {
     Ok(Join {
         child: child.serial,
@@ -89,7 +100,9 @@ pub(crate) fn link_rows(
 ) -> Result<(), NoMemory>
     requires child { IsNewestRow child below rows.old.items }
     requires parent { IsNewestRow parent above rows.old.items }
-    ensures { (begun : ℕ) → AreTrees begun rows.old.items → OnOk result (Rows begun (with_link child parent (map transaction_of rows.old.items)) rows.new.items) }
+    ensures { (begun : ℕ) → AreTrees begun rows.old.items →
+        OnOk result (Rows begun (with_link child parent
+        (map transaction_of rows.old.items)) rows.new.items) }
 {
     let (child_row, parent_row) = (&rows[below], &rows[above]);
     if !can_join(child_row, parent_row) {

@@ -89,7 +89,11 @@ fn take_rows(alloc: Global, rows: &mut Vec<Row>, root: u64) -> Result<Vec<Row>, 
 
 /// Takes out a tree, all of whose rows have ended, as a group.
 fn take_group(alloc: Global, rows: &mut Vec<Row>, root: u64) -> Result<Group, NoMemory>
-    ensures group { IfOk result (λ group. group ≡ record { members = map member_of_row (rows_in_preorder (rows_below root rows.old.items)) }) }
+    ensures group { IfOk result
+        (λ group. group ≡ record {
+          members =
+              map member_of_row (rows_in_preorder (rows_below root rows.old.items));
+        }) }
     ensures others { OnOk result (rows.new.items ≡ rows_beside root rows.old.items) }
 {
     let mut tree = take_rows(alloc, rows, root)?;
@@ -115,7 +119,8 @@ pub(crate) fn leave(
     root: u64,
     out: &mut Vec<Group>,
 ) -> Result<(), NoMemory>
-    ensures ok { OnOk result (LeftRows grouping (left_rows root rows.old.items) rows.new.items out.old.items out.new.items) }
+    ensures ok { OnOk result (LeftRows grouping
+        (left_rows root rows.old.items) rows.new.items out.old.items out.new.items) }
     ensures err { OnErr result (out.new.items ≡ out.old.items) }
 {
     if !have_ended(rows, root) {

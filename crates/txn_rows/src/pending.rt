@@ -49,9 +49,13 @@ impl Pending {
 
 /// A transaction begins, the newest of all. Where no serial number is left, that counts as want of memory.
 fn begin(pending: &mut Pending, vxid: Vxid) -> Result<(), NoMemory>
-    ensures went { StandInTrees pending.old → OnOk result (Went StandInTrees state_of (with_new vxid (state_of pending.old)) pending.new) }
-    ensures newest { OnOk result (IsNewestRow vxid (length pending.old.rows.items) pending.new.rows.items) }
-    ensures keeps { OnOk result ((v at : ℕ) → v ≢ vxid → IsNewestRow v at pending.old.rows.items → IsNewestRow v at pending.new.rows.items) }
+    ensures went { StandInTrees pending.old →
+        OnOk result (Went StandInTrees state_of
+        (with_new vxid (state_of pending.old)) pending.new) }
+    ensures newest { OnOk result
+        (IsNewestRow vxid (length pending.old.rows.items) pending.new.rows.items) }
+    ensures keeps { OnOk result ((v at : ℕ) → v ≢ vxid → IsNewestRow v at pending.old.rows.items →
+        IsNewestRow v at pending.new.rows.items) }
 {
     if pending.begun == u64::MAX {
         return Err(NoMemory);

@@ -51,7 +51,19 @@ pub(crate) fn newest_row(rows: &[Row], vxid: Vxid) -> Option<usize>
 
 /// A row of which no record was seen.
 pub(crate) fn empty_row(alloc: Global, serial: u64, vxid: Vxid, time: Option<u128>) -> Row
-    ensures { result ≡ record { serial = serial; vxid = vxid; kind = Kind.Unknown; reason = Reason.Other; records = []; parent = None; children = 0; ended = false; time = time; root = serial; path = [] } }
+    ensures { result ≡ record {
+      serial = serial;
+      vxid = vxid;
+      kind = Kind.Unknown;
+      reason = Reason.Other;
+      records = [];
+      parent = None;
+      children = 0;
+      ended = false;
+      time = time;
+      root = serial;
+      path = [];
+    } }
 {
     Row {
         serial,

@@ -18,8 +18,12 @@ pub(crate) fn take_records<S: Store>(
     records: &RecordsView<'_>,
     out: &mut Vec<S::Left>,
 ) -> Result<(), NoMemory>
-    ensures ok { (key : S.Key) → IsOrdered (S.holds key) S.state store.old → OnOk result (WentBy (S.holds key) S.state (S.hand key) options.grouping (steps options vxid records.now (S.state store.old)) store.new out.old.items out.new.items) }
-    ensures err { (key : S.Key) → IsOrdered (S.holds key) S.state store.old → OnErr result (AddsPart (S.hand key) options.grouping (steps options vxid records.now (S.state store.old)) out.old.items out.new.items) }
+    ensures ok { (key : S.Key) → IsOrdered (S.holds key) S.state store.old →
+        OnOk result (WentBy (S.holds key) S.state (S.hand key) options.grouping
+        (steps options vxid records.now (S.state store.old)) store.new out.old.items out.new.items) }
+    ensures err { (key : S.Key) → IsOrdered (S.holds key) S.state store.old →
+        OnErr result (AddsPart (S.hand key) options.grouping
+        (steps options vxid records.now (S.state store.old)) out.old.items out.new.items) }
 {
     let mut known = None;
     let mut begin = true;
@@ -48,8 +52,12 @@ pub fn take_unit<S: Store>(
     unit: &Unit,
     out: &mut Vec<S::Left>,
 ) -> Result<(), NoMemory>
-    ensures ok { (key : S.Key) → IsOrdered (S.holds key) S.state store.old → OnOk result (WentBy (S.holds key) S.state (S.hand key) options.grouping (unit_step options unit.now (S.state store.old)) store.new out.old.items out.new.items) }
-    ensures err { (key : S.Key) → IsOrdered (S.holds key) S.state store.old → OnErr result (AddsPart (S.hand key) options.grouping (unit_step options unit.now (S.state store.old)) out.old.items out.new.items) }
+    ensures ok { (key : S.Key) → IsOrdered (S.holds key) S.state store.old →
+        OnOk result (WentBy (S.holds key) S.state (S.hand key) options.grouping
+        (unit_step options unit.now (S.state store.old)) store.new out.old.items out.new.items) }
+    ensures err { (key : S.Key) → IsOrdered (S.holds key) S.state store.old →
+        OnErr result (AddsPart (S.hand key) options.grouping
+        (unit_step options unit.now (S.state store.old)) out.old.items out.new.items) }
 {
     if passes_over(options.grouping, unit.vxid()) {
         return Ok(());

@@ -55,23 +55,28 @@ pub trait Store: Drop {
     /// The place of the newest transaction of a VXID.
     fn newest(&self, vxid: Vxid) -> Option<usize>
         ensures some { IfSome result (λ at. newest_at self.now vxid at) }
-        ensures none { (key : Key) → holds key self.now → IfNone result (is_pending vxid (state self.now).pending ≡ false) };
+        ensures none { (key : Key) → holds key self.now →
+            IfNone result (is_pending vxid (state self.now).pending ≡ false) };
 
     /// Whether the newest transaction of a VXID has not ended.
     fn is_open(&self, at: usize, vxid: Vxid) -> bool
         requires { newest_at self.now vxid at }
-        ensures { (key : Key) → holds key self.now → result ≡ is_open vxid (state self.now).pending };
+        ensures { (key : Key) → holds key self.now →
+            result ≡ is_open vxid (state self.now).pending };
 
     /// The place of the newest transaction of a VXID that has not ended; where there is none, one begins.
     fn open_row(&mut self, vxid: Vxid) -> Result<usize, NoMemory>
-        ensures went { (key : Key) → holds key self.old → OnOk result (Went (holds key) state (with_transaction vxid (state self.old)) self.new) }
+        ensures went { (key : Key) → holds key self.old →
+            OnOk result (Went (holds key) state (with_transaction vxid (state self.old)) self.new) }
         ensures newest { IfOk result (λ at. newest_at self.new vxid at) };
 
     /// The place of the newest transaction of a VXID; where there is none, one begins.
     fn other_row(&mut self, vxid: Vxid) -> Result<usize, NoMemory>
-        ensures went { (key : Key) → holds key self.old → OnOk result (Went (holds key) state (with_other vxid (state self.old)) self.new) }
+        ensures went { (key : Key) → holds key self.old →
+            OnOk result (Went (holds key) state (with_other vxid (state self.old)) self.new) }
         ensures newest { IfOk result (λ at. newest_at self.new vxid at) }
-        ensures keeps { OnOk result ((v at : ℕ) → newest_at self.old v at → newest_at self.new v at) };
+        ensures keeps { OnOk result ((v at : ℕ) → newest_at self.old v at →
+            newest_at self.new v at) };
 
     /// The newest transaction of one VXID becomes a child of the newest of another, where it can.
     fn link(
@@ -83,7 +88,10 @@ pub trait Store: Drop {
     ) -> Result<(), NoMemory>
         requires child { newest_at self.old child below }
         requires parent { newest_at self.old parent above }
-        ensures { (key : Key) → holds key self.old → OnOk result (Went (holds key) state (record (state self.old) { pending = with_link child parent (state self.old).pending }) self.new) };
+        ensures { (key : Key) → holds key self.old →
+            OnOk result (Went (holds key) state
+            (record (state self.old) { pending = with_link child parent (state self.old).pending })
+            self.new) };
 
     /// Adds a record to the newest transaction of its VXID; a Begin may tell its kind. Where that
     /// has no records, room is made for those at hand.
@@ -97,18 +105,29 @@ pub trait Store: Drop {
     ) -> Result<(), NoMemory>
         requires newest { newest_at self.old vxid at }
         requires claim { claim ≡ own_claim rec.now }
-        ensures went { (key : Key) → holds key self.old → OnOk result (Went (holds key) state (record (state self.old) { pending = with_kind vxid rec.now (with_record vxid rec.now (state self.old).pending) }) self.new) }
+        ensures went { (key : Key) → holds key self.old →
+            OnOk result (Went (holds key) state
+            (record (state self.old) {
+              pending =
+                  with_kind vxid rec.now (with_record vxid rec.now (state self.old).pending);
+            }) self.new) }
         ensures newest { OnOk result (newest_at self.new vxid at) };
 
     /// Adds records that tell nothing but themselves to the newest transaction of their VXID.
     fn add_run(&mut self, at: usize, vxid: Vxid, run: &RecordsView<'_>) -> Result<(), NoMemory>
         requires { newest_at self.old vxid at }
-        ensures went { (key : Key) → holds key self.old → OnOk result (Went (holds key) state (record (state self.old) { pending = with_newest vxid (longer_by run.now) (state self.old).pending }) self.new) }
+        ensures went { (key : Key) → holds key self.old →
+            OnOk result (Went (holds key) state
+            (record (state self.old) {
+              pending =
+                  with_newest vxid (longer_by run.now) (state self.old).pending;
+            }) self.new) }
         ensures newest { OnOk result (newest_at self.new vxid at) };
 
     /// A time that was told may raise the log time.
     fn raise(&mut self, told: Option<u128>)
-        ensures { (key : Key) → holds key self.old → IsTimed (state self.old) → Went (holds key) state (with_time told (state self.old)) self.new };
+        ensures { (key : Key) → holds key self.old → IsTimed (state self.old) →
+            Went (holds key) state (with_time told (state self.old)) self.new };
 
     /// The newest transaction of a VXID ends, and may complete a group.
     fn end_row(
@@ -119,7 +138,9 @@ pub trait Store: Drop {
         out: &mut Vec<Self::Left>,
     ) -> Result<(), NoMemory>
         requires { newest_at self.old vxid at }
-        ensures ok { (key : Key) → holds key self.old → OnOk result (WentBy (holds key) state (hand key) grouping (ended_one vxid (state self.old)) self.new out.old.items out.new.items) }
+        ensures ok { (key : Key) → holds key self.old →
+            OnOk result (WentBy (holds key) state (hand key) grouping
+            (ended_one vxid (state self.old)) self.new out.old.items out.new.items) }
         ensures err { OnErr result (out.new.items ≡ out.old.items) };
 
     /// Force-completes the oldest of those transactions, which may complete a group; whether there is one.
@@ -130,8 +151,12 @@ pub trait Store: Drop {
         cause: Cause,
         out: &mut Vec<Self::Left>,
     ) -> Result<bool, NoMemory>
-        ensures ok { (key : Key) → holds key self.old → IsTimed (state self.old) → OnOk result (WentBy (holds key) state (hand key) grouping (forced_one (test_of which) cause (state self.old)) self.new out.old.items out.new.items) }
-        ensures found { (key : Key) → holds key self.old → IsTimed (state self.old) → IfOk result (λ found. found ≡ list_any (test_of which) (state self.old).pending) }
+        ensures ok { (key : Key) → holds key self.old → IsTimed (state self.old) →
+            OnOk result (WentBy (holds key) state (hand key) grouping
+            (forced_one (test_of which) cause
+            (state self.old)) self.new out.old.items out.new.items) }
+        ensures found { (key : Key) → holds key self.old → IsTimed (state self.old) →
+            IfOk result (λ found. found ≡ list_any (test_of which) (state self.old).pending) }
         ensures err { OnErr result (out.new.items ≡ out.old.items) };
 
     /// Hands out a record as a group by itself.
@@ -141,6 +166,11 @@ pub trait Store: Drop {
         rec: &RecordView<'_>,
         out: &mut Vec<Self::Left>,
     ) -> Result<(), NoMemory>
-        ensures ok { (key : Key) → holds key self.old → OnOk result (WentBy (holds key) state (hand key) Grouping.Raw (record { state = state self.old; groups = raw_group vxid rec.now ∷ [] }) self.new out.old.items out.new.items) }
+        ensures ok { (key : Key) → holds key self.old →
+            OnOk result (WentBy (holds key) state (hand key) Grouping.Raw
+            (record {
+              state = state self.old;
+              groups = raw_group vxid rec.now ∷ [];
+            }) self.new out.old.items out.new.items) }
         ensures err { OnErr result (out.new.items ≡ out.old.items) };
 }

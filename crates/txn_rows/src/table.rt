@@ -33,14 +33,20 @@ impl Model for Table {
 
     ghost Value = { TableState };
 
-    ghost view = { λ t. record { options = t.options; state = state_of t.store; failed = t.failed } };
+    ghost view = { λ t. record {
+      options = t.options;
+      state = state_of t.store;
+      failed = t.failed;
+    } };
 
-    ghost invariant = { λ t. t.failed ≡ false → IsSound StandInTrees state_of t.options.limit t.store };
+    ghost invariant = { λ t. t.failed ≡ false →
+        IsSound StandInTrees state_of t.options.limit t.store };
 }
 
 impl Table {
     pub fn new(alloc: Global, options: GroupOptions) -> Result<Table, NoMemory>
-        ensures { IfOk result (λ t. t ≡ record { options = options; state = no_state; failed = false }) }
+        ensures { IfOk result (λ t.
+            t ≡ record { options = options; state = no_state; failed = false }) }
     {
         Ok(Table {
             options,
@@ -52,9 +58,13 @@ impl Table {
     /// Takes the records of a unit in order, and adds the groups that they complete. No more transactions
     /// than the limit stay pending.
     pub fn step(&mut self, unit: &Unit, out: &mut Vec<Group>) -> Result<(), NoMemory>
-        ensures ok { OnOk result (TableStepped itself (unit_step self.old.options unit.now self.old.state) self.old self.new out.old.items out.new.items) }
+        ensures ok { OnOk result (TableStepped itself
+            (unit_step self.old.options unit.now self.old.state) self.old self.new out.old.items
+            out.new.items) }
         ensures limit { OnOk result (length self.new.state.pending ≤ self.new.options.limit) }
-        ensures err { OnErr result (TableFailed itself (unit_step self.old.options unit.now self.old.state) self.old self.new out.old.items out.new.items) }
+        ensures err { OnErr result
+            (TableFailed itself (unit_step self.old.options unit.now self.old.state) self.old
+            self.new out.old.items out.new.items) }
         ensures failed { self.old.failed ≡ true → IsErr result × (out.new.items ≡ out.old.items) }
     {
         if self.failed {
@@ -68,8 +78,11 @@ impl Table {
     /// Force-completes the oldest transaction that has not ended, where there is one, and adds the group that it
     /// completes.
     pub fn force(&mut self, cause: Cause, out: &mut Vec<Group>) -> Result<(), NoMemory>
-        ensures ok { OnOk result (TableStepped itself (force cause self.old.state) self.old self.new out.old.items out.new.items) }
-        ensures err { OnErr result (TableFailed itself (force cause self.old.state) self.old self.new out.old.items out.new.items) }
+        ensures ok { OnOk result (TableStepped itself
+            (force cause self.old.state) self.old self.new out.old.items out.new.items) }
+        ensures err { OnErr result
+            (TableFailed itself (force cause self.old.state) self.old self.new out.old.items
+            out.new.items) }
         ensures failed { self.old.failed ≡ true → IsErr result × (out.new.items ≡ out.old.items) }
     {
         if self.failed {
@@ -83,9 +96,12 @@ impl Table {
     /// Force-completes every transaction that has not ended, the oldest first, and adds the groups that they
     /// complete. Nothing stays pending. It serves an overrun and the end of a log.
     pub fn flush(&mut self, out: &mut Vec<Group>) -> Result<(), NoMemory>
-        ensures ok { OnOk result (TableStepped itself (flush self.old.state) self.old self.new out.old.items out.new.items) }
+        ensures ok { OnOk result (TableStepped itself
+            (flush self.old.state) self.old self.new out.old.items out.new.items) }
         ensures none { OnOk result (length self.new.state.pending ≡ 0) }
-        ensures err { OnErr result (TableFailed itself (flush self.old.state) self.old self.new out.old.items out.new.items) }
+        ensures err { OnErr result
+            (TableFailed itself (flush self.old.state) self.old self.new out.old.items
+            out.new.items) }
         ensures failed { self.old.failed ≡ true → IsErr result × (out.new.items ≡ out.old.items) }
     {
         if self.failed {

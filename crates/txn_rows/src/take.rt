@@ -84,7 +84,9 @@ fn take_claim<S: Store>(
 ) -> Result<(), NoMemory>
     requires { S.newest_at store.old vxid at }
     ensures { (key : S.Key) → S.holds key store.old →
-        OnOk result (Went (S.holds key) S.state (if begins then with_parent_named grouping vxid claim (S.state store.old) else with_child_named grouping vxid claim (S.state store.old)) store.new) }
+        OnOk result (Went (S.holds key) S.state
+        (if begins then with_parent_named grouping vxid claim (S.state store.old)
+        else with_child_named grouping vxid claim (S.state store.old)) store.new) }
 {
     let Some(claim) = claim else {
         return Ok(());
@@ -108,8 +110,10 @@ fn follow<S: Store>(
     told: Told,
 ) -> Result<(), NoMemory>
     requires { S.newest_at store.old vxid at }
-    ensures { (rec : Record) → Tells rec told → (key : S.Key) → IsOrdered (S.holds key) S.state store.old →
-        OnOk result (Went (S.holds key) S.state (with_log_time rec (with_claim grouping vxid rec (S.state store.old))) store.new) }
+    ensures { (rec : Record) → Tells rec told → (key : S.Key) →
+        IsOrdered (S.holds key) S.state store.old →
+        OnOk result (Went (S.holds key) S.state
+        (with_log_time rec (with_claim grouping vxid rec (S.state store.old))) store.new) }
 {
     match told {
         Told::Begin(claim) => take_claim(grouping, store, at, vxid, true, claim),
@@ -130,7 +134,9 @@ fn tell<S: Store>(
     rec: &RecordView<'_>,
     at_hand: &RecordsView<'_>,
 ) -> Result<(), NoMemory>
-    ensures { (key : S.Key) → IsOrdered (S.holds key) S.state store.old → OnOk result (Went (S.holds key) S.state (with_all_told grouping vxid rec.now (S.state store.old)) store.new) }
+    ensures { (key : S.Key) → IsOrdered (S.holds key) S.state store.old →
+        OnOk result (Went (S.holds key) S.state
+        (with_all_told grouping vxid rec.now (S.state store.old)) store.new) }
 {
     let told = read_told(rec);
     let at = store.open_row(vxid)?;
@@ -146,7 +152,9 @@ fn take_end<S: Store>(
     tag: Tag,
     out: &mut Vec<S::Left>,
 ) -> Result<(), NoMemory>
-    ensures ok { (rec : Record) → rec.tag ≡ tag → (key : S.Key) → S.holds key store.old → OnOk result (WentBy (S.holds key) S.state (S.hand key) grouping (after_end vxid rec (S.state store.old)) store.new out.old.items out.new.items) }
+    ensures ok { (rec : Record) → rec.tag ≡ tag → (key : S.Key) → S.holds key store.old →
+        OnOk result (WentBy (S.holds key) S.state (S.hand key) grouping
+        (after_end vxid rec (S.state store.old)) store.new out.old.items out.new.items) }
     ensures err { OnErr result (out.new.items ≡ out.old.items) }
 {
     if tag != Tag::END {
@@ -176,8 +184,13 @@ fn take_timeouts<S: Store>(
     before: Option<u128>,
     out: &mut Vec<S::Left>,
 ) -> Result<(), NoMemory>
-    ensures ok { (key : S.Key) → IsOrdered (S.holds key) S.state store.old → OnOk result (WentBy (S.holds key) S.state (S.hand key) options.grouping (after_timeouts options.timeout before (S.state store.old)) store.new out.old.items out.new.items) }
-    ensures err { (key : S.Key) → IsOrdered (S.holds key) S.state store.old → OnErr result (AddsPart (S.hand key) options.grouping (after_timeouts options.timeout before (S.state store.old)) out.old.items out.new.items) }
+    ensures ok { (key : S.Key) → IsOrdered (S.holds key) S.state store.old →
+        OnOk result (WentBy (S.holds key) S.state (S.hand key) options.grouping
+        (after_timeouts options.timeout before
+        (S.state store.old)) store.new out.old.items out.new.items) }
+    ensures err { (key : S.Key) → IsOrdered (S.holds key) S.state store.old →
+        OnErr result (AddsPart (S.hand key) options.grouping
+        (after_timeouts options.timeout before (S.state store.old)) out.old.items out.new.items) }
 {
     let now = store.time();
     if !has_risen(before, now) {
@@ -199,8 +212,12 @@ fn take_telling<S: Store>(
     at_hand: &RecordsView<'_>,
     out: &mut Vec<S::Left>,
 ) -> Result<(), NoMemory>
-    ensures ok { (key : S.Key) → IsOrdered (S.holds key) S.state store.old → OnOk result (WentBy (S.holds key) S.state (S.hand key) options.grouping (grouped options vxid rec.now (S.state store.old)) store.new out.old.items out.new.items) }
-    ensures err { (key : S.Key) → IsOrdered (S.holds key) S.state store.old → OnErr result (AddsPart (S.hand key) options.grouping (grouped options vxid rec.now (S.state store.old)) out.old.items out.new.items) }
+    ensures ok { (key : S.Key) → IsOrdered (S.holds key) S.state store.old →
+        OnOk result (WentBy (S.holds key) S.state (S.hand key) options.grouping
+        (grouped options vxid rec.now (S.state store.old)) store.new out.old.items out.new.items) }
+    ensures err { (key : S.Key) → IsOrdered (S.holds key) S.state store.old →
+        OnErr result (AddsPart (S.hand key) options.grouping
+        (grouped options vxid rec.now (S.state store.old)) out.old.items out.new.items) }
 {
     let before = store.time();
     let tag = rec.tag();
@@ -249,8 +266,10 @@ fn place_of<S: Store>(store: &S, vxid: Vxid, known: Option<usize>) -> Option<usi
 fn open_place<S: Store>(store: &S, limit: u32, vxid: Vxid, known: Option<usize>) -> Option<usize>
     requires { IfSome known (λ at. S.newest_at store.now vxid at) }
     ensures newest { IfSome result (λ at. S.newest_at store.now vxid at) }
-    ensures open { (key : S.Key) → S.holds key store.now → IfSome result (λ _. is_open vxid (S.state store.now).pending ≡ true) }
-    ensures few { (key : S.Key) → S.holds key store.now → IfSome result (λ _. length (S.state store.now).pending ≤ limit) }
+    ensures open { (key : S.Key) → S.holds key store.now →
+        IfSome result (λ _. is_open vxid (S.state store.now).pending ≡ true) }
+    ensures few { (key : S.Key) → S.holds key store.now →
+        IfSome result (λ _. length (S.state store.now).pending ≤ limit) }
 {
     if store.rows() > limit as usize {
         return None;
@@ -271,8 +290,12 @@ fn take_one<S: Store>(
     at_hand: &RecordsView<'_>,
     out: &mut Vec<S::Left>,
 ) -> Result<(), NoMemory>
-    ensures ok { (key : S.Key) → IsOrdered (S.holds key) S.state store.old → OnOk result (WentBy (S.holds key) S.state (S.hand key) options.grouping (step options vxid rec.now (S.state store.old)) store.new out.old.items out.new.items) }
-    ensures err { (key : S.Key) → IsOrdered (S.holds key) S.state store.old → OnErr result (AddsPart (S.hand key) options.grouping (step options vxid rec.now (S.state store.old)) out.old.items out.new.items) }
+    ensures ok { (key : S.Key) → IsOrdered (S.holds key) S.state store.old →
+        OnOk result (WentBy (S.holds key) S.state (S.hand key) options.grouping
+        (step options vxid rec.now (S.state store.old)) store.new out.old.items out.new.items) }
+    ensures err { (key : S.Key) → IsOrdered (S.holds key) S.state store.old →
+        OnErr result (AddsPart (S.hand key) options.grouping
+        (step options vxid rec.now (S.state store.old)) out.old.items out.new.items) }
 {
     if options.grouping == Grouping::Raw {
         return store.hand_alone(vxid, rec, out);
@@ -295,10 +318,15 @@ pub(crate) fn take_some<S: Store>(
 ) -> Result<(usize, Option<usize>), NoMemory>
     requires known { IfSome known (λ at. S.newest_at store.old vxid at) }
     requires some { 0 < length records.now }
-    ensures ok { (key : S.Key) → IsOrdered (S.holds key) S.state store.old → IfOk result (λ x. WentBy (S.holds key) S.state (S.hand key) options.grouping (steps options vxid (take x.0 records.now) (S.state store.old)) store.new out.old.items out.new.items) }
+    ensures ok { (key : S.Key) → IsOrdered (S.holds key) S.state store.old →
+        IfOk result (λ x. WentBy (S.holds key) S.state (S.hand key) options.grouping
+        (steps options vxid (take x.0 records.now)
+        (S.state store.old)) store.new out.old.items out.new.items) }
     ensures count { IfOk result (λ x. (0 < x.0) × (x.0 ≤ length records.now)) }
     ensures known { IfOk result (λ x. IfSome x.1 (λ at. S.newest_at store.new vxid at)) }
-    ensures err { (key : S.Key) → IsOrdered (S.holds key) S.state store.old → OnErr result (AddsPart (S.hand key) options.grouping (steps options vxid records.now (S.state store.old)) out.old.items out.new.items) }
+    ensures err { (key : S.Key) → IsOrdered (S.holds key) S.state store.old →
+        OnErr result (AddsPart (S.hand key) options.grouping
+        (steps options vxid records.now (S.state store.old)) out.old.items out.new.items) }
 {
     let count = plain_run(options.grouping, records);
     if count > 0 {

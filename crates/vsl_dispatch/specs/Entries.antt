@@ -38,13 +38,17 @@ module _ {C : Type 0} (keep : C → Option ℕ) (output : C → List Group → B
   -- a consumer received a group, and goes on
   pub record GoesOn (group : Group) (c d : C) : Type 0 where
     pub same : IsSame c d
-    pub takes : (groups : List Group) (taken : List ℕ) → represents c groups false taken → represents d (groups ++ group ∷ []) false taken
-    pub more : (groups : List Group) (taken : List ℕ) → represents c groups false taken → keep c ≢ Some (length (groups ++ group ∷ []))
+    pub takes : (groups : List Group) (taken : List ℕ) → represents c groups false taken →
+        represents d (groups ++ group ∷ []) false taken
+    pub more : (groups : List Group) (taken : List ℕ) → represents c groups false taken →
+        keep c ≢ Some (length (groups ++ group ∷ []))
 
   -- a consumer received a group, which is the last that it keeps, was ended, and left these bytes, with which its text is complete
   pub record IsDone (group : Group) (c : C) (bytes : List ℕ) : Type 0 where
-    pub last : (groups : List Group) (taken : List ℕ) → represents c groups false taken → keep c ≡ Some (length (groups ++ group ∷ []))
-    pub text : (groups : List Group) (taken : List ℕ) → represents c groups false taken → taken ++ bytes ≡ output c (groups ++ group ∷ []) true
+    pub last : (groups : List Group) (taken : List ℕ) → represents c groups false taken →
+        keep c ≡ Some (length (groups ++ group ∷ []))
+    pub text : (groups : List Group) (taken : List ℕ) → represents c groups false taken →
+        taken ++ bytes ≡ output c (groups ++ group ∷ []) true
 
   -- a consumer received a group, and it goes on or is gone
   abbrev pub Received : Group → C → Entry C → Type 0
@@ -61,27 +65,32 @@ module _ {C : Type 0} (keep : C → Option ℕ) (output : C → List Group → B
   -- no memory was found for the entry at a place: those before it were given the group, and those behind it were not
   pub record GivenBefore (at : ℕ) (group : Group) (holds : List Bool) (before now : List (Entry C)) : Type 0 where
     pub within : at < length before
-    pub given : (i : ℕ) (b : Bool) (old new : Entry C) → i < at → slice_get holds i ≡ Some b → slice_get before i ≡ Some old → slice_get now i ≡ Some new → Handed group b old new
+    pub given : (i : ℕ) (b : Bool) (old new : Entry C) → i < at → slice_get holds i ≡ Some b →
+        slice_get before i ≡ Some old → slice_get now i ≡ Some new → Handed group b old new
     pub others : (i : ℕ) → at < i → slice_get now i ≡ slice_get before i
 
   -- no group will follow: a consumer was ended, and left these bytes, with which its text is complete; one that is gone stays as it is
   abbrev pub Finished : Entry C → Entry C → Type 0
   Finished (Live c) (Live d) = ⊥
-  Finished (Live c) (Gone bytes) = (groups : List Group) (taken : List ℕ) → represents c groups false taken → taken ++ bytes.items ≡ output c groups true
+  Finished (Live c) (Gone bytes) = (groups : List Group) (taken : List ℕ) → represents c groups false taken →
+      taken ++ bytes.items ≡ output c groups true
   Finished (Gone bytes) new = new ≡ Gone bytes
 
   -- no memory was found for the entry at a place: those before it were ended, and those behind it were not
   pub record FinishedBefore (at : ℕ) (before now : List (Entry C)) : Type 0 where
     pub within : at < length before
-    pub ended : (i : ℕ) (old new : Entry C) → i < at → slice_get before i ≡ Some old → slice_get now i ≡ Some new → Finished old new
+    pub ended : (i : ℕ) (old new : Entry C) → i < at → slice_get before i ≡ Some old → slice_get now i ≡ Some new →
+        Finished old new
     pub others : (i : ℕ) → at < i → slice_get now i ≡ slice_get before i
 
   -- a text was taken from a consumer. It is what was written since the last time: so the lines of varnishlog come with
   -- each unit, and the report of varnishtop at the end
   pub record GaveText (text : List ℕ) (c d : C) : Type 0 where
     pub same : IsSame c d
-    pub whole : (groups : List Group) (ended : Bool) (taken : List ℕ) → represents c groups ended taken → taken ++ text ≡ output c groups ended
-    pub takes : (groups : List Group) (ended : Bool) (taken : List ℕ) → represents c groups ended taken → represents d groups ended (taken ++ text)
+    pub whole : (groups : List Group) (ended : Bool) (taken : List ℕ) → represents c groups ended taken →
+        taken ++ text ≡ output c groups ended
+    pub takes : (groups : List Group) (ended : Bool) (taken : List ℕ) → represents c groups ended taken →
+        represents d groups ended (taken ++ text)
 
   -- nothing is left to be taken of a consumer that is gone
   abbrev pub IsEmptied : Entry C → Type 0
@@ -98,7 +107,8 @@ module _ {C : Type 0} (keep : C → Option ℕ) (output : C → List Group → B
   -- short way, and changes no text
   pub record Offered (u : LogUnit) (took : Bool) (c d : C) : Type 0 where
     pub same : IsSame c d
-    pub takes : (groups : List Group) (taken : List ℕ) → represents c groups false taken → represents d (if took then groups ++ raw_groups u else groups) false taken
+    pub takes : (groups : List Group) (taken : List ℕ) → represents c groups false taken →
+        represents d (if took then groups ++ raw_groups u else groups) false taken
     pub all : took ≡ true → keep c ≡ None
 
   -- they were offered to an entry: a consumer that is gone takes none
@@ -110,8 +120,10 @@ module _ {C : Type 0} (keep : C → Option ℕ) (output : C → List Group → B
   -- of the groups that were for it, a consumer that keeps so many and writes this of groups received the first, at most as many as it keeps, and of its text
   -- these bytes were taken; it received fewer than it keeps where it is live, and else left the rest of its text
   abbrev pub Stands : Option ℕ → (List Group → Bool → List ℕ) → Entry C → List Group → List ℕ → Type 0
-  Stands most writes (Live c) groups taken = (keep c ≡ most) × (output c ≡ writes) × (is_filled most groups ≡ false) × represents c groups false taken
-  Stands most writes (Gone bytes) groups taken = (is_filled most groups ≡ true) × (taken ++ bytes.items ≡ writes (kept most groups) true)
+  Stands most writes (Live c) groups taken = (keep c ≡ most) × (output c ≡ writes) × (is_filled most groups ≡ false) ×
+      represents c groups false taken
+  Stands most writes (Gone bytes) groups taken = (is_filled most groups ≡ true) ×
+      (taken ++ bytes.items ≡ writes (kept most groups) true)
 
 -- the same where no group will follow: it is gone, and left the rest of its text
 abbrev pub HasEnded : {C : Type 0} → Option ℕ → (List Group → Bool → List ℕ) → Entry C → List Group → List ℕ → Type 0

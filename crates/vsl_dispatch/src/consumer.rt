@@ -33,30 +33,44 @@ pub trait Consumer: Drop {
     fn group(&mut self, group: &Group) -> Result<Go, NoMemory>
         ensures same_keep { keep self.new ≡ keep self.old }
         ensures same_output { output self.new ≡ output self.old }
-        ensures takes { OnOk result ((groups : List Group) (taken : List ℕ) → represents self.old groups false taken → represents self.new (groups ++ group.now ∷ []) false taken) }
-        ensures last { result ≡ Ok Go.Done → (groups : List Group) (taken : List ℕ) → represents self.old groups false taken → keep self.old ≡ Some (length (groups ++ group.now ∷ [])) }
-        ensures more { result ≡ Ok Go.More → (groups : List Group) (taken : List ℕ) → represents self.old groups false taken → keep self.old ≢ Some (length (groups ++ group.now ∷ [])) };
+        ensures takes { OnOk result ((groups : List Group) (taken : List ℕ) →
+            represents self.old groups false taken →
+            represents self.new (groups ++ group.now ∷ []) false taken) }
+        ensures last { result ≡ Ok Go.Done → (groups : List Group) (taken : List ℕ) →
+            represents self.old groups false taken →
+            keep self.old ≡ Some (length (groups ++ group.now ∷ [])) }
+        ensures more { result ≡ Ok Go.More → (groups : List Group) (taken : List ℕ) →
+            represents self.old groups false taken →
+            keep self.old ≢ Some (length (groups ++ group.now ∷ [])) };
 
     /// Takes the records of a unit, each as a group by itself, as under raw grouping, where it keeps all groups and has a
     /// short way to do so; whether it took them.
     fn records(&mut self, unit: &Unit) -> Result<bool, NoMemory>
         ensures same_keep { keep self.new ≡ keep self.old }
         ensures same_output { output self.new ≡ output self.old }
-        ensures takes { IfOk result (λ took. (groups : List Group) (taken : List ℕ) → represents self.old groups false taken → represents self.new (if took then groups ++ raw_groups unit.now else groups) false taken) }
+        ensures takes { IfOk result (λ took. (groups : List Group) (taken : List ℕ) →
+            represents self.old groups false taken →
+            represents self.new (if took then groups ++ raw_groups unit.now
+            else groups) false taken) }
         ensures all { result ≡ Ok true → keep self.old ≡ None };
 
     /// No group will follow.
     fn end(&mut self) -> Result<(), NoMemory>
         ensures same_keep { keep self.new ≡ keep self.old }
         ensures same_output { output self.new ≡ output self.old }
-        ensures ends { OnOk result ((groups : List Group) (taken : List ℕ) → represents self.old groups false taken → represents self.new groups true taken) };
+        ensures ends { OnOk result ((groups : List Group) (taken : List ℕ) →
+            represents self.old groups false taken → represents self.new groups true taken) };
 
     /// What it wrote since this was last taken. It takes no memory.
     fn take_text(&mut self) -> Vec<u8>
         ensures same_keep { keep self.new ≡ keep self.old }
         ensures same_output { output self.new ≡ output self.old }
-        ensures text { (groups : List Group) (ended : Bool) (taken : List ℕ) → represents self.old groups ended taken → taken ++ result.items ≡ output self.old groups ended }
-        ensures taken { (groups : List Group) (ended : Bool) (taken : List ℕ) → represents self.old groups ended taken → represents self.new groups ended (taken ++ result.items) };
+        ensures text { (groups : List Group) (ended : Bool) (taken : List ℕ) →
+            represents self.old groups ended taken →
+            taken ++ result.items ≡ output self.old groups ended }
+        ensures taken { (groups : List Group) (ended : Bool) (taken : List ℕ) →
+            represents self.old groups ended taken →
+            represents self.new groups ended (taken ++ result.items) };
 }
 
 impl Consumer for Box<dyn Consumer> {

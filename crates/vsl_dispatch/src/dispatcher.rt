@@ -26,9 +26,13 @@ pub type Dispatch = Dispatcher<Box<dyn Consumer>>;
 fn give_each<C: Consumer>(entries: &mut Vec<Entry<C>>, chosen: &Chosen) -> Result<(), NoMemory>
     requires each { length chosen.now.holds ≡ length entries.old.items }
     ensures length { length entries.new.items ≡ length entries.old.items }
-    ensures handed { OnOk result ((i : ℕ) (holds : Bool) (old new : Entry C) → slice_get chosen.now.holds i ≡ Some holds → slice_get entries.old.items i ≡ Some old → slice_get entries.new.items i ≡ Some new →
+    ensures handed { OnOk result ((i : ℕ) (holds : Bool) (old new : Entry C) →
+        slice_get chosen.now.holds i ≡ Some holds → slice_get entries.old.items i ≡ Some old →
+        slice_get entries.new.items i ≡ Some new →
         Handed C.keep C.output C.represents chosen.now.group holds old new) }
-    ensures part { OnErr result ((at : ℕ) × GivenBefore C.keep C.output C.represents at chosen.now.group chosen.now.holds entries.old.items entries.new.items) }
+    ensures part { OnErr result
+        ((at : ℕ) × GivenBefore C.keep C.output C.represents at chosen.now.group chosen.now.holds
+        entries.old.items entries.new.items) }
 {
     let holds = chosen.holds.as_slice();
     for i in 0..entries.len() {
@@ -42,8 +46,12 @@ fn give_each<C: Consumer>(entries: &mut Vec<Entry<C>>, chosen: &Chosen) -> Resul
 /// Ends each entry.
 fn finish_each<C: Consumer>(entries: &mut Vec<Entry<C>>) -> Result<(), NoMemory>
     ensures length { length entries.new.items ≡ length entries.old.items }
-    ensures finished { OnOk result ((i : ℕ) (old new : Entry C) → slice_get entries.old.items i ≡ Some old → slice_get entries.new.items i ≡ Some new → Finished C.keep C.output C.represents old new) }
-    ensures part { OnErr result ((at : ℕ) × FinishedBefore C.keep C.output C.represents at entries.old.items entries.new.items) }
+    ensures finished { OnOk result ((i : ℕ) (old new : Entry C) →
+        slice_get entries.old.items i ≡ Some old → slice_get entries.new.items i ≡ Some new →
+        Finished C.keep C.output C.represents old new) }
+    ensures part { OnErr result
+        ((at : ℕ) × FinishedBefore C.keep C.output C.represents at entries.old.items
+        entries.new.items) }
 {
     for i in 0..entries.len() {
         entries[i].finish()?;
@@ -76,12 +84,19 @@ impl<C: Consumer> Dispatcher<C> {
     pub fn give(&mut self, chosen: &Chosen) -> Result<(), NoMemory>
         requires each { length chosen.now.holds ≡ length (entries_of self.old) }
         ensures length { length (entries_of self.new) ≡ length (entries_of self.old) }
-        ensures handed { OnOk result ((i : ℕ) (holds : Bool) (old new : Entry C) → slice_get chosen.now.holds i ≡ Some holds → slice_get (entries_of self.old) i ≡ Some old → slice_get (entries_of self.new) i ≡ Some new →
+        ensures handed { OnOk result ((i : ℕ) (holds : Bool) (old new : Entry C) →
+            slice_get chosen.now.holds i ≡ Some holds →
+            slice_get (entries_of self.old) i ≡ Some old →
+            slice_get (entries_of self.new) i ≡ Some new →
             Handed C.keep C.output C.represents chosen.now.group holds old new) }
-        ensures sound { OnOk result ((has_failed self.old ≡ false) × (has_failed self.new ≡ false)) }
-        ensures part { has_failed self.old ≡ false → OnErr result ((at : ℕ) × GivenBefore C.keep C.output C.represents at chosen.now.group chosen.now.holds (entries_of self.old) (entries_of self.new)) }
+        ensures sound { OnOk result
+            ((has_failed self.old ≡ false) × (has_failed self.new ≡ false)) }
+        ensures part { has_failed self.old ≡ false →
+            OnErr result ((at : ℕ) × GivenBefore C.keep C.output C.represents at chosen.now.group
+            chosen.now.holds (entries_of self.old) (entries_of self.new)) }
         ensures err { OnErr result (has_failed self.new ≡ true) }
-        ensures failed { has_failed self.old ≡ true → IsErr result × (entries_of self.new ≡ entries_of self.old) }
+        ensures failed { has_failed self.old ≡ true →
+            IsErr result × (entries_of self.new ≡ entries_of self.old) }
     {
         if self.failed {
             return Err(NoMemory);
@@ -97,8 +112,11 @@ impl<C: Consumer> Dispatcher<C> {
         requires { place < length (entries_of self.old) }
         ensures length { length (entries_of self.new) ≡ length (entries_of self.old) }
         ensures same { has_failed self.new ≡ has_failed self.old }
-        ensures taken { (old new : Entry C) → slice_get (entries_of self.old) place ≡ Some old → slice_get (entries_of self.new) place ≡ Some new → TextTaken C.keep C.output C.represents result.items old new }
-        ensures others { (i : ℕ) → i ≢ place → slice_get (entries_of self.new) i ≡ slice_get (entries_of self.old) i }
+        ensures taken { (old new : Entry C) → slice_get (entries_of self.old) place ≡ Some old →
+            slice_get (entries_of self.new) place ≡ Some new →
+            TextTaken C.keep C.output C.represents result.items old new }
+        ensures others { (i : ℕ) → i ≢ place →
+            slice_get (entries_of self.new) i ≡ slice_get (entries_of self.old) i }
     {
         self.entries[place].text(self.alloc)
     }
@@ -115,11 +133,18 @@ impl<C: Consumer> Dispatcher<C> {
     /// those before it are ended, and those behind it aren't.
     pub fn finish(&mut self) -> Result<(), NoMemory>
         ensures length { length (entries_of self.new) ≡ length (entries_of self.old) }
-        ensures finished { OnOk result ((i : ℕ) (old new : Entry C) → slice_get (entries_of self.old) i ≡ Some old → slice_get (entries_of self.new) i ≡ Some new → Finished C.keep C.output C.represents old new) }
-        ensures sound { OnOk result ((has_failed self.old ≡ false) × (has_failed self.new ≡ false)) }
-        ensures part { has_failed self.old ≡ false → OnErr result ((at : ℕ) × FinishedBefore C.keep C.output C.represents at (entries_of self.old) (entries_of self.new)) }
+        ensures finished { OnOk result ((i : ℕ) (old new : Entry C) →
+            slice_get (entries_of self.old) i ≡ Some old →
+            slice_get (entries_of self.new) i ≡ Some new →
+            Finished C.keep C.output C.represents old new) }
+        ensures sound { OnOk result
+            ((has_failed self.old ≡ false) × (has_failed self.new ≡ false)) }
+        ensures part { has_failed self.old ≡ false →
+            OnErr result ((at : ℕ) × FinishedBefore C.keep C.output C.represents at
+            (entries_of self.old) (entries_of self.new)) }
         ensures err { OnErr result (has_failed self.new ≡ true) }
-        ensures failed { has_failed self.old ≡ true → IsErr result × (entries_of self.new ≡ entries_of self.old) }
+        ensures failed { has_failed self.old ≡ true →
+            IsErr result × (entries_of self.new ≡ entries_of self.old) }
     {
         if self.failed {
             return Err(NoMemory);

@@ -22,7 +22,9 @@ pub enum Entry<C> {
 
 /// Ends a consumer, and takes what it still has to hand out.
 fn end_consumer<C: Consumer>(consumer: &mut C) -> Result<Vec<u8>, NoMemory>
-    ensures { IfOk result (λ text. (groups : List Group) (taken : List ℕ) → C.represents consumer.old groups false taken → taken ++ text.items ≡ C.output consumer.old groups true) }
+    ensures { IfOk result (λ text. (groups : List Group) (taken : List ℕ) →
+        C.represents consumer.old groups false taken →
+        taken ++ text.items ≡ C.output consumer.old groups true) }
 {
     consumer.end()?;
     Ok(consumer.take_text())
@@ -55,7 +57,8 @@ impl<C: Consumer> Entry<C> {
 
     /// Offers the records of a unit, each as a group by itself, to the consumer; whether it took them.
     pub fn records(&mut self, unit: &Unit) -> Result<bool, NoMemory>
-        ensures { IfOk result (λ took. OfferedTo C.keep C.output C.represents unit.now took self.old self.new) }
+        ensures { IfOk result (λ took.
+            OfferedTo C.keep C.output C.represents unit.now took self.old self.new) }
     {
         match self {
             Entry::Live(consumer) => consumer.records(unit),

@@ -12,20 +12,38 @@ use crate::consumer::Consumer;
 /// A consumer that keeps at least one group receives, in order, exactly the groups for which its query holds, up to the last that it
 /// keeps; it is ended once; and the texts that are taken are, in order, its text. Nothing is added to that of one that has ended.
 pub fn each_receives_its_groups<C: Consumer>()
-    ensures given { (most : Option ℕ) (writes : List Group → Bool → List ℕ) (group : Group) (holds : Bool) (old new : Entry C) (groups : List Group) (taken : List ℕ) →
-        Handed C.keep C.output C.represents group holds old new → Stands C.keep C.output C.represents most writes old groups taken →
-        Stands C.keep C.output C.represents most writes new (if holds then groups ++ group ∷ [] else groups) taken }
-    ensures offered { (most : Option ℕ) (writes : List Group → Bool → List ℕ) (u : LogUnit) (took : Bool) (old new : Entry C) (groups : List Group) (taken : List ℕ) →
-        OfferedTo C.keep C.output C.represents u took old new → Stands C.keep C.output C.represents most writes old groups taken →
-        Stands C.keep C.output C.represents most writes new (if took then groups ++ raw_groups u else groups) taken }
-    ensures taken { (most : Option ℕ) (writes : List Group → Bool → List ℕ) (text : List ℕ) (old new : Entry C) (groups : List Group) (taken : List ℕ) →
-        TextTaken C.keep C.output C.represents text old new → Stands C.keep C.output C.represents most writes old groups taken →
-        Stands C.keep C.output C.represents most writes new groups (taken ++ text) × (taken ++ text ≡ writes (kept most groups) (is_filled most groups)) }
-    ensures finished { (most : Option ℕ) (writes : List Group → Bool → List ℕ) (old new : Entry C) (groups : List Group) (taken : List ℕ) →
-        Finished C.keep C.output C.represents old new → Stands C.keep C.output C.represents most writes old groups taken → HasEnded most writes new groups taken }
-    ensures after { (most : Option ℕ) (writes : List Group → Bool → List ℕ) (group : Group) (holds : Bool) (old new : Entry C) (groups : List Group) (taken : List ℕ) →
-        Handed C.keep C.output C.represents group holds old new ⊎ Finished C.keep C.output C.represents old new → HasEnded most writes old groups taken → HasEnded most writes new groups taken }
-    ensures last { (most : Option ℕ) (writes : List Group → Bool → List ℕ) (text : List ℕ) (old new : Entry C) (groups : List Group) (taken : List ℕ) →
-        TextTaken C.keep C.output C.represents text old new → HasEnded most writes old groups taken →
-        HasEnded most writes new groups (taken ++ text) × (taken ++ text ≡ writes (kept most groups) true) }
+    ensures given { (most : Option ℕ) (writes : List Group → Bool → List ℕ) (group : Group)
+        (holds : Bool) (old new : Entry C) (groups : List Group) (taken : List ℕ) →
+        Handed C.keep C.output C.represents group holds old new →
+        Stands C.keep C.output C.represents most writes old groups taken →
+        Stands C.keep C.output C.represents most writes new
+        (if holds then groups ++ group ∷ [] else groups) taken }
+    ensures offered { (most : Option ℕ) (writes : List Group → Bool → List ℕ) (u : LogUnit)
+        (took : Bool) (old new : Entry C) (groups : List Group) (taken : List ℕ) →
+        OfferedTo C.keep C.output C.represents u took old new →
+        Stands C.keep C.output C.represents most writes old groups taken →
+        Stands C.keep C.output C.represents most writes new
+        (if took then groups ++ raw_groups u else groups) taken }
+    ensures taken { (most : Option ℕ) (writes : List Group → Bool → List ℕ) (text : List ℕ)
+        (old new : Entry C) (groups : List Group) (taken : List ℕ) →
+        TextTaken C.keep C.output C.represents text old new →
+        Stands C.keep C.output C.represents most writes old groups taken →
+        Stands C.keep C.output C.represents most writes new groups (taken ++ text) ×
+        (taken ++ text ≡ writes (kept most groups) (is_filled most groups)) }
+    ensures finished { (most : Option ℕ) (writes : List Group → Bool → List ℕ) (old new : Entry C)
+        (groups : List Group) (taken : List ℕ) →
+        Finished C.keep C.output C.represents old new →
+        Stands C.keep C.output C.represents most writes old groups taken →
+        HasEnded most writes new groups taken }
+    ensures after { (most : Option ℕ) (writes : List Group → Bool → List ℕ) (group : Group)
+        (holds : Bool) (old new : Entry C) (groups : List Group) (taken : List ℕ) →
+        Handed C.keep C.output C.represents group holds old new ⊎
+        Finished C.keep C.output C.represents old new → HasEnded most writes old groups taken →
+        HasEnded most writes new groups taken }
+    ensures last { (most : Option ℕ) (writes : List Group → Bool → List ℕ) (text : List ℕ)
+        (old new : Entry C) (groups : List Group) (taken : List ℕ) →
+        TextTaken C.keep C.output C.represents text old new →
+        HasEnded most writes old groups taken →
+        HasEnded most writes new groups (taken ++ text) ×
+        (taken ++ text ≡ writes (kept most groups) true) }
 {}

@@ -25,9 +25,12 @@ impl Received {
     /// One group more: done with the last that is kept. A count above 2^64 - 1 is answered as want of memory.
     pub fn add_one(&mut self) -> Result<Go, NoMemory>
         ensures keep { self.new.keep ≡ self.old.keep }
-        ensures counts { OnOk result ((n : ℕ) → HasReceived self.old n → HasReceived self.new (n + 1)) }
-        ensures last { result ≡ Ok Go.Done → (n : ℕ) → HasReceived self.old n → self.old.keep ≡ Some (n + 1) }
-        ensures more { result ≡ Ok Go.More → (n : ℕ) → HasReceived self.old n → self.old.keep ≢ Some (n + 1) }
+        ensures counts { OnOk result ((n : ℕ) → HasReceived self.old n →
+            HasReceived self.new (n + 1)) }
+        ensures last { result ≡ Ok Go.Done → (n : ℕ) → HasReceived self.old n →
+            self.old.keep ≡ Some (n + 1) }
+        ensures more { result ≡ Ok Go.More → (n : ℕ) → HasReceived self.old n →
+            self.old.keep ≢ Some (n + 1) }
     {
         let Some(keep) = self.keep else {
             return Ok(Go::More);

@@ -36,7 +36,7 @@ packed_short (a ∷ b ∷ c ∷ []) = omega arith
 packed_short (a ∷ b ∷ c ∷ d ∷ p) = omega (arith, packed_short p)
 
 -- a record has few words
-pub record_words_short : (vxid : ℕ) (rec : Record) → IsPayload rec.payload → length (record_words vxid rec) ≤ 4002
+pub record_words_short : (vxid : ℕ) (rec : Record) → IsPayload rec.payload → length (record_words vxid rec) ≤ 4003
 record_words_short vxid rec payload = omega (arith, packed_short rec.payload, payload.short)
 
 -- the words of a unit with one record more

@@ -28,13 +28,15 @@ is_same_mark a b = false
 -- most 65,536 words. A unit has one mark, and a short unit lets a reader in pieces do with little memory
 abbrev pub goes_into : ℕ → List Record → Record → Bool
 goes_into vxid records rec =
-    is_same_mark (first_mark records) rec.mark && nat_le (length (unit_words (file_unit vxid (records ++ rec ∷ [])))) most_file_words
+    is_same_mark (first_mark records) rec.mark && nat_le
+    (length (unit_words (file_unit vxid (records ++ rec ∷ [])))) most_file_words
 
 -- the units of records, where a unit of the first of them was begun: a record that doesn't go into it begins the next
 abbrev pub units_from : ℕ → List Record → List Record → Log
 units_from vxid begun [] = file_unit vxid begun ∷ []
 units_from vxid begun (rec ∷ records) =
-    if goes_into vxid begun rec then units_from vxid (begun ++ rec ∷ []) records else file_unit vxid begun ∷ units_from vxid (rec ∷ []) records
+    if goes_into vxid begun rec then units_from vxid (begun ++ rec ∷ []) records else file_unit vxid begun ∷
+    units_from vxid (rec ∷ []) records
 
 -- the units of records of this VXID; none has no records
 abbrev pub units_of : ℕ → List Record → Log

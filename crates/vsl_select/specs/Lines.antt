@@ -61,4 +61,5 @@ transactions_text verbose members = flat_map (member_text verbose) members ++ (i
 -- the text of a group, or of what of it is shown: of records by themselves their raw lines alone, of transactions their text; no grouping gives a member of
 -- level 0 beside others, and here it has a header
 abbrev pub group_text : Bool → Group → List ℕ
-group_text verbose group = if is_raw group then flat_map member_raw_lines group.members else transactions_text verbose group.members
+group_text verbose group = if is_raw group then flat_map member_raw_lines group.members
+    else transactions_text verbose group.members

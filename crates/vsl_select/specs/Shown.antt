@@ -65,7 +65,8 @@ pattern_fault caseless word (Some pattern) = if is_good_pattern caseless pattern
 
 -- what is wrong with a rule: its taglist is refused, or else its pattern is no good one
 abbrev pub rule_fault : Bool → RuleText → Option SelectFault
-rule_fault caseless rule = option_or (tags_fault rule.word (parts_of rule).tags) (pattern_fault caseless rule.word (parts_of rule).pattern)
+rule_fault caseless rule = option_or (tags_fault rule.word (parts_of rule).tags)
+    (pattern_fault caseless rule.word (parts_of rule).pattern)
 
 -- the first that is wrong with rules
 abbrev pub rules_fault : Bool → List RuleText → Option SelectFault
@@ -78,7 +79,9 @@ names_tag rule tag = elim (parts_of rule).tags [ None ↦ true | Some tags ↦ i
 
 -- a rule matches a record: it names the record's tag, and its pattern, where it has one, matches in the payload
 abbrev pub is_matched : Bool → Record → RuleText → Bool
-is_matched caseless rec rule = names_tag rule rec.tag && elim (parts_of rule).pattern [ None ↦ true | Some pattern ↦ is_match caseless pattern rec.payload ]
+is_matched caseless rec rule =
+    names_tag rule rec.tag && elim
+    (parts_of rule).pattern [ None ↦ true | Some pattern ↦ is_match caseless pattern rec.payload ]
 
 -- ---- records
 
@@ -90,7 +93,8 @@ first_says is_so rules = option_map (λ rule. rule.include) (find is_so rules)
 -- `-i` alone shows its tags and no others, and `-x` alone all others; with `-i ReqURL -I Timestamp:^Resp` the two add
 -- up
 abbrev pub shows_others : List RuleText → Bool
-shows_others rules = not (unwrap_or (first_says (λ rule. not rule.regex) rules) false || unwrap_or (first_says (λ rule. rule.regex) rules) false)
+shows_others rules = not (unwrap_or (first_says (λ rule. not rule.regex) rules) false || unwrap_or
+    (first_says (λ rule. rule.regex) rules) false)
 
 -- whether a record is shown: the first -I or -X that matches it decides, else the last -i or -x that names its tag. So
 -- a pattern makes an exception from taglists, wherever it stands, and a later taglist corrects an earlier one, as

@@ -27,11 +27,14 @@ pub(crate) fn first_mark(records: &RecordsView<'_>) -> Mark
 /// Source: varnishlog(1), `-w`. Where a unit ends is this project's choice.
 pub fn first_unit(records: &RecordsView<'_>) -> usize
     requires { 0 < length records.now }
-    ensures units { (vxid : ℕ) → units_of vxid records.now ≡ file_unit vxid (take result records.now) ∷ units_of vxid (drop result records.now) }
+    ensures units { (vxid : ℕ) →
+        units_of vxid records.now ≡ file_unit vxid (take result records.now) ∷ units_of vxid
+        (drop result records.now) }
     ensures some { 0 < result }
     ensures within { result ≤ length records.now }
     ensures marks { let unit = take result records.now in All (λ r. r.mark ≡ first_mark unit) unit }
-    ensures size { (vxid : ℕ) → length (unit_words (file_unit vxid (take result records.now))) ≤ most_file_words }
+    ensures size { (vxid : ℕ) →
+        length (unit_words (file_unit vxid (take result records.now))) ≤ most_file_words }
 {
     let mark = first_mark(records);
     let mut words = 1 + records.get(0).words();

@@ -72,7 +72,8 @@ fn low_field(character: u8, level: u32) -> [u8; 4]
 #[cold]
 #[inline(never)]
 fn put_high_level(out: &mut Vec<u8>, character: u8, level: u32) -> Result<(), NoMemory>
-    ensures { Puts result out.old.items out.new.items (character ∷ decimal level ++ character ∷ 32 ∷ []) }
+    ensures { Puts result out.old.items out.new.items
+        (character ∷ decimal level ++ character ∷ 32 ∷ []) }
 {
     let mut buffer = Buffer::new();
     put_byte(out, character)?;

@@ -19,7 +19,8 @@ use vsl_record::{RecordView, Vxid};
 
 /// Adds the raw lines of the shown records of a member.
 fn put_raw_member(out: &mut Vec<u8>, selection: &Selection, member: &Member) -> Result<(), NoMemory>
-    ensures { Puts result out.old.items out.new.items (member_raw_lines (shown_member selection.now member.now)) }
+    ensures { Puts result out.old.items out.new.items
+        (member_raw_lines (shown_member selection.now member.now)) }
 {
     if selection.shows_every_record() {
         return put_raw_lines(out, member.vxid, &member.records.view());
@@ -41,7 +42,8 @@ fn put_raw_members(
     selection: &Selection,
     members: &[Member],
 ) -> Result<(), NoMemory>
-    ensures { Puts result out.old.items out.new.items (flat_map member_raw_lines (shown_members selection.now members.now)) }
+    ensures { Puts result out.old.items out.new.items
+        (flat_map member_raw_lines (shown_members selection.now members.now)) }
 {
     for member in members {
         if selection.shows_member(member) {
@@ -86,7 +88,8 @@ fn put_record(
     vxid: &VxidColumns,
     rec: &RecordView<'_>,
 ) -> Result<(), NoMemory>
-    ensures { Puts result out.old.items out.new.items (level.now ++ (if verbose then raw_line vxid.now rec.now else record_text rec.now)) }
+    ensures { Puts result out.old.items out.new.items
+        (level.now ++ (if verbose then raw_line vxid.now rec.now else record_text rec.now)) }
 {
     level.put(out)?;
     if verbose {
@@ -98,7 +101,8 @@ fn put_record(
 
 /// Adds the lines of all records of a transaction.
 fn put_every_record(out: &mut Vec<u8>, verbose: bool, member: &Member) -> Result<(), NoMemory>
-    ensures { Puts result out.old.items out.new.items (flat_map (record_line verbose member.now) member.now.records) }
+    ensures { Puts result out.old.items out.new.items
+        (flat_map (record_line verbose member.now) member.now.records) }
 {
     let level = LevelField::new(b'-', member.level);
     let vxid = VxidColumns::new(member.vxid);
@@ -116,7 +120,9 @@ fn put_records(
     selection: &Selection,
     member: &Member,
 ) -> Result<(), NoMemory>
-    ensures { Puts result out.old.items out.new.items (flat_map (record_line verbose member.now) (shown_member selection.now member.now).records) }
+    ensures { Puts result out.old.items out.new.items
+        (flat_map (record_line verbose member.now)
+        (shown_member selection.now member.now).records) }
 {
     if selection.shows_every_record() {
         return put_every_record(out, verbose, member);
@@ -140,7 +146,8 @@ fn put_member(
     selection: &Selection,
     member: &Member,
 ) -> Result<(), NoMemory>
-    ensures { Puts result out.old.items out.new.items (member_text verbose (shown_member selection.now member.now)) }
+    ensures { Puts result out.old.items out.new.items
+        (member_text verbose (shown_member selection.now member.now)) }
 {
     let before = out.len();
     put_header(out, member)?;
@@ -159,7 +166,8 @@ fn put_members(
     selection: &Selection,
     members: &[Member],
 ) -> Result<(), NoMemory>
-    ensures { Puts result out.old.items out.new.items (flat_map (member_text verbose) (shown_members selection.now members.now)) }
+    ensures { Puts result out.old.items out.new.items
+        (flat_map (member_text verbose) (shown_members selection.now members.now)) }
 {
     for member in members {
         if selection.shows_member(member) {
@@ -185,7 +193,8 @@ fn put_transactions(
     selection: &Selection,
     members: &[Member],
 ) -> Result<(), NoMemory>
-    ensures { Puts result out.old.items out.new.items (transactions_text verbose (shown_members selection.now members.now)) }
+    ensures { Puts result out.old.items out.new.items
+        (transactions_text verbose (shown_members selection.now members.now)) }
 {
     let before = out.len();
     put_members(out, verbose, selection, members)?;
@@ -202,7 +211,8 @@ fn put_group(
     selection: &Selection,
     group: &Group,
 ) -> Result<(), NoMemory>
-    ensures { Puts result out.old.items out.new.items (group_text verbose (shown selection.now group.now)) }
+    ensures { Puts result out.old.items out.new.items
+        (group_text verbose (shown selection.now group.now)) }
 {
     let members = group.members.as_slice();
     if are_raw(selection, members) {
@@ -222,7 +232,8 @@ pub fn group_text(
     verbose: bool,
     out: &mut Vec<u8>,
 ) -> Result<(), NoMemory>
-    ensures { Adds result out.old.items out.new.items (group_text verbose (shown selection.now group.now)) }
+    ensures { Adds result out.old.items out.new.items
+        (group_text verbose (shown selection.now group.now)) }
 {
     let before = out.len();
     let put = put_group(out, verbose, selection, group);

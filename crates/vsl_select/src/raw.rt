@@ -48,8 +48,19 @@ pub(crate) fn put_tag_line(out: &mut Vec<u8>, tag: Tag, text: &[u8]) -> Result<(
     Ok(())
 }
 
-/// Adds what stands before the payload in a raw line: the VXID, the tag and the mark, in their columns. It is put together
-/// first, so that the list grows once.
+/// Adds the digits of a VXID for which its columns have no room, which are mostly none.
+#[inline]
+fn put_before(out: &mut Vec<u8>, digits: &[u8]) -> Result<(), NoMemory>
+    ensures { Puts result out.old.items out.new.items digits.now }
+{
+    if digits.is_empty() {
+        return Ok(());
+    }
+    put_text(out, digits)
+}
+
+/// Adds what stands before the payload in a raw line: the VXID, the tag and the mark, in their columns. They are put
+/// together first, so that the list grows once.
 fn put_raw_columns(
     out: &mut Vec<u8>,
     vxid: &VxidColumns,
@@ -58,13 +69,16 @@ fn put_raw_columns(
 ) -> Result<(), NoMemory>
     ensures { Puts result out.old.items out.new.items (at_right 10 (decimal vxid.now) ++ codes " " ++ name_columns tag ++ mark_letter mark ∷ codes " ") }
 {
+    let (before, vxid_bytes) = vxid.parts();
+    put_before(out, before)?;
     let mut columns = [b' '; COLUMN_BYTES];
     let (vxid_columns, behind) = columns.split_at_mut(VXID_BYTES);
     let (tag_columns, mark_columns) = behind.split_at_mut(TAG_BYTES);
-    vxid_columns.copy_from_slice(vxid.as_slice());
+    vxid_columns.copy_from_slice(vxid_bytes);
     tag_columns.copy_from_slice(name_columns(tag));
     mark_columns.copy_from_slice(&[letter_of(mark), b' ']);
-    put_text(out, &columns)
+    put_text(out, &columns)?;
+    Ok(())
 }
 
 /// Adds the raw line of a record, or a part of it.

@@ -37,8 +37,10 @@ fn is_list(text: &[u8]) -> bool
 
 /// The taglist before the first colon, which may be empty, and the pattern behind it.
 fn split_at_colon(text: &str) -> Option<(&str, &str)>
-    ensures cut { IfSome result (λ parts. ((split_parts text.now).tags ≡ unless_empty parts.0.now) × ((split_parts text.now).pattern ≡ Some parts.1.now)) }
-    ensures none { IfNone result (((split_parts text.now).tags ≡ None) × ((split_parts text.now).pattern ≡ Some text.now)) }
+    ensures cut { IfSome result (λ parts. ((split_parts text.now).tags ≡ unless_empty parts.0.now) ×
+        ((split_parts text.now).pattern ≡ Some parts.1.now)) }
+    ensures none { IfNone result (((split_parts text.now).tags ≡ None) ×
+        ((split_parts text.now).pattern ≡ Some text.now)) }
 {
     let (list, pattern) = text.split_once(':')?;
     if is_list(list.as_bytes()) {
@@ -69,7 +71,8 @@ fn parts_of(text: &str) -> (Option<&str>, &str)
 fn read_tags(list: Option<&str>, word: u32) -> Result<Option<TagSet>, SelectFault>
     ensures tags { IfOk result (λ tags. AreTagsOf (option_copied list.entry) tags) }
     ensures good { OnOk result (tags_fault word (option_copied list.entry) ≡ None) }
-    ensures refused { IfErr result (λ fault. tags_fault word (option_copied list.entry) ≡ Some fault) }
+    ensures refused { IfErr result
+        (λ fault. tags_fault word (option_copied list.entry) ≡ Some fault) }
 {
     let Some(list) = list else {
         return Ok(None);
@@ -87,9 +90,11 @@ fn read_pattern(
     caseless: bool,
     word: u32,
 ) -> Result<Option<Pattern>, SelectFault>
-    ensures pattern { IfOk result (λ pattern. IsPatternOf caseless (option_copied text.entry) pattern) }
+    ensures pattern { IfOk result
+        (λ pattern. IsPatternOf caseless (option_copied text.entry) pattern) }
     ensures good { OnOk result (pattern_fault caseless word (option_copied text.entry) ≡ None) }
-    ensures refused { IfErr result (λ fault. fault ≢ SelectFault.NoMemory → pattern_fault caseless word (option_copied text.entry) ≡ Some fault) }
+    ensures refused { IfErr result (λ fault. fault ≢ SelectFault.NoMemory →
+        pattern_fault caseless word (option_copied text.entry) ≡ Some fault) }
 {
     let Some(text) = text else {
         return Ok(None);
@@ -107,7 +112,8 @@ impl Rule {
         ensures text { IfOk result (λ rule. rule.text ≡ text) }
         ensures read { IfOk result (λ rule. IsRead caseless rule) }
         ensures good { OnOk result (rule_fault caseless text ≡ None) }
-        ensures refused { IfErr result (λ fault. fault ≢ SelectFault.NoMemory → rule_fault caseless text ≡ Some fault) }
+        ensures refused { IfErr result (λ fault. fault ≢ SelectFault.NoMemory →
+            rule_fault caseless text ≡ Some fault) }
     {
         let word = text.word;
         let (list, pattern) = if text.regex {
@@ -127,7 +133,8 @@ impl Rule {
 
     /// Whether the rule names the tag.
     pub fn names(&self, tag: Tag) -> bool
-        ensures { (caseless : Bool) → IsRead caseless self.now → result ≡ names_tag self.now.text tag }
+        ensures { (caseless : Bool) → IsRead caseless self.now →
+            result ≡ names_tag self.now.text tag }
     {
         match &self.tags {
             Some(tags) => tags.has(tag),
@@ -138,7 +145,8 @@ impl Rule {
     /// Whether the rule matches the record. Its tag is asked first; a payload is looked at only where there is a
     /// pattern. What asks a pattern is made for each record that is asked, so a taglist makes `-I` and `-X` faster.
     pub fn fits(&self, alloc: Global, rec: &RecordView<'_>) -> Result<bool, NoMemory>
-        ensures fits { (caseless : Bool) → IsRead caseless self.now → IfOk result (λ b. b ≡ is_matched caseless rec.now self.now.text) }
+        ensures fits { (caseless : Bool) → IsRead caseless self.now →
+            IfOk result (λ b. b ≡ is_matched caseless rec.now self.now.text) }
         ensures answered { self.now.pattern ≡ None → IsOk result }
     {
         if !self.names(rec.tag()) {

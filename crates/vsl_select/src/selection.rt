@@ -41,9 +41,14 @@ impl Model for Selection {
 
     ghost Value = { Showing };
 
-    ghost view = { λ s. record { sides = s.sides; rules = map (λ r. r.text) s.rules.items; caseless = s.caseless } };
+    ghost view = { λ s. record {
+      sides = s.sides;
+      rules = map (λ r. r.text) s.rules.items;
+      caseless = s.caseless;
+    } };
 
-    ghost invariant = { λ s. (s.patterns ≡ list_any (λ r. r.regex) (map (λ r. r.text) s.rules.items))
+    ghost invariant = { λ s. (s.patterns ≡ list_any (λ r. r.regex)
+        (map (λ r. r.text) s.rules.items))
         × (s.others ≡ shows_others (map (λ r. r.text) s.rules.items)) };
 }
 
@@ -81,7 +86,8 @@ fn read_rules(alloc: Global, rules: Vec<RuleText>, caseless: bool) -> Result<Vec
     ensures read { IfOk result (λ read. All (IsRead caseless) read.items) }
     ensures texts { IfOk result (λ read. map (λ r. r.text) read.items ≡ rules.items) }
     ensures good { OnOk result (rules_fault caseless rules.items ≡ None) }
-    ensures refused { IfErr result (λ fault. fault ≢ SelectFault.NoMemory → rules_fault caseless rules.items ≡ Some fault) }
+    ensures refused { IfErr result (λ fault. fault ≢ SelectFault.NoMemory →
+        rules_fault caseless rules.items ≡ Some fault) }
 {
     let mut read = Vec::new(alloc);
     for text in rules {
@@ -105,7 +111,8 @@ fn first_pattern_includes(rules: &[Rule]) -> bool
 
 /// Whether the first of `-i` and `-x` includes.
 fn first_list_includes(rules: &[Rule]) -> bool
-    ensures { result ≡ unwrap_or (first_says (λ r. not r.regex) (map (λ r. r.text) rules.now)) false }
+    ensures { result ≡ unwrap_or
+        (first_says (λ r. not r.regex) (map (λ r. r.text) rules.now)) false }
 {
     match rules.iter().find(|rule| !rule.text.regex) {
         Some(rule) => rule.text.include,
@@ -138,9 +145,11 @@ impl Selection {
         rules: Vec<RuleText>,
         caseless: bool,
     ) -> Result<Selection, SelectFault>
-        ensures made { IfOk result (λ s. s ≡ record { sides = sides; rules = rules.items; caseless = caseless }) }
+        ensures made { IfOk result
+            (λ s. s ≡ record { sides = sides; rules = rules.items; caseless = caseless }) }
         ensures good { OnOk result (rules_fault caseless rules.items ≡ None) }
-        ensures refused { IfErr result (λ fault. fault ≢ SelectFault.NoMemory → rules_fault caseless rules.items ≡ Some fault) }
+        ensures refused { IfErr result (λ fault. fault ≢ SelectFault.NoMemory →
+            rules_fault caseless rules.items ≡ Some fault) }
     {
         let rules = read_rules(alloc, rules, caseless)?;
         let patterns = has_pattern(&rules);
@@ -166,7 +175,8 @@ impl Selection {
     /// Whether every record of a shown transaction is shown.
     pub fn shows_every_record(&self) -> bool
         ensures told { result ≡ (length self.now.rules == 0) }
-        ensures all { result ≡ true → (records : List Record) → filter (is_shown_record self.now) records ≡ records }
+        ensures all { result ≡ true → (records : List Record) →
+            filter (is_shown_record self.now) records ≡ records }
     {
         self.rules.is_empty()
     }
@@ -197,7 +207,9 @@ impl Selection {
     /// What the first of `-I` and `-X` that matches the record says. It is kept out of line, since what asks a pattern takes much of the stack.
     #[inline(never)]
     fn first_match(&self, rec: &RecordView<'_>) -> Result<Option<bool>, NoMemory>
-        ensures said { IfOk result (λ said. said ≡ first_says (λ r. r.regex && is_matched self.now.caseless rec.now r) self.now.rules) }
+        ensures said { IfOk result
+            (λ said. said ≡ first_says
+            (λ r. r.regex && is_matched self.now.caseless rec.now r) self.now.rules) }
         ensures answered { list_any (λ r. r.regex) self.now.rules ≡ false → IsOk result }
     {
         for rule in &self.rules {
@@ -210,7 +222,8 @@ impl Selection {
 
     /// What the last of `-i` and `-x` that names the tag says.
     fn last_named(&self, tag: Tag) -> Option<bool>
-        ensures { result ≡ first_says (λ r. not r.regex && names_tag r tag) (reverse self.now.rules) }
+        ensures { result ≡ first_says (λ r. not r.regex && names_tag r tag)
+            (reverse self.now.rules) }
     {
         let mut said = None;
         for rule in &self.rules {
@@ -223,7 +236,9 @@ impl Selection {
 
     /// What the rules say of the record, where one of them decides.
     fn said_of(&self, rec: &RecordView<'_>) -> Result<Option<bool>, NoMemory>
-        ensures said { IfOk result (λ said. said ≡ option_or (first_says (λ r. r.regex && is_matched self.now.caseless rec.now r) self.now.rules)
+        ensures said { IfOk result
+            (λ said. said ≡ option_or
+            (first_says (λ r. r.regex && is_matched self.now.caseless rec.now r) self.now.rules)
             (first_says (λ r. not r.regex && names_tag r rec.now.tag) (reverse self.now.rules))) }
         ensures answered { list_any (λ r. r.regex) self.now.rules ≡ false → IsOk result }
     {
@@ -250,7 +265,8 @@ impl Selection {
 
     /// Copies of the shown records of a transaction.
     pub fn shown_records(&self, member: &Member) -> Result<Records, NoMemory>
-        ensures { IfOk result (λ records. records ≡ filter (is_shown_record self.now) member.now.records) }
+        ensures { IfOk result (λ records.
+            records ≡ filter (is_shown_record self.now) member.now.records) }
     {
         let mut shown = Records::new(self.alloc);
         let records = member.records.view();

@@ -1,31 +1,39 @@
 //! A VXID in the columns of a raw line.
 
-ghost use Rattle.std.specs.Prelude.{◌≡◌, ◌++◌, codes, decimal};
+ghost use Rattle.std.specs.Prelude.{◌≡◌, ◌≤◌, ◌++◌, drop, length, codes, decimal};
 ghost use Rattle.vsl_select.specs.RawLine.{at_right};
 
 use itoa::write_digits;
 use std::marker::Model;
 use vsl_record::Vxid;
 
-/// The columns of a VXID, without the space behind them.
-const COLUMNS: usize = 10;
+/// The most digits of a number of 64 bits.
+const DIGITS: usize = 20;
 
-/// A VXID at the right of 10 columns, and a space: once for all lines of a unit. Contracts see the VXID.
+/// How many of them may stand before the columns, which are 10.
+const BEFORE: usize = 10;
+
+/// A VXID at the right of 10 columns, and a space: once for all lines of a unit. A longer number begins before the
+/// columns. Contracts see the VXID.
 #[derive(Drop)]
 pub(crate) struct VxidColumns {
     vxid: Vxid,
-    columns: [u8; 11],
+    /// The VXID at the right of as many columns as it may need, and a space.
+    columns: [u8; 21],
+    /// Where it begins in them, or where its columns do.
+    start: usize,
 }
 
 impl Model for VxidColumns {
-    ghost use Rattle.std.specs.Prelude.{ℕ, ◌≡◌, ◌++◌, codes, decimal};
+    ghost use Rattle.std.specs.Prelude.{ℕ, ◌≡◌, ◌≤◌, ◌++◌, drop, codes, decimal};
     ghost use Rattle.vsl_select.specs.RawLine.{at_right};
 
     ghost Value = { ℕ };
 
     ghost view = { λ v. v.vxid };
 
-    ghost invariant = { λ v. v.columns ≡ at_right 10 (decimal v.vxid) ++ codes " " };
+    ghost invariant = { λ v. (v.start ≤ 10)
+        × (drop v.start v.columns ≡ at_right 10 (decimal v.vxid) ++ codes " ") };
 }
 
 impl VxidColumns {
@@ -33,25 +41,32 @@ impl VxidColumns {
     pub(crate) fn new(vxid: Vxid) -> VxidColumns
         ensures { result ≡ vxid }
     {
+        let (columns, start) = columns_of(vxid);
         VxidColumns {
             vxid,
-            columns: columns_of(vxid),
+            columns,
+            start,
         }
     }
 
-    /// The text, of 11 bytes.
-    pub(crate) fn as_slice(&self) -> &[u8; 11]
-        ensures { result.now ≡ at_right 10 (decimal self.now) ++ codes " " }
+    /// The text, in two parts: the digits for which the columns have no room, which few VXIDs have, and the columns with
+    /// the space, which are 11 bytes.
+    pub(crate) fn parts(&self) -> (&[u8], &[u8])
+        ensures text { result.0.now ++ result.1.now ≡ at_right 10 (decimal self.now) ++ codes " " }
+        ensures size { length result.1.now ≡ 11 }
     {
-        &self.columns
+        let (before, columns) = self.columns.split_at(BEFORE);
+        let (_, digits) = before.split_at(self.start);
+        (digits, columns)
     }
 }
 
-/// A VXID at the right of its columns, and a space.
-fn columns_of(vxid: Vxid) -> [u8; 11]
-    ensures { result ≡ at_right 10 (decimal vxid) ++ codes " " }
+/// A VXID at the right of as many columns as it may need and a space, and where it or its columns begin.
+fn columns_of(vxid: Vxid) -> ([u8; 21], usize)
+    ensures start { result.1 ≤ 10 }
+    ensures text { drop result.1 result.0 ≡ at_right 10 (decimal vxid) ++ codes " " }
 {
-    let mut columns = [b' '; 11];
-    write_digits(u64::from(vxid), &mut columns, COLUMNS);
-    columns
+    let mut columns = [b' '; 21];
+    let first = write_digits(vxid, &mut columns, DIGITS);
+    (columns, first.min(BEFORE))
 }

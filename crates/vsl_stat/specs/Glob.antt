@@ -18,7 +18,8 @@ follows byte test (b ∷ name) = (byte == b) && test name
 abbrev pub glob_matches : List ℕ → List ℕ → Bool
 glob_matches [] [] = true
 glob_matches [] (b ∷ name) = false
-glob_matches (byte ∷ glob) name = if byte == star then at_some_place (glob_matches glob) name else follows byte (glob_matches glob) name
+glob_matches (byte ∷ glob) name = if byte == star then at_some_place (glob_matches glob) name else follows byte
+    (glob_matches glob) name
 
 -- a name is selected: some glob matches it, or there are no globs
 abbrev pub is_selected : List (List ℕ) → List ℕ → Bool

@@ -87,7 +87,8 @@ counter_data which value =
 -- is right
 abbrev pub by_name : List ℕ → List ℕ → Members → Members
 by_name values [] members = members
-by_name values (which ∷ numbers) members = by_name values numbers (put (name_of which) (counter_data which (slice_index values which)) members)
+by_name values (which ∷ numbers) members =
+    by_name values numbers (put (name_of which) (counter_data which (slice_index values which)) members)
 
 -- the JSON of the selected counters, without a space, and a line feed. A timestamp would be another at each run. How
 -- the object is printed is the definition of the crate `serde_json`

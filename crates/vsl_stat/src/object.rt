@@ -27,7 +27,8 @@ fn counter_value(alloc: Global, which: u32, value: u64) -> Result<Value, AllocEr
 /// The selected counters, by their names.
 #[tactic(auto, using(crate::proofs::SelectLemmas::selecting))]
 fn counters_value(alloc: Global, values: &Values, globs: &Globs) -> Result<Value, AllocError>
-    ensures { IfOk result (λ v. view v ≡ object (spec.by_name values.now (spec.selected globs.now) no_members)) }
+    ensures { IfOk result (λ v.
+        view v ≡ object (spec.by_name values.now (spec.selected globs.now) no_members)) }
 {
     let mut counters = Map::new(alloc);
     for which in 0..COUNTERS {

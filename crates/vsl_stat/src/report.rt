@@ -29,7 +29,8 @@ fn put_told(which: u32, values: Option<&Values>, out: &mut Vec<u8>) -> Result<()
 
 /// Adds a line for each selected counter, in the order of their numbers, or a part of them.
 fn put_all_told(values: Option<&Values>, globs: &Globs, out: &mut Vec<u8>) -> Result<(), NoMemory>
-    ensures { Puts result out.old.items out.new.items (told_of_all (option_copied values.entry) globs.now) }
+    ensures { Puts result out.old.items out.new.items
+        (told_of_all (option_copied values.entry) globs.now) }
 {
     for which in 0..COUNTERS {
         if is_shown(which, globs) {

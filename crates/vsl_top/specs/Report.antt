@@ -21,12 +21,17 @@ pub record Key : Type 0 where
 -- the key of a record: its tag, and its payload, or the first field of it, nothing where it has none. So each shown
 -- record is counted once
 abbrev pub key_of : Bool → Record → Key
-key_of first_field rec = record { tag = rec.tag; text = if first_field then unwrap_or (field_of rec.payload 1) [] else rec.payload }
+key_of first_field rec = record {
+  tag = rec.tag;
+  text = if first_field then unwrap_or (field_of rec.payload 1) []
+      else rec.payload;
+}
 
 -- the keys of the shown records of groups, in order. They are those that varnishlog prints for the same options, also
 -- of a force-completion: VSL tells how often a limit, a timeout or the log's end cut a transaction
 abbrev pub keys_of : Showing → Bool → List Group → List Key
-keys_of showing first_field groups = map (key_of first_field) (flat_map (λ g. flat_map (λ m. m.records) (shown showing g).members) groups)
+keys_of showing first_field groups =
+    map (key_of first_field) (flat_map (λ g. flat_map (λ m. m.records) (shown showing g).members) groups)
 
 -- whether two keys are equal. Case counts, also with -C, which is of patterns and queries
 abbrev pub is_same : Key → Key → Bool
@@ -49,7 +54,9 @@ pub record Line : Type 0 where
 -- the order of lines: the higher count first, then the tag's name by bytes, then the text by bytes. So a report is the
 -- same whatever the order of the log, and however its lines are printed
 abbrev pub line_order : Line → Line → Ordering
-line_order a b = ordering_then (nat_cmp b.count a.count) (ordering_then (slice_cmp nat_cmp (tag_name a.key.tag) (tag_name b.key.tag)) (slice_cmp nat_cmp a.key.text b.key.text))
+line_order a b = ordering_then (nat_cmp b.count a.count)
+    (ordering_then (slice_cmp nat_cmp (tag_name a.key.tag) (tag_name b.key.tag))
+    (slice_cmp nat_cmp a.key.text b.key.text))
 
 -- a line at its place among lines in order
 abbrev pub put_in : Line → List Line → List Line

@@ -57,7 +57,9 @@ impl TopConsumer {
     /// Source: varnishtop(1), `-1`.
     #[tactic(auto, using(log_model::proofs::PrefixLemmas::cut_back))]
     pub fn report(&self, out: &mut Vec<u8>) -> Result<(), NoMemory>
-        ensures ok { OnOk result ((groups : List Group) (ended : Bool) (taken : List ℕ) → IsTop self.now groups ended taken → out.new.items ≡ out.old.items ++ output_of self.now groups true) }
+        ensures ok { OnOk result ((groups : List Group) (ended : Bool) (taken : List ℕ) →
+            IsTop self.now groups ended taken →
+            out.new.items ≡ out.old.items ++ output_of self.now groups true) }
         ensures err { OnErr result (out.new.items ≡ out.old.items) }
     {
         let length = out.len();

@@ -53,7 +53,8 @@ impl Counts {
     /// Counts a key that was not counted before, of which it keeps a copy.
     fn add_new(&mut self, tag: Tag, text: &[u8]) -> Result<(), NoMemory>
         requires { get is_same self.old.map (record { tag = tag; text = text.now }) ≡ None }
-        ensures { OnOk result ((keys : List report.Key) → AreCounted keys self.old → AreCounted (keys ++ record { tag = tag; text = text.now } ∷ []) self.new) }
+        ensures { OnOk result ((keys : List report.Key) → AreCounted keys self.old →
+            AreCounted (keys ++ record { tag = tag; text = text.now } ∷ []) self.new) }
     {
         let key = Key::new(self.alloc, tag, text)?;
         self.map.insert(key, 1)?;
@@ -63,8 +64,11 @@ impl Counts {
     /// Counts a tag with a text once more. Where it was counted before, this takes no memory, and else a copy of the text.
     /// A count above 2^64 - 1 is answered as want of memory.
     pub(crate) fn add(&mut self, tag: Tag, text: &[u8]) -> Result<(), NoMemory>
-        ensures answered { (n : ℕ) → get is_same self.old.map (record { tag = tag; text = text.now }) ≡ Some n → n + 1 < 2 ^ 64 → IsOk result }
-        ensures counted { OnOk result ((keys : List report.Key) → AreCounted keys self.old → AreCounted (keys ++ record { tag = tag; text = text.now } ∷ []) self.new) }
+        ensures answered { (n : ℕ) →
+            get is_same self.old.map (record { tag = tag; text = text.now }) ≡ Some n →
+            n + 1 < 2 ^ 64 → IsOk result }
+        ensures counted { OnOk result ((keys : List report.Key) → AreCounted keys self.old →
+            AreCounted (keys ++ record { tag = tag; text = text.now } ∷ []) self.new) }
     {
         let Some((index, _, count)) = self.map.get_full(&KeyParts { tag, text }) else {
             return self.add_new(tag, text);
@@ -80,7 +84,8 @@ impl Counts {
         first_field: bool,
         records: &RecordsView<'_>,
     ) -> Result<(), NoMemory>
-        ensures { OnOk result ((keys : List report.Key) → AreCounted keys self.old → AreCounted (keys ++ map (key_of first_field) records.now) self.new) }
+        ensures { OnOk result ((keys : List report.Key) → AreCounted keys self.old →
+            AreCounted (keys ++ map (key_of first_field) records.now) self.new) }
     {
         for i in 0..records.len() {
             let rec = records.get(i);
@@ -96,7 +101,8 @@ impl Counts {
         first_field: bool,
         rec: &RecordView<'_>,
     ) -> Result<(), NoMemory>
-        ensures { OnOk result ((keys : List report.Key) → AreCounted keys self.old → AreCounted (keys ++ shown_keys selection.now first_field (rec.now ∷ [])) self.new) }
+        ensures { OnOk result ((keys : List report.Key) → AreCounted keys self.old →
+            AreCounted (keys ++ shown_keys selection.now first_field (rec.now ∷ [])) self.new) }
     {
         if selection.shows(rec)? {
             self.add(rec.tag(), text_of(first_field, rec))
@@ -112,7 +118,8 @@ impl Counts {
         first_field: bool,
         records: &RecordsView<'_>,
     ) -> Result<(), NoMemory>
-        ensures { OnOk result ((keys : List report.Key) → AreCounted keys self.old → AreCounted (keys ++ shown_keys selection.now first_field records.now) self.new) }
+        ensures { OnOk result ((keys : List report.Key) → AreCounted keys self.old →
+            AreCounted (keys ++ shown_keys selection.now first_field records.now) self.new) }
     {
         for i in 0..records.len() {
             self.add_shown(selection, first_field, &records.get(i))?;
@@ -127,7 +134,8 @@ impl Counts {
         first_field: bool,
         member: &Member,
     ) -> Result<(), NoMemory>
-        ensures { OnOk result ((keys : List report.Key) → AreCounted keys self.old → AreCounted (keys ++ member_keys selection.now first_field (member.now ∷ [])) self.new) }
+        ensures { OnOk result ((keys : List report.Key) → AreCounted keys self.old →
+            AreCounted (keys ++ member_keys selection.now first_field (member.now ∷ [])) self.new) }
     {
         if selection.shows_member(member) {
             self.add_all_shown(selection, first_field, &member.records.view())
@@ -143,7 +151,8 @@ impl Counts {
         first_field: bool,
         group: &Group,
     ) -> Result<(), NoMemory>
-        ensures { OnOk result ((keys : List report.Key) → AreCounted keys self.old → AreCounted (keys ++ member_keys selection.now first_field group.now.members) self.new) }
+        ensures { OnOk result ((keys : List report.Key) → AreCounted keys self.old →
+            AreCounted (keys ++ member_keys selection.now first_field group.now.members) self.new) }
     {
         for member in group.members.as_slice() {
             self.add_member(selection, first_field, member)?;
@@ -165,7 +174,8 @@ impl Counts {
 
     /// A line for each key, in no order.
     fn all_lines(&self) -> Result<Vec<Line<'_>>, NoMemory>
-        ensures { IfOk result (λ lines. AreLinesOf self.now.map.entries (length self.now.map.entries) lines.items) }
+        ensures { IfOk result (λ lines.
+            AreLinesOf self.now.map.entries (length self.now.map.entries) lines.items) }
     {
         let mut lines = Vec::new(self.alloc);
         for i in 0..self.map.len() {
@@ -179,7 +189,8 @@ impl Counts {
 
     /// A line for each key, in the order of the report.
     pub(crate) fn lines(&self) -> Result<Vec<Line<'_>>, NoMemory>
-        ensures { IfOk result (λ lines. (keys : List report.Key) → AreCounted keys self.now → map line_in lines.items ≡ lines_of keys) }
+        ensures { IfOk result (λ lines. (keys : List report.Key) → AreCounted keys self.now →
+            map line_in lines.items ≡ lines_of keys) }
     {
         names_differ();
         let mut lines = self.all_lines()?;

@@ -13,9 +13,13 @@ ghost use Rattle.vsl_top.specs.Report.{Key, count_of, is_same, keys_of, line_ord
 /// counts add up to the number of shown records; and no line comes before one that it follows in the report's order.
 pub fn reports_add_up()
     ensures once { (keys : List Key) → IsDistinct is_same (map (λ l. l.key) (lines_of keys)) }
-    ensures counted { (keys : List Key) → All (λ l. (0 < l.count) × (l.count ≡ count_of l.key keys)) (lines_of keys) }
-    ensures every { (keys : List Key) (key : Key) → 0 < count_of key keys → list_any (λ l. is_same key l.key) (lines_of keys) ≡ true }
+    ensures counted { (keys : List Key) →
+        All (λ l. (0 < l.count) × (l.count ≡ count_of l.key keys)) (lines_of keys) }
+    ensures every { (keys : List Key) (key : Key) → 0 < count_of key keys →
+        list_any (λ l. is_same key l.key) (lines_of keys) ≡ true }
     ensures sum { (showing : Showing) (first_field : Bool) (groups : List Group) →
-        sum_by (λ l. l.count) (lines_of (keys_of showing first_field groups)) ≡ sum_by (λ g. sum_by (λ m. length m.records) (shown showing g).members) groups }
-    ensures ordered { (keys : List Key) → IsSortedBy (λ a b. is_lt (line_order a b)) (lines_of keys) }
+        sum_by (λ l. l.count) (lines_of (keys_of showing first_field groups)) ≡ sum_by
+        (λ g. sum_by (λ m. length m.records) (shown showing g).members) groups }
+    ensures ordered { (keys : List Key) →
+        IsSortedBy (λ a b. is_lt (line_order a b)) (lines_of keys) }
 {}

@@ -18,4 +18,5 @@ file_fault name named.TooLarge = TooLarge name most_feed_bytes
 
 -- what reading the n-th feed, of this name, comes to
 abbrev pub TookFeed : ℕ → ℕ → ℕ → List ℕ → Result Listing (Halt FeedFault) → List Call → Type 0
-TookFeed reclen seg n name result calls = TookSteps (FeedPasses reclen seg) FeedStops (λ listing found. found ≡ listing ∷ []) (name ∷ []) (feeds_from n (name ∷ [])) result calls
+TookFeed reclen seg n name result calls = TookSteps (FeedPasses reclen seg) FeedStops
+    (λ listing found. found ≡ listing ∷ []) (name ∷ []) (feeds_from n (name ∷ [])) result calls

@@ -61,7 +61,8 @@ pub record AreTallied (counters : CounterSet) (listings : List Listing) (writers
   pub as_many_passes : length passes ≡ length writers
   pub all : counters.passes ≡ length writers
   pub sound : AllByRecursion (IsSound counters) (tallies writers cuts passes)
-  pub shares : (which : ℕ) → which < counter_count → map (whole_share which) (tallies writers cuts passes) ≡ map (listing_share which) listings
+  pub shares : (which : ℕ) → which < counter_count →
+      map (whole_share which) (tallies writers cuts passes) ≡ map (listing_share which) listings
 
 -- writers, so many of which have not left, stand where some turns of feeds lead, in an order: what was put, and then what will be, is the log
 pub record HaveWritten (seg : ℕ) (order : Option ℕ) (feeds : List Log) (ring : RingState) (writers : List (Option Log)) (active : ℕ) (drawn : Option ℕ) : Type 0 where

@@ -38,8 +38,10 @@ turns_to_come r = 2 * count_turns r.writers + (if is_reading r.reading then 1 el
 -- the reader met what a turn answers, between what was met before it and after it, and nothing where it answers nothing; what was taken stands in the cursor
 abbrev pub Adds : Option Advanced → ReplayState → List Item → List Item → Type 0
 Adds None now before after = after ≡ before
-Adds (Some answer.Took) now before after = (u : LogUnit) × (after ≡ before ++ items.Unit u ∷ []) × Spells now.cursor.words u
-Adds (Some (answer.Overrun at seen missed)) now before after = after ≡ before ++ items.Overrun at seen ∷ items.Missed missed ∷ []
+Adds (Some answer.Took) now before after = (u : LogUnit) × (after ≡ before ++ items.Unit u ∷ []) ×
+    Spells now.cursor.words u
+Adds (Some (answer.Overrun at seen missed)) now before after =
+    after ≡ before ++ items.Overrun at seen ∷ items.Missed missed ∷ []
 Adds (Some answer.Ended) now before after = (after ≡ before) × (has_ended now.reading ≡ true)
 
 -- a turn that answers this leads from a stage to another

@@ -37,7 +37,8 @@ AreWhole fed = AllByRecursion (λ (f : Fed). f.full ≡ None) fed
 
 -- the workers may be started, with room for what they leave
 abbrev pub WorkReady : RingSet → CounterSet → Work → Type 0
-WorkReady ring counters work = IfSome work.workers (λ w. AllReady ring counters w.0.items × (w.1.items ≡ []) × (vec_len w.0 ≤ vec_capacity w.1) × (vec_len w.0 < 4294967296))
+WorkReady ring counters work = IfSome work.workers (λ w. AllReady ring counters w.0.items × (w.1.items ≡ []) ×
+    (vec_len w.0 ≤ vec_capacity w.1) × (vec_len w.0 < 4294967296))
 
 -- they were started, and left what their listings come to
 abbrev pub WorkFed : RingSet → CounterSet → Work → List Fed → Type 0

@@ -117,7 +117,9 @@ module _ (words : LogUnit → List ℕ) where
   -- what each of these writers, which are in the seat id, put: its units of the log, each beside its tail
   abbrev pub PutAll : ℕ → Log → List ℕ → (ℕ → ℕ) → ℕ → List WriterView → Type 0
   PutAll seg log owners seat id [] = Unit {0}
-  PutAll seg log owners seat id (x ∷ xs) = ((seat x.number ≡ id) × (x.entries ≡ given_to x.number owners (entries_from words seg 0 log))) × PutAll seg log owners seat id xs
+  PutAll seg log owners seat id (x ∷ xs) =
+      ((seat x.number ≡ id) × (x.entries ≡ given_to x.number owners (entries_from words seg 0 log))) ×
+      PutAll seg log owners seat id xs
 
   -- ---- 2. the write token is the tail and one more while no writer has it, and 0 while one has it, who knows how far its put has come; no other put is in progress
 
@@ -140,14 +142,17 @@ module _ (words : LogUnit → List ℕ) where
   abbrev pub IsUnderWay : ℕ → Log → ℕ → Progress → (ℕ → ℕ) → (ℕ → ℕ) → Type 0
   IsUnderWay seg log c Free ent word = c ≡ tail words seg log / seg
   IsUnderWay seg log c (Storing p) ent word =
-      (p.tail ≡ tail words seg log) × (p.counter ≡ c) × ((c ≡ p.tail / seg) ⊎ ((c ≡ end_at seg p.tail (length (words p.unit)) / seg) × (c ≤ p.tail / seg + 2)))
+      (p.tail ≡ tail words seg log) × (p.counter ≡ c) ×
+      ((c ≡ p.tail / seg) ⊎ ((c ≡ end_at seg p.tail (length (words p.unit)) / seg) × (c ≤ p.tail / seg + 2)))
       × (p.start ≤ c + 1) × HasStored words seg log p.unit p.start p.word p.mark ent word
-  IsUnderWay seg log c (Stored p) ent word = (tail words seg log ≡ end_at seg p.tail (length (words p.unit))) × (c ≡ tail words seg log / seg)
+  IsUnderWay seg log c (Stored p) ent word = (tail words seg log ≡ end_at seg p.tail (length (words p.unit))) ×
+      (c ≡ tail words seg log / seg)
 
   -- what the put in progress loaded of the number of units, and the numbers of segments that it stored
   abbrev pub IsNumbering : ℕ → Log → Progress → (ℕ → ℕ) → Type 0
   IsNumbering seg log Free num = Unit {0}
-  IsNumbering seg log (Storing p) num = ((n : ℕ) → p.units ≡ Some n → n ≡ length log) × HasNumbered words seg log p.unit p.numbered num
+  IsNumbering seg log (Storing p) num = ((n : ℕ) → p.units ≡ Some n → n ≡ length log) ×
+      HasNumbered words seg log p.unit p.numbered num
   IsNumbering seg log (Stored p) num = Unit {0}
 
   -- ---- 6. the writers that left are counted, and none of them puts a unit (`IsSeat.idle`, `HoldsOneLog.finished`)
@@ -161,11 +166,13 @@ module _ (words : LogUnit → List ℕ) where
   abbrev pub IsUnchecked : RingKey → Log → ℕ → ReaderView → Unchecked → Type 0
   IsUnchecked key log c r Nothing = Unit {0}
   IsUnchecked key log c r (Words xs) = c < r.place / key.seg + 8
-      → AreCopied words key.seg log r.place r.number xs × (key.writers ≤ r.finished_seen → xs ≡ end_mark ∷ [] → r.number ≡ length log)
+      → AreCopied words key.seg log r.place r.number xs ×
+      (key.writers ≤ r.finished_seen → xs ≡ end_mark ∷ [] → r.number ≡ length log)
   IsUnchecked key log c r (Start s x) = (r.loaded ≤ s + seek_distance)
       × (c < s + 8 → (s ≤ tail words key.seg log / key.seg) × (segment_start words key.seg log s ≡ Some x))
   IsUnchecked key log c r (Numbered s x n) = (r.loaded ≤ s + seek_distance)
-      × (c < s + 8 → (s ≤ tail words key.seg log / key.seg) × (segment_start words key.seg log s ≡ Some x) × (n ≡ first_number words key.seg log s))
+      × (c < s + 8 → (s ≤ tail words key.seg log / key.seg) × (segment_start words key.seg log s ≡ Some x) ×
+      (n ≡ first_number words key.seg log s))
 
   -- ---- 8. what a reader took is a history of the log, and its cursor stands where the history ends
 
@@ -196,8 +203,10 @@ module _ (words : LogUnit → List ℕ) where
     pub token : IsToken seg w.log w.progress (slice_index ws token_word)  -- 2
     pub counter : slice_index ws counter_word ≡ w.counter  -- 3
     pub finished : slice_index ws finished_word ≡ w.finished  -- 6
-    pub holds : HoldsLog words seg w.log w.counter (λ i. slice_index ws (first_start + i)) (λ i. slice_index ws (first_ring_word + i))  -- 4, 5
-    pub under_way : IsUnderWay seg w.log w.counter w.progress (λ i. slice_index ws (first_start + i)) (λ i. slice_index ws (first_ring_word + i))  -- 3 to 5
+    pub holds : HoldsLog words seg w.log w.counter (λ i. slice_index ws (first_start + i))
+        (λ i. slice_index ws (first_ring_word + i))  -- 4, 5
+    pub under_way : IsUnderWay seg w.log w.counter w.progress (λ i. slice_index ws (first_start + i))
+        (λ i. slice_index ws (first_ring_word + i))  -- 3 to 5
     pub count : IsCount w.log w.progress (slice_index ws count_word)  -- 2
     pub numbers : HoldsNumbers words seg w.log w.counter (λ i. slice_index ws (first_number_word + i))  -- 4
     pub numbering : IsNumbering seg w.log w.progress (λ i. slice_index ws (first_number_word + i))  -- 2, 4

@@ -61,7 +61,8 @@ pub record IsPlaced (seg t w : ℕ) (placed : Placed) : Type 0 where
 
 -- a unit that fits a segment is put here from a tail on, in this ring
 abbrev pub IsPutAt : RingSet → TableId → ℕ → LogUnit → Placed → Type 0
-IsPutAt ring table t u placed = (table ≡ ring.table) × IsPlaced ring.seg t (length (unit_words u)) placed × (length (unit_words u) ≤ ring.seg)
+IsPutAt ring table t u placed = (table ≡ ring.table) × IsPlaced ring.seg t (length (unit_words u)) placed ×
+    (length (unit_words u) ≤ ring.seg)
 
 -- a view with another progress
 abbrev pub with_progress : Progress → View → View
@@ -105,11 +106,21 @@ first_writer_of v = record { number = first_number v.writers; entries = first_en
 
 -- a view whose writer put one unit more, and doesn't have the write token
 abbrev pub with_put : ℕ → LogUnit → View → View
-with_put t u v = record v { writers = record { number = first_number v.writers; entries = first_entries v.writers ++ (t, u) ∷ [] } ∷ []; progress = Free }
+with_put t u v = record v {
+  writers =
+      record { number = first_number v.writers; entries = first_entries v.writers ++ (t, u) ∷ [] } ∷ [];
+  progress = Free;
+}
 
 -- what contracts see of the seat of one writer
 abbrev pub writer_of : TableId → View → WriterState
-writer_of table v = record { ring = set_of table v.ring; number = first_number v.writers; entries = first_entries v.writers; found = v.found; busy = v.busy }
+writer_of table v = record {
+  ring = set_of table v.ring;
+  number = first_number v.writers;
+  entries = first_entries v.writers;
+  found = v.found;
+  busy = v.busy;
+}
 
 -- the words of a table whose ring has no unit: zeros, but for the write token and the end mark
 pub record AreFirstWords (seg : ℕ) (words : List ℕ) : Type 0 where
@@ -149,7 +160,8 @@ IsReadingOf ring table me = (table ≡ ring.table) × (me.0.readers ≡ reader_o
 
 -- what contracts see of the seat of one reader, and of the words that it copied last, which are those of the unit of this number
 abbrev pub reader_seen : TableId → View → List ℕ → ℕ → ReaderState
-reader_seen table v words taken = record { ring = set_of table v.ring; reader = reader_of v; words = words; taken = taken }
+reader_seen table v words taken =
+    record { ring = set_of table v.ring; reader = reader_of v; words = words; taken = taken }
 
 -- the writer of a pass
 abbrev pub writer_in : WriterState → WriterView
@@ -198,12 +210,14 @@ FoundWord p x new None = Unit {0}
 
 -- a check: the counter is what was found more
 abbrev pub HasChecked : ReaderState → ReaderState → Type 0
-HasChecked old new = (new.reader.observed ≡ CounterSeen new.reader.loaded ∷ old.reader.observed) × (new.reader.finished_seen ≡ old.reader.finished_seen)
+HasChecked old new = (new.reader.observed ≡ CounterSeen new.reader.loaded ∷ old.reader.observed) ×
+    (new.reader.finished_seen ≡ old.reader.finished_seen)
 
 -- a try: the number of writers that left, the word at the place, and then the counter are what was found more
 abbrev pub HasTried : Option Step → ReaderState → ReaderState → Type 0
 HasTried step old new =
-    (x : ℕ) × (new.reader.observed ≡ CounterSeen new.reader.loaded ∷ WordSeen old.reader.place x ∷ FinishedSeen new.reader.finished_seen ∷ old.reader.observed) × FoundWord old.reader.place x new step
+    (x : ℕ) × (new.reader.observed ≡ CounterSeen new.reader.loaded ∷ WordSeen old.reader.place x ∷
+    FinishedSeen new.reader.finished_seen ∷ old.reader.observed) × FoundWord old.reader.place x new step
 
 -- a cursor went on at the next lap: a unit at its place could wrap
 pub record HasMoved (old new : ReaderState) : Type 0 where

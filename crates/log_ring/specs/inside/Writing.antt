@@ -21,7 +21,17 @@ first_entries (x ∷ xs) = x.entries
 module _ (words : LogUnit → List ℕ) where
   -- a put of the unit u by a writer that found the tail t
   abbrev pub begun : ℕ → ℕ → LogUnit → Put
-  begun seg t u = record { tail = t; unit = u; units = None; counter = t / seg; start = t / seg + 1; numbered = t / seg + 1; word = first_word words seg t (length (words u)); mark = 0; counted = 0 }
+  begun seg t u = record {
+    tail = t;
+    unit = u;
+    units = None;
+    counter = t / seg;
+    start = t / seg + 1;
+    numbered = t / seg + 1;
+    word = first_word words seg t (length (words u));
+    mark = 0;
+    counted = 0;
+  }
 
   -- what a seat says when it swapped the write token, with the unit u to be put
   abbrev pub after_acquire : LogUnit → ℕ → View → View
@@ -41,7 +51,16 @@ new_reader_views (Rattle.std.specs.Prelude.suc n) = new_reader ∷ new_reader_vi
 
 -- what the first seat says: it stands for all writers and readers
 abbrev pub first_view : RingKey → View
-first_view key = record { ring = key; writers = new_writer_views 0 key.writers; finished = 0; progress = Free; found = 0; busy = 0; readers = new_reader_views key.readers; log = [] }
+first_view key = record {
+  ring = key;
+  writers = new_writer_views 0 key.writers;
+  finished = 0;
+  progress = Free;
+  found = 0;
+  busy = 0;
+  readers = new_reader_views key.readers;
+  log = [];
+}
 
 -- how far a put has come, once it went on
 abbrev pub going_on : (Put → Put) → Progress → Progress
@@ -117,7 +136,16 @@ without_writer v = record v { writers = later_writers v.writers }
 
 -- what the new seat says
 abbrev pub one_writer : View → View
-one_writer v = record { ring = v.ring; writers = first_writer v.writers; finished = 0; progress = Free; found = 0; busy = 0; readers = []; log = [] }
+one_writer v = record {
+  ring = v.ring;
+  writers = first_writer v.writers;
+  finished = 0;
+  progress = Free;
+  found = 0;
+  busy = 0;
+  readers = [];
+  log = [];
+}
 
 -- the readers but the first
 abbrev pub later_readers : List ReaderView → List ReaderView
@@ -135,7 +163,16 @@ without_reader v = record v { readers = later_readers v.readers }
 
 -- what the new seat says
 abbrev pub one_reader : View → View
-one_reader v = record { ring = v.ring; writers = []; finished = 0; progress = Free; found = 0; busy = 0; readers = first_reader v.readers; log = [] }
+one_reader v = record {
+  ring = v.ring;
+  writers = [];
+  finished = 0;
+  progress = Free;
+  found = 0;
+  busy = 0;
+  readers = first_reader v.readers;
+  log = [];
+}
 
 -- what a seat says after it took in the writers and the readers of another
 abbrev pub both_views : View → View → View
@@ -149,7 +186,16 @@ both_views v w = record v {
 
 -- what that other is left with
 abbrev pub no_view : View
-no_view = record { ring = record { seg = 0; writers = 0; readers = 0 }; writers = []; finished = 0; progress = Free; found = 0; busy = 0; readers = []; log = [] }
+no_view = record {
+  ring = record { seg = 0; writers = 0; readers = 0 };
+  writers = [];
+  finished = 0;
+  progress = Free;
+  found = 0;
+  busy = 0;
+  readers = [];
+  log = [];
+}
 
 -- a step makes this of what the seat says, by the number found
 abbrev pub Makes : (ℕ → View → View) → Step ℕ → Me ℕ View → ℕ → Me ℕ View → Type 0
@@ -163,4 +209,6 @@ module _ (words : LogUnit → List ℕ) where
   -- a swap of the write token: where it was free, the tail found is no smaller than the number of units that the writer put, and is at most the last; where it was taken,
   -- there is another writer
   abbrev pub Acquires : LogUnit → Step ℕ → Me ℕ View → ℕ → Me ℕ View → Type 0
-  Acquires u st me found after = (after ≡ (after_acquire words u found me.0, me.1)) × (0 < found → (length (first_entries me.0.writers) < found) × (found ≤ last_tail + 1)) × (found ≡ 0 → 1 < me.0.ring.writers)
+  Acquires u st me found after = (after ≡ (after_acquire words u found me.0, me.1)) ×
+      (0 < found → (length (first_entries me.0.writers) < found) × (found ≤ last_tail + 1)) ×
+      (found ≡ 0 → 1 < me.0.ring.writers)

@@ -8,7 +8,12 @@ use Rattle.vsl_pattern.specs.Patterns.{pattern_text, pattern_caseless, matching_
 
 -- the pattern that a test asks, and whether without regard to case
 abbrev pub test_pattern : Test → Option (Bool × List ℕ)
-test_pattern test = elim test.check [ checks.Selected ↦ None | checks.Number comparison operand whole ↦ None | checks.Text equal caseless operand ↦ None | checks.Pattern matches pattern ↦ Some (pattern_caseless pattern, pattern_text pattern) ]
+test_pattern test = elim test.check [
+  | checks.Selected ↦ None
+  | checks.Number comparison operand whole ↦ None
+  | checks.Text equal caseless operand ↦ None
+  | checks.Pattern matches pattern ↦ Some (pattern_caseless pattern, pattern_text pattern)
+]
 
 -- what was made for a test asks its pattern
 abbrev pub IsKept : Test → Option Matching → Type 0

@@ -22,7 +22,8 @@ behind_decided false zero (kinds.Or ∷ steps) = None
 -- none of these truths decides its operator
 abbrev pub NoneDecides : ℕ → List Bool → List (StepOver Bool) → Type 0
 NoneDecides above [] steps = Unit {0}
-NoneDecides above (truth ∷ truths) steps = (behind_decided truth above steps ≡ None) × NoneDecides (suc above) truths steps
+NoneDecides above (truth ∷ truths) steps = (behind_decided truth above steps ≡ None) ×
+    NoneDecides (suc above) truths steps
 
 -- the truths below the last one
 abbrev pub below_last : List Bool → List Bool
@@ -54,4 +55,5 @@ joined_from (suc n) (truth ∷ truths) (other ∷ more) = truth ∷ joined_from 
 abbrev pub marked_of : ℕ → List Test → List Bool → List Bool
 marked_of level [] marks = []
 marked_of level (test ∷ tests) [] = []
-marked_of level (test ∷ tests) (mark ∷ marks) = (meets_level test.criterion.level level && mark) ∷ marked_of level tests marks
+marked_of level (test ∷ tests) (mark ∷ marks) = (meets_level test.criterion.level level && mark) ∷
+    marked_of level tests marks

@@ -50,7 +50,8 @@ tag_called name = called.tag_called name
 
 -- the mark of a letter
 unfoldable pub mark_of : ℕ → Option Mark
-mark_of letter = if letter == 99 then Some Client else (if letter == 98 then Some Backend else (if letter == 45 then Some Plain else None))
+mark_of letter = if letter == 99 then Some Client
+    else (if letter == 98 then Some Backend else (if letter == 45 then Some Plain else None))
 
 -- the payload that stands behind the mark: none is an empty one, and else a space stands before it
 unfoldable pub payload_behind : List ℕ → Option (List ℕ)
@@ -76,7 +77,8 @@ pub record Written : Type 0 where
 unfoldable pub some_parts : List ℕ → List ℕ → Mark → List ℕ → Option Written
 some_parts [] name mark payload = None
 some_parts (b ∷ digits) [] mark payload = None
-some_parts (b ∷ digits) (c ∷ name) mark payload = Some (record { vxid = b ∷ digits; name = c ∷ name; mark = mark; payload = payload })
+some_parts (b ∷ digits) (c ∷ name) mark payload =
+    Some (record { vxid = b ∷ digits; name = c ∷ name; mark = mark; payload = payload })
 
 -- the parts of the record's line that a text without spaces at its beginning is
 unfoldable pub parts_of : List ℕ → Option Written
@@ -90,7 +92,8 @@ parts_of text = do
 unfoldable pub record_from : Written → Option ℕ → Option ℕ → Result LoggedRecord LineFault
 record_from parts None tag = Err OtherVxid
 record_from parts (Some vxid) None = Err UnknownTag
-record_from parts (Some vxid) (Some tag) = Ok (record { vxid = vxid; rec = record { tag = tag; mark = parts.mark; payload = parts.payload } })
+record_from parts (Some vxid) (Some tag) =
+    Ok (record { vxid = vxid; rec = record { tag = tag; mark = parts.mark; payload = parts.payload } })
 
 -- the record that these parts are
 unfoldable pub record_of : Option Written → Result LoggedRecord LineFault
@@ -119,4 +122,9 @@ read_as (Err fault) = Err fault
 
 -- the parts that were found, with their bytes
 abbrev pub written_as : Parts → Written
-written_as parts = record { vxid = parts.vxid.now; name = parts.name.now; mark = parts.mark; payload = parts.payload.now }
+written_as parts = record {
+  vxid = parts.vxid.now;
+  name = parts.name.now;
+  mark = parts.mark;
+  payload = parts.payload.now;
+}

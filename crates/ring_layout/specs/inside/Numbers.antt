@@ -9,4 +9,6 @@ entered_number seg n start s = if start / seg == s then n else n + 1
 
 -- a put of the unit u is in progress: of the segments below e that it enters, the numbers are stored
 abbrev pub HasNumbered : {U : Type 0} → (U → List ℕ) → ℕ → List U → U → ℕ → (ℕ → ℕ) → Type 0
-HasNumbered words seg log u e num = (s : ℕ) → tail words seg log / seg < s → s < e → s ≤ end_at seg (tail words seg log) (length (words u)) / seg → num (s % 8) ≡ first_number words seg (log ++ u ∷ []) s
+HasNumbered words seg log u e num = (s : ℕ) → tail words seg log / seg < s → s < e →
+    s ≤ end_at seg (tail words seg log) (length (words u)) / seg →
+    num (s % 8) ≡ first_number words seg (log ++ u ∷ []) s

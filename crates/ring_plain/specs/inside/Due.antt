@@ -9,7 +9,8 @@ use Rattle.ring_plain.specs.Ring.{RingState}
 
 -- where the unit starts that is due at a place: there, or where the wrap mark stands there at the next lap
 abbrev pub unit_place : RingState → ℕ → ℕ
-unit_place ring p = if slice_index ring.words (p % (8 * ring.seg)) == wrap_mark then (p / (8 * ring.seg) + 1) * (8 * ring.seg) else p
+unit_place ring p = if slice_index ring.words (p % (8 * ring.seg)) == wrap_mark then (p / (8 * ring.seg) + 1) *
+    (8 * ring.seg) else p
 
 -- the k-th unit of a log stands in the ring, from a place on, in so many words
 pub record IsUnitAt (ring : RingState) (log : Log) (k place count : ℕ) : Type 0 where

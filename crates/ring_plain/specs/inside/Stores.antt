@@ -12,11 +12,13 @@ with_kept seg c p x kept = if nat_lt c (p / seg) then slice_set kept (p / seg % 
 
 -- the starts of segments where a unit of w words was put at a tail: its start, or else its end, in each segment that it enters
 abbrev pub starts_with : ℕ → ℕ → ℕ → ℕ → List ℕ → List ℕ
-starts_with seg c t w starts = with_kept seg c (start_at seg t w) (start_at seg t w) (with_kept seg c (end_at seg t w) (end_at seg t w) starts)
+starts_with seg c t w starts = with_kept seg c (start_at seg t w) (start_at seg t w)
+    (with_kept seg c (end_at seg t w) (end_at seg t w) starts)
 
 -- the numbers of their first units, where n units stand before that one
 abbrev pub numbers_with : ℕ → ℕ → ℕ → ℕ → ℕ → List ℕ → List ℕ
-numbers_with seg c t w n numbers = with_kept seg c (start_at seg t w) n (with_kept seg c (end_at seg t w) (n + 1) numbers)
+numbers_with seg c t w n numbers =
+    with_kept seg c (start_at seg t w) n (with_kept seg c (end_at seg t w) (n + 1) numbers)
 
 -- the words of a ring, with the wrap mark at the tail where a unit of w words wraps
 abbrev pub with_wrap : ℕ → ℕ → ℕ → List ℕ → List ℕ

@@ -28,7 +28,7 @@ pub record Gathered : Type 0 where
 pub record IsGathering (g : Gathered) : Type 0 where
   pub segment : IsSegment g.seg
   pub few : g.most ≤ most_payload
-  pub fits : g.most ≤ 4 * (g.seg - 3)
+  pub fits : g.most ≤ 4 * (g.seg - 4)
   pub units : AllByRecursion (IsWithin g.seg) g.units
   pub begun : ForSome g.begun (λ u. IsWithin g.seg u)
 
@@ -48,7 +48,8 @@ begins g l = record g { units = g.units ++ option_to_list g.begun; begun = Some 
 abbrev pub taken_by : Option LogUnit → Gathered → LoggedRecord → Gathered
 taken_by None g l = begins g l
 taken_by (Some u) g l =
-    if goes_on u l then (if has_room g.seg u l then record g { begun = Some (with_record u l.rec) } else record (begins g l) { cuts = g.cuts + 1 }) else begins g l
+    if goes_on u l then (if has_room g.seg u l then record g { begun = Some (with_record u l.rec) }
+    else record (begins g l) { cuts = g.cuts + 1 }) else begins g l
 
 -- whether the batch of the unit that was begun, if one was, goes on with a record
 abbrev pub begun_goes_on : Option LogUnit → LoggedRecord → Bool

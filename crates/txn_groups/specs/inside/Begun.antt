@@ -36,5 +36,6 @@ pub record AreBegun (old new : List Node) (begun at vxid : ℕ) (time older : Op
   pub free : (x : Node) → StandsAt old at x → ⊥
   pub fresh : StandsAt new at (fresh_node at begun vxid time older)
   pub remain : (i : ℕ) (x : Node) → StandsAt old i x → Remains new i x
-  pub were : (i : ℕ) (y : Node) → StandsAt new i y → ((i ≡ at) × (y ≡ fresh_node at begun vxid time older)) ⊎ IsRelinked old i y
+  pub were : (i : ℕ) (y : Node) → StandsAt new i y → ((i ≡ at) × (y ≡ fresh_node at begun vxid time older)) ⊎
+      IsRelinked old i y
   pub kin : (i : ℕ) (y : Node) → StandsAt new i y → HasKin new y

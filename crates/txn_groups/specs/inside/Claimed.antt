@@ -15,12 +15,20 @@ can_link child root = is_none child.parent && not child.ended && not (root == ch
 
 -- the join of rows
 abbrev pub join_of : Node → Node → Row → Join
-join_of child parent row = record { child = child.serial; link = record { serial = parent.serial; vxid = parent.vxid; number = parent.children }; root = row.root; path = row.path }
+join_of child parent row =
+    record {
+      child = child.serial;
+      link = record { serial = parent.serial; vxid = parent.vxid; number = parent.children };
+      root = row.root;
+      path = row.path;
+    }
 
 -- a link, just where the child can get the parent
-abbrev pub LinksAs : (nodes : List Node) (rows : List Row) (below above : ℕ) → NodeAt nodes rows below → NodeAt nodes rows above → Option Linking → Type 0
+abbrev pub LinksAs : (nodes : List Node) (rows : List Row)
+    (below above : ℕ) → NodeAt nodes rows below → NodeAt nodes rows above → Option Linking → Type 0
 LinksAs nodes rows below above c p None = can_link c.node p.row.root ≡ false
-LinksAs nodes rows below above c p (Some l) = (can_link c.node p.row.root ≡ true) × (l.below ≡ below) × (l.above ≡ above) × CanLink nodes rows l (join_of c.node p.node p.row)
+LinksAs nodes rows below above c p (Some l) = (can_link c.node p.row.root ≡ true) × (l.below ≡ below) ×
+    (l.above ≡ above) × CanLink nodes rows l (join_of c.node p.node p.row)
 
 -- two nodes are the newest of two VXIDs
 pub record AreNewest (nodes : List Node) (order : List Entry) (child parent : ℕ) (c p : Node) : Type 0 where

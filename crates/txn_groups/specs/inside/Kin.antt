@@ -6,7 +6,10 @@ use Rattle.txn_groups.specs.inside.Linked.{is_place}
 
 -- a node beside one that is taken out
 abbrev pub unlinked : Node → ℕ → Node → Node
-unlinked g at x = record x { older = if is_place g.newer at then g.older else x.older; newer = if is_place g.older at then g.newer else x.newer }
+unlinked g at x = record x {
+  older = if is_place g.newer at then g.older else x.older;
+  newer = if is_place g.older at then g.newer else x.newer;
+}
 
 -- a node that stands after one was taken out stood before
 pub record StoodAt (old : List Node) (place : ℕ) (g : Node) (at : ℕ) (y : Node) : Type 0 where
@@ -24,7 +27,8 @@ pub record IsTakenOut (old new : List Node) (place : ℕ) (g : Node) : Type 0 wh
 -- nodes of one VXID are linked, and one serial number has one place
 pub record AreKin (nodes : List Node) : Type 0 where
   pub kin : (at : ℕ) (x : Node) → StandsAt nodes at x → HasKin nodes x
-  pub one : (at other : ℕ) (x y : Node) → StandsAt nodes at x → StandsAt nodes other y → x.serial ≡ y.serial → at ≡ other
+  pub one : (at other : ℕ) (x y : Node) → StandsAt nodes at x → StandsAt nodes other y → x.serial ≡ y.serial →
+      at ≡ other
 
 -- a node that stood before another was put behind the newest of its VXID
 abbrev pub relinked : Option ℕ → ℕ → ℕ → Node → Node
@@ -38,7 +42,8 @@ pub record WasAt (old : List Node) (older : Option ℕ) (place at : ℕ) (y : No
 
 -- the newest node of a VXID
 pub record IsNewestOf (nodes : List Node) (vxid : ℕ) (newest : Option ℕ) : Type 0 where
-  pub some : (at : ℕ) → newest ≡ Some at → (y : Node) × StandsAt nodes at y × (y.vxid ≡ vxid) × ((i : ℕ) (z : Node) → StandsAt nodes i z → z.vxid ≡ vxid → z.serial ≤ y.serial)
+  pub some : (at : ℕ) → newest ≡ Some at → (y : Node) × StandsAt nodes at y × (y.vxid ≡ vxid) ×
+      ((i : ℕ) (z : Node) → StandsAt nodes i z → z.vxid ≡ vxid → z.serial ≤ y.serial)
   pub none : newest ≡ None → (at : ℕ) (y : Node) → StandsAt nodes at y → y.vxid ≡ vxid → ⊥
 
 -- a node is put at a free place, the last of all, behind the newest of its VXID

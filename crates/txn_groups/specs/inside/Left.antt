@@ -19,7 +19,9 @@ pub record Remains (new : List Node) (at : ℕ) (x : Node) : Type 0 where
 
 -- the nodes of a tree stand no more, and all others do
 pub record AreLeft (old new : List Node) (rows : List Row) (root : ℕ) : Type 0 where
-  pub gone : (at : ℕ) (x : Node) (row : Row) → StandsAt old at x → row_of x.serial rows ≡ Some row → row.root ≡ root → (y : Node) → StandsAt new at y → ⊥
-  pub remain : (at : ℕ) (x : Node) (row : Row) → StandsAt old at x → row_of x.serial rows ≡ Some row → row.root ≢ root → Remains new at x
+  pub gone : (at : ℕ) (x : Node) (row : Row) → StandsAt old at x → row_of x.serial rows ≡ Some row → row.root ≡ root →
+      (y : Node) → StandsAt new at y → ⊥
+  pub remain : (at : ℕ) (x : Node) (row : Row) → StandsAt old at x → row_of x.serial rows ≡ Some row → row.root ≢ root →
+      Remains new at x
   pub were : (at : ℕ) (y : Node) → StandsAt new at y → IsRelinked old at y
   pub kin : (at : ℕ) (y : Node) → StandsAt new at y → HasKin new y

@@ -60,7 +60,11 @@ pub record CanLink (nodes : List Node) (rows : List Row) (l : Linking) (join : J
   -- the join of their rows
   pub alone : child.node.parent ≡ None
   pub child_is : join.child ≡ child.node.serial
-  pub link_is : join.link ≡ record { serial = parent.node.serial; vxid = parent.node.vxid; number = parent.node.children }
+  pub link_is : join.link ≡ record {
+    serial = parent.node.serial;
+    vxid = parent.node.vxid;
+    number = parent.node.children;
+  }
   pub link : l.link ≡ join.link
   pub root_is : join.root ≡ parent.row.root
   pub path_is : join.path ≡ parent.row.path

@@ -20,7 +20,8 @@ marks_for queries records = map (λ query. marks_of query records) queries
 
 -- these are the marks of records; where they are those of no records, there may be none
 abbrev pub AreMarksOf : List Query → List Record → List (List Bool) → Type 0
-AreMarksOf queries records marks = ((marks ≡ []) × (marks_for queries records ≡ marks_for queries [])) ⊎ (marks ≡ marks_for queries records)
+AreMarksOf queries records marks = ((marks ≡ []) × (marks_for queries records ≡ marks_for queries [])) ⊎
+    (marks ≡ marks_for queries records)
 
 -- each node that stands keeps the marks of its records
 abbrev pub AreMarked : List Query → List Node → Type 0
@@ -39,11 +40,13 @@ KeepMarks old new = (at : ℕ) (x : Node) → StandsAt new at x → IsAsBefore o
 
 -- each node that stands keeps the marks of its records, and that at a place those that a force-completion gives it, too
 abbrev pub IsAhead : List Query → Cause → ℕ → List Node → Type 0
-IsAhead queries cause at nodes = (i : ℕ) (x : Node) → StandsAt nodes i x → AreMarksOf queries (if i == at then (forced cause (transaction_of_node x)).records else x.records) x.marks
+IsAhead queries cause at nodes = (i : ℕ) (x : Node) → StandsAt nodes i x →
+    AreMarksOf queries (if i == at then (forced cause (transaction_of_node x)).records else x.records) x.marks
 
 -- a node keeps the marks of its records for the query at a place; where they are those of no records, it may keep none
 abbrev pub IsMarkedFor : Query → ℕ → Node → Type 0
-IsMarkedFor query place x = ((slice_get x.marks place ≡ None) × (marks_of query x.records ≡ marks_of query [])) ⊎ (slice_get x.marks place ≡ Some (marks_of query x.records))
+IsMarkedFor query place x = ((slice_get x.marks place ≡ None) × (marks_of query x.records ≡ marks_of query [])) ⊎
+    (slice_get x.marks place ≡ Some (marks_of query x.records))
 
 -- and so does each node that stands
 abbrev pub AreMarkedFor : Query → ℕ → List Node → Type 0

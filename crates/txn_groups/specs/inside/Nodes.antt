@@ -9,11 +9,32 @@ use Rattle.txn_groups.specs.declared.order.Entry.{Entry}
 
 -- a node as a transaction
 abbrev pub transaction_of_node : Node → Transaction
-transaction_of_node x = record { serial = x.serial; vxid = x.vxid; kind = x.kind; reason = x.reason; records = x.records; parent = x.parent; ended = x.ended; time = x.time }
+transaction_of_node x = record {
+  serial = x.serial;
+  vxid = x.vxid;
+  kind = x.kind;
+  reason = x.reason;
+  records = x.records;
+  parent = x.parent;
+  ended = x.ended;
+  time = x.time;
+}
 
 -- a node as a row, with the serial number at the top of its tree and its path beside it
 abbrev pub row_of_node : ℕ → List ℕ → Node → Row
-row_of_node root path x = record { serial = x.serial; vxid = x.vxid; kind = x.kind; reason = x.reason; records = x.records; parent = x.parent; children = x.children; ended = x.ended; time = x.time; root = root; path = path }
+row_of_node root path x = record {
+  serial = x.serial;
+  vxid = x.vxid;
+  kind = x.kind;
+  reason = x.reason;
+  records = x.records;
+  parent = x.parent;
+  children = x.children;
+  ended = x.ended;
+  time = x.time;
+  root = root;
+  path = path;
+}
 
 -- the node at a place, where a transaction stands there
 pub record StandsAt (nodes : List Node) (at : ℕ) (x : Node) : Type 0 where
@@ -59,12 +80,15 @@ pub record StandFor (begun : ℕ) (nodes : List Node) (order : List Entry) (rows
   pub rising : EntriesRise 0 begun order
   pub node : (s : ℕ) (row : Row) → row_of s rows ≡ Some row → HasNode nodes order row
   pub row : (at : ℕ) (x : Node) → StandsAt nodes at x → HasRow rows x
-  pub one : (at other : ℕ) (x y : Node) → StandsAt nodes at x → StandsAt nodes other y → x.serial ≡ y.serial → at ≡ other
+  pub one : (at other : ℕ) (x y : Node) → StandsAt nodes at x → StandsAt nodes other y → x.serial ≡ y.serial →
+      at ≡ other
 
 -- links have numbers below those of children that their parents have, and no two children of one parent have one number
 pub record AreNumbered (rows : List Row) : Type 0 where
-  pub below : (s : ℕ) (row above : Row) (link : ParentLink) → row_of s rows ≡ Some row → row.parent ≡ Some link → row_of link.serial rows ≡ Some above → link.number < above.children
-  pub apart : (s t : ℕ) (a b : Row) (p q : ParentLink) → row_of s rows ≡ Some a → row_of t rows ≡ Some b → a.parent ≡ Some p → b.parent ≡ Some q → p.serial ≡ q.serial → p.number ≡ q.number → s ≡ t
+  pub below : (s : ℕ) (row above : Row) (link : ParentLink) → row_of s rows ≡ Some row → row.parent ≡ Some link →
+      row_of link.serial rows ≡ Some above → link.number < above.children
+  pub apart : (s t : ℕ) (a b : Row) (p q : ParentLink) → row_of s rows ≡ Some a → row_of t rows ≡ Some b →
+      a.parent ≡ Some p → b.parent ≡ Some q → p.serial ≡ q.serial → p.number ≡ q.number → s ≡ t
 
 -- the child of a serial number, by its own number, is at this place
 pub record ChildAt (nodes : List Node) (at serial number : ℕ) : Type 0 where
@@ -79,8 +103,10 @@ pub record ChildAt (nodes : List Node) (at serial number : ℕ) : Type 0 where
 pub record HasChildren (nodes : List Node) (rows : List Row) (x : Node) : Type 0 where
   pub first : (at : ℕ) → x.first ≡ Some at → ChildAt nodes at x.serial 0
   pub none : x.first ≡ None → x.children ≡ 0
-  pub next : (at : ℕ) → x.next ≡ Some at → (link : ParentLink) × (x.parent ≡ Some link) × ChildAt nodes at link.serial (link.number + 1)
-  pub end : x.next ≡ None → (link : ParentLink) (above : Row) → x.parent ≡ Some link → row_of link.serial rows ≡ Some above → link.number + 1 ≡ above.children
+  pub next : (at : ℕ) → x.next ≡ Some at → (link : ParentLink) × (x.parent ≡ Some link) ×
+      ChildAt nodes at link.serial (link.number + 1)
+  pub end : x.next ≡ None → (link : ParentLink) (above : Row) → x.parent ≡ Some link →
+      row_of link.serial rows ≡ Some above → link.number + 1 ≡ above.children
   pub last : (at : ℕ) → x.last ≡ Some at → (number : ℕ) × (number + 1 ≡ x.children) × ChildAt nodes at x.serial number
   pub none_last : x.last ≡ None → x.children ≡ 0
 
@@ -100,14 +126,22 @@ pub record LeadsUp (nodes : List Node) (rows : List Row) (at : ℕ) (x : Node) (
 
 -- of each tree one node is the last
 abbrev pub HaveOneLast : List Node → List Row → Type 0
-HaveOneLast nodes rows = (at other : ℕ) (x y : Node) (row other_row : Row) → StandsAt nodes at x → StandsAt nodes other y → row_of x.serial rows ≡ Some row → row_of y.serial rows ≡ Some other_row → x.up ≡ at → y.up ≡ other → row.root ≡ other_row.root → at ≡ other
+HaveOneLast nodes rows = (at other : ℕ) (x y : Node) (row other_row : Row) → StandsAt nodes at x →
+    StandsAt nodes other y → row_of x.serial rows ≡ Some row → row_of y.serial rows ≡ Some other_row → x.up ≡ at →
+    y.up ≡ other → row.root ≡ other_row.root → at ≡ other
 
 -- the nodes of a VXID are linked by their serial numbers
 pub record HasKin (nodes : List Node) (x : Node) : Type 0 where
-  pub older : (at : ℕ) → x.older ≡ Some at → (y : Node) × StandsAt nodes at y × (y.vxid ≡ x.vxid) × (y.serial < x.serial) × ((i : ℕ) (z : Node) → StandsAt nodes i z → z.vxid ≡ x.vxid → z.serial < x.serial → z.serial ≤ y.serial)
-  pub none_older : x.older ≡ None → (at : ℕ) (y : Node) → StandsAt nodes at y → y.vxid ≡ x.vxid → y.serial < x.serial → ⊥
-  pub newer : (at : ℕ) → x.newer ≡ Some at → (y : Node) × StandsAt nodes at y × (y.vxid ≡ x.vxid) × (x.serial < y.serial) × ((i : ℕ) (z : Node) → StandsAt nodes i z → z.vxid ≡ x.vxid → x.serial < z.serial → y.serial ≤ z.serial)
-  pub none_newer : x.newer ≡ None → (at : ℕ) (y : Node) → StandsAt nodes at y → y.vxid ≡ x.vxid → x.serial < y.serial → ⊥
+  pub older : (at : ℕ) → x.older ≡ Some at → (y : Node) × StandsAt nodes at y × (y.vxid ≡ x.vxid) ×
+      (y.serial < x.serial) × ((i : ℕ) (z : Node) → StandsAt nodes i z → z.vxid ≡ x.vxid → z.serial < x.serial →
+      z.serial ≤ y.serial)
+  pub none_older : x.older ≡ None → (at : ℕ) (y : Node) → StandsAt nodes at y → y.vxid ≡ x.vxid → y.serial < x.serial →
+      ⊥
+  pub newer : (at : ℕ) → x.newer ≡ Some at → (y : Node) × StandsAt nodes at y × (y.vxid ≡ x.vxid) ×
+      (x.serial < y.serial) × ((i : ℕ) (z : Node) → StandsAt nodes i z → z.vxid ≡ x.vxid → x.serial < z.serial →
+      y.serial ≤ z.serial)
+  pub none_newer : x.newer ≡ None → (at : ℕ) (y : Node) → StandsAt nodes at y → y.vxid ≡ x.vxid → x.serial < y.serial →
+      ⊥
 
 -- nodes stand for rows that stand in trees, and lead to one another as these do
 pub record AreNodes (begun : ℕ) (nodes : List Node) (order : List Entry) (rows : List Row) : Type 0 where
@@ -115,7 +149,8 @@ pub record AreNodes (begun : ℕ) (nodes : List Node) (order : List Entry) (rows
   pub numbered : AreNumbered rows
   pub stand : StandFor begun nodes order rows
   pub children : (at : ℕ) (x : Node) → StandsAt nodes at x → HasChildren nodes rows x
-  pub up : (at : ℕ) (x : Node) (row : Row) → StandsAt nodes at x → row_of x.serial rows ≡ Some row → LeadsUp nodes rows at x row
+  pub up : (at : ℕ) (x : Node) (row : Row) → StandsAt nodes at x → row_of x.serial rows ≡ Some row →
+      LeadsUp nodes rows at x row
   pub last : HaveOneLast nodes rows
   pub kin : (at : ℕ) (x : Node) → StandsAt nodes at x → HasKin nodes x
 

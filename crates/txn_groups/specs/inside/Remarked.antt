@@ -20,4 +20,5 @@ pub record IsRemarked (queries : List Query) (records : List Record) (place : �
 
 -- each node that stands keeps the marks of its records, and that at a place those of what a change makes of its records
 abbrev pub IsAheadBy : (Transaction → Transaction) → List Query → ℕ → List Node → Type 0
-IsAheadBy change queries at nodes = (i : ℕ) (x : Node) → StandsAt nodes i x → AreMarksOf queries (if i == at then (change (transaction_of_node x)).records else x.records) x.marks
+IsAheadBy change queries at nodes = (i : ℕ) (x : Node) → StandsAt nodes i x →
+    AreMarksOf queries (if i == at then (change (transaction_of_node x)).records else x.records) x.marks

@@ -28,5 +28,7 @@ pub record KeepsLinks (change : ℕ → Node → Node) : Type 0 where
 
 -- a change of nodes is that of their rows, and the last nodes tell how many rows of their trees have not ended
 pub record Retells (change : ℕ → Node → Node) (retell : Row → Row) (nodes : List Node) (rows : List Row) : Type 0 where
-  pub told : (at : ℕ) (x : Node) (row : Row) → StandsAt nodes at x → row_of x.serial rows ≡ Some row → retell row ≡ row_of_node row.root row.path (change at x)
-  pub unended : (at : ℕ) (x : Node) (row : Row) → StandsAt nodes at x → row_of x.serial rows ≡ Some row → x.up ≡ at → (change at x).unended ≡ count_by (λ (r : Row). (r.root == row.root) && not r.ended) (map retell rows)
+  pub told : (at : ℕ) (x : Node) (row : Row) → StandsAt nodes at x → row_of x.serial rows ≡ Some row →
+      retell row ≡ row_of_node row.root row.path (change at x)
+  pub unended : (at : ℕ) (x : Node) (row : Row) → StandsAt nodes at x → row_of x.serial rows ≡ Some row → x.up ≡ at →
+      (change at x).unended ≡ count_by (λ (r : Row). (r.root == row.root) && not r.ended) (map retell rows)

@@ -64,8 +64,10 @@ pub record AreTaken (old new : Pending) (visits : List Visit) (group : List Memb
   pub kin : AreKin new.nodes.items
   pub index : IsIndex new.nodes.items new.index
   pub free : AreFree new.nodes.items new.free.items
-  pub were : (at : ℕ) (y : Node) → StandsAt new.nodes.items at y → IsRelinked old.nodes.items at y × (ComesTo visits at → ⊥)
-  pub remain : (at : ℕ) (x : Node) → StandsAt old.nodes.items at x → (ComesTo visits at → ⊥) → Remains new.nodes.items at x
+  pub were : (at : ℕ) (y : Node) → StandsAt new.nodes.items at y → IsRelinked old.nodes.items at y ×
+      (ComesTo visits at → ⊥)
+  pub remain : (at : ℕ) (x : Node) → StandsAt old.nodes.items at x → (ComesTo visits at → ⊥) →
+      Remains new.nodes.items at x
   pub members : group ≡ members_of old.nodes.items visits
   pub rows : new.rows + length visits ≡ old.rows
   pub order : new.order.items ≡ old.order.items

@@ -47,7 +47,15 @@ AreVisits nodes rows root visits = Visits nodes rows (rows_in_preorder (rows_bel
 -- the member of a node at a level, where there is one
 abbrev pub member_at : Option Node → ℕ → List Member
 member_at None level = []
-member_at (Some x) level = record { vxid = x.vxid; kind = x.kind; reason = x.reason; level = level; parent = parent_vxid x.parent; records = x.records } ∷ []
+member_at (Some x) level =
+    record {
+      vxid = x.vxid;
+      kind = x.kind;
+      reason = x.reason;
+      level = level;
+      parent = parent_vxid x.parent;
+      records = x.records;
+    } ∷ []
 
 -- the members of the nodes of visits
 abbrev pub members_of : List Node → List Visit → List Member

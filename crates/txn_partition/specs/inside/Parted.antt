@@ -40,18 +40,24 @@ count_children links parent vxids = count_by (λ vxid. is_parent parent (parent_
 -- which child of its parent a VXID is: how many had this parent before its first link
 abbrev pub number_under : Grouping → List Entry → ℕ → Option ℕ → List ℕ
 number_under grouping entries child None = []
-number_under grouping entries child (Some parent) = count_children (links_before child (links_of grouping entries)) parent (named grouping entries) ∷ []
+number_under grouping entries child (Some parent) =
+    count_children (links_before child (links_of grouping entries)) parent (named grouping entries) ∷ []
 
 -- where a VXID stands in its class, by these numbers
 abbrev pub numbered_path : Grouping → List Entry → ℕ → List ℕ
 numbered_path grouping entries vxid =
-    flat_map (λ v. number_under grouping entries v (parent_of (links_of grouping entries) v)) (reverse (line_from grouping entries vxid))
+    flat_map (λ v. number_under grouping entries v (parent_of (links_of grouping entries) v))
+    (reverse (line_from grouping entries vxid))
 
 -- the link of a VXID to its parent
 abbrev pub parent_link : Grouping → List Entry → ℕ → Option ℕ → Option ParentLink
 parent_link grouping all vxid None = None
 parent_link grouping all vxid (Some parent) =
-    Some (record { serial = place parent (named grouping all); vxid = parent; number = count_children (links_before vxid (links_of grouping all)) parent (named grouping all) })
+    Some (record {
+      serial = place parent (named grouping all);
+      vxid = parent;
+      number = count_children (links_before vxid (links_of grouping all)) parent (named grouping all);
+    })
 
 -- a time, where the log time is known
 abbrev pub where_known : Option ℕ → Option ℕ → Option ℕ

@@ -67,7 +67,10 @@ pub record RowsLeft : Type 0 where
 abbrev pub left_rows : ℕ → List Row → RowsLeft
 left_rows root rows =
     if list_all (λ row. row.ended) (rows_below root rows)
-    then record { rows = rows_beside root rows; groups = record { members = map member_of_row (rows_in_preorder (rows_below root rows)) } ∷ [] }
+    then record {
+      rows = rows_beside root rows;
+      groups = record { members = map member_of_row (rows_in_preorder (rows_below root rows)) } ∷ [];
+    }
     else record { rows = rows; groups = [] }
 
 -- the rows are those, and of the groups those that are reported were added to the list

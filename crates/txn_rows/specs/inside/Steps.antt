@@ -19,7 +19,8 @@ pub record RowsStep (grouping : Grouping) (step : Leaving) (begun : ℕ) (time :
 module _ {S L : Type 0} (holds : S → Type 0) (state_of : S → State) (hand : Group → L) where
   -- what is still to be done, or a part of it, makes up the whole, or a part of that
   pub record GoesOn (grouping : Grouping) (all rest : Leaving) (out_before out_now : List L) : Type 0 where
-    pub whole : (last : S) (out : List L) → WentBy holds state_of hand grouping rest last out_now out → WentBy holds state_of hand grouping all last out_before out
+    pub whole : (last : S) (out : List L) → WentBy holds state_of hand grouping rest last out_now out →
+        WentBy holds state_of hand grouping all last out_before out
     pub part : (out : List L) → AddsPart hand grouping rest out_now out → AddsPart hand grouping all out_before out
 
   -- the oldest of these were force-completed, and so many more are at most: what the rest does is told of a number and a state

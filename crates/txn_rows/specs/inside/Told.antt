@@ -12,7 +12,8 @@ abbrev pub Tells : Record → Told → Type 0
 Tells rec (told.Begin claim) = (rec.tag ≡ begin_tag) × (claim ≡ claim_of rec.payload)
 Tells rec (told.Link claim) = (rec.tag ≡ link_tag) × (claim ≡ claim_of rec.payload)
 Tells rec (told.Time time) = (rec.tag ≡ timestamp_tag) × (time ≡ time_of rec.payload)
-Tells rec told.Nothing = ((rec.tag == begin_tag) ≡ false) × ((rec.tag == link_tag) ≡ false) × ((rec.tag == timestamp_tag) ≡ false)
+Tells rec told.Nothing = ((rec.tag == begin_tag) ≡ false) × ((rec.tag == link_tag) ≡ false) ×
+    ((rec.tag == timestamp_tag) ≡ false)
 
 -- whether a record of this tag tells nothing but itself
 abbrev pub is_plain : ℕ → Bool

@@ -23,7 +23,8 @@ shown_keys showing first_field records = map (key_of first_field) (filter (is_sh
 
 -- the keys of the shown records of the shown transactions
 abbrev pub member_keys : Showing → Bool → List Member → List Key
-member_keys showing first_field members = map (key_of first_field) (flat_map (λ m. m.records) (shown_members showing members))
+member_keys showing first_field members =
+    map (key_of first_field) (flat_map (λ m. m.records) (shown_members showing members))
 
 -- equality of keys is an equivalence
 pub same_equiv : IsEquivalence is_same

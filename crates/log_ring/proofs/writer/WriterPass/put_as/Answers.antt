@@ -1,11 +1,16 @@
 use Rattle.std.proofs.Common.{ℕ, ◌-◌, true, false, not, sym, ap, refl, ◌∙◌, arith}
 use Rattle.ring_layout.specs.Places.{stays}
+use Rattle.vsl_words.specs.declared.version.Version.TheVariants.{Two}
+use Rattle.vsl_record.proofs.UnitReadingLemmas.{length_unit_words-at_least}
 use Rattle.atomic_table.specs.Table.{Me}
 use Rattle.log_ring.specs.declared.rule.View.{View}
 use Rattle.log_ring.specs.inside.Writing.{first_entries}
 use Rattle.log_ring.specs.inside.Steps.{with_put}
 use Rattle.log_ring.proofs.WriterLemmas.{wrapped_short, put_seat, count_put, not_false, not_true}
 use Rattle.log_ring.proofs.writer.WriterPass.put_as.Goals as goal
+
+pub place_after-requires-clause-some : goal.place_after-requires-clause-some
+place_after-requires-clause-some g c = omega (arith, length_unit_words-at_least Two c.args.unit.now c.is_unit.ensures, c.requires.words)
 
 pub overflow_add-self : goal.overflow_add-self
 overflow_add-self g c =
