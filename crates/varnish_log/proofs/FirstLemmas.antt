@@ -1,12 +1,14 @@
 -- Reading the first bytes of a log.
-use Rattle.std.proofs.Common.{◌≡◌, ℕ, ◌+◌, ◌<◌, ◌≤◌, List, [], ◌∷◌, ◌++◌, length, take, drop, inl, inr, None, refl, sym, subst, ◌∙◌, arith}
+use Rattle.std.proofs.Common.{◌≡◌, ℕ, ◌+◌, ◌<◌, ◌≤◌, List, [], ◌∷◌, ◌++◌, length, take, drop, inl, inr, Ok, refl, sym, subst, ◌∙◌, arith}
 use Rattle.std.proofs.lemmas.List.{length-take-le}
 use Rattle.vio.specs.World.{Seen, Reading, Read, OnlyCounts, FaultsRose, IsAtEnd}
 use Rattle.vio.specs.Calls.{Went, MetEnd, FailedEach, Call, Called, Take}
 use Rattle.vio.proofs.CallLemmas.{did_take, did_then}
 use Rattle.vio.proofs.WholeLemmas.{FaultsRose-later, Read-counts, Read-nothing, Read-then}
+use Rattle.varnish_log.specs.declared.form.Asked.{Asked}
 use Rattle.varnish_log.specs.declared.form.How.{How}
-use Rattle.varnish_log.specs.First.{IsFirst, IsUnread, kept_of, refused_as}
+use Rattle.varnish_log.specs.declared.form.LogForm.{LogForm}
+use Rattle.varnish_log.specs.First.{IsFirst, IsUnread, form_of, kept_of}
 use Rattle.varnish_log.specs.Copied.{IsLog}
 use Rattle.varnish_log.specs.inside.Copying.{HasRead}
 use Rattle.varnish_log.proofs.CopyingLemmas.{piece_bytes}
@@ -49,10 +51,19 @@ all_read input size first s t has many = record {
 }
 
 -- the first bytes of a log were read, and then these calls were made
-pub log_then : (how : How) (input : ℕ) (bytes kept : List ℕ) (IsRest : List ℕ → List Call → Type 0) (s t u : Seen) → Called (IsFirst input bytes) s t → refused_as how.form bytes ≡ None → kept ≡ kept_of how.form bytes → Called (IsRest kept) t u
-    → Called (IsLog how input IsRest) s u
-log_then how input bytes kept IsRest s t u first log is rest = record {
+pub log_then : (asked : Asked) (input : ℕ) (bytes kept : List ℕ) (form : LogForm) (IsRest : How → List ℕ → List Call → Type 0) (s t u : Seen) → Called (IsFirst input bytes) s t → form_of asked.text bytes ≡ Ok form → kept ≡ kept_of form bytes
+    → Called (IsRest (record { form = form; strict = asked.strict }) kept) t u → Called (IsLog asked input IsRest) s u
+log_then asked input bytes kept form IsRest s t u first log is rest = record {
   calls = first.calls ++ rest.calls;
   did = did_then first.calls rest.calls s t u first.did rest.did;
-  is = record { first = bytes; begin = first.calls; rest = rest.calls; are = refl; came = first.is; is_log = log; is = subst (λ (x : List ℕ). IsRest x rest.calls) is rest.is };
+  is = record {
+    first = bytes;
+    form = form;
+    begin = first.calls;
+    rest = rest.calls;
+    are = refl;
+    came = first.is;
+    is_log = log;
+    is = subst (λ (x : List ℕ). IsRest (record { form = form; strict = asked.strict }) x rest.calls) is rest.is;
+  };
 }

@@ -114,7 +114,7 @@ module _ (kept : Kept) (out before : List ℕ) (ls : List LoggedRecord) where
 
 -- a record was added to the unit that was ready for it
 pub added : (o : Begun) (kept : Kept) (body out before : List ℕ) (ls : List LoggedRecord) (l : LoggedRecord) → IsReady o body out before ls → IsRecordOf l.rec.mark l.rec → l.vxid ≡ o.vxid → l.rec.mark ≡ o.mark
-    → kept.begun ≡ Some (record { vxid = l.vxid; mark = l.rec.mark; words = o.words + 2 + (length l.rec.payload + 3) / 4; ended = l.rec.tag == end_tag }) → kept.body ≡ body ++ record_bytes l.vxid l.rec → IsWritten kept out before (ls ++ l ∷ [])
+    → kept.begun ≡ Some (record { vxid = l.vxid; mark = l.rec.mark; words = o.words + 3 + (length l.rec.payload + 3) / 4; ended = l.rec.tag == end_tag }) → kept.body ≡ body ++ record_bytes l.vxid l.rec → IsWritten kept out before (ls ++ l ∷ [])
 added o kept body out before ls l r rec_is vxid_is mark_is begun_is body_is =
     let vxid : l.vxid ≡ r.unit.vxid = vxid_is ∙ r.is_of.vxid in
     record {

@@ -1,8 +1,9 @@
 -- Copying a log, piece by piece (this project's choice): what is whole of a piece is written before the next. How the input is cut into pieces isn't said.
-use Rattle.std.specs.Prelude.{◌≡◌, ◌⊎◌, ℕ, ◌+◌, ◌<◌, List, [], ◌∷◌, ◌++◌, length, None, Some}
+use Rattle.std.specs.Prelude.{◌≡◌, ◌⊎◌, ℕ, ◌+◌, ◌<◌, List, [], ◌∷◌, ◌++◌, length, Ok, Err}
 use Rattle.std.specs.List.{flat_map, sum_by}
 use Rattle.log_model.specs.Prefix.{IsProperPrefix}
 use Rattle.vio.specs.Calls.{Went, MetEnd, FailedEach, Mark, Call, Take, Write}
+use Rattle.varnish_log.specs.declared.form.Asked.{Asked}
 use Rattle.varnish_log.specs.declared.form.How.{How}
 use Rattle.varnish_log.specs.declared.form.LogForm.{LogForm}
 use Rattle.varnish_log.specs.declared.form.LogForm.TheVariants.{Binary, Text}
@@ -15,7 +16,7 @@ use Rattle.varnish_log.specs.declared.copying.CopyFault.TheVariants.{Damaged, Lo
 use Rattle.varnish_log.specs.declared.copying.LogFault.{LogFault}
 use Rattle.varnish_log.specs.declared.copying.LogFault.TheVariants.{NotALog, Unread, Stopped}
 use Rattle.varnish_log.specs.Counting.{none_counted, one_more}
-use Rattle.varnish_log.specs.First.{IsFirst, IsUnread, kept_of, refused_as}
+use Rattle.varnish_log.specs.First.{IsFirst, IsUnread, form_of, kept_of}
 use Rattle.varnish_log.specs.Taken.{AreTaken}
 
 -- a piece: the bytes that came, and the text that is written then
@@ -45,7 +46,8 @@ piece_calls input output p = Take input p.came (read_mark p.came) ∷ Write outp
 -- with these pieces, one after the other and none without a byte, this is held in the end, and the counts are these: each time what is held may go on as a part
 abbrev pub ArePieces : How → List ℕ → Counts → List Piece → List ℕ → Counts → Type 0
 ArePieces how held before [] rest after = (rest ≡ held) × (after ≡ before)
-ArePieces how held before (p ∷ ps) rest after = (0 < length p.came) × (next : List ℕ) × (counts : Counts) × IsPiece how stops.GoesOn p held next before counts × ArePieces how next counts ps rest after
+ArePieces how held before (p ∷ ps) rest after = (0 < length p.came) × (next : List ℕ) × (counts : Counts) ×
+    IsPiece how stops.GoesOn p held next before counts × ArePieces how next counts ps rest after
 
 -- how far a log was copied: how many bytes came, of the first bytes only what belongs to its parts; what is held of them; and the counts
 pub record SoFar : Type 0 where
@@ -84,7 +86,7 @@ pub record IsPartWritten (how : How) (at : SoFar) (piece : Piece) (part : List �
 
 -- the place behind what was taken: of a binary log the byte, counted from the first record's; of a text the line, counted from 1
 abbrev pub IsPlace : LogForm → ℕ → ℕ → List ℕ → Counts → Type 0
-IsPlace Binary place came rest counts = place + length rest ≡ came
+IsPlace (Binary form) place came rest counts = place + length rest ≡ came
 IsPlace Text place came rest counts = place ≡ one_more counts.parts
 
 -- taking the parts of a piece stopped for good
@@ -97,27 +99,36 @@ pub record StopsAt (how : How) (stop : Stop) (place : ℕ) (at : SoFar) (piece :
 -- it stopped: a read failed; or a piece came, and its write failed, or all was written of it, and behind that no part begins, or one of which something would be left out or cut
 abbrev pub IsStopped : How → ℕ → ℕ → CopyFault → SoFar → List Call → Type 0
 IsStopped how input output ReadFault at calls = calls ≡ Take input [] FailedEach ∷ []
-IsStopped how input output WriteFault at calls = (p : Piece) × (part : List ℕ) × IsPartWritten how at p part × (calls ≡ Take input p.came (read_mark p.came) ∷ Write output part FailedEach ∷ [])
-IsStopped how input output (Damaged place) at calls = (p : Piece) × StopsAt how stops.Damaged place at p × (calls ≡ piece_calls input output p)
-IsStopped how input output (Lost loss place) at calls = (p : Piece) × StopsAt how (stops.Lost loss) place at p × (calls ≡ piece_calls input output p)
+IsStopped how input output WriteFault at calls = (p : Piece) × (part : List ℕ) × IsPartWritten how at p part ×
+    (calls ≡ Take input p.came (read_mark p.came) ∷ Write output part FailedEach ∷ [])
+IsStopped how input output (Damaged place) at calls = (p : Piece) × StopsAt how stops.Damaged place at p ×
+    (calls ≡ piece_calls input output p)
+IsStopped how input output (Lost loss place) at calls = (p : Piece) × StopsAt how (stops.Lost loss) place at p ×
+    (calls ≡ piece_calls input output p)
 
 -- there was no memory, or more bytes came than a number of 64 bits counts: before a piece, for one that came, or to write all of it
 abbrev pub IsStarved : How → ℕ → ℕ → SoFar → List Call → Type 0
 IsStarved how input output at calls =
-    (calls ≡ []) ⊎ (((bytes : List ℕ) × (calls ≡ Take input bytes (read_mark bytes) ∷ [])) ⊎ ((p : Piece) × (part : List ℕ) × IsPartWritten how at p part × (calls ≡ Take input p.came (read_mark p.came) ∷ Write output part Went ∷ [])))
+    (calls ≡ []) ⊎ (((bytes : List ℕ) × (calls ≡ Take input bytes (read_mark bytes) ∷ [])) ⊎
+    ((p : Piece) × (part : List ℕ) × IsPartWritten how at p part ×
+    (calls ≡ Take input p.came (read_mark p.came) ∷ Write output part Went ∷ [])))
 
--- the first bytes of a log came, and then these calls were made: they are told of those that belong to its parts
-pub record IsLog (how : How) (input : ℕ) (IsRest : List ℕ → List Call → Type 0) (calls : List Call) : Type 0 where
+-- the first bytes of a log came, and then these calls were made: they are told how it is copied, and which of those
+-- bytes belong to its parts
+pub record IsLog (asked : Asked) (input : ℕ) (IsRest : How → List ℕ → List Call → Type 0) (calls : List Call) : Type 0 where
   pub first : List ℕ
+  pub form : LogForm
   pub begin : List Call
   pub rest : List Call
   pub are : calls ≡ begin ++ rest
   pub came : IsFirst input first begin
-  pub is_log : refused_as how.form first ≡ None
-  pub is : IsRest (kept_of how.form first) rest
+  pub is_log : form_of asked.text first ≡ Ok form
+  pub is : IsRest (record { form = form; strict = asked.strict }) (kept_of form first) rest
 
 -- it is none, or its first bytes couldn't be read, or copying stopped behind them
-abbrev pub IsNoLog : How → ℕ → ℕ → LogFault → List Call → Type 0
-IsNoLog how input output (NotALog looks) calls = (first : List ℕ) × IsFirst input first calls × (refused_as how.form first ≡ Some looks)
-IsNoLog how input output Unread calls = IsUnread input calls
-IsNoLog how input output (Stopped fault) calls = IsLog how input (λ first. CopiedThen how input output first (IsStopped how input output fault)) calls
+abbrev pub IsNoLog : Asked → ℕ → ℕ → LogFault → List Call → Type 0
+IsNoLog asked input output (NotALog looks) calls =
+    (first : List ℕ) × IsFirst input first calls × (form_of asked.text first ≡ Err looks)
+IsNoLog asked input output Unread calls = IsUnread input calls
+IsNoLog asked input output (Stopped fault) calls =
+    IsLog asked input (λ how first. CopiedThen how input output first (IsStopped how input output fault)) calls

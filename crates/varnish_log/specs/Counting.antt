@@ -10,7 +10,14 @@ one_more n = min (n + 1) (2 ^ 64 - 1)
 
 -- nothing was counted
 abbrev pub none_counted : Counts
-none_counted = record { parts = 0; unknown_tags = 0; long_payloads = 0; other_vxids = 0; other_groupings = 0; other_forms = 0 }
+none_counted = record {
+  parts = 0;
+  unknown_tags = 0;
+  long_payloads = 0;
+  other_vxids = 0;
+  other_groupings = 0;
+  other_forms = 0;
+}
 
 -- how often this was left out or cut
 abbrev pub count_of : Loss → Counts → ℕ

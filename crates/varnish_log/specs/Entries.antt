@@ -1,12 +1,14 @@
--- The binary log of Varnish itself, as its varnishlog writes it, behind its first four bytes, `VSL` and a zero byte (varnishlog(1), "-w"; the layout of
--- Varnish 7.1). A word has four bytes, the lowest first.
+-- The records of Varnish's own binary log, as its varnishlog writes them behind a log's first four bytes (varnishlog(1),
+-- "-w"; the layouts of Varnish 7.1 and 7.7). A word has four bytes, the lowest first.
 use Rattle.std.specs.Prelude.{◌≡◌, ℕ, ◌+◌, ◌-◌, ◌*◌, ◌/◌, ◌%◌, ◌<◌, ◌==◌, ◌&&◌, ◌||◌, nat_lt, Bool, List, ◌++◌, length, drop}
-use Rattle.std.specs.Int.{w32, to_le_bytes, from_le_bytes}
+use Rattle.std.specs.Int.{w32, byte_len, to_le_bytes, from_le_bytes}
 use Rattle.vsl_record.specs.declared.mark.Mark.{Mark}
-use Rattle.vsl_record.specs.Unit.{vxid_end}
-use Rattle.vsl_record.specs.Words.{mark_bits}
+use Rattle.vsl_record.specs.declared.mark.Mark.TheVariants.{Client, Backend, Plain}
+use Rattle.varnish_log.specs.declared.form.BinaryForm.{BinaryForm}
+use Rattle.varnish_log.specs.Forms.{layout}
 
--- a record of it: the number of its tag there, its VXID and mark, its bytes, and those that fill its last word, which mean nothing
+-- a record: the number of its tag there, its VXID and mark, its bytes, and those that fill its last word, which mean
+-- nothing
 pub record Entry : Type 0 where
   pub number : ℕ
   pub vxid : ℕ
@@ -22,27 +24,48 @@ bytes_end = 65536
 abbrev pub filling_of : ℕ → ℕ
 filling_of size = (4 - size % 4) % 4
 
--- what a record must meet
-pub record IsEntry (e : Entry) : Type 0 where
+-- what a record must meet in a log of this form
+pub record IsEntry (form : BinaryForm) (e : Entry) : Type 0 where
   pub number : e.number < 256
-  pub vxid : e.vxid < vxid_end
+  pub vxid : e.vxid < (layout form).vxid_end
   pub short : length e.bytes < bytes_end
   pub filled : length e.filling ≡ filling_of (length e.bytes)
 
--- a record as it is written: a word of its number and how many bytes it has, a word of its VXID and mark, its bytes, and the filling
-abbrev pub entry_bytes : Entry → List ℕ
-entry_bytes e = to_le_bytes w32 (16777216 * e.number + length e.bytes) ++ to_le_bytes w32 (e.vxid + mark_bits e.mark) ++ e.bytes ++ e.filling
+-- what a mark adds to the number of a VXID
+abbrev pub mark_bits : BinaryForm → Mark → ℕ
+mark_bits form Client = (layout form).client
+mark_bits form Backend = 2 * (layout form).client
+mark_bits form Plain = 0
 
--- whether two words can be a record's first: of the first the third byte is zero, and the second has at most one mark
-abbrev pub can_begin : ℕ → ℕ → Bool
-can_begin head id = (head / 65536 % 256 == 0) && nat_lt id (3 * vxid_end)
+-- the first word of a record: the number of its tag, the form's version, and how many bytes it has
+abbrev pub first_word : BinaryForm → Entry → ℕ
+first_word form e = 16777216 * e.number + 65536 * (layout form).version + length e.bytes
 
--- how many bytes a record has behind its two words, as the first says
+-- a record as it is written: its first word, the number of its VXID and mark, its bytes, and the filling
+abbrev pub entry_bytes : BinaryForm → Entry → List ℕ
+entry_bytes form e =
+    to_le_bytes w32 (first_word form e) ++ to_le_bytes (layout form).width (e.vxid + mark_bits form e.mark)
+    ++ e.bytes ++ e.filling
+
+-- how many bytes a record has before those of its own
+abbrev pub head_size : BinaryForm → ℕ
+head_size form = 4 + byte_len (layout form).width
+
+-- whether a first word and a number of VXID and mark can begin a record: the word has the form's version, and the number
+-- at most one mark and a VXID in range
+abbrev pub can_begin : BinaryForm → ℕ → ℕ → Bool
+can_begin form word id =
+    (word / 65536 % 256 == (layout form).version) && nat_lt id (3 * (layout form).client)
+    && nat_lt (id % (layout form).client) (layout form).vxid_end
+
+-- how many bytes a record has behind its head, as its first word says
 abbrev pub size_said : ℕ → ℕ
-size_said head = head % 65536 + filling_of (head % 65536)
+size_said word = word % 65536 + filling_of (word % 65536)
 
--- the bytes stop early: before the end of two words, or before the end of a record whose two words can be one's
-abbrev pub stops_early : List ℕ → Bool
-stops_early bytes =
-    let head = from_le_bytes w32 bytes in
-    nat_lt (length bytes) 8 || (can_begin head (from_le_bytes w32 (drop 4 bytes)) && nat_lt (length bytes) (8 + size_said head))
+-- the bytes stop early: before the end of a head, or before the end of a record whose head can begin one
+abbrev pub stops_early : BinaryForm → List ℕ → Bool
+stops_early form bytes =
+    let word = from_le_bytes w32 bytes in
+    let id = from_le_bytes (layout form).width (drop 4 bytes) in
+    nat_lt (length bytes) (head_size form)
+    || (can_begin form word id && nat_lt (length bytes) (head_size form + size_said word))

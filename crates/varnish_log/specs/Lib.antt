@@ -1,3 +1,4 @@
+pub mod Forms
 pub mod Tags
 pub mod First
 pub mod Entries

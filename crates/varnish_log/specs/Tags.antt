@@ -1,8 +1,12 @@
--- The tags of Varnish's own log, by the numbers that they have there (vsl(7) of Varnish 7.1).
-use Rattle.std.specs.Prelude.{ℕ, ◌&&◌, nat_le, Bool, List, [], ◌∷◌, Option, codes, slice_index_or}
+-- The tags of Varnish's own log, by the numbers that they have there (vsl(7) of Varnish 7.1 and 7.7).
+use Rattle.std.specs.Prelude.{ℕ, ◌&&◌, nat_le, not, Bool, List, [], ◌∷◌, Option, codes, slice_index_or}
+use Rattle.std.specs.List.{filter, list_any}
+use Rattle.std.specs.Str.{bytes_eq}
 use Rattle.vsl_tags.specs.Called.{tag_called}
+use Rattle.varnish_log.specs.declared.form.BinaryForm.{BinaryForm}
+use Rattle.varnish_log.specs.Forms.{layout}
 
--- the names of Varnish's tags, in the order of their numbers there, from 0 on, which has none
+-- the names of all of Varnish's tags, in the order of their numbers in 7.1, from 0 on, which has none
 abbrev pub varnish_names : List (List ℕ)
 varnish_names =
     [] ∷
@@ -104,10 +108,15 @@ varnish_names =
     codes "VdpAcct" ∷
     []
 
--- the tag of this profile that has the name of Varnish's tag with this number
-unfoldable pub tag_at : ℕ → Option ℕ
-tag_at number = tag_called (slice_index_or varnish_names number [])
+-- the names of the tags that a form has, in the order of their numbers there
+abbrev pub names_of : BinaryForm → List (List ℕ)
+names_of form = filter (λ name. not (list_any (bytes_eq name) (layout form).lacks)) varnish_names
 
--- whether the bytes of records with this number are no text, so that no zero byte was added behind them: H2RxHdr, H2RxBody, H2TxHdr, H2TxBody
+-- the tag of this project that has the name of the tag with this number in a log of this form
+unfoldable pub tag_at : BinaryForm → ℕ → Option ℕ
+tag_at form number = tag_called (slice_index_or (names_of form) number [])
+
+-- whether the bytes of records of this tag are no text, so that no zero byte was added behind them: H2RxHdr, H2RxBody,
+-- H2TxHdr, H2TxBody
 abbrev pub has_no_text : ℕ → Bool
-has_no_text number = nat_le 87 number && nat_le number 90
+has_no_text tag = nat_le 49 tag && nat_le tag 52

@@ -50,7 +50,8 @@ counted counts said = fold counted_one counts said
 
 -- a part begins the bytes of which something would be left out or cut
 abbrev pub BeginsWithLoss : LogForm → List ℕ → Loss → Type 0
-BeginsWithLoss form bytes loss = (part : List ℕ) × (more : List ℕ) × (said : Said) × IsPart form part said × (bytes ≡ part ++ more) × (loss_of said ≡ Some loss)
+BeginsWithLoss form bytes loss = (part : List ℕ) × (more : List ℕ) × (said : Said) × IsPart form part said ×
+    (bytes ≡ part ++ more) × (loss_of said ≡ Some loss)
 
 -- taking parts stops before such bytes: no part begins them, and they may go on as one, or can't; or, where copying is
 -- strict, a part does of which something would be left out or cut. Who asks for that wants all or nothing, and knows

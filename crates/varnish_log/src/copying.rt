@@ -8,8 +8,8 @@ ghost use Rattle.varnish_log.specs.Taken.{AreTaken};
 ghost use Rattle.varnish_log.specs.Copied.{CopiedThen, IsEnd, IsLog, IsNoLog, IsPlace, IsStarved, IsStopped};
 ghost use Rattle.varnish_log.specs.inside.Copying.{IsCopiedPiece, so_far};
 
-use crate::first::{Looks, kept_of, read_first, refused_as};
-use crate::form::{How, LogForm};
+use crate::first::{Looks, form_of, kept_of, read_first};
+use crate::form::{Asked, How, LogForm};
 use crate::loss::{Counts, Loss};
 use crate::parts::CAPACITY;
 use crate::taking::{Stop, take_parts};
@@ -97,7 +97,9 @@ fn take_whole(
 ) -> Result<Whole, NoMemory>
     requires size { size ≤ length buffer.old }
     requires few { size ≤ capacity }
-    ensures taken { IfOk result (λ w. AreTaken how w.stop (take size buffer.old) (take w.left buffer.new) text.old.items text.new.items counts w.counts) }
+    ensures taken { IfOk result
+        (λ w. AreTaken how w.stop (take size buffer.old)
+        (take w.left buffer.new) text.old.items text.new.items counts w.counts) }
     ensures within { IfOk result (λ w. w.left ≤ size) }
     ensures size { length buffer.new ≡ length buffer.old }
 {
@@ -112,10 +114,11 @@ fn take_whole(
 
 /// The place behind what was taken, before which so many bytes came.
 fn place_of(form: LogForm, came: u64, counts: Counts) -> u64
-    ensures { (all : ℕ) (rest : List ℕ) → came + length rest ≡ all → IsPlace form result all rest counts }
+    ensures { (all : ℕ) (rest : List ℕ) → came + length rest ≡ all →
+        IsPlace form result all rest counts }
 {
     match form {
-        LogForm::Binary => came,
+        LogForm::Binary(_) => came,
         LogForm::Text => counts.parts.saturating_add(1),
     }
 }
@@ -134,10 +137,17 @@ fn copy_piece<W: World>(
     requires size { length buffer.old ≡ capacity }
     requires held { at.held < capacity }
     requires came { (at.held ≤ at.came) × (at.came + capacity < 2 ^ 64) }
-    ensures piece { IfOk result (λ next. Called (IsCopiedPiece how ends (so_far at buffer.old) (so_far next buffer.new)) (W.seen world.old) (W.seen world.new)) }
-    ensures within { IfOk result (λ next. (next.held ≤ next.came) × (next.held < capacity) × (at.came ≤ next.came) × (next.came ≤ at.came + capacity)) }
-    ensures fault { IfFault result (λ fault. Called (IsStopped how ends.input ends.output fault (so_far at buffer.old)) (W.seen world.old) (W.seen world.new)) }
-    ensures short { OnShort result (Called (IsStarved how ends.input ends.output (so_far at buffer.old)) (W.seen world.old) (W.seen world.new)) }
+    ensures piece { IfOk result
+        (λ next. Called (IsCopiedPiece how ends (so_far at buffer.old) (so_far next buffer.new))
+        (W.seen world.old) (W.seen world.new)) }
+    ensures within { IfOk result (λ next. (next.held ≤ next.came) × (next.held < capacity) ×
+        (at.came ≤ next.came) × (next.came ≤ at.came + capacity)) }
+    ensures fault { IfFault result
+        (λ fault. Called (IsStopped how ends.input ends.output fault (so_far at buffer.old))
+        (W.seen world.old) (W.seen world.new)) }
+    ensures short { OnShort result
+        (Called (IsStarved how ends.input ends.output (so_far at buffer.old)) (W.seen world.old)
+        (W.seen world.new)) }
     ensures size { length buffer.new ≡ length buffer.old }
 {
     let Ok(n) = read_behind(buffer, at.held, ends.input, world) else {
@@ -173,9 +183,15 @@ fn copy_parts<W: World>(
     first: &[u8],
 ) -> Result<Copied, Halt<CopyFault>>
     requires { length first.now ≤ 4 }
-    ensures copied { IfOk result (λ copied. Called (CopiedThen how ends.input ends.output first.now (IsEnd how ends.input ends.output copied)) (W.seen world.old) (W.seen world.new)) }
-    ensures fault { IfFault result (λ fault. Called (CopiedThen how ends.input ends.output first.now (IsStopped how ends.input ends.output fault)) (W.seen world.old) (W.seen world.new)) }
-    ensures short { OnShort result (Called (CopiedThen how ends.input ends.output first.now (IsStarved how ends.input ends.output)) (W.seen world.old) (W.seen world.new)) }
+    ensures copied { IfOk result
+        (λ copied. Called (CopiedThen how ends.input ends.output first.now
+        (IsEnd how ends.input ends.output copied)) (W.seen world.old) (W.seen world.new)) }
+    ensures fault { IfFault result
+        (λ fault. Called (CopiedThen how ends.input ends.output first.now
+        (IsStopped how ends.input ends.output fault)) (W.seen world.old) (W.seen world.new)) }
+    ensures short { OnShort result
+        (Called (CopiedThen how ends.input ends.output first.now
+        (IsStarved how ends.input ends.output)) (W.seen world.old) (W.seen world.new)) }
 {
     let mut buffer = [0; CAPACITY];
     let (head, _) = buffer.split_at_mut(first.len());
@@ -205,24 +221,36 @@ fn copy_parts<W: World>(
 pub fn copy_log<W: World>(
     alloc: Global,
     world: &mut W,
-    how: How,
+    asked: Asked,
     input: u32,
     output: u32,
 ) -> Result<Copied, Halt<LogFault>>
-    ensures copied { IfOk result (λ copied. Called (IsLog how input (λ first. CopiedThen how input output first (IsEnd how input output copied))) (W.seen world.old) (W.seen world.new)) }
-    ensures fault { IfFault result (λ fault. Called (IsNoLog how input output fault) (W.seen world.old) (W.seen world.new)) }
-    ensures short { OnShort result (Called (IsLog how input (λ first. CopiedThen how input output first (IsStarved how input output))) (W.seen world.old) (W.seen world.new)) }
+    ensures copied { IfOk result
+        (λ copied. Called (IsLog asked input
+        (λ how first. CopiedThen how input output first (IsEnd how input output copied)))
+        (W.seen world.old) (W.seen world.new)) }
+    ensures fault { IfFault result
+        (λ fault. Called (IsNoLog asked input output fault) (W.seen world.old) (W.seen world.new)) }
+    ensures short { OnShort result
+        (Called (IsLog asked input
+        (λ how first. CopiedThen how input output first (IsStarved how input output)))
+        (W.seen world.old) (W.seen world.new)) }
 {
     let mut first = [0; 4];
     let Ok(size) = read_first(world, input, &mut first) else {
         return Err(Halt::Fault(LogFault::Unread));
     };
     let (first, _) = first.split_at(size);
-    if let Some(looks) = refused_as(how.form, first) {
-        return Err(Halt::Fault(LogFault::NotALog { looks }));
-    }
+    let form = match form_of(asked.text, first) {
+        Ok(form) => form,
+        Err(looks) => return Err(Halt::Fault(LogFault::NotALog { looks })),
+    };
+    let how = How {
+        form,
+        strict: asked.strict,
+    };
     let ends = Ends { input, output };
-    match copy_parts(alloc, world, how, ends, kept_of(how.form, first)) {
+    match copy_parts(alloc, world, how, ends, kept_of(form, first)) {
         Ok(copied) => Ok(copied),
         Err(Halt::Fault(fault)) => Err(Halt::Fault(LogFault::Stopped(fault))),
         Err(Halt::NoMemory) => Err(Halt::NoMemory),

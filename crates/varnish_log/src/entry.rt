@@ -1,14 +1,16 @@
 //! Reading a record of Varnish's binary log.
 
-ghost use Rattle.std.specs.Prelude.{◌≡◌, ◌++◌, ◌<◌, ◌≤◌, length, false, true, IfSome, IfNone, option_map};
-ghost use Rattle.vsl_record.specs.Unit.{vxid_end};
-ghost use Rattle.varnish_log.specs.Entries.{can_begin, filling_of, stops_early};
-ghost use Rattle.varnish_log.specs.inside.Views.{IsNext, mark_of_id};
+ghost use Rattle.std.specs.Prelude.{◌≡◌, ◌<◌, ◌≤◌, length, IfSome, IfNone};
+ghost use Rattle.std.specs.Int.{byte_len, from_le_bytes};
+ghost use Rattle.varnish_log.specs.Entries.{head_size};
+ghost use Rattle.varnish_log.specs.Forms.{layout};
+ghost use Rattle.varnish_log.specs.inside.Views.{AreWords, IsNext, mark_of_id};
 
-use vsl_record::{Mark, VXID_END, Vxid};
+use crate::form::BinaryForm;
+use vsl_record::{Mark, Vxid};
 
-/// The bytes of a record's two words.
-const WORDS: usize = 8;
+/// The bytes of a word.
+const WORD: usize = 4;
 
 /// A record of Varnish's binary log.
 #[derive(Clone, Copy)]
@@ -25,18 +27,63 @@ pub(crate) struct Entry<'a> {
 pub(crate) enum Next<'a> {
     /// A record, and what follows it.
     Entry(Entry<'a>, &'a [u8]),
-    /// What may be a record's beginning, or fewer bytes than two words have.
+    /// What may be a record's beginning, or fewer bytes than a head has.
     Short,
     /// No record's beginning.
     Damaged,
 }
 
-/// The mark that the word of a VXID tells, if it has no two.
-#[tactic(auto, unfolding(crate::specs::inside::Views::mark_of_id))]
-fn mark_of_id(id: u32) -> Option<Mark>
-    ensures { result ≡ mark_of_id id }
+/// The numbers of a record's head: the first word, and that of VXID and mark.
+#[derive(Clone, Copy)]
+struct Words {
+    first: u32,
+    id: u64,
+}
+
+/// The number of VXID and mark that begins some bytes.
+fn id_in(form: BinaryForm, bytes: &[u8]) -> Option<u64>
+    ensures some { IfSome result (λ id. id ≡ from_le_bytes (layout form).width bytes.now) }
+    ensures enough { IfSome result (λ id. byte_len (layout form).width ≤ length bytes.now) }
+    ensures none { IfNone result (length bytes.now < byte_len (layout form).width) }
 {
-    match id / VXID_END {
+    match form {
+        BinaryForm::Narrow => {
+            let [a, b, c, d, ..] = bytes else {
+                return None;
+            };
+            Some(u64::from(u32::from_le_bytes([*a, *b, *c, *d])))
+        }
+        BinaryForm::Wide => {
+            let [a, b, c, d, e, f, g, h, ..] = bytes else {
+                return None;
+            };
+            Some(u64::from_le_bytes([*a, *b, *c, *d, *e, *f, *g, *h]))
+        }
+    }
+}
+
+/// The numbers of the head that begins some bytes.
+fn words_of(form: BinaryForm, bytes: &[u8]) -> Option<Words>
+    ensures some { IfSome result (λ words. AreWords form words bytes.now) }
+    ensures none { IfNone result (length bytes.now < head_size form) }
+{
+    let [a, b, c, d, behind @ ..] = bytes else {
+        return None;
+    };
+    let id = id_in(form, behind)?;
+    let first = u32::from_le_bytes([*a, *b, *c, *d]);
+    Some(Words { first, id })
+}
+
+/// The mark of a number of VXID and mark, if it has no two, and a VXID in range.
+#[tactic(auto, unfolding(crate::specs::inside::Views::mark_of_id))]
+fn mark_of_id(form: BinaryForm, id: u64) -> Option<Mark>
+    ensures { result ≡ mark_of_id form id }
+{
+    if id % form.client() >= form.vxid_end() {
+        return None;
+    }
+    match id / form.client() {
         0 => Some(Mark::Plain),
         1 => Some(Mark::Client),
         2 => Some(Mark::Backend),
@@ -45,31 +92,30 @@ fn mark_of_id(id: u32) -> Option<Mark>
 }
 
 /// The record that begins the bytes.
-pub(crate) fn next_entry(bytes: &[u8]) -> Next<'_>
-    ensures { IsNext result bytes.now }
+pub(crate) fn next_entry(form: BinaryForm, bytes: &[u8]) -> Next<'_>
+    ensures { IsNext form result bytes.now }
 {
-    let [a, b, c, d, e, f, g, h, ..] = bytes else {
+    let Some(words) = words_of(form, bytes) else {
         return Next::Short;
     };
-    let head = u32::from_le_bytes([*a, *b, *c, *d]);
-    let id = u32::from_le_bytes([*e, *f, *g, *h]);
-    let Some(mark) = mark_of_id(id) else {
+    let Some(mark) = mark_of_id(form, words.id) else {
         return Next::Damaged;
     };
-    if head / 65536 % 256 != 0 {
+    if words.first / 65536 % 256 != form.version() {
         return Next::Damaged;
     }
-    let size = (head % 65536) as usize;
+    let head = WORD + form.id_size();
+    let size = (words.first % 65536) as usize;
     let filling = (4 - size % 4) % 4;
-    if bytes.len() < WORDS + size + filling {
+    if bytes.len() < head + size + filling {
         return Next::Short;
     }
-    let (_, behind) = bytes.split_at(WORDS);
+    let (_, behind) = bytes.split_at(head);
     let (content, behind) = behind.split_at(size);
     let (_, rest) = behind.split_at(filling);
     let entry = Entry {
-        number: (head / 16_777_216) as u8,
-        vxid: id % VXID_END,
+        number: (words.first / 16_777_216) as u8,
+        vxid: words.id % form.client(),
         mark,
         bytes: content,
     };

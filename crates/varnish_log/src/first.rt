@@ -3,25 +3,25 @@
 ghost use Rattle.std.specs.Prelude.{◌≡◌, ◌≤◌, length, take, IfOk, OnErr};
 ghost use Rattle.std.specs.List.{list_all};
 ghost use Rattle.vio.specs.Calls.{Called};
-ghost use Rattle.varnish_log.specs.First.{IsFirst, IsUnread, is_text, kept_of, looks_of, no_binary, no_text, refused_as};
+ghost use Rattle.varnish_log.specs.First.{IsFirst, IsUnread, as_text, form_marked, form_of, is_text, kept_of, looks_of};
 
-use crate::form::LogForm;
+use crate::form::{BinaryForm, LogForm};
 use vio::{Failed, World};
 use vsl_file::read_behind;
 
-/// The bytes with which Varnish's own binary log begins.
-const FILE_MARK: [u8; 4] = *b"VSL\0";
+/// How many bytes tell what a file looks like.
+const FIRST_BYTES: usize = 4;
 
 /// What a file looks like.
 #[derive(Clone, Copy, Debug, PartialEq, Eq)]
 pub enum Looks {
     /// It has no bytes.
     Empty,
-    /// Varnish's binary log.
+    /// Varnish's binary log, of a form that is read.
     VarnishLog,
     /// A log file of this project.
     LogFile,
-    /// A binary log of another version of Varnish.
+    /// A binary log of another version of Varnish, of a form that isn't read.
     OtherVersion,
     /// A file that gzip packed.
     Gzip,
@@ -45,6 +45,19 @@ fn is_all_text(bytes: &[u8]) -> bool
     bytes.iter().all(|b| is_text(*b))
 }
 
+/// The form of the binary log that begins so, if one does.
+fn form_marked(first: &[u8]) -> Option<BinaryForm>
+    ensures { result ≡ form_marked first.now }
+{
+    if first == b"VSL\0".as_slice() {
+        return Some(BinaryForm::Narrow);
+    }
+    if first == b"VSL2".as_slice() {
+        return Some(BinaryForm::Wide);
+    }
+    None
+}
+
 /// What a file looks like that begins so.
 fn looks_of(first: &[u8]) -> Looks
     ensures { result ≡ looks_of first.now }
@@ -52,7 +65,7 @@ fn looks_of(first: &[u8]) -> Looks
     if first.is_empty() {
         return Looks::Empty;
     }
-    if first == FILE_MARK.as_slice() {
+    if form_marked(first).is_some() {
         return Looks::VarnishLog;
     }
     if first == b"VSLO".as_slice() {
@@ -70,33 +83,26 @@ fn looks_of(first: &[u8]) -> Looks
     Looks::Unknown
 }
 
-/// What makes a file no binary log.
-fn no_binary(looks: Looks) -> Option<Looks>
-    ensures { result ≡ no_binary looks }
+/// A file is a text, unless it looks like what is none.
+fn as_text(looks: Looks) -> Result<LogForm, Looks>
+    ensures { result ≡ as_text looks }
 {
     match looks {
-        Looks::VarnishLog => None,
-        _ => Some(looks),
+        Looks::LogFile | Looks::VarnishLog | Looks::OtherVersion | Looks::Gzip => Err(looks),
+        Looks::Empty | Looks::Text | Looks::Unknown => Ok(LogForm::Text),
     }
 }
 
-/// What makes a file no text.
-fn no_text(looks: Looks) -> Option<Looks>
-    ensures { result ≡ no_text looks }
+/// The form of a log that begins so, or what it looks like that makes it none.
+pub(crate) fn form_of(text: bool, first: &[u8]) -> Result<LogForm, Looks>
+    ensures { result ≡ form_of text first.now }
 {
-    match looks {
-        Looks::LogFile | Looks::VarnishLog | Looks::OtherVersion | Looks::Gzip => Some(looks),
-        Looks::Empty | Looks::Text | Looks::Unknown => None,
+    if text {
+        return as_text(looks_of(first));
     }
-}
-
-/// What a file looks like that begins so, where that makes it none of this form.
-pub(crate) fn refused_as(form: LogForm, first: &[u8]) -> Option<Looks>
-    ensures { result ≡ refused_as form first.now }
-{
-    match form {
-        LogForm::Binary => no_binary(looks_of(first)),
-        LogForm::Text => no_text(looks_of(first)),
+    match form_marked(first) {
+        Some(form) => Ok(LogForm::Binary(form)),
+        None => Err(looks_of(first)),
     }
 }
 
@@ -106,7 +112,7 @@ pub(crate) fn kept_of(form: LogForm, first: &[u8]) -> &[u8]
     ensures within { length result.now ≤ length first.now }
 {
     match form {
-        LogForm::Binary => &[],
+        LogForm::Binary(_) => &[],
         LogForm::Text => first,
     }
 }
@@ -117,12 +123,13 @@ pub(crate) fn read_first<W: World>(
     input: u32,
     first: &mut [u8; 4],
 ) -> Result<usize, Failed>
-    ensures first { IfOk result (λ n. Called (IsFirst input (take n first.new)) (W.seen world.old) (W.seen world.new)) }
+    ensures first { IfOk result
+        (λ n. Called (IsFirst input (take n first.new)) (W.seen world.old) (W.seen world.new)) }
     ensures within { IfOk result (λ n. n ≤ 4) }
     ensures failed { OnErr result (Called (IsUnread input) (W.seen world.old) (W.seen world.new)) }
 {
     let mut size = 0;
-    while size < FILE_MARK.len() {
+    while size < FIRST_BYTES {
         let n = read_behind(first, size, input, world)?;
         if n == 0 {
             return Ok(size);

@@ -13,7 +13,7 @@ pub enum Loss {
     UnknownTag,
     /// A payload of more than 4,000 bytes, of which the first 4,000 are taken.
     LongPayload,
-    /// A line of a text with a VXID of more than 10 digits, or of 2^30 or more.
+    /// A line of a text with a VXID of more than 19 digits, or of 2^62 or more.
     OtherVxid,
     /// A line of a text that begins as those of another grouping than `raw`.
     OtherGrouping,

@@ -6,7 +6,7 @@ ghost use Rattle.varnish_log.specs.Parts.{LineSays, Said, is_grouped, loss_for, 
 ghost use Rattle.varnish_log.specs.inside.Views.{IsNextPart, IsStep, entry_of, says_record};
 
 use crate::entry::{Entry, Next, next_entry};
-use crate::form::{How, LogForm};
+use crate::form::{BinaryForm, How, LogForm};
 use crate::loss::Loss;
 use crate::tags::tag_at;
 use crate::taking::Stop;
@@ -17,11 +17,11 @@ use vsl_tags::Tag;
 /// How many bytes are held at most: more than any line has that varnishlog prints.
 pub(crate) const CAPACITY: usize = 262_208;
 
-/// The first number of a tag whose records have no text.
-const FIRST_WITHOUT_TEXT: u8 = 87;
+/// The number of the first tag whose records have no text.
+const FIRST_WITHOUT_TEXT: u8 = 49;
 
-/// The last number of a tag whose records have no text.
-const LAST_WITHOUT_TEXT: u8 = 90;
+/// The number of the last tag whose records have no text.
+const LAST_WITHOUT_TEXT: u8 = 52;
 
 /// What comes next of a log.
 #[derive(Clone, Copy)]
@@ -57,7 +57,9 @@ fn record_part<'a>(
     payload: &'a [u8],
     behind: &'a [u8],
 ) -> NextPart<'a>
-    ensures { (bytes : List ℕ) → IsNextPart how.form bytes (says_record vxid tag mark payload.now) behind.now → IsStep how bytes result }
+    ensures { (bytes : List ℕ) →
+        IsNextPart how.form bytes (says_record vxid tag mark payload.now) behind.now →
+        IsStep how bytes result }
 {
     if how.strict {
         if payload.len() > MAX_PAYLOAD {
@@ -75,7 +77,8 @@ fn record_part<'a>(
 
 /// A part that is left out comes next; where copying is strict, taking stops.
 fn left_out(how: How, loss: Loss, behind: &[u8]) -> NextPart<'_>
-    ensures { (bytes : List ℕ) → IsNextPart how.form bytes (Err loss) behind.now → IsStep how bytes result }
+    ensures { (bytes : List ℕ) → IsNextPart how.form bytes (Err loss) behind.now →
+        IsStep how bytes result }
 {
     if how.strict {
         return NextPart::Stop(Stop::Lost(loss));
@@ -95,24 +98,28 @@ fn without_zero(bytes: &[u8]) -> &[u8]
     bytes
 }
 
-/// What the bytes of a record are.
-fn text_of<'a>(entry: Entry<'a>) -> &'a [u8]
-    ensures { (filling : List ℕ) → result.now ≡ text_of (entry_of entry.entry filling) }
+/// What the bytes of a record of this tag are.
+fn text_of(tag: Tag, bytes: &[u8]) -> &[u8]
+    ensures { result.now ≡ text_of tag bytes.now }
 {
-    if entry.number >= FIRST_WITHOUT_TEXT && entry.number <= LAST_WITHOUT_TEXT {
-        return entry.bytes;
+    let number = tag.number();
+    if number >= FIRST_WITHOUT_TEXT && number <= LAST_WITHOUT_TEXT {
+        return bytes;
     }
-    without_zero(entry.bytes)
+    without_zero(bytes)
 }
 
-/// A record of a binary log comes next.
-fn entry_part<'a>(how: How, entry: Entry<'a>, behind: &'a [u8]) -> NextPart<'a>
-    ensures { (bytes filling : List ℕ) → IsNextPart how.form bytes (said_of (entry_of entry.entry filling)) behind.now → IsStep how bytes result }
+/// A record of a binary log of this form comes next.
+fn entry_part<'a>(how: How, form: BinaryForm, entry: Entry<'a>, behind: &'a [u8]) -> NextPart<'a>
+    ensures { (bytes filling : List ℕ) →
+        IsNextPart how.form bytes (said_of form (entry_of entry.entry filling)) behind.now →
+        IsStep how bytes result }
 {
-    let Some(tag) = tag_at(entry.number) else {
+    let Some(tag) = tag_at(form, entry.number) else {
         return left_out(how, Loss::UnknownTag, behind);
     };
-    record_part(how, entry.vxid, entry.mark, tag, text_of(entry), behind)
+    let text = text_of(tag, entry.bytes);
+    record_part(how, entry.vxid, entry.mark, tag, text, behind)
 }
 
 /// Whether a line begins as those of other groupings.
@@ -139,7 +146,8 @@ fn loss_for(line: &[u8], fault: LineFault) -> Loss
 
 /// What was read of a line comes next.
 fn read_part<'a>(how: How, read: LineRead<'a>, behind: &'a [u8]) -> NextPart<'a>
-    ensures { (bytes : List ℕ) → IsNextPart how.form bytes (Ok (line_of read.entry)) behind.now → IsStep how bytes result }
+    ensures { (bytes : List ℕ) → IsNextPart how.form bytes (Ok (line_of read.entry)) behind.now →
+        IsStep how bytes result }
 {
     match read {
         LineRead::Record {
@@ -155,7 +163,9 @@ fn read_part<'a>(how: How, read: LineRead<'a>, behind: &'a [u8]) -> NextPart<'a>
 
 /// A line of a text comes next.
 fn line_part<'a>(how: How, line: &'a [u8], behind: &'a [u8], tags: &mut TagCache) -> NextPart<'a>
-    ensures { (bytes : List ℕ) → ((said : Said) → LineSays line.now said → IsNextPart how.form bytes said behind.now) → IsStep how bytes result }
+    ensures { (bytes : List ℕ) →
+        ((said : Said) → LineSays line.now said → IsNextPart how.form bytes said behind.now) →
+        IsStep how bytes result }
 {
     match read_line(line, tags) {
         Ok(read) => read_part(how, read, behind),
@@ -163,13 +173,13 @@ fn line_part<'a>(how: How, line: &'a [u8], behind: &'a [u8], tags: &mut TagCache
     }
 }
 
-/// What comes next of a binary log that goes on with these bytes.
-fn next_record(how: How, bytes: &[u8]) -> NextPart<'_>
-    requires { how.form ≡ LogForm.Binary }
+/// What comes next of a binary log of this form that goes on with these bytes.
+fn next_record(how: How, form: BinaryForm, bytes: &[u8]) -> NextPart<'_>
+    requires { how.form ≡ LogForm.Binary form }
     ensures { IsStep how bytes.now result }
 {
-    match next_entry(bytes) {
-        Next::Entry(entry, behind) => entry_part(how, entry, behind),
+    match next_entry(form, bytes) {
+        Next::Entry(entry, behind) => entry_part(how, form, entry, behind),
         Next::Short => NextPart::Stop(Stop::GoesOn),
         Next::Damaged => NextPart::Stop(Stop::Damaged),
     }
@@ -192,7 +202,7 @@ pub(crate) fn next_part<'a>(how: How, bytes: &'a [u8], tags: &mut TagCache) -> N
     ensures { IsStep how bytes.now result }
 {
     match how.form {
-        LogForm::Binary => next_record(how, bytes),
+        LogForm::Binary(form) => next_record(how, form, bytes),
         LogForm::Text => next_line(how, bytes, tags),
     }
 }

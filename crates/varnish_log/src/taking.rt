@@ -48,9 +48,11 @@ fn take_record(
     out: &mut Vec<u8>,
 ) -> Result<(), NoMemory>
     requires range { vxid < vxid_end }
-    requires room { words_of units.old + 1003 ≤ most_words }
-    ensures written { (before : List ℕ) (ls : List LoggedRecord) → IsWritten units.old out.old.items before ls →
-        OnOk result (IsWritten units.new out.new.items before (ls ++ filter_map taken_of (says_record vxid tag mark payload.now ∷ []))) }
+    requires room { words_of units.old + 1004 ≤ most_words }
+    ensures written { (before : List ℕ) (ls : List LoggedRecord) →
+        IsWritten units.old out.old.items before ls →
+        OnOk result (IsWritten units.new out.new.items before
+        (ls ++ filter_map taken_of (says_record vxid tag mark payload.now ∷ []))) }
     ensures words { OnOk result (words_of units.new ≤ words_of units.old + 8 + length payload.now) }
 {
     let (payload, _) = payload.split_at(payload.len().min(MAX_PAYLOAD));
@@ -68,7 +70,9 @@ pub(crate) fn take_parts<'a>(
     out: &mut Vec<u8>,
 ) -> Result<Rest<'a>, NoMemory>
     requires { length bytes.now ≤ 1000000 }
-    ensures taken { IfOk result (λ rest. AreTaken how rest.stop bytes.now rest.bytes.now out.old.items out.new.items counts.old counts.new) }
+    ensures taken { IfOk result
+        (λ rest. AreTaken how rest.stop bytes.now rest.bytes.now out.old.items out.new.items
+        counts.old counts.new) }
     ensures ends { IfOk result (λ rest. EndsWith bytes.now rest.bytes.now) }
 {
     let mut units = UnitWriter::new(alloc);

@@ -32,8 +32,10 @@ struct Begun {
 impl Begun {
     /// Whether the unit goes on with a record of this VXID and mark.
     fn goes_on(self, vxid: Vxid, mark: Mark) -> bool
-        ensures goes { (u : LogUnit) (l : LoggedRecord) → u.vxid ≡ self.vxid → u.mark ≡ self.mark → has_end u ≡ self.ended → l.vxid ≡ vxid → l.rec.mark ≡ mark → result ≡ goes_on u l }
-        ensures same { result ≡ true → (self.vxid ≡ vxid) × (self.mark ≡ mark) × (self.ended ≡ false) }
+        ensures goes { (u : LogUnit) (l : LoggedRecord) → u.vxid ≡ self.vxid → u.mark ≡ self.mark →
+            has_end u ≡ self.ended → l.vxid ≡ vxid → l.rec.mark ≡ mark → result ≡ goes_on u l }
+        ensures same { result ≡ true → (self.vxid ≡ vxid) × (self.mark ≡ mark) ×
+            (self.ended ≡ false) }
     {
         self.vxid == vxid && vxid != 0 && self.mark == mark && !self.ended
     }
@@ -73,8 +75,12 @@ impl UnitWriter {
     /// Ends the unit that goes on, if there is one, and adds its bytes.
     pub fn close(&mut self, out: &mut Vec<u8>) -> Result<(), NoMemory>
         requires { words_of self.old ≤ most_words }
-        ensures written { (before : List ℕ) (ls : List LoggedRecord) → IsWritten self.old out.old.items before ls → OnOk result (out.new.items ≡ before ++ log_bytes (gathered goes_on ls)) }
-        ensures units { (before : List ℕ) (ls : List LoggedRecord) → IsWritten self.old out.old.items before ls → OnOk result (AllByRecursion IsUnit (gathered goes_on ls)) }
+        ensures written { (before : List ℕ) (ls : List LoggedRecord) →
+            IsWritten self.old out.old.items before ls →
+            OnOk result (out.new.items ≡ before ++ log_bytes (gathered goes_on ls)) }
+        ensures units { (before : List ℕ) (ls : List LoggedRecord) →
+            IsWritten self.old out.old.items before ls →
+            OnOk result (AllByRecursion IsUnit (gathered goes_on ls)) }
         ensures nothing { OnOk result (self.new ≡ nothing) }
     {
         let Some(begun) = self.begun else {
@@ -89,7 +95,8 @@ impl UnitWriter {
     /// The unit that goes on, where it does with a record of this VXID and mark.
     fn open_for(&self, vxid: Vxid, mark: Mark) -> Option<Begun>
         ensures some { IfSome result (λ begun. GoesOnWith self.now (known begun) vxid mark) }
-        ensures none { IfNone result ((u : LogUnit) (l : LoggedRecord) → Keeps self.now (Some u) → l.vxid ≡ vxid → l.rec.mark ≡ mark → goes_on u l ≡ false) }
+        ensures none { IfNone result ((u : LogUnit) (l : LoggedRecord) → Keeps self.now (Some u) →
+            l.vxid ≡ vxid → l.rec.mark ≡ mark → goes_on u l ≡ false) }
     {
         let begun = self.begun?;
         if !begun.goes_on(vxid, mark) {
@@ -103,7 +110,9 @@ impl UnitWriter {
     fn unit_for(&mut self, vxid: Vxid, mark: Mark, out: &mut Vec<u8>) -> Result<Begun, NoMemory>
         requires vxid { vxid < vxid_end }
         requires few { words_of self.old ≤ most_words }
-        ensures ready { (before : List ℕ) (ls : List LoggedRecord) → IsWritten self.old out.old.items before ls → IfOk result (λ begun. IsReady (known begun) self.new.body out.new.items before ls) }
+        ensures ready { (before : List ℕ) (ls : List LoggedRecord) →
+            IsWritten self.old out.old.items before ls →
+            IfOk result (λ begun. IsReady (known begun) self.new.body out.new.items before ls) }
         ensures vxid { IfOk result (λ begun. begun.vxid ≡ vxid) }
         ensures mark { IfOk result (λ begun. begun.mark ≡ mark) }
         ensures words { IfOk result (λ begun. begun.words ≤ words_of self.old + 1) }
@@ -131,13 +140,19 @@ impl UnitWriter {
     ) -> Result<(), NoMemory>
         requires vxid { vxid < vxid_end }
         requires few { length payload.now ≤ most_payload }
-        requires room { words_of self.old + 1003 ≤ most_words }
-        ensures written { (before : List ℕ) (ls : List LoggedRecord) → IsWritten self.old out.old.items before ls →
-            OnOk result (IsWritten self.new out.new.items before (ls ++ record { vxid = vxid; rec = record { tag = tag; mark = mark; payload = payload.now } } ∷ [])) }
-        ensures words { OnOk result (words_of self.new ≤ words_of self.old + 3 + (length payload.now + 3) / 4) }
+        requires room { words_of self.old + 1004 ≤ most_words }
+        ensures written { (before : List ℕ) (ls : List LoggedRecord) →
+            IsWritten self.old out.old.items before ls →
+            OnOk result (IsWritten self.new out.new.items before
+            (ls ++ record {
+              vxid = vxid;
+              rec = record { tag = tag; mark = mark; payload = payload.now };
+            } ∷ [])) }
+        ensures words { OnOk result
+            (words_of self.new ≤ words_of self.old + 4 + (length payload.now + 3) / 4) }
     {
         let begun = self.unit_for(vxid, mark, out)?;
-        let words = begun.words + 2 + payload.len().div_ceil(4);
+        let words = begun.words + 3 + payload.len().div_ceil(4);
         let ended = tag == Tag::END;
         self.begun = Some(Begun {
             vxid,

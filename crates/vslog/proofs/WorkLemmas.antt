@@ -127,13 +127,13 @@ works_off job ended IsSaid s t u p q =
     record { calls = p.calls ++ q.calls; did = did_then p.calls q.calls s t u p.did q.did; is = record { work = p.calls; said = q.calls; are = refl; works = p.is; says = q.is } }
 
 -- there was no memory to copy the log
-pub lacks_copying : (job : Job) (s t : Seen) → Called (Begun job (λ input output rest. IsLog job.how input (λ first. CopiedThen job.how input output first (IsStarved job.how input output)) rest)) s t → Called (LacksWork job) s t
+pub lacks_copying : (job : Job) (s t : Seen) → Called (Begun job (λ input output rest. IsLog job.asked input (λ how first. CopiedThen how input output first (IsStarved how input output)) rest)) s t → Called (LacksWork job) s t
 lacks_copying job s t p = record { calls = p.calls; did = p.did; is = inr (inr (inr (inr p.is))) }
 
 -- a log that was copied, by whether an end that cuts a part stops that
-pub settled_works : (job : Job) (copied : Copied) (s t : Seen) → Called (Copies job copied) s t → Called (Works job (settled job.how.strict copied)) s t
+pub settled_works : (job : Job) (copied : Copied) (s t : Seen) → Called (Copies job copied) s t → Called (Works job (settled job.asked.strict copied)) s t
 settled_works job copied s t p =
-    elim (job.how.strict && nat_lt 0 copied.left) as (λ b. (job.how.strict && nat_lt 0 copied.left) ≡ b → Called (Works job (if b then Stopped (CutShort copied.left) else Done copied)) s t) [
+    elim (job.asked.strict && nat_lt 0 copied.left) as (λ b. (job.asked.strict && nat_lt 0 copied.left) ≡ b → Called (Works job (if b then Stopped (CutShort copied.left) else Done copied)) s t) [
       | true ↦ λ e. record { calls = p.calls; did = p.did; is = (copied, p.is, rw e refl) }
       | false ↦ λ e. record { calls = p.calls; did = p.did; is = (p.is, rw e refl) }
     ] refl

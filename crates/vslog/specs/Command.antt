@@ -9,4 +9,5 @@ use Rattle.vslog.specs.Words.{job_of}
 -- the log was copied that the words name, and the exit status is as it ended; or memory was refused, and it is 3
 abbrev pub IsCopyStatus : List (List ℕ) → ℕ → Seen → Seen → Type 0
 IsCopyStatus words status before now =
-    ((ended : Ended) × (status ≡ status_of ended) × Called (Runs words (job_of words) ended) before now) ⊎ ((status ≡ 3) × Called (Lacks words (job_of words)) before now)
+    ((ended : Ended) × (status ≡ status_of ended) × Called (Runs words (job_of words) ended) before now) ⊎
+    ((status ≡ 3) × Called (Lacks words (job_of words)) before now)

@@ -1,5 +1,5 @@
 -- What is said on standard error (this project's choice).
-use Rattle.std.specs.Prelude.{ℕ, ◌+◌, ◌-◌, ◌^◌, min, nat_lt, if◌then◌else◌, List, [], ◌++◌, codes, slice_index_or}
+use Rattle.std.specs.Prelude.{ℕ, ◌+◌, ◌-◌, ◌^◌, min, nat_lt, if◌then◌else◌, Bool, List, [], ◌++◌, codes, slice_index_or}
 use Rattle.one_command.specs.Messages.{numbered}
 use Rattle.varnish_log.specs.declared.copying.Copied.{Copied}
 use Rattle.varnish_log.specs.declared.copying.CopyFault.{CopyFault}
@@ -9,8 +9,6 @@ use Rattle.varnish_log.specs.declared.copying.LogFault.TheVariants.{NotALog, Unr
 use Rattle.varnish_log.specs.declared.copying.LogFault.TheVariants as logs
 use Rattle.varnish_log.specs.declared.first.Looks.{Looks}
 use Rattle.varnish_log.specs.declared.first.Looks.TheVariants as looks
-use Rattle.varnish_log.specs.declared.form.LogForm.{LogForm}
-use Rattle.varnish_log.specs.declared.form.LogForm.TheVariants as forms
 use Rattle.varnish_log.specs.declared.loss.Loss.{Loss}
 use Rattle.varnish_log.specs.declared.loss.Loss.TheVariants as losses
 use Rattle.vslog.specs.declared.words.UsageFault.{UsageFault}
@@ -45,15 +43,16 @@ looks_text looks.Unknown = codes ": no log of Varnish"
 abbrev pub byte_of : ℕ → ℕ
 byte_of place = min (place + 4) (2 ^ 64 - 1)
 
--- the place where no part begins
-abbrev pub damage_text : LogForm → ℕ → List ℕ
-damage_text forms.Binary place = numbered (codes ": damaged at byte ") (byte_of place) []
-damage_text forms.Text place = numbered (codes ": damaged at line ") place []
+-- the place where no part begins, of a text or of a binary log
+abbrev pub damage_text : Bool → ℕ → List ℕ
+damage_text text place =
+    if text then numbered (codes ": damaged at line ") place [] else
+    numbered (codes ": damaged at byte ") (byte_of place) []
 
 -- the place of a part of which something would be left out or cut, and what
-abbrev pub lost_text : LogForm → ℕ → List ℕ → List ℕ
-lost_text forms.Binary place what = numbered (codes ": byte ") (byte_of place) what
-lost_text forms.Text place what = numbered (codes ": line ") place what
+abbrev pub lost_text : Bool → ℕ → List ℕ → List ℕ
+lost_text text place what =
+    if text then numbered (codes ": line ") place what else numbered (codes ": byte ") (byte_of place) what
 
 -- of what nothing is left out or cut, where copying is strict
 abbrev pub loss_text : Loss → List ℕ
@@ -67,8 +66,8 @@ loss_text losses.OtherForm = codes ": no raw line"
 abbrev pub copy_message : Job → CopyFault → List ℕ
 copy_message job copying.ReadFault = told (job.input ++ codes ": read failed")
 copy_message job copying.WriteFault = told (job.output ++ codes ": write failed")
-copy_message job (copying.Damaged place) = told (job.input ++ damage_text job.how.form place)
-copy_message job (copying.Lost loss place) = told (job.input ++ lost_text job.how.form place (loss_text loss))
+copy_message job (copying.Damaged place) = told (job.input ++ damage_text job.asked.text place)
+copy_message job (copying.Lost loss place) = told (job.input ++ lost_text job.asked.text place (loss_text loss))
 
 -- why a log was not copied to its end
 abbrev pub log_message : Job → LogFault → List ℕ

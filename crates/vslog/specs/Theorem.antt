@@ -52,7 +52,9 @@ pub record Begun (job : Job) (IsRest : ℕ → ℕ → List Call → Type 0) (ca
 
 -- the log was copied to its end
 abbrev pub Copies : Job → Copied → List Call → Type 0
-Copies job copied calls = Begun job (λ input output rest. IsLog job.how input (λ first. CopiedThen job.how input output first (IsEnd job.how input output copied)) rest) calls
+Copies job copied calls =
+    Begun job (λ input output rest.
+    IsLog job.asked input (λ how first. CopiedThen how input output first (IsEnd how input output copied)) rest) calls
 
 -- what is written was created, and was empty, and not all of the header was written, marked so
 pub record HeaderStops (job : Job) (IsLast : ℕ → List ℕ → List Call) (calls : List Call) : Type 0 where
@@ -71,21 +73,24 @@ abbrev pub StopsWith : Job → RunFault → List Call → Type 0
 StopsWith job NoInput calls = (bytes_eq job.input (codes "-") ≡ false) × (calls ≡ Refuse Opening job.input ∷ [])
 StopsWith job NoOutput calls = (input : ℕ) × (opened : List Call) × IsOpenedBy job.input input opened × (bytes_eq job.output (codes "-") ≡ false) × (calls ≡ opened ++ Refuse Creating job.output ∷ [])
 StopsWith job NoHeader calls = HeaderStops job (λ output part. Write output part FailedEach ∷ []) calls
-StopsWith job (Log fault) calls = Begun job (λ input output rest. IsNoLog job.how input output fault rest) calls
-StopsWith job (CutShort left) calls = (copied : Copied) × Copies job copied calls × (settled job.how.strict copied ≡ Stopped (CutShort left))
+StopsWith job (Log fault) calls = Begun job (λ input output rest. IsNoLog job.asked input output fault rest) calls
+StopsWith job (CutShort left) calls = (copied : Copied) × Copies job copied calls ×
+    (settled job.asked.strict copied ≡ Stopped (CutShort left))
 
 -- there was no memory for the work: before what is read was opened; to open it; to create what is written; to write all of the header; or to copy the log
 abbrev pub LacksWork : Job → List Call → Type 0
 LacksWork job calls =
-    (calls ≡ []) ⊎ ((calls ≡ Lack ∷ []) ⊎ (((input : ℕ) × (opened : List Call) × IsOpenedBy job.input input opened × (calls ≡ opened ++ Lack ∷ []))
+    (calls ≡ []) ⊎ ((calls ≡ Lack ∷ []) ⊎
+    (((input : ℕ) × (opened : List Call) × IsOpenedBy job.input input opened × (calls ≡ opened ++ Lack ∷ []))
     ⊎ (HeaderStops job (λ output part. Write output part Went ∷ []) calls
-    ⊎ Begun job (λ input output rest. IsLog job.how input (λ first. CopiedThen job.how input output first (IsStarved job.how input output)) rest) calls)))
+    ⊎ Begun job (λ input output rest.
+    IsLog job.asked input (λ how first. CopiedThen how input output first (IsStarved how input output)) rest) calls)))
 
 -- the work ended so
 abbrev pub Works : Job → Ended → List Call → Type 0
 Works job (Refused fault) calls = ⊥
 Works job (Stopped fault) calls = StopsWith job fault calls
-Works job (Done copied) calls = Copies job copied calls × (settled job.how.strict copied ≡ Done copied)
+Works job (Done copied) calls = Copies job copied calls × (settled job.asked.strict copied ≡ Done copied)
 
 -- ---- the theorem
 
@@ -107,4 +112,5 @@ Runs words (Ok job) ended calls = WorksOff job ended (Says (text_due job ended))
 -- what the call did where there was no memory: for the work, or for all of the message
 abbrev pub Lacks : List (List ℕ) → Result Job UsageFault → List Call → Type 0
 Lacks words (Err fault) calls = SaysPart (usage_message words fault) calls
-Lacks words (Ok job) calls = LacksWork job calls ⊎ ((ended : Ended) × WorksOff job ended (SaysPart (text_due job ended)) calls)
+Lacks words (Ok job) calls = LacksWork job calls ⊎
+    ((ended : Ended) × WorksOff job ended (SaysPart (text_due job ended)) calls)

@@ -1,8 +1,7 @@
 -- The words of the command line and the job that they state (`-a` and `-w` as in varnishlog(1), "OPTIONS"; the rest is this project's choice).
 use Rattle.std.specs.Prelude.{ℕ, ◌==◌, if◌then◌else◌, Bool, true, false, List, Option, Some, None, Result, Ok, Err, codes}
 use Rattle.std.specs.Str.{bytes_eq}
-use Rattle.varnish_log.specs.declared.form.How.{How}
-use Rattle.varnish_log.specs.declared.form.LogForm.TheVariants as forms
+use Rattle.varnish_log.specs.declared.form.Asked.{Asked}
 use Rattle.word_forms.specs.declared.fault.WordFault.{WordFault}
 use Rattle.word_forms.specs.declared.fault.WordFault.TheVariants as words
 use Rattle.word_forms.specs.Items.{Given, Table, folded, items}
@@ -15,7 +14,7 @@ use Rattle.vslog.specs.declared.words.UsageFault.TheVariants.{UnknownOption, NoV
 
 -- what is to be copied, how, and to where: `-` is standard input, or standard output
 pub record Job : Type 0 where
-  pub how : How
+  pub asked : Asked
   pub append : Bool
   pub quiet : Bool
   pub output : List ℕ
@@ -51,10 +50,10 @@ log_rows = record {
 -- written `./NAME`
 abbrev pub with_given : Option Choice → List ℕ → Job → Job
 with_given None input job = record job { input = input }
-with_given (Some choices.Text) value job = record job { how = record (job.how) { form = forms.Text } }
+with_given (Some choices.Text) value job = record job { asked = record (job.asked) { text = true } }
 with_given (Some choices.Append) value job = record job { append = true }
 with_given (Some choices.Quiet) value job = record job { quiet = true }
-with_given (Some choices.Strict) value job = record job { how = record (job.how) { strict = true } }
+with_given (Some choices.Strict) value job = record job { asked = record (job.asked) { strict = true } }
 with_given (Some choices.Write) output job = record job { output = output }
 
 -- behind what is given next
@@ -69,7 +68,7 @@ usage_of (words.BadOperand at) = TwoLogs at
 
 -- before the first word
 abbrev pub first_job : Job
-first_job = record { how = record { form = forms.Binary; strict = false }; append = false; quiet = false; output = codes "-"; input = codes "-" }
+first_job = record { asked = record { text = false; strict = false }; append = false; quiet = false; output = codes "-"; input = codes "-" }
 
 -- the job that the words state, or the first that is wrong with them
 abbrev pub job_of : List (List ℕ) → Result Job UsageFault
@@ -79,7 +78,7 @@ job_of words = folded with_next usage_of first_job (items log_rows (record { nam
 
 -- a job, with the bytes of its names
 abbrev pub job_as : JobView → Job
-job_as j = record { how = j.how; append = j.append; quiet = j.quiet; output = j.output.now; input = j.input.now }
+job_as j = record { asked = j.asked; append = j.append; quiet = j.quiet; output = j.output.now; input = j.input.now }
 
 -- the job, where nothing is wrong with the words
 abbrev pub stated_as : Result JobView UsageFault → Result Job UsageFault

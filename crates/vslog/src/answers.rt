@@ -21,9 +21,12 @@ const VERSION: &str = "vslog 0.3\n";
 
 /// Answers the words of a command line, and gives the exit status.
 pub fn run<R: Eprint, W: World>(alloc: Global, rt: &R, world: &mut W, words: &[String]) -> u8
-    ensures help { question_of (map string_bytes words.now) ≡ Some Question.Help → IsPrinted HELP.now result (W.seen world.old) (W.seen world.new) }
-    ensures version { question_of (map string_bytes words.now) ≡ Some Question.Version → IsPrinted VERSION.now result (W.seen world.old) (W.seen world.new) }
-    ensures copies { question_of (map string_bytes words.now) ≡ None → IsCopyStatus (map string_bytes words.now) result (W.seen world.old) (W.seen world.new) }
+    ensures help { question_of (map string_bytes words.now) ≡ Some Question.Help →
+        IsPrinted HELP.now result (W.seen world.old) (W.seen world.new) }
+    ensures version { question_of (map string_bytes words.now) ≡ Some Question.Version →
+        IsPrinted VERSION.now result (W.seen world.old) (W.seen world.new) }
+    ensures copies { question_of (map string_bytes words.now) ≡ None →
+        IsCopyStatus (map string_bytes words.now) result (W.seen world.old) (W.seen world.new) }
 {
     match read_question(words) {
         Some(Question::Help) => answer(world, rt, PROGRAM, HELP),

@@ -9,7 +9,7 @@ use crate::ended::{Ended, RunFault};
 use crate::words::{Job, UsageFault};
 use one_command::numbered;
 use std::alloc::{AllocError, Global};
-use varnish_log::{Copied, CopyFault, LogFault, LogForm, Looks, Loss};
+use varnish_log::{Copied, CopyFault, LogFault, Looks, Loss};
 
 /// How many bytes stand before the first record of a binary log.
 const FIRST_BYTES: u64 = 4;
@@ -79,24 +79,24 @@ fn byte_of(place: u64) -> u64
     place.saturating_add(FIRST_BYTES)
 }
 
-/// The place where no part begins.
-fn damage_text(alloc: Global, form: LogForm, place: u64) -> Result<Vec<u8>, AllocError>
-    ensures { IfOk result (λ v. v.items ≡ damage_text form place) }
+/// The place where no part begins, of a text or of a binary log.
+fn damage_text(alloc: Global, text: bool, place: u64) -> Result<Vec<u8>, AllocError>
+    ensures { IfOk result (λ v. v.items ≡ damage_text text place) }
 {
-    match form {
-        LogForm::Binary => numbered(alloc, ": damaged at byte ", byte_of(place), ""),
-        LogForm::Text => numbered(alloc, ": damaged at line ", place, ""),
+    if text {
+        return numbered(alloc, ": damaged at line ", place, "");
     }
+    numbered(alloc, ": damaged at byte ", byte_of(place), "")
 }
 
 /// The place of a part of which something would be left out or cut, and what.
-fn lost_text(alloc: Global, form: LogForm, place: u64, what: &str) -> Result<Vec<u8>, AllocError>
-    ensures { IfOk result (λ v. v.items ≡ lost_text form place what.now) }
+fn lost_text(alloc: Global, text: bool, place: u64, what: &str) -> Result<Vec<u8>, AllocError>
+    ensures { IfOk result (λ v. v.items ≡ lost_text text place what.now) }
 {
-    match form {
-        LogForm::Binary => numbered(alloc, ": byte ", byte_of(place), what),
-        LogForm::Text => numbered(alloc, ": line ", place, what),
+    if text {
+        return numbered(alloc, ": line ", place, what);
     }
+    numbered(alloc, ": byte ", byte_of(place), what)
 }
 
 /// What would be left out or cut.
@@ -116,16 +116,16 @@ fn loss_text(loss: Loss) -> &'static str
 fn copy_message(alloc: Global, job: Job<'_>, fault: CopyFault) -> Result<Vec<u8>, AllocError>
     ensures { IfOk result (λ v. v.items ≡ copy_message (job_as job.entry) fault) }
 {
-    let form = job.how.form;
+    let text = job.asked.text;
     match fault {
         CopyFault::ReadFault => tell(alloc, job.input, ": read failed"),
         CopyFault::WriteFault => tell(alloc, job.output, ": write failed"),
         CopyFault::Damaged { at } => {
-            let place = damage_text(alloc, form, at)?;
+            let place = damage_text(alloc, text, at)?;
             tell_both(alloc, job.input.as_bytes(), &place)
         }
         CopyFault::Lost { loss, at } => {
-            let place = lost_text(alloc, form, at, loss_text(loss))?;
+            let place = lost_text(alloc, text, at, loss_text(loss))?;
             tell_both(alloc, job.input.as_bytes(), &place)
         }
     }

@@ -21,7 +21,7 @@ fn work_off<W: World>(alloc: Global, world: &mut W, job: Job<'_>) -> Result<Ende
     ensures { Called (IsWorked (job_as job.entry) result) (W.seen world.old) (W.seen world.new) }
 {
     match work(alloc, world, job) {
-        Ok(copied) => Ok(settled(job.how.strict, copied)),
+        Ok(copied) => Ok(settled(job.asked.strict, copied)),
         Err(Halt::Fault(fault)) => Ok(Ended::Stopped(fault)),
         Err(Halt::NoMemory) => Err(NoMemory),
     }
@@ -34,8 +34,12 @@ fn refuse<W: World>(
     words: &[String],
     fault: UsageFault,
 ) -> Result<Ended, NoMemory>
-    ensures runs { IfOk result (λ ended. Called (Runs (map string_bytes words.now) (Err fault) ended) (W.seen world.old) (W.seen world.new)) }
-    ensures lacks { OnErr result (Called (Lacks (map string_bytes words.now) (Err fault)) (W.seen world.old) (W.seen world.new)) }
+    ensures runs { IfOk result
+        (λ ended. Called (Runs (map string_bytes words.now) (Err fault) ended) (W.seen world.old)
+        (W.seen world.new)) }
+    ensures lacks { OnErr result
+        (Called (Lacks (map string_bytes words.now) (Err fault)) (W.seen world.old)
+        (W.seen world.new)) }
 {
     let text = usage_message(alloc, words, fault)?;
     say(world, &text)?;
@@ -48,8 +52,12 @@ pub fn run_vslog<W: World>(
     world: &mut W,
     words: &[String],
 ) -> Result<Ended, NoMemory>
-    ensures runs { IfOk result (λ ended. Called (Runs (map string_bytes words.now) (job_of (map string_bytes words.now)) ended) (W.seen world.old) (W.seen world.new)) }
-    ensures lacks { OnErr result (Called (Lacks (map string_bytes words.now) (job_of (map string_bytes words.now))) (W.seen world.old) (W.seen world.new)) }
+    ensures runs { IfOk result
+        (λ ended. Called (Runs (map string_bytes words.now)
+        (job_of (map string_bytes words.now)) ended) (W.seen world.old) (W.seen world.new)) }
+    ensures lacks { OnErr result
+        (Called (Lacks (map string_bytes words.now) (job_of (map string_bytes words.now)))
+        (W.seen world.old) (W.seen world.new)) }
 {
     let job = match read_job(words) {
         Ok(job) => job,

@@ -6,14 +6,14 @@ ghost use Rattle.vslog.specs.Words.{first_job, job_as, job_of, stated_as, with_g
 ghost use Rattle.word_forms.specs.Lookup.{first_name};
 
 use crate::options::{Choice, LETTERS, WORDS};
-use varnish_log::{How, LogForm};
+use varnish_log::Asked;
 use vio::STREAM;
 use word_forms::{Rows, WordFault, Words, letter_in, name_in};
 
 /// What is to be copied, how, and to where.
 #[derive(Clone, Copy)]
 pub struct Job<'a> {
-    pub how: How,
+    pub asked: Asked,
     /// Whether what is written keeps what it has.
     pub append: bool,
     /// Whether nothing is said of what was left out.
@@ -98,12 +98,12 @@ impl Rows for LogRows {
 fn first_job() -> Job<'static>
     ensures { job_as result ≡ first_job }
 {
-    let how = How {
-        form: LogForm::Binary,
+    let asked = Asked {
+        text: false,
         strict: false,
     };
     Job {
-        how,
+        asked,
         append: false,
         quiet: false,
         output: STREAM,
@@ -118,20 +118,10 @@ fn with_given<'a>(choice: Option<Choice>, value: &'a str, job: Job<'a>) -> Job<'
     let mut job = job;
     match choice {
         None => job.input = value,
-        Some(Choice::Text) => {
-            job.how = How {
-                form: LogForm::Text,
-                strict: job.how.strict,
-            }
-        }
+        Some(Choice::Text) => job.asked.text = true,
         Some(Choice::Append) => job.append = true,
         Some(Choice::Quiet) => job.quiet = true,
-        Some(Choice::Strict) => {
-            job.how = How {
-                form: job.how.form,
-                strict: true,
-            }
-        }
+        Some(Choice::Strict) => job.asked.strict = true,
         Some(Choice::Write) => job.output = value,
     }
     job

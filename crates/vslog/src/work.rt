@@ -24,9 +24,13 @@ struct Ends {
 
 /// Opens what is read, creates what is written, and writes the header of a log file where that is empty.
 fn begin<W: World>(alloc: Global, world: &mut W, job: Job<'_>) -> Result<Ends, Halt<RunFault>>
-    ensures begun { IfOk result (λ ends. Called (IsBegun (job_as job.entry) ends) (W.seen world.old) (W.seen world.new)) }
-    ensures fault { IfFault result (λ fault. Called (StopsWith (job_as job.entry) fault) (W.seen world.old) (W.seen world.new)) }
-    ensures short { OnShort result (Called (LacksWork (job_as job.entry)) (W.seen world.old) (W.seen world.new)) }
+    ensures begun { IfOk result
+        (λ ends. Called (IsBegun (job_as job.entry) ends) (W.seen world.old) (W.seen world.new)) }
+    ensures fault { IfFault result
+        (λ fault. Called (StopsWith (job_as job.entry) fault) (W.seen world.old)
+        (W.seen world.new)) }
+    ensures short { OnShort result
+        (Called (LacksWork (job_as job.entry)) (W.seen world.old) (W.seen world.new)) }
 {
     let mut header = Vec::new(alloc);
     put_header(&mut header)?;
@@ -55,12 +59,17 @@ fn begin<W: World>(alloc: Global, world: &mut W, job: Job<'_>) -> Result<Ends, H
 
 /// Copies the log of a job.
 pub fn work<W: World>(alloc: Global, world: &mut W, job: Job<'_>) -> Result<Copied, Halt<RunFault>>
-    ensures copied { IfOk result (λ copied. Called (Copies (job_as job.entry) copied) (W.seen world.old) (W.seen world.new)) }
-    ensures fault { IfFault result (λ fault. Called (StopsWith (job_as job.entry) fault) (W.seen world.old) (W.seen world.new)) }
-    ensures short { OnShort result (Called (LacksWork (job_as job.entry)) (W.seen world.old) (W.seen world.new)) }
+    ensures copied { IfOk result
+        (λ copied. Called (Copies (job_as job.entry) copied) (W.seen world.old)
+        (W.seen world.new)) }
+    ensures fault { IfFault result
+        (λ fault. Called (StopsWith (job_as job.entry) fault) (W.seen world.old)
+        (W.seen world.new)) }
+    ensures short { OnShort result
+        (Called (LacksWork (job_as job.entry)) (W.seen world.old) (W.seen world.new)) }
 {
     let ends = begin(alloc, world, job)?;
-    match copy_log(alloc, world, job.how, ends.input, ends.output) {
+    match copy_log(alloc, world, job.asked, ends.input, ends.output) {
         Ok(copied) => Ok(copied),
         Err(Halt::Fault(fault)) => Err(Halt::Fault(RunFault::Log(fault))),
         Err(Halt::NoMemory) => Err(Halt::NoMemory),

@@ -28,7 +28,8 @@ pub record IsReady (o : Begun) (body out before : List ℕ) (ls : List LoggedRec
   pub is_of : IsOf o body unit
   pub has : out ≡ before ++ log_bytes done
   pub open_still : o.ended ≡ false
-  pub goes : (l : LoggedRecord) (more : List LoggedRecord) → l.vxid ≡ o.vxid → l.rec.mark ≡ o.mark → gathered goes_on (ls ++ l ∷ more) ≡ done ++ gathered_from goes_on (with_record unit l.rec) more
+  pub goes : (l : LoggedRecord) (more : List LoggedRecord) → l.vxid ≡ o.vxid → l.rec.mark ≡ o.mark →
+      gathered goes_on (ls ++ l ∷ more) ≡ done ++ gathered_from goes_on (with_record unit l.rec) more
 
 -- the unit that goes on does so with each record of this VXID and mark
 pub record GoesOnWith (kept : Kept) (o : Begun) (vxid : ℕ) (mark : Mark) : Type 0 where
@@ -36,4 +37,5 @@ pub record GoesOnWith (kept : Kept) (o : Begun) (vxid : ℕ) (mark : Mark) : Typ
   pub same_vxid : o.vxid ≡ vxid
   pub same_mark : o.mark ≡ mark
   pub open_still : o.ended ≡ false
-  pub goes : (u : LogUnit) (l : LoggedRecord) → Keeps kept (Some u) → l.vxid ≡ vxid → l.rec.mark ≡ mark → goes_on u l ≡ true
+  pub goes : (u : LogUnit) (l : LoggedRecord) → Keeps kept (Some u) → l.vxid ≡ vxid → l.rec.mark ≡ mark →
+      goes_on u l ≡ true

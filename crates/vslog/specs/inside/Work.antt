@@ -7,4 +7,5 @@ use Rattle.vslog.specs.Words.{Job}
 
 -- the work was begun, between these handles
 abbrev pub IsBegun : Job → Ends → List Call → Type 0
-IsBegun job ends calls = Begun job (λ input output rest. (input ≡ ends.input) × (output ≡ ends.output) × (rest ≡ [])) calls
+IsBegun job ends calls = Begun job (λ input output rest. (input ≡ ends.input) × (output ≡ ends.output) ×
+    (rest ≡ [])) calls

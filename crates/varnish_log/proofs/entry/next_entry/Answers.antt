@@ -1,17 +1,20 @@
-use Rattle.std.proofs.Common.{◌%◌, take, drop, ap, ◌∙◌, sym, inr, arith}
-use Rattle.varnish_log.specs.Entries.{filling_of}
-use Rattle.varnish_log.proofs.EntryLemmas.{cut, damaged, no_mark, one_mark, whole}
+use Rattle.std.proofs.Common.{◌≡◌, ◌+◌, ◌%◌, ℕ, take, drop, ap, ◌∙◌, sym, arith}
+use Rattle.varnish_log.specs.Entries.{filling_of, head_size}
+use Rattle.varnish_log.proofs.EntryLemmas.{cut, other_id, whole}
 use Rattle.varnish_log.proofs.entry.next_entry.Goals as goal
 
 pub returns-in_default-mark_of_id : goal.returns-in_default-mark_of_id
-returns-in_default-mark_of_id c = damaged c.args.bytes.now _ _ c.in-len8-up.len_at_least c.from_le_bytes-head.ensures c.from_le_bytes-id.ensures (inr (no_mark _ (sym c.mark_of_id.ensures ∙ c.in_default-mark_of_id.is)))
+returns-in_default-mark_of_id c = other_id c.args.form c.args.bytes.now c.in-Some.words c.in-Some.ensures.some (sym c.mark_of_id.ensures ∙ c.in_default-mark_of_id.is)
 
-pub returns-then-bytes-size : goal.returns-then-bytes-size
-returns-then-bytes-size c =
-    let m = one_mark _ _ (sym c.mark_of_id.ensures ∙ c.in-Some.is) in
-    cut c.args.bytes.now _ _ c.in-len8-up.len_at_least c.from_le_bytes-head.ensures c.from_le_bytes-id.ensures (omega (arith, c.if-head-ne0.false)) m.below (omega (arith, c.if-bytes-size.true))
+pub returns-then-bytes-head : goal.returns-then-bytes-head
+returns-then-bytes-head c =
+    cut c.args.form c.args.bytes.now c.in-Some.words c.in-Some.ensures.some c.in-Some-mark_of_id.mark (omega (arith, c.if-words-version.false, c.version.ensures)) (sym c.mark_of_id.ensures ∙ c.in-Some-mark_of_id.is)
+    (omega (arith, c.if-bytes-head.true, c.id_size-head.ensures))
 
 pub returns : goal.returns
-returns c = whole c.args.bytes.now _ _ c.in-Some.mark _ _ (λ i. omega (arith, c.type_inv.bytes i)) c.in-len8-up.len_at_least c.from_le_bytes-head.ensures c.from_le_bytes-id.ensures (omega (arith, c.if-head-ne0.false)) (sym c.mark_of_id.ensures ∙ c.in-Some.is) (omega (arith, c.if-bytes-size.false))
-    (c.split_at-2.ensures.front ∙ ap (take (c.from_le_bytes-head.result % 65536)) c.split_at.ensures.back)
-    (c.split_at-3.ensures.back ∙ ap (drop (filling_of (c.from_le_bytes-head.result % 65536))) (c.split_at-2.ensures.back ∙ ap (drop (c.from_le_bytes-head.result % 65536)) c.split_at.ensures.back))
+returns c =
+    let behind : c.split_at.result.1.now ≡ drop (head_size c.args.form) c.args.bytes.now = c.split_at.ensures.back ∙ ap (λ (k : ℕ). drop (4 + k) c.args.bytes.now) c.id_size-head.ensures in
+    rw c.client.ensures.client (whole c.args.form c.args.bytes.now c.in-Some.words c.in-Some.ensures.some c.in-Some-mark_of_id.mark (omega (arith, c.if-words-version.false, c.version.ensures)) (sym c.mark_of_id.ensures ∙ c.in-Some-mark_of_id.is) _ _
+    (λ i. omega (arith, c.type_inv.bytes i)) (omega (arith, c.if-bytes-head.false, c.id_size-head.ensures))
+    (c.split_at-2.ensures.front ∙ ap (take (c.in-Some.words.first % 65536)) behind)
+    (c.split_at-3.ensures.back ∙ ap (drop (filling_of (c.in-Some.words.first % 65536))) (c.split_at-2.ensures.back ∙ ap (drop (c.in-Some.words.first % 65536)) behind)))
