@@ -3,5 +3,7 @@ mod SourceLemmas
 mod ReplayLemmas
 mod CounterLemmas
 pub mod RowLemmas
+mod ConvertLemmas
+mod WrittenLemmas
 mod ToldLemmas
 mod GoodLemmas

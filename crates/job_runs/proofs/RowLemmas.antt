@@ -45,7 +45,7 @@ due_is : (job : Job) (query : Query) (ask : Ask) (handle : ℕ) (empty : Bool) (
 due_is job query ask handle empty head holds same = λ i. due_where (λ group. holds.each group i) (same i) job
 
 -- a run came to an end at a sink by these calls
-row_of : (reads : List ℕ) (came : List Call → List Item → Bool → Type 0) (stops : FileStop → List Call → List Item → Type 0) (records : List Item → Type 0) (sink : ℕ) (d : Due) (answer : RunEnd TextEnding FileStop → Option ToolFault) (end : RunEnd TextEnding FileStop) (met : Met) (fault : Option ToolFault) (s t : Seen)
+pub row_of : (reads : List ℕ) (came : List Call → List Item → Bool → Type 0) (stops : FileStop → List Call → List Item → Type 0) (records : List Item → Type 0) (sink : ℕ) (d : Due) (answer : RunEnd TextEnding FileStop → Option ToolFault) (end : RunEnd TextEnding FileStop) (met : Met) (fault : Option ToolFault) (s t : Seen)
     (done last : List Item) (all : Bool) (calls : List Call) → Did calls s t → AreOn reads (ERRORS ∷ sink ∷ []) calls → last_failed calls ≡ true → length last ≤ 1 → IsMet met (done ++ last)
     → runs.EndsBy came stops (TextWritten sink d) (TextEnded sink d) (ERRORS ∷ sink ∷ []) end calls done last all → fault ≡ answer end → ((list : List Item) → IsMet met list → records list) → Called (RanSo (RanFor reads came stops records sink d answer fault)) s t
 row_of reads came stops records sink d answer end met fault s t done last all calls did on fail one count by is_answer counts = record {

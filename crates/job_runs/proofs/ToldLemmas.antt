@@ -1,12 +1,12 @@
 -- A run whose source is known to have certain items in all.
-use Rattle.std.proofs.Common.{◌≡◌, ◌⊎◌, ℕ, ◌||◌, Bool, true, false, List, [], ◌∷◌, ◌++◌, Option, Some, None, refl, sym, ap, subst, ◌∙◌, inl, inr}
+use Rattle.std.proofs.Common.{◌≡◌, ℕ, ◌||◌, Bool, true, false, List, [], ◌∷◌, ◌++◌, Option, refl, sym, ap, subst, ◌∙◌}
 use Rattle.std.specs.Prelude.{filter}
 use Rattle.std.proofs.lemmas.List.{append-nil}
 use Rattle.log_model.specs.Interleaving.{IsInterleaving}
 use Rattle.log_model.specs.Prefix.{IsPrefix}
 use Rattle.vio.specs.declared.world.TheConstants.{ERRORS}
 use Rattle.vio.specs.World.{Seen}
-use Rattle.vio.specs.Calls.{Call, Did, written_by}
+use Rattle.vio.specs.Calls.{Call, Did}
 use Rattle.vsl_record.specs.Unit.{LogUnit, Log}
 use Rattle.vsl_record.specs.Words.{unit_words}
 use Rattle.ring_layout.specs.History.{IsReadHistory, ReachesTail, AddUp}
@@ -16,7 +16,6 @@ use Rattle.ring_layout.specs.declared.item.Item.{Item}
 use Rattle.ring_layout.specs.Items.{items_of}
 use Rattle.traffic_feed.specs.declared.listing.Listing.{Listing}
 use Rattle.vsl_file.specs.File.{FileEnding, is_whole}
-use Rattle.vsl_file.specs.File as file
 use Rattle.vsl_dispatch.specs.Groups.{is_filled, kept}
 use Rattle.tool_words.specs.declared.job.Job.{Job}
 use Rattle.one_run.specs.declared.met.Met.{Met}
@@ -24,27 +23,24 @@ use Rattle.one_run.specs.declared.pass.RunEnd.{RunEnd}
 use Rattle.one_run.specs.declared.pass.RunEnd.TheVariants as ends
 use Rattle.one_run.specs.Run as runs
 use Rattle.run_sources.specs.declared.file_items.FileStop.{FileStop}
-use Rattle.run_sources.specs.declared.file_items.FileStop.TheVariants as stops
-use Rattle.run_sources.specs.Sources.{FileCame, FileStopped, unit_items}
-use Rattle.run_sources.specs.Told.{AreOf, TellsLog, named_ending}
-use Rattle.run_sources.proofs.ToldLemmas.{begun_are, whole_are, first_are, stopped_are, stopped_ends}
+use Rattle.run_sources.specs.Sources.{unit_items}
+use Rattle.run_sources.specs.Told.{AreOf, TellsLog}
+use Rattle.run_sources.proofs.ToldLemmas.{begun_are, whole_are}
 use Rattle.text_printer.specs.Messages.{messages_of}
 use Rattle.text_printer.specs.declared.output.TextEnding.{TextEnding}
-use Rattle.text_printer.specs.declared.output.TextEnding.TheVariants as endings
-use Rattle.text_printer.specs.Ends.{Grows, TextEnded, TextShort, TextWritten, taken_of, whole}
+use Rattle.text_printer.specs.Ends.{Grows, TextEnded, TextWritten, taken_of, whole}
 use Rattle.text_printer.proofs.DueLemmas.{filled_on, taken_append, text_filled, text_prefix}
-use Rattle.text_printer.proofs.EndLemmas.{ended_short, short_prefix, written_short}
 use Rattle.job_steps.specs.declared.fault.ToolFault.{ToolFault}
-use Rattle.job_steps.specs.declared.fault.ToolFault.TheVariants.{ReadFault, NotALog, Damaged, TooLarge}
-use Rattle.job_steps.specs.Jobs.{file_of, is_on_threads, options_of, units_of, with_made}
+use Rattle.job_steps.specs.Jobs.{is_on_threads, options_of, units_of, with_made}
 use Rattle.job_steps.specs.Queries.{Ask, is_asked}
 use Rattle.job_steps.specs.Steps.{Found, listings_of, logs_of}
 use Rattle.tool_consumers.specs.Output.{output_of}
 use Rattle.tool_consumers.proofs.OutputLemmas.{job_output}
 use Rattle.job_runs.specs.declared.record.RunRecord.{RunRecord}
 use Rattle.job_runs.specs.Sources.{AreFed, BeganOf, FedCame, FeedsCame, LogBegan}
-use Rattle.job_runs.specs.Rows.{GroupsShort, RanFor, end_answer, fills, job_due, output_answer, stop_answer}
+use Rattle.job_runs.specs.Rows.{GroupsShort, RanFor, end_answer, fills, job_due, output_answer}
 use Rattle.job_runs.specs.Told.{WritesFedPart, WritesOf, WritesPart, WritesRing}
+use Rattle.job_runs.proofs.WrittenLemmas.{Lasts, ended_writes, none_told, short_of}
 
 -- ---- what is due of a job
 
@@ -66,119 +62,8 @@ module _ (job : Job) (ask : Ask) (empty : Bool) where
   fills_more met more filled =
       ap (λ (list : List Taken). is_filled job.keep (filter (is_asked ask) (groups_of (options_of job) list false))) (taken_append met more) ∙ filled_on job.keep (is_asked ask) (options_of job) (taken_of met) (taken_of more) filled
 
-  module _ (sink : ℕ) (every : List Item) (ended : Bool) (calls : List Call) where
-    -- a part of what is due of the items that came is one of what is due of all
-    short_of : (met : List Item) (all : Bool) → AreOf met all every ended → TextShort sink (job_due job ask empty) calls met all → TextShort sink (job_due job ask empty) calls every ended
-    short_of met all are short = subst (λ (list : List Item). TextShort sink (job_due job ask empty) calls list ended) (sym are.parts) (short_prefix sink (job_due job ask empty) job_grows calls met are.rest all ended are.whole short)
-
-    -- what is written up to a fault
-    part_of : (fault : ToolFault) → TextShort sink (job_due job ask empty) calls every ended → WritesOf sink (job_due job ask empty) (Some fault) every ended calls
-    part_of fault short = record { part = short.text; told = short.told; done = λ e. absurd cc; ends = λ e. absurd cc }
-
-    -- and without one
-    all_of : TextShort sink (job_due job ask empty) calls every ended → written_by sink calls ≡ whole (job_due job ask empty) every ended → (ended ≡ true) ⊎ (fills job ask every ≡ true) → WritesOf sink (job_due job ask empty) None every ended calls
-    all_of short text end = record { part = short.text; told = short.told; done = λ e. text; ends = λ e. end }
-
-    -- an output ended
-    ended_writes : (ending : TextEnding) (done last : List Item) (all : Bool) → AreOf (done ++ last) all every ended → TextEnded sink (job_due job ask empty) ending calls done last all → WritesOf sink (job_due job ask empty) (output_answer ending) every ended calls
-    ended_writes endings.Whole done last all are p =
-        let short = short_of (done ++ last) all are (ended_short sink (job_due job ask empty) job_grows endings.Whole calls done last all p) in
-        let so = p.ends in let end = are.whole so.1 in
-        let same : every ≡ done = are.parts ∙ ap (λ (xs : List Item). done ++ last ++ xs) end.0 ∙ append-nil (done ++ last) ∙ ap (λ (xs : List Item). done ++ xs) so.0 ∙ append-nil done in
-        all_of short (so.2 ∙ ap (λ (xs : List Item). whole (job_due job ask empty) xs true) (sym same) ∙ ap (λ (b : Bool). whole (job_due job ask empty) every b) (sym end.1)) (inl end.1)
-    ended_writes endings.Kept done last all are p =
-        let short = short_of (done ++ last) all are (ended_short sink (job_due job ask empty) job_grows endings.Kept calls done last all p) in
-        let so = p.ends in
-        all_of short
-        (so.2 ∙ job_filled (done ++ last) are.rest ended so.1 ∙ ap (λ (xs : List Item). whole (job_due job ask empty) xs ended) (sym are.parts))
-        (inr (ap (λ (xs : List Item). fills job ask xs) are.parts ∙ fills_more (done ++ last) are.rest so.1))
-    ended_writes (endings.Unwritten name) done last all are p = part_of _ (short_of (done ++ last) all are (ended_short sink (job_due job ask empty) job_grows (endings.Unwritten name) calls done last all p))
-    ended_writes endings.Unreported done last all are p = part_of _ (short_of (done ++ last) all are (ended_short sink (job_due job ask empty) job_grows endings.Unreported calls done last all p))
-
-    -- its source stopped
-    stopped_writes : (fault : ToolFault) (done : List Item) → AreOf done false every ended → TextWritten sink (job_due job ask empty) calls done → WritesOf sink (job_due job ask empty) (Some fault) every ended calls
-    stopped_writes fault done are p = part_of fault (short_of done false are (written_short sink (job_due job ask empty) calls done p))
-
-  -- ---- a run over any source
-
-  module _ (sink : ℕ) (every : List Item) (ended : Bool) (calls : List Call) (came : List Call → List Item → Bool → Type 0) (stopped : FileStop → List Call → List Item → Type 0)
-      (comes : (first more : List Call) (met : List Item) (all : Bool) → calls ≡ first ++ more → came first met all → AreOf met all every ended) (stays : (why : FileStop) (met : List Item) → stopped why calls met → AreOf met false every ended) where
-    -- a run that ended so
-    end_writes : (end : RunEnd TextEnding FileStop) (met : Met) (fault : Option ToolFault) → runs.Ran came stopped (TextWritten sink (job_due job ask empty)) (TextEnded sink (job_due job ask empty)) (ERRORS ∷ sink ∷ []) end met calls → fault ≡ end_answer job end
-        → WritesOf sink (job_due job ask empty) fault every ended calls
-    end_writes (ends.ByOutput ending) met fault ran is =
-        let e = ran.ends in
-        subst (λ (f : Option ToolFault). WritesOf sink (job_due job ask empty) f every ended calls) (sym is) (ended_writes sink every ended calls ending ran.done ran.last ran.all (comes e.0 e.1 (ran.done ++ ran.last) ran.all e.2 e.4) e.5)
-    end_writes (ends.BySource why) met fault ran is =
-        let e = ran.ends in
-        subst (λ (f : Option ToolFault). WritesOf sink (job_due job ask empty) f every ended calls) (sym is) (stopped_writes sink every ended calls (stop_answer (file_of job) why) ran.done (stays why ran.done e.1) e.2)
-
-    -- what it wrote is of all that its source has
-    pub ran_writes : (reads : List ℕ) (fault : Option ToolFault) (records : List Item → Type 0) → RanFor reads came stopped records sink (job_due job ask empty) (end_answer job) fault calls → WritesOf sink (job_due job ask empty) fault every ended calls
-    ran_writes reads fault records r = end_writes r.end r.met fault r.ran r.answers
-
--- ---- how a fault names the end of a log
-
--- the stop that a fault answers
-abbrev stop_in : Option ToolFault → Option FileStop
-stop_in (Some (NotALog name at)) = Some (stops.NotALog at)
-stop_in (Some (Damaged name at)) = Some (stops.Damaged at)
-stop_in (Some (TooLarge name limit)) = Some stops.TooLarge
-stop_in (Some (ReadFault name)) = Some stops.ReadFault
-stop_in other = None
-
--- a stop is that of its answer
-stop_back : (name : List ℕ) (why : FileStop) → stop_in (Some (stop_answer name why)) ≡ Some why
-stop_back name (stops.NotALog at) = refl
-stop_back name (stops.Damaged at) = refl
-stop_back name stops.TooLarge = refl
-stop_back name stops.ReadFault = refl
-
--- the end of an output is no stop
-no_stop : (ending : TextEnding) → stop_in (output_answer ending) ≡ None
-no_stop endings.Whole = refl
-no_stop endings.Kept = refl
-no_stop (endings.Unwritten name) = refl
-no_stop endings.Unreported = refl
-
--- equal stops name the same ending
-names_same : (why other : FileStop) (named : FileEnding) → Some why ≡ Some other → named_ending why ≡ Some named → named_ending other ≡ Some named
-names_same why other named same names = let e : why ≡ other = cc in ap named_ending (sym e) ∙ names
-
--- an ending that is named isn't whole
-not_whole : (why : FileStop) (named : FileEnding) → named_ending why ≡ Some named → is_whole named ≡ false
-not_whole (stops.NotALog at) named names = let same : named ≡ file.NotALog at = cc in ap is_whole same
-not_whole (stops.Damaged at) named names = let same : named ≡ file.Damaged at = cc in ap is_whole same
-not_whole stops.TooLarge named names = let same : named ≡ file.TooLarge = cc in ap is_whole same
-not_whole stops.ReadFault named names = absurd cc
-
--- ---- over a log whose handle told what it had left
-
-module _ (job : Job) (ask : Ask) (h : ℕ) (others : List ℕ) (sink : ℕ) (empty : Bool) (units : Log) (ending : FileEnding) (calls : List Call) (before now : Seen) (tells : TellsLog h units ending before) (did : Did calls before now) where
-  -- items that came by the first of the calls are the first, or all
-  came_first : (first more : List Call) (met : List Item) (all : Bool) → calls ≡ first ++ more → FileCame h first met all → AreOf met all (unit_items units) (is_whole ending)
-  came_first first more met all are p = first_are h units ending before now first more met all tells (subst (λ (cs : List Call). Did cs before now) are did) p
-
-  -- what a run wrote of the log
-  pub log_writes : (fault : Option ToolFault) (records : List Item → Type 0) → RanFor (h ∷ others) (FileCame h) (λ why cs met. FileStopped h why cs met now) records sink (job_due job ask empty) (end_answer job) fault calls
-      → WritesOf sink (job_due job ask empty) fault (unit_items units) (is_whole ending) calls
-  log_writes fault records r =
-      ran_writes job ask empty sink (unit_items units) (is_whole ending) calls (FileCame h) (λ why cs met. FileStopped h why cs met now) came_first (stopped_are h units ending before tells calls now did) (h ∷ others) fault records r
-
-  -- where it was answered that the source stopped so, it did
-  stop_ends : (end : RunEnd TextEnding FileStop) (met : Met) (why : FileStop) (named : FileEnding) → runs.Ran (FileCame h) (λ why cs met. FileStopped h why cs met now) (TextWritten sink (job_due job ask empty)) (TextEnded sink (job_due job ask empty)) (ERRORS ∷ sink ∷ []) end met calls
-      → Some (stop_answer (file_of job) why) ≡ end_answer job end → named_ending why ≡ Some named → (ending ≡ named) × (written_by sink calls ≡ whole (job_due job ask empty) (unit_items units) (is_whole ending))
-  stop_ends (ends.ByOutput out) met why named ran is names = absurd (let none = sym (stop_back (file_of job) why) ∙ ap stop_in is ∙ no_stop out in cc)
-  stop_ends (ends.BySource other) met why named ran is names =
-      let same : Some why ≡ Some other = sym (stop_back (file_of job) why) ∙ ap stop_in is ∙ stop_back (file_of job) other in
-      let e = ran.ends in
-      let so = stopped_ends h units ending before tells calls now did other named ran.done (names_same why other named same names) e.1 in
-      (so.1, (e.2).text ∙ ap (λ (xs : List Item). whole (job_due job ask empty) xs false) (sym so.0) ∙ ap (λ (b : Bool). whole (job_due job ask empty) (unit_items units) b) (sym (ap is_whole so.1 ∙ not_whole other named (names_same why other named same names))))
-
-  -- where the source stopped so, it ends as it is named, and all that is due of it was written
-  pub log_stops : (fault : Option ToolFault) (records : List Item → Type 0) (why : FileStop) (named : FileEnding) → RanFor (h ∷ others) (FileCame h) (λ why cs met. FileStopped h why cs met now) records sink (job_due job ask empty) (end_answer job) fault calls
-      → fault ≡ Some (stop_answer (file_of job) why) → named_ending why ≡ Some named → (ending ≡ named) × (written_by sink calls ≡ whole (job_due job ask empty) (unit_items units) (is_whole ending))
-  log_stops fault records why named r is names = stop_ends r.end r.met why named r.ran (sym is ∙ r.answers) names
+  pub job_lasts : Lasts (job_due job ask empty)
+  job_lasts = record { grows = job_grows; filled_all = job_filled; filled_more = fills_more }
 
 -- ---- over feeds
 
@@ -194,7 +79,7 @@ module _ (job : Job) (ask : Ask) (sink : ℕ) (empty : Bool) (listings : List Li
   -- what an output that ended so wrote of all that its source has
   ended_of : (ending : TextEnding) (done last : List Item) (all ended : Bool) (every : List Item) (fault : Option ToolFault) → fault ≡ output_answer ending → AreOf (done ++ last) all every ended → TextEnded sink (job_due job ask empty) ending calls done last all
       → WritesOf sink (job_due job ask empty) fault every ended calls
-  ended_of ending done last all ended every fault is are p = subst (λ (f : Option ToolFault). WritesOf sink (job_due job ask empty) f every ended calls) (sym is) (ended_writes job ask empty sink every ended calls ending done last all are p)
+  ended_of ending done last all ended every fault is are p = subst (λ (f : Option ToolFault). WritesOf sink (job_due job ask empty) f every ended calls) (sym is) (ended_writes (job_due job ask empty) (job_lasts job ask empty) sink every ended calls ending done last all are p)
 
   -- a run that ended so
   fed_end : (end : RunEnd TextEnding FileStop) (met : Met) (fault : Option ToolFault) → runs.Ran (λ cs. FeedsCame job listings recorded) (λ why cs met. ⊥) (TextWritten sink (job_due job ask empty)) (TextEnded sink (job_due job ask empty)) (ERRORS ∷ sink ∷ []) end met calls → fault ≡ end_answer job end
@@ -208,13 +93,6 @@ module _ (job : Job) (ask : Ask) (sink : ℕ) (empty : Bool) (listings : List Li
   pub feeds_write : (fault : Option ToolFault) (records : List Item → Type 0) → RanFor [] (λ cs. FeedsCame job listings recorded) (λ why cs met. ⊥) records sink (job_due job ask empty) (end_answer job) fault calls
       → (log : Log) × (history : List (HistoryItem LogUnit)) × AreFed job listings log history × WritesOf sink (job_due job ask empty) fault (items_of history) true calls
   feeds_write fault records r = fed_end r.end r.met fault r.ran r.answers
-
-  -- without a fault each message was written
-  none_told : (ending : TextEnding) (done last : List Item) (all : Bool) (fault : Option ToolFault) → fault ≡ output_answer ending → TextEnded sink (job_due job ask empty) ending calls done last all → fault ≡ None → written_by ERRORS calls ≡ messages_of (done ++ last)
-  none_told endings.Whole done last all fault is p none = p.ends.3 ∙ ap messages_of (sym (append-nil done)) ∙ ap (λ (xs : List Item). messages_of (done ++ xs)) (sym p.ends.0)
-  none_told endings.Kept done last all fault is p none = p.ends.3
-  none_told (endings.Unwritten name) done last all fault is p none = let no = sym none ∙ is in absurd cc
-  none_told endings.Unreported done last all fault is p none = let no = sym none ∙ is in absurd cc
 
   -- the items of a ring are all that were met
   all_met : (history : List (HistoryItem LogUnit)) (met rest : List Item) → items_of history ≡ met ++ rest → rest ≡ [] → items_of history ≡ met
@@ -237,7 +115,7 @@ module _ (job : Job) (ask : Ask) (sink : ℕ) (empty : Bool) (listings : List Li
         ended = ran.all;
         tail = λ all. subst (λ (l : Log). ReachesTail l came.history) (sym ring.log_is) (came.whole all).1;
         writes = ended_of ending ran.done ran.last ran.all ran.all (items_of came.history) fault is (live_are job listings (ran.done ++ ran.last) ran.all came) e.5;
-        messages = λ none. none_told ending ran.done ran.last ran.all fault is e.5 none ∙ ap messages_of (sym (all_met came.history (ran.done ++ ran.last) came.rest came.parts (e.4.ring threads).0));
+        messages = λ none. none_told (job_due job ask empty) (job_lasts job ask empty) sink calls ending ran.done ran.last ran.all fault is e.5 none ∙ ap messages_of (sym (all_met came.history (ran.done ++ ran.last) came.rest came.parts (e.4.ring threads).0));
       }
   live_end (ends.BySource why) met fault threads ran is = absurd ran.ends.1
 
@@ -258,13 +136,13 @@ pub short_log : (job : Job) (found : List Found) (h : ℕ) (others : List ℕ) (
 short_log job found h others units ending calls before now is tells did p =
     let met = p.3 in let all = p.4 in
     let began : LogBegan h calls met all = subst (λ (logs : List ℕ). BeganOf logs job (listings_of found) calls met all) is p.7 in
-    (p.0, p.1, p.2, p.5, short_of job p.0 p.2 p.1 (unit_items units) (is_whole ending) calls met all (began_are h units ending calls before now met all tells did began) p.8)
+    (p.0, p.1, p.2, p.5, short_of (job_due job p.0 p.2) (job_lasts job p.0 p.2) p.1 (unit_items units) (is_whole ending) calls met all (began_are h units ending calls before now met all tells did began) p.8)
 
 -- and of feeds: in a stated order all that a reader meets has come to an end
 module _ (job : Job) (found : List Found) (calls : List Call) (p : GroupsShort job found calls) (came : FedCame job (listings_of found) p.3 p.4) where
   fed_part : (ended : Bool) → (is_on_threads job ≡ false → ended ≡ true) → (ended ≡ true → ReachesTail came.log came.history) → AreOf p.3 p.4 (items_of came.history) ended → WritesFedPart job found calls
   fed_part ended stated tail are =
-      record { log = came.log; history = came.history; fed = came.fed; ended = ended; stated = stated; tail = tail; writes = (p.0, p.1, p.2, p.5, short_of job p.0 p.2 p.1 (items_of came.history) ended calls p.3 p.4 are p.8) }
+      record { log = came.log; history = came.history; fed = came.fed; ended = ended; stated = stated; tail = tail; writes = (p.0, p.1, p.2, p.5, short_of (job_due job p.0 p.2) (job_lasts job p.0 p.2) p.1 (items_of came.history) ended calls p.3 p.4 are p.8) }
 
   short_by : (b : Bool) → is_on_threads job ≡ b → WritesFedPart job found calls
   short_by false stated = fed_part true (λ e. refl) (λ e. (came.fed.turns stated).1) (fed_are job (listings_of found) p.3 p.4 came)

@@ -30,13 +30,15 @@ printed modes.List globs values = stat_list globs
 -- listings were put into a ring that nobody reads: their log is an interleaving of them; where a job states whose turn it is it is that of these turns, and no writer waits for another. One
 -- writer alone never waits
 pub record ArePut (job : Job) (listings : List Listing) (log : Log) (waits : ℕ) : Type 0 where
-  pub turns : is_on_threads job ≡ false → IsUnread (order_seed job.order) (units_of (with_made job listings)) log × (waits ≡ 0)
+  pub turns : is_on_threads job ≡ false → IsUnread (order_seed job.order) (units_of (with_made job listings)) log ×
+      (waits ≡ 0)
   pub interleaved : IsInterleaving log (units_of (with_made job listings))
   pub alone : length (with_made job listings) ≡ 1 → waits ≡ 0
 
 -- what a job prints of these listings, this log, and so many waits of writers
 abbrev pub counters_text : Job → List Listing → Log → ℕ → List ℕ
-counters_text job listings log waits = printed job.stat job.globs (live_values (with_made job listings) waits (count_wraps job.seg log))
+counters_text job listings log waits =
+    printed job.stat job.globs (live_values (with_made job listings) waits (count_wraps job.seg log))
 
 -- what is recorded of a job that prints counters of no feed, or in the order that it states: it takes no unit, and has nothing where it has no log
 abbrev pub record_of : Job → RunRecord
@@ -72,12 +74,15 @@ pub record CountsSo (job : Job) (listings : List Listing) (sink : ℕ) (fault : 
 -- or a prefix of their text
 abbrev pub CountsPart : Job → List Listing → ℕ → List Call → Type 0
 CountsPart job listings sink calls =
-    (log : Log) × (waits : ℕ) × ArePut job listings log waits × WritesPartOf sink (counters_text job listings log waits) calls
+    (log : Log) × (waits : ℕ) × ArePut job listings log waits ×
+    WritesPartOf sink (counters_text job listings log waits) calls
 
 -- a job printed the counters of the listings that its steps found
 abbrev pub PrintsCounters : Job → Option ToolFault → RunRecord → List Found → List Call → Type 0
-PrintsCounters job fault recorded found calls = (sink : ℕ) × (empty : Bool) × (sinks_of found ≡ (sink, empty) ∷ []) × CountsSo job (listings_of found) sink fault recorded calls
+PrintsCounters job fault recorded found calls = (sink : ℕ) × (empty : Bool) × (sinks_of found ≡ (sink, empty) ∷ []) ×
+    CountsSo job (listings_of found) sink fault recorded calls
 
 -- a prefix of what is printed of counters was written
 abbrev pub CountersShort : Job → List Found → List Call → Type 0
-CountersShort job found calls = (sink : ℕ) × (empty : Bool) × (sinks_of found ≡ (sink, empty) ∷ []) × CountsPart job (listings_of found) sink calls
+CountersShort job found calls = (sink : ℕ) × (empty : Bool) × (sinks_of found ≡ (sink, empty) ∷ []) ×
+    CountsPart job (listings_of found) sink calls

@@ -40,7 +40,8 @@ fills job ask met = is_filled job.keep (chosen ask (groups_of (options_of job) (
 abbrev pub job_due : Job → Ask → Bool → Due
 job_due job ask empty = record {
   head = head_text job empty;
-  text = λ met all. output_of job (kept job.keep (chosen ask (groups_of (options_of job) (taken_of met) all))) (all || fills job ask met);
+  text = λ met all. output_of job (kept job.keep (chosen ask (groups_of (options_of job) (taken_of met) all)))
+      (all || fills job ask met);
   filled = fills job ask;
   name = write_of job;
 }
@@ -62,15 +63,20 @@ output_answer endings.Kept = None
 output_answer (endings.Unwritten name) = Some (WriteFault name)
 output_answer endings.Unreported = Some (WriteFault (codes "stderr"))
 
--- the fault of a run
+-- the fault of a run over a log of this name
+abbrev pub log_answer : List ℕ → RunEnd TextEnding FileStop → Option ToolFault
+log_answer name (ends.ByOutput ending) = output_answer ending
+log_answer name (ends.BySource why) = Some (stop_answer name why)
+
+-- and of a job
 abbrev pub end_answer : Job → RunEnd TextEnding FileStop → Option ToolFault
-end_answer job (ends.ByOutput ending) = output_answer ending
-end_answer job (ends.BySource why) = Some (stop_answer (file_of job) why)
+end_answer job = log_answer (file_of job)
 
 -- ---- a run that prints groups
 
 -- of items that came so, and of an output that writes these handles and printed and ended so, a run came to this fault, and what it met is recorded so, by these calls
-pub record RanWith {E : Type 0} (reads writes : List ℕ) (came : List Call → List Item → Bool → Type 0) (stopped : FileStop → List Call → List Item → Type 0) (records : List Item → Type 0)
+pub record RanWith {E : Type 0} (reads writes : List ℕ) (came : List Call → List Item → Bool → Type 0)
+    (stopped : FileStop → List Call → List Item → Type 0) (records : List Item → Type 0)
     (printed : List Call → List Item → Type 0) (ended : E → List Call → List Item → List Item → Bool → Type 0) (answer : RunEnd E FileStop → Option ToolFault) (fault : Option ToolFault) (calls : List Call) : Type 0 where
   pub on : AreOn reads writes calls
   pub end : RunEnd E FileStop
@@ -80,8 +86,11 @@ pub record RanWith {E : Type 0} (reads writes : List ℕ) (came : List Call → 
   pub recorded : records (ran.done ++ ran.last)
 
 -- the same of a text that is due at one sink
-abbrev pub RanFor : List ℕ → (List Call → List Item → Bool → Type 0) → (FileStop → List Call → List Item → Type 0) → (List Item → Type 0) → ℕ → Due → (RunEnd TextEnding FileStop → Option ToolFault) → Option ToolFault → List Call → Type 0
-RanFor reads came stopped records sink d answer fault calls = RanWith reads (ERRORS ∷ sink ∷ []) came stopped records (TextWritten sink d) (TextEnded sink d) answer fault calls
+abbrev pub RanFor : List ℕ → (List Call → List Item → Bool → Type 0) → (FileStop → List Call → List Item → Type 0) →
+    (List Item → Type 0) → ℕ → Due →
+    (RunEnd TextEnding FileStop → Option ToolFault) → Option ToolFault → List Call → Type 0
+RanFor reads came stopped records sink d answer fault calls = RanWith reads (ERRORS ∷ sink ∷ []) came stopped records
+    (TextWritten sink d) (TextEnded sink d) answer fault calls
 
 -- what the queries ask, and what was found to write to
 pub record IsAsked (job : Job) (found : List Found) (ask : Ask) (sink : ℕ) (empty : Bool) : Type 0 where
@@ -92,20 +101,25 @@ pub record IsAsked (job : Job) (found : List Found) (ask : Ask) (sink : ℕ) (em
 abbrev pub PrintsGroups : Job → Seen → Option ToolFault → RunRecord → List Found → List Call → Type 0
 PrintsGroups job now fault recorded found calls =
     (ask : Ask) × (sink : ℕ) × (empty : Bool) × IsAsked job found ask sink empty
-    × RanFor (logs_of found) (CameOf (logs_of found) job (listings_of found) recorded) (StopsOf (logs_of found) now) (RecordsOf (logs_of found) job recorded) sink (job_due job ask empty) (end_answer job) fault calls
+    × RanFor (logs_of found) (CameOf (logs_of found) job (listings_of found) recorded) (StopsOf (logs_of found) now)
+    (RecordsOf (logs_of found) job recorded) sink (job_due job ask empty) (end_answer job) fault calls
 
 -- ---- the run of a job
 
 -- by its tool
 abbrev pub JobRan : Job → Seen → Option ToolFault → RunRecord → List Found → List Call → Type 0
-JobRan job now fault recorded found calls = MatchBool (is_counting job.tool) (PrintsCounters job fault recorded found calls) (PrintsGroups job now fault recorded found calls)
+JobRan job now fault recorded found calls =
+    MatchBool (is_counting job.tool) (PrintsCounters job fault recorded found calls)
+    (PrintsGroups job now fault recorded found calls)
 
 -- a run that had no memory: a prefix was written of what is due of the items that came, and of their messages; or of the counters
 abbrev pub GroupsShort : Job → List Found → List Call → Type 0
 GroupsShort job found calls =
     (ask : Ask) × (sink : ℕ) × (empty : Bool) × (met : List Item) × (all : Bool) × IsAsked job found ask sink empty
-    × AreOn (logs_of found) (ERRORS ∷ sink ∷ []) calls × BeganOf (logs_of found) job (listings_of found) calls met all × TextShort sink (job_due job ask empty) calls met all
+    × AreOn (logs_of found) (ERRORS ∷ sink ∷ []) calls × BeganOf (logs_of found) job (listings_of found) calls met all ×
+    TextShort sink (job_due job ask empty) calls met all
 
 -- a run of a job that had no memory: nothing was done, or so
 abbrev pub JobShort : Job → List Found → List Call → Type 0
-JobShort job found calls = (calls ≡ []) ⊎ MatchBool (is_counting job.tool) (CountersShort job found calls) (GroupsShort job found calls)
+JobShort job found calls = (calls ≡ []) ⊎ MatchBool (is_counting job.tool) (CountersShort job found calls)
+    (GroupsShort job found calls)

@@ -14,7 +14,9 @@ RanSo IsSo calls = IsSo calls × (last_failed calls ≡ true)
 
 -- a run had no memory: nothing was done, or a prefix was written of what is due of items that came so
 abbrev pub RanShort : List ℕ → (List Call → List Item → Bool → Type 0) → ℕ → Due → List Call → Type 0
-RanShort reads came sink d calls = (calls ≡ []) ⊎ ((met : List Item) × (all : Bool) × AreOn reads (ERRORS ∷ sink ∷ []) calls × came calls met all × TextShort sink d calls met all)
+RanShort reads came sink d calls = (calls ≡ []) ⊎
+    ((met : List Item) × (all : Bool) × AreOn reads (ERRORS ∷ sink ∷ []) calls × came calls met all ×
+    TextShort sink d calls met all)
 
 -- no counter was printed for want of memory, or a prefix of their text was
 abbrev pub CountsShort : Job → List Listing → ℕ → List Call → Type 0

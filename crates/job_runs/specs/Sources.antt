@@ -22,7 +22,9 @@ use Rattle.job_runs.specs.declared.record.RunRecord.TheVariants.{Counted, Closed
 -- the listings of feeds, with the requests that are made, are put: their log is an interleaving of them, and what a reader meets is a history of that log. Where a job states whose turn it
 -- is, both are those of these turns, and the history goes up to the log's tail. Where it does, what the reader took and what it missed add up to the log's length
 pub record AreFed (job : Job) (listings : List Listing) (log : Log) (history : List (HistoryItem LogUnit)) : Type 0 where
-  pub turns : is_on_threads job ≡ false → IsScheduled job.seg (order_seed job.order) (units_of (with_made job listings)) log history × ReachesTail log history
+  pub turns : is_on_threads job ≡ false →
+      IsScheduled job.seg (order_seed job.order) (units_of (with_made job listings)) log history ×
+      ReachesTail log history
   pub interleaved : IsInterleaving log (units_of (with_made job listings))
   pub read : IsReadHistory unit_words job.seg log history
   pub adds_up : AddUp log history

@@ -33,7 +33,8 @@ pub record WritesOf (sink : ℕ) (d : Due) (fault : Option ToolFault) (every : L
 
 -- a job that had no memory wrote a part of what is due of them
 abbrev pub WritesPart : Job → List Found → List Item → Bool → List Call → Type 0
-WritesPart job found every ended calls = (ask : Ask) × (sink : ℕ) × (empty : Bool) × IsAsked job found ask sink empty × TextShort sink (job_due job ask empty) calls every ended
+WritesPart job found every ended calls = (ask : Ask) × (sink : ℕ) × (empty : Bool) × IsAsked job found ask sink empty ×
+    TextShort sink (job_due job ask empty) calls every ended
 
 -- what a run wrote of feeds that threads put: the ring is recorded, its log is an interleaving of the listings, and this is of all that its only reader took; that goes up to the log's tail
 -- where it had ended, and then what it took and what it missed add up. Without a fault each overrun was told, and what it cost

@@ -60,8 +60,11 @@ fn write_text<W: World>(
 ) -> Result<Ran, NoMemory>
     requires named { (W.seen world.old).names Writing sink (codes "-") ≡ true }
     ensures run { IfOk result (λ r. r.run ≡ run) }
-    ensures wrote { IfOk result (λ r. Called (WritesText sink text.now r.fault) (W.seen world.old) (W.seen world.new)) }
-    ensures short { OnErr result (Called (λ calls. (calls ≡ []) ⊎ WritesPartOf sink text.now calls) (W.seen world.old) (W.seen world.new)) }
+    ensures wrote { IfOk result
+        (λ r. Called (WritesText sink text.now r.fault) (W.seen world.old) (W.seen world.new)) }
+    ensures short { OnErr result
+        (Called (λ calls. (calls ≡ []) ⊎ WritesPartOf sink text.now calls) (W.seen world.old)
+        (W.seen world.new)) }
 {
     let name = Text::new(alloc, "-")?;
     match write_all(world, sink, text) {
@@ -96,8 +99,12 @@ pub fn print_counters<W: World>(
     requires fit { HasFitFeeds job.now counting.listings.items }
     requires stated { is_on_threads job.now ≡ false }
     requires named { (W.seen world.old).names Writing counting.sink.handle (codes "-") ≡ true }
-    ensures ran { IfOk result (λ r. Called (CountsSo job.now counting.listings.items counting.sink.handle r.fault r.run) (W.seen world.old) (W.seen world.new)) }
-    ensures short { OnErr result (Called (CountsShort job.now counting.listings.items counting.sink.handle) (W.seen world.old) (W.seen world.new)) }
+    ensures ran { IfOk result
+        (λ r. Called (CountsSo job.now counting.listings.items counting.sink.handle r.fault r.run)
+        (W.seen world.old) (W.seen world.new)) }
+    ensures short { OnErr result
+        (Called (CountsShort job.now counting.listings.items counting.sink.handle)
+        (W.seen world.old) (W.seen world.new)) }
 {
     // A law, which says that there is a log.
     every_writing_ends();
@@ -123,8 +130,12 @@ pub fn print_live_counters<R: Threads + Wait + Sync, W: World, G: Gate>(
     requires fit { HasFitFeeds job.now counting.listings.items }
     requires threads { is_on_threads job.now ≡ true }
     requires named { (W.seen world.old).names Writing counting.sink.handle (codes "-") ≡ true }
-    ensures ran { IfOk result (λ r. Called (CountsSo job.now counting.listings.items counting.sink.handle r.fault r.run) (W.seen world.old) (W.seen world.new)) }
-    ensures short { OnErr result (Called (CountsShort job.now counting.listings.items counting.sink.handle) (W.seen world.old) (W.seen world.new)) }
+    ensures ran { IfOk result
+        (λ r. Called (CountsSo job.now counting.listings.items counting.sink.handle r.fault r.run)
+        (W.seen world.old) (W.seen world.new)) }
+    ensures short { OnErr result
+        (Called (CountsShort job.now counting.listings.items counting.sink.handle)
+        (W.seen world.old) (W.seen world.new)) }
 {
     let Some(shape) = Shape::new(job.seg) else {
         unreachable!()

@@ -51,7 +51,8 @@ pub fn with_made(
     requires sound { IsSound job.now }
     requires shape { shape ≡ job.now.seg }
     ensures made { IfOk result (λ all. all.items ≡ with_made job.now listings.items) }
-    ensures fit { IfOk result (λ all. All (FitsRing job.now.seg) listings.items → All (FitsRing job.now.seg) all.items) }
+    ensures fit { IfOk result (λ all. All (FitsRing job.now.seg) listings.items →
+        All (FitsRing job.now.seg) all.items) }
 {
     if let Some((count, seed)) = job.made {
         listings.push(generate(alloc, count, seed, job.reclen, shape)?)?;
@@ -98,8 +99,14 @@ pub fn print_feeds<W: World, C: Consumer>(
     requires named { (W.seen world.old).names Writing sink.handle (write_of job.now) ≡ true }
     requires apart { sink.handle ≢ ERRORS }
     requires stated { is_on_threads job.now ≡ false }
-    ensures ran { IfOk result (λ r. (ask : Ask) → HoldsAsAsked query.now ask → Called (RanSo (RanFor [] (λ calls. FeedsCame job.now listings.items r.run) (λ why calls met. ⊥) (RecordsOf [] job.now r.run) sink.handle (job_due job.now ask sink.empty) (end_answer job.now) r.fault)) (W.seen world.old) (W.seen world.new)) }
-    ensures short { OnErr result ((ask : Ask) → HoldsAsAsked query.now ask → Called (RanShort [] (λ calls. FedCame job.now listings.items) sink.handle (job_due job.now ask sink.empty)) (W.seen world.old) (W.seen world.new)) }
+    ensures ran { IfOk result (λ r. (ask : Ask) → HoldsAsAsked query.now ask →
+        Called (RanSo (RanFor [] (λ calls. FeedsCame job.now listings.items r.run)
+        (λ why calls met. ⊥) (RecordsOf [] job.now r.run) sink.handle
+        (job_due job.now ask sink.empty) (end_answer job.now) r.fault)) (W.seen world.old)
+        (W.seen world.new)) }
+    ensures short { OnErr result ((ask : Ask) → HoldsAsAsked query.now ask →
+        Called (RanShort [] (λ calls. FedCame job.now listings.items) sink.handle
+        (job_due job.now ask sink.empty)) (W.seen world.old) (W.seen world.new)) }
 {
     let errors = Text::new(alloc, "stderr")?;
     let mut output = output_of(alloc, job, consumer, query, sink)?;

@@ -8,6 +8,7 @@
 //! project's choice.
 #![tactic(auto)]
 
+mod convert;
 mod counters;
 mod feeds;
 mod laws;
@@ -16,10 +17,12 @@ mod log;
 mod output;
 mod record;
 
+pub use convert::convert_log;
 pub use counters::{print_counters, print_live_counters};
 pub use feeds::print_feeds;
 pub use laws::{
-    faults_have_failed_calls, feeds_are_written, short_runs_are_part, told_logs_are_written,
+    converted_logs_are_written, faults_have_failed_calls, feeds_are_written, short_runs_are_part,
+    told_logs_are_written,
 };
 pub use live::print_live;
 pub use log::print_log;

@@ -49,8 +49,14 @@ pub fn print_live<R: Threads + Wait + Sync, W: World, C: Consumer, G: Gate>(
     requires named { (W.seen world.old).names Writing sink.handle (write_of job.now) ≡ true }
     requires apart { sink.handle ≢ ERRORS }
     requires threads { is_on_threads job.now ≡ true }
-    ensures ran { IfOk result (λ r. (ask : Ask) → HoldsAsAsked query.now ask → Called (RanSo (RanFor [] (λ calls. FeedsCame job.now listings.items r.run) (λ why calls met. ⊥) (RecordsOf [] job.now r.run) sink.handle (job_due job.now ask sink.empty) (end_answer job.now) r.fault)) (W.seen world.old) (W.seen world.new)) }
-    ensures short { OnErr result ((ask : Ask) → HoldsAsAsked query.now ask → Called (RanShort [] (λ calls. FedCame job.now listings.items) sink.handle (job_due job.now ask sink.empty)) (W.seen world.old) (W.seen world.new)) }
+    ensures ran { IfOk result (λ r. (ask : Ask) → HoldsAsAsked query.now ask →
+        Called (RanSo (RanFor [] (λ calls. FeedsCame job.now listings.items r.run)
+        (λ why calls met. ⊥) (RecordsOf [] job.now r.run) sink.handle
+        (job_due job.now ask sink.empty) (end_answer job.now) r.fault)) (W.seen world.old)
+        (W.seen world.new)) }
+    ensures short { OnErr result ((ask : Ask) → HoldsAsAsked query.now ask →
+        Called (RanShort [] (λ calls. FedCame job.now listings.items) sink.handle
+        (job_due job.now ask sink.empty)) (W.seen world.old) (W.seen world.new)) }
 {
     let Some(shape) = Shape::new(job.seg) else {
         unreachable!()

@@ -30,7 +30,7 @@ const LOG_LIMIT: u64 = 1_099_511_627_776;
 
 /// How it is answered that a log of this name stopped so.
 #[tactic(auto, unfolding(vsl_file::specs::File::most_bytes))]
-fn stop_answer(name: Text, stop: FileStop) -> ToolFault
+pub(crate) fn stop_answer(name: Text, stop: FileStop) -> ToolFault
     ensures { result ≡ stop_answer name stop }
 {
     match stop {
@@ -58,8 +58,14 @@ pub fn print_log<W: World, C: Consumer>(
     requires keeps { is_filled job.now.keep [] ≡ false }
     requires named { (W.seen world.old).names Writing sink.handle (write_of job.now) ≡ true }
     requires apart { sink.handle ≢ ERRORS }
-    ensures ran { IfOk result (λ r. (ask : Ask) → HoldsAsAsked query.now ask → Called (RanSo (RanFor (handle ∷ []) (FileCame handle) (λ why calls met. FileStopped handle why calls met (W.seen world.new)) (RecordsCount r.run) sink.handle (job_due job.now ask sink.empty) (end_answer job.now) r.fault)) (W.seen world.old) (W.seen world.new)) }
-    ensures short { OnErr result ((ask : Ask) → HoldsAsAsked query.now ask → Called (RanShort (handle ∷ []) (LogBegan handle) sink.handle (job_due job.now ask sink.empty)) (W.seen world.old) (W.seen world.new)) }
+    ensures ran { IfOk result (λ r. (ask : Ask) → HoldsAsAsked query.now ask →
+        Called (RanSo (RanFor (handle ∷ []) (FileCame handle)
+        (λ why calls met. FileStopped handle why calls met (W.seen world.new))
+        (RecordsCount r.run) sink.handle (job_due job.now ask sink.empty)
+        (end_answer job.now) r.fault)) (W.seen world.old) (W.seen world.new)) }
+    ensures short { OnErr result ((ask : Ask) → HoldsAsAsked query.now ask →
+        Called (RanShort (handle ∷ []) (LogBegan handle) sink.handle
+        (job_due job.now ask sink.empty)) (W.seen world.old) (W.seen world.new)) }
 {
     let name = Text::new(alloc, file_name(job))?;
     let errors = Text::new(alloc, "stderr")?;

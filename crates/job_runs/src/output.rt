@@ -26,7 +26,8 @@ pub fn output_of<'q, C: Consumer>(
 ) -> Result<TextOutput<'q, C>, NoMemory>
     requires consumer { IsJobConsumer C.keep C.output C.represents job.now consumer }
     requires keeps { is_filled job.now.keep [] ≡ false }
-    ensures { IfOk result (λ o. IsJobOutput C.keep C.output C.represents job.now query.now sink.handle sink.empty o) }
+    ensures { IfOk result (λ o.
+        IsJobOutput C.keep C.output C.represents job.now query.now sink.handle sink.empty o) }
 {
     let head = head_of(alloc, job, sink.empty)?;
     let name = Text::new(alloc, written_name(job))?;

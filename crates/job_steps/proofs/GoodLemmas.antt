@@ -18,6 +18,8 @@ use Rattle.feed_files.specs.declared.fault.FeedFault.{FeedFault}
 use Rattle.feed_files.specs.declared.fault.FeedFault.TheVariants as feeds
 use Rattle.feed_files.specs.Feeds.{Feed, FeedStops, IsFeed, most_feed_bytes}
 use Rattle.feed_files.proofs.ContentLemmas.{NoneBad, Keeps}
+use Rattle.tool_words.specs.declared.command.Command.{Command}
+use Rattle.tool_words.specs.declared.command.Command.TheVariants.{ForTool, ForConvert}
 use Rattle.tool_words.specs.declared.fault.UsageFault.{UsageFault}
 use Rattle.tool_words.specs.declared.job.Job.{Job}
 use Rattle.tool_words.specs.declared.job.QueryText.{QueryText}
@@ -134,12 +136,13 @@ last_creates none first last fault calls s t alone good did p =
 -- ---- the steps of a job
 
 -- those of counters or of groups, behind those of the words
-tool_pass : NoneBad → (b : Bool) (job : Job) (fault : ToolFault) (calls : List Call) (s t : Seen) → AreGoodSteps s (word_steps (Ok job) ++ (if b then counter_steps job else group_steps job)) → Did calls s t
-    → Stopped Passes Stops (word_steps (Ok job) ++ (if b then counter_steps job else group_steps job)) fault calls → SomeFailed calls
-tool_pass none true job fault calls s t good did p = last_creates none (word_steps (Ok job) ++ feed_steps job) (MakeSink false (codes "-")) fault calls s t (counters_create job) good did p
-tool_pass none false job fault calls s t good did p = last_creates none (word_steps (Ok job) ++ (queries job ++ format job ++ input_steps job)) (MakeSink job.append (write_of job)) fault calls s t (read_create job) good did p
+tool_pass : NoneBad → (b : Bool) (job : Job) (fault : ToolFault) (calls : List Call) (s t : Seen) → AreGoodSteps s (word_steps job ++ (if b then counter_steps job else group_steps job)) → Did calls s t
+    → Stopped Passes Stops (word_steps job ++ (if b then counter_steps job else group_steps job)) fault calls → SomeFailed calls
+tool_pass none true job fault calls s t good did p = last_creates none (word_steps job ++ feed_steps job) (MakeSink false (codes "-")) fault calls s t (counters_create job) good did p
+tool_pass none false job fault calls s t good did p = last_creates none (word_steps job ++ (queries job ++ format job ++ input_steps job)) (MakeSink job.append (write_of job)) fault calls s t (read_create job) good did p
 
 -- only a call that failed stops the steps of words that have what they need
-pub good_pass : NoneBad → (stated : Result Job UsageFault) (fault : ToolFault) (calls : List Call) (s t : Seen) → AreGoodSteps s (steps_of stated) → Did calls s t → Stopped Passes Stops (steps_of stated) fault calls → SomeFailed calls
+pub good_pass : NoneBad → (stated : Result Command UsageFault) (fault : ToolFault) (calls : List Call) (s t : Seen) → AreGoodSteps s (steps_of stated) → Did calls s t → Stopped Passes Stops (steps_of stated) fault calls → SomeFailed calls
 good_pass none (Err why) fault calls s t good did p = absurd good.0
-good_pass none (Ok job) fault calls s t good did p = tool_pass none (is_counting job.tool) job fault calls s t good did p
+good_pass none (Ok (ForTool job)) fault calls s t good did p = tool_pass none (is_counting job.tool) job fault calls s t good did p
+good_pass none (Ok (ForConvert names)) fault calls s t good did p = last_creates none (OpenLog names.input ∷ []) (MakeSink false names.output) fault calls s t refl good did p

@@ -5,5 +5,6 @@ pub mod TookLemmas
 mod QueryLemmas
 mod FeedStepLemmas
 mod FitLemmas
+mod NamesLemmas
 pub mod BegunLemmas
 pub mod GoodLemmas

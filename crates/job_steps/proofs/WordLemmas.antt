@@ -19,6 +19,6 @@ answered (rules.BadPattern word) fault is = λ e. absurd cc
 answered rules.NoMemory fault is = absurd is
 
 -- a rule is refused, or there is no memory for it
-pub rules_halt : (job : Job) (why : SelectFault) (halt : Halt ToolFault) → (why ≢ rules.NoMemory → rules_fault job.caseless job.rules ≡ Some why) → IsRuleHalt why halt → Halted Passes Stops [] (word_steps (Ok job)) halt []
+pub rules_halt : (job : Job) (why : SelectFault) (halt : Halt ToolFault) → (why ≢ rules.NoMemory → rules_fault job.caseless job.rules ≡ Some why) → IsRuleHalt why halt → Halted Passes Stops [] (word_steps job) halt []
 rules_halt job why (halts.Fault fault) first is = halted_one [] (TakeRules job.caseless job.rules) fault [] (refl, (why, first (answered why fault is), is)) refl
 rules_halt job why halts.NoMemory first is = (tt, omega arith)

@@ -6,6 +6,7 @@ use Rattle.job_steps.specs.declared.steps.Input.{Input}
 use Rattle.job_steps.specs.declared.steps.Input.TheVariants as inputs
 use Rattle.job_steps.specs.declared.steps.Begun.{Begun}
 use Rattle.job_steps.specs.declared.steps.Counting.{Counting}
+use Rattle.job_steps.specs.declared.steps.Opened.{Opened}
 use Rattle.job_steps.specs.Queries.{Ask, AreAsked, HoldsAsAsked}
 use Rattle.job_steps.specs.Jobs.{HasFormat, showing_of}
 use Rattle.job_steps.specs.Steps.{Found, FoundNone, FoundText, FoundLog, FoundListing, FoundSink}
@@ -29,8 +30,14 @@ pub record IsBegun (job : Job) (begun : Begun) (found : List Found) : Type 0 whe
   pub format : HasFormat job begun.format
   pub inputs : List Found
   pub input : HasInput begun.input inputs
-  pub are : found ≡ map FoundText texts ++ (FoundNone ∷ []) ++ inputs ++ FoundSink begun.sink.handle begun.sink.empty ∷ []
+  pub are : found ≡ map FoundText texts ++ (FoundNone ∷ []) ++ inputs ++ FoundSink begun.sink.handle begun.sink.empty ∷
+      []
 
 -- these listings were found, and what is written
 abbrev pub IsCounting : Counting → List Found → Type 0
-IsCounting counting found = found ≡ map FoundListing counting.listings.items ++ FoundSink counting.sink.handle counting.sink.empty ∷ []
+IsCounting counting found = found ≡ map FoundListing counting.listings.items ++
+    FoundSink counting.sink.handle counting.sink.empty ∷ []
+
+-- this log was found, and what is written
+abbrev pub IsOpened : Opened → List Found → Type 0
+IsOpened opened found = found ≡ FoundLog opened.handle ∷ FoundSink opened.sink.handle opened.sink.empty ∷ []

@@ -88,7 +88,8 @@ units_of listings = map (λ l. l.units) listings
 -- the listing of so many requests that are made from a seed, where they are asked for
 abbrev pub made_listings : ℕ → ℕ → Option (ℕ × ℕ) → List Listing
 made_listings reclen seg None = []
-made_listings reclen seg (Some made) = record { units = made_units made.0 made.1 reclen seg; cuts = made_cuts made.0 made.1 reclen seg } ∷ []
+made_listings reclen seg (Some made) =
+    record { units = made_units made.0 made.1 reclen seg; cuts = made_cuts made.0 made.1 reclen seg } ∷ []
 
 -- what the writers of a job put: the listings of its feeds, and behind them the one that is made. Where a feed has a
 -- VXID of theirs, the records are of one transaction, as those of two feeds are

@@ -28,7 +28,8 @@ joined (Some earlier) t = Either earlier t
 -- these texts, behind earlier queries, ask this
 abbrev pub AreAsked : Bool → Ask → List (List ℕ) → Ask → Type 0
 AreAsked caseless earlier [] ask = ask ≡ earlier
-AreAsked caseless earlier (text ∷ texts) ask = (t : Query Test) × Means caseless text t × AreAsked caseless (Some (joined earlier t)) texts ask
+AreAsked caseless earlier (text ∷ texts) ask = (t : Query Test) × Means caseless text t ×
+    AreAsked caseless (Some (joined earlier t)) texts ask
 
 -- a query holds for the groups that are asked for
 pub record HoldsAsAsked (query : parsed.Query) (ask : Ask) : Type 0 where

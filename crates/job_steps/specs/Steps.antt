@@ -23,6 +23,9 @@ use Rattle.traffic_feed.specs.declared.listing.Listing.{Listing}
 use Rattle.feed_files.specs.declared.fault.FeedFault.{FeedFault}
 use Rattle.feed_files.specs.declared.fault.FeedFault.TheVariants as feeds
 use Rattle.feed_files.specs.Feeds.{Feed, feeds_from, FeedPasses, FeedStops}
+use Rattle.tool_words.specs.declared.command.Command.{Command}
+use Rattle.tool_words.specs.declared.command.Command.TheVariants.{ForTool, ForConvert}
+use Rattle.tool_words.specs.declared.command.Names.{Names}
 use Rattle.tool_words.specs.declared.fault.UsageFault.{UsageFault}
 use Rattle.tool_words.specs.declared.fault.UsageFault.TheVariants.{BadValue}
 use Rattle.tool_words.specs.declared.job.Job.{Job}
@@ -79,26 +82,35 @@ input_steps job = if is_some job.file then OpenLog (file_of job) ∷ [] else fee
 -- what a job does that prints groups. What can be told without a log comes first, and the file to be written last: a
 -- query, a format, a log or a feed at fault leaves that file as it was
 abbrev pub group_steps : Job → List Step
-group_steps job = queries_from job.caseless 0 job.queries ++ (TakeFormat job.tool (format_text job) ∷ []) ++ input_steps job ++ MakeSink job.append (write_of job) ∷ []
+group_steps job = queries_from job.caseless 0 job.queries ++ (TakeFormat job.tool (format_text job) ∷ []) ++
+    input_steps job ++ MakeSink job.append (write_of job) ∷ []
 
 -- what a job does that prints counters. For names alone no feed is needed; those that are given are read all the same,
 -- so that a command line has its faults, whatever is printed
 abbrev pub counter_steps : Job → List Step
 counter_steps job = feed_steps job ++ MakeSink false (codes "-") ∷ []
 
--- the words alone: they are refused, or they state a job, whose rules are read
-abbrev pub word_steps : Result Job UsageFault → List Step
-word_steps (Err why) = RefuseWords why ∷ []
-word_steps (Ok job) = TakeRules job.caseless job.rules ∷ []
+-- what is asked of a job's words alone: its rules are read
+abbrev pub word_steps : Job → List Step
+word_steps job = TakeRules job.caseless job.rules ∷ []
 
 -- what a job does
 abbrev pub job_steps : Job → List Step
 job_steps job = if is_counting job.tool then counter_steps job else group_steps job
 
--- the steps of what words state
-abbrev pub steps_of : Result Job UsageFault → List Step
-steps_of (Err why) = word_steps (Err why)
-steps_of (Ok job) = word_steps (Ok job) ++ job_steps job
+-- what a command does that reads a log and writes a file, under two names
+abbrev pub names_steps : Names → List Step
+names_steps names = OpenLog names.input ∷ MakeSink false names.output ∷ []
+
+-- the steps of a command: a new one is a line here
+abbrev pub command_steps : Command → List Step
+command_steps (ForTool job) = word_steps job ++ job_steps job
+command_steps (ForConvert names) = names_steps names
+
+-- the steps of what words ask for: they are refused, or those of their command
+abbrev pub steps_of : Result Command UsageFault → List Step
+steps_of (Err why) = RefuseWords why ∷ []
+steps_of (Ok command) = command_steps command
 
 -- ---- how a step passes
 
@@ -109,17 +121,21 @@ most_query_bytes = 65536
 -- this is the text of a query: that of the word, or what was read of the file of this name. The name `-` is that of a
 -- file like others: a run has one standard input, and the log is read from it
 abbrev pub IsTextBy : QueryText → List ℕ → List Call → Type 0
-IsTextBy query text calls = MatchBool query.file (IsReadBy most_query_bytes query.text text calls) ((text ≡ query.text) × (calls ≡ []))
+IsTextBy query text calls = MatchBool query.file (IsReadBy most_query_bytes query.text text calls)
+    ((text ≡ query.text) × (calls ≡ []))
 
 -- a step passes by these calls, and finds this
 abbrev pub Passes : Step → Found → List Call → Type 0
 Passes (RefuseWords why) found calls = ⊥
 Passes (TakeRules caseless texts) found calls = (found ≡ FoundNone) × (calls ≡ []) × (rules_fault caseless texts ≡ None)
-Passes (TakeQuery caseless n query) found calls = (text : List ℕ) × (found ≡ FoundText text) × IsTextBy query text calls × (first_fault caseless text ≡ None)
+Passes (TakeQuery caseless n query) found calls = (text : List ℕ) × (found ≡ FoundText text) ×
+    IsTextBy query text calls × (first_fault caseless text ≡ None)
 Passes (TakeFormat tool text) found calls = (found ≡ FoundNone) × (calls ≡ []) × (text_fault tool text ≡ None)
 Passes (OpenLog name) found calls = (h : ℕ) × (found ≡ FoundLog h) × IsOpenedBy name h calls
-Passes (ReadFeed reclen seg feed) found calls = (listing : Listing) × (found ≡ FoundListing listing) × FeedPasses reclen seg feed listing calls
-Passes (MakeSink append name) found calls = (h : ℕ) × (empty : Bool) × (found ≡ FoundSink h empty) × IsMadeBy append name h empty calls
+Passes (ReadFeed reclen seg feed) found calls = (listing : Listing) × (found ≡ FoundListing listing) ×
+    FeedPasses reclen seg feed listing calls
+Passes (MakeSink append name) found calls = (h : ℕ) × (empty : Bool) × (found ≡ FoundSink h empty) ×
+    IsMadeBy append name h empty calls
 
 -- ---- how a step stops a job
 
@@ -154,14 +170,17 @@ feed_answer (feeds.BadListing feed line) = BadListing feed line
 -- is looked into: what a person writes is shorter
 abbrev pub QueryStops : Bool → ℕ → QueryText → ToolFault → List Call → Type 0
 QueryStops caseless n query fault calls =
-    ((query.file ≡ true) × ((why : NamedFault) × IsRefusedBy most_query_bytes query.text why calls × (fault ≡ named_answer most_query_bytes query.text why)))
-    ⊎ ((text : List ℕ) × (why : Fault) × IsTextBy query text calls × (first_fault caseless text ≡ Some why) × (fault ≡ BadQuery n (query_answer why)))
+    ((query.file ≡ true) × ((why : NamedFault) × IsRefusedBy most_query_bytes query.text why calls ×
+    (fault ≡ named_answer most_query_bytes query.text why)))
+    ⊎ ((text : List ℕ) × (why : Fault) × IsTextBy query text calls × (first_fault caseless text ≡ Some why) ×
+    (fault ≡ BadQuery n (query_answer why)))
 
 -- a step stops a job with this fault, by these calls. What was done until then is said for all steps alike, so a new
 -- fault needs no new clause of the top call
 abbrev pub Stops : Step → ToolFault → List Call → Type 0
 Stops (RefuseWords why) fault calls = (calls ≡ []) × (fault ≡ Usage why)
-Stops (TakeRules caseless texts) fault calls = (calls ≡ []) × ((why : SelectFault) × (rules_fault caseless texts ≡ Some why) × IsRuleAnswer why fault)
+Stops (TakeRules caseless texts) fault calls = (calls ≡ []) ×
+    ((why : SelectFault) × (rules_fault caseless texts ≡ Some why) × IsRuleAnswer why fault)
 Stops (TakeQuery caseless n query) fault calls = QueryStops caseless n query fault calls
 Stops (TakeFormat tool text) fault calls = (calls ≡ []) × (text_fault tool text ≡ Some fault)
 Stops (OpenLog name) fault calls = (bytes_eq name (codes "-") ≡ false) × (calls ≡ Refuse Opening name ∷ []) × (fault ≡ NoOpen name)

@@ -35,8 +35,10 @@ pub fn take_feeds<W: World>(
     world: &mut W,
 ) -> Result<Vec<Listing>, Halt<ToolFault>>
     requires sound { IsSound job.now }
-    ensures took { Called (TookSteps Passes Stops (λ listings found. found ≡ map FoundListing listings.items)
-        (opens_of (feed_steps job.now)) (feed_steps job.now) result) (W.seen world.old) (W.seen world.new) }
+    ensures took { Called (TookSteps Passes Stops
+        (λ listings found. found ≡ map FoundListing listings.items)
+        (opens_of (feed_steps job.now)) (feed_steps job.now) result) (W.seen world.old)
+        (W.seen world.new) }
     ensures fit { IfOk result (λ listings. HasFitFeeds job.now listings.items) }
 {
     let Some(shape) = Shape::new(job.seg) else {

@@ -24,8 +24,10 @@ fn format_text(job: &Job) -> &str
 
 /// The format of a text, or its fault.
 fn parse_format(alloc: Global, text: &str) -> Result<Format, Halt<ToolFault>>
-    ensures read { IfOk result (λ format. (format ≡ pieces_of text.now) × (format_fault text.now ≡ None)) }
-    ensures refused { IfFault result (λ fault. option_map ToolFault.BadFormat (format_fault text.now) ≡ Some fault) }
+    ensures read { IfOk result (λ format. (format ≡ pieces_of text.now) ×
+        (format_fault text.now ≡ None)) }
+    ensures refused { IfFault result
+        (λ fault. option_map ToolFault.BadFormat (format_fault text.now) ≡ Some fault) }
 {
     match Format::parse(alloc, text) {
         Ok(format) => Ok(format),
@@ -36,7 +38,8 @@ fn parse_format(alloc: Global, text: &str) -> Result<Format, Halt<ToolFault>>
 
 /// The format of a job, where its tool writes lines in one, or the fault of its text.
 pub fn read_format(alloc: Global, job: &Job) -> Result<Option<Format>, Halt<ToolFault>>
-    ensures read { IfOk result (λ format. HasFormat job.now format × (job_format_fault job.now ≡ None)) }
+    ensures read { IfOk result (λ format. HasFormat job.now format ×
+        (job_format_fault job.now ≡ None)) }
     ensures refused { IfFault result (λ fault. job_format_fault job.now ≡ Some fault) }
 {
     match job.tool {

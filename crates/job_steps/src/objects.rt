@@ -15,7 +15,8 @@ use vio::{Created, World, WorldFault, create_stream, open_stream};
 /// Opens the log of this name: a file, or standard input.
 pub fn open_log<W: World>(alloc: Global, name: &str, world: &mut W) -> Result<u32, Halt<ToolFault>>
     ensures took { Called (TookSteps Passes Stops (λ handle found. found ≡ FoundLog handle ∷ [])
-        (file_named name.now) (OpenLog name.now ∷ []) result) (W.seen world.old) (W.seen world.new) }
+        (file_named name.now) (OpenLog name.now ∷ []) result) (W.seen world.old)
+        (W.seen world.new) }
 {
     let copy = Text::new(alloc, name)?;
     match open_stream(world, name) {
@@ -32,9 +33,11 @@ pub fn make_sink<W: World>(
     append: bool,
     world: &mut W,
 ) -> Result<Created, Halt<ToolFault>>
-    ensures took { Called (TookSteps Passes Stops (λ sink found. found ≡ FoundSink sink.handle sink.empty ∷ [])
+    ensures took { Called (TookSteps Passes Stops
+        (λ sink found. found ≡ FoundSink sink.handle sink.empty ∷ [])
         [] (MakeSink append name.now ∷ []) result) (W.seen world.old) (W.seen world.new) }
-    ensures named { IfOk result (λ sink. (W.seen world.new).names Writing sink.handle name.now ≡ true) }
+    ensures named { IfOk result
+        (λ sink. (W.seen world.new).names Writing sink.handle name.now ≡ true) }
     ensures apart { IfOk result (λ sink. sink.handle ≢ ERRORS) }
 {
     let copy = Text::new(alloc, name)?;

@@ -53,7 +53,8 @@ fn parse_text(
 ) -> Result<Query, Halt<ToolFault>>
     ensures parsed { IfOk result (λ query. IsParsed caseless text.now query) }
     ensures refused { IfFault result (λ fault. (why : Fault) ×
-        (first_fault caseless text.now ≡ Some why) × (fault ≡ ToolFault.BadQuery index (query_answer why))) }
+        (first_fault caseless text.now ≡ Some why) ×
+        (fault ≡ ToolFault.BadQuery index (query_answer why))) }
 {
     match parse_query(alloc, text, caseless) {
         Ok(query) => Ok(query),
@@ -73,7 +74,8 @@ fn take_query<W: World>(
     index: u32,
     world: &mut W,
 ) -> Result<Query, Halt<ToolFault>>
-    ensures took { Called (TookSteps Passes Stops (QueryMeans caseless) (opens (TakeQuery caseless index query.now))
+    ensures took { Called (TookSteps Passes Stops (QueryMeans caseless)
+        (opens (TakeQuery caseless index query.now))
         (TakeQuery caseless index query.now ∷ []) result) (W.seen world.old) (W.seen world.new) }
 {
     if !query.file {
@@ -104,7 +106,8 @@ pub fn take_queries<W: World>(
     world: &mut W,
 ) -> Result<Query, Halt<ToolFault>>
     ensures took { let steps = queries_from job.now.caseless 0 job.now.queries in
-        Called (TookSteps Passes Stops (QueriesAsk job.now.caseless) (opens_of steps) steps result) (W.seen world.old) (W.seen world.new) }
+        Called (TookSteps Passes Stops (QueriesAsk job.now.caseless) (opens_of steps) steps result)
+        (W.seen world.old) (W.seen world.new) }
 {
     let mut found = None;
     for (index, query) in job.queries.as_slice().iter().enumerate() {

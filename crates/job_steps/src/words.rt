@@ -1,13 +1,12 @@
 //! What the words of a command line ask for.
 
-ghost use Rattle.std.specs.Prelude.{◌≡◌, false, [], map, Ok, Err, IfOk};
+ghost use Rattle.std.specs.Prelude.{◌≡◌, [], map, Ok, Err, IfOk};
 ghost use Rattle.std.specs.String.{string_bytes};
 ghost use Rattle.log_model.specs.Halts.{IfFault};
 ghost use Rattle.vio.specs.Steps.{TookSteps};
-ghost use Rattle.vsl_dispatch.specs.Groups.{is_filled};
 ghost use Rattle.tool_words.specs.declared.fault.UsageFault.{UsageFault};
-ghost use Rattle.tool_words.specs.Job.{is_fed, job_of};
-ghost use Rattle.tool_words.specs.Sound.{IsSound};
+ghost use Rattle.tool_words.specs.Command.{IsSoundCommand, command_of};
+ghost use Rattle.tool_words.specs.Job.{is_fed};
 ghost use Rattle.job_steps.specs.Begun.{IsShown};
 ghost use Rattle.job_steps.specs.Jobs.{file_of, is_counting, is_on_threads, is_threads, options_of, write_of};
 ghost use Rattle.job_steps.specs.Steps.{Passes, Stops, word_steps};
@@ -16,7 +15,7 @@ ghost use Rattle.job_steps.specs.inside.Tasks.{IsRuleHalt};
 use crate::fault::ToolFault;
 use log_model::{Halt, NoMemory, Text};
 use std::alloc::Global;
-use tool_words::{Job, Order, Tool, UsageFault, WordsFault, read_words};
+use tool_words::{Command, Job, Order, Tool, UsageFault, WordsFault};
 use txn_rows::GroupOptions;
 use vsl_select::{RuleText, SelectFault, Selection};
 
@@ -117,16 +116,16 @@ fn rule_halt(fault: SelectFault) -> Halt<ToolFault>
     }
 }
 
-/// The job that the words state, or the fault that refuses them.
-pub fn read_job(alloc: Global, words: &[String]) -> Result<Job, Halt<ToolFault>>
-    ensures job { IfOk result (λ job. job_of (map string_bytes words.now) ≡ Ok job) }
+/// The command that the words ask for, or the fault that refuses them.
+pub fn read_command(alloc: Global, words: &[String]) -> Result<Command, Halt<ToolFault>>
+    ensures command { IfOk result
+        (λ command. command_of (map string_bytes words.now) ≡ Ok command) }
     ensures refused { IfFault result (λ fault. (why : UsageFault) ×
-        (job_of (map string_bytes words.now) ≡ Err why) × (fault ≡ ToolFault.Usage why)) }
-    ensures keeps { IfOk result (λ job. is_filled job.keep [] ≡ false) }
-    ensures sound { IfOk result (λ job. IsSound job) }
+        (command_of (map string_bytes words.now) ≡ Err why) × (fault ≡ ToolFault.Usage why)) }
+    ensures sound { IfOk result (λ command. IsSoundCommand command) }
 {
-    match read_words(alloc, words) {
-        Ok(job) => Ok(job),
+    match tool_words::read_command(alloc, words) {
+        Ok(command) => Ok(command),
         Err(WordsFault::Usage(fault)) => Err(Halt::Fault(ToolFault::Usage(fault))),
         Err(WordsFault::NoMemory) => Err(Halt::NoMemory),
     }
@@ -134,7 +133,7 @@ pub fn read_job(alloc: Global, words: &[String]) -> Result<Job, Halt<ToolFault>>
 
 /// What a job shows, where its rules are good, or the fault of the first that isn't.
 pub fn read_selection(alloc: Global, job: &Job) -> Result<Selection, Halt<ToolFault>>
-    ensures took { TookSteps Passes Stops (IsShown job.now) [] (word_steps (Ok job.now)) result [] }
+    ensures took { TookSteps Passes Stops (IsShown job.now) [] (word_steps job.now) result [] }
 {
     let rules = rules_of(alloc, job)?;
     match Selection::new(alloc, job.sides, rules, job.caseless) {

@@ -2,3 +2,4 @@ pub mod DueLemmas
 pub mod EndLemmas
 mod NextLemmas
 mod OutputLemmas
+pub mod WriteLemmas

@@ -38,7 +38,8 @@ Grows d = (met more : List Item) (all : Bool) → IsPrefix (d.text met false) (d
 -- message of an overrun comes before the text of its flush, also where that completes the last group that is kept
 abbrev pub InOrder : ℕ → Due → List Item → List Call → Type 0
 InOrder sink d met calls = (earlier : List Item) (item : Item) (later : List Item) → met ≡ earlier ++ item ∷ later →
-    (before : List Call) × (after : List Call) × (calls ≡ before ++ after) × (written_by sink before ≡ whole d earlier false) × (written_by ERRORS before ≡ messages_of (earlier ++ item ∷ []))
+    (before : List Call) × (after : List Call) × (calls ≡ before ++ after) ×
+    (written_by sink before ≡ whole d earlier false) × (written_by ERRORS before ≡ messages_of (earlier ++ item ∷ []))
 
 -- these items were printed whole, and complete fewer groups than are kept. What was printed before a fault stays, since
 -- it is right whatever follows. Nothing is flushed then: of what is pending nobody knows whether its End stood in what
@@ -53,12 +54,16 @@ pub record TextWritten (sink : ℕ) (d : Due) (calls : List Call) (done : List I
 -- which not all was written; or with a failed write of the last item's message. Behind the last group nothing is
 -- flushed, and no fault of what follows is told, since nobody asked for it
 abbrev pub EndsSo : Due → TextEnding → List Item → List Item → Bool → List ℕ → List ℕ → Type 0
-EndsSo d endings.Whole done last all text told = (last ≡ []) × (all ≡ true) × (text ≡ whole d done true) × (told ≡ messages_of done)
-EndsSo d endings.Kept done last all text told = (all ≡ false) × (d.filled (done ++ last) ≡ true) × (text ≡ whole d (done ++ last) false) × (told ≡ messages_of (done ++ last))
+EndsSo d endings.Whole done last all text told = (last ≡ []) × (all ≡ true) × (text ≡ whole d done true) ×
+    (told ≡ messages_of done)
+EndsSo d endings.Kept done last all text told = (all ≡ false) × (d.filled (done ++ last) ≡ true) ×
+    (text ≡ whole d (done ++ last) false) × (told ≡ messages_of (done ++ last))
 EndsSo d (endings.Unwritten name) done last all text told =
     (name ≡ d.name) × (told ≡ messages_of (done ++ last))
-    × (((done ++ last ≡ []) × (all ≡ false) × IsProperPrefix text d.head) ⊎ (IsPrefix (whole d done false) text × IsProperPrefix text (whole d (done ++ last) all)))
-EndsSo d endings.Unreported done last all text told = (all ≡ false) × (text ≡ whole d done false) × IsPrefix (messages_of done) told × IsProperPrefix told (messages_of (done ++ last))
+    × (((done ++ last ≡ []) × (all ≡ false) × IsProperPrefix text d.head) ⊎
+    (IsPrefix (whole d done false) text × IsProperPrefix text (whole d (done ++ last) all)))
+EndsSo d endings.Unreported done last all text told = (all ≡ false) × (text ≡ whole d done false) ×
+    IsPrefix (messages_of done) told × IsProperPrefix told (messages_of (done ++ last))
 
 -- the items that were printed in order, as far as they were: not the one whose message couldn't be written
 abbrev pub ordered : TextEnding → List Item → List Item → List Item

@@ -12,7 +12,12 @@ use Rattle.text_printer.specs.Ends.{Due, TextWritten, taken_of}
 
 -- what is due under the plan of a printer, behind a text
 abbrev pub due_of : List ℕ → Plan → Due
-due_of head p = record { head = head; text = λ met all. due p (taken_of met) all; filled = λ met. has_all p (taken_of met); name = p.name }
+due_of head p = record {
+  head = head;
+  text = λ met all. due p (taken_of met) all;
+  filled = λ met. has_all p (taken_of met);
+  name = p.name;
+}
 
 -- the plan of an output's printer, and what is due under it behind the output's text
 abbrev pub output_plan : {C : Type 0} → (C → Option ℕ) → (C → List Group → Bool → List ℕ) → TextOutput C → Plan

@@ -45,7 +45,13 @@ pub record PrinterState (C : Type 0) : Type 0 where
 
 -- what a printer tells
 abbrev pub printer_state : {C : Type 0} → Printer C → PrinterState C
-printer_state p = record { table = (groups_state p.groups).table; query = p.query.now; entry = p.entry; sink = p.sink.handle; name = p.sink.name }
+printer_state p = record {
+  table = (groups_state p.groups).table;
+  query = p.query.now;
+  entry = p.entry;
+  sink = p.sink.handle;
+  name = p.sink.name;
+}
 
 -- the groups of what was taken that are asked for, where that has ended or not
 abbrev pub asked_groups : Plan → List Taken → Bool → List Group
@@ -73,7 +79,8 @@ module _ {C : Type 0} (keep : C → Option ℕ) (output : C → List Group → B
     pub sound : p.table.failed ≡ false
     pub consumer : C
     pub live : p.entry ≡ Live consumer
-    pub stands : Stands keep output represents plan.keep plan.writes (Live consumer) (asked_groups plan taken false) (due plan taken false)
+    pub stands : Stands keep output represents plan.keep plan.writes (Live consumer) (asked_groups plan taken false)
+        (due plan taken false)
 
 -- how many groups a consumer that is live keeps, where there is a limit
 abbrev pub only_keep : {C : Type 0} → (C → Option ℕ) → Entry C → Option ℕ
@@ -87,7 +94,14 @@ only_output output entry = λ groups ended. []
 
 -- the plan of a printer, whose consumer is live
 abbrev pub plan_of : {C : Type 0} → (C → Option ℕ) → (C → List Group → Bool → List ℕ) → PrinterState C → Plan
-plan_of keep output p = record { options = p.table.options; query = p.query; keep = only_keep keep p.entry; writes = only_output output p.entry; sink = p.sink; name = p.name }
+plan_of keep output p = record {
+  options = p.table.options;
+  query = p.query;
+  keep = only_keep keep p.entry;
+  writes = only_output output p.entry;
+  sink = p.sink;
+  name = p.name;
+}
 
 -- whether an answer says that as many groups were received as are kept
 abbrev pub is_done : Go → Bool
@@ -101,7 +115,8 @@ pub record IsSameSink {C : Type 0} (old new : PrinterState C) : Type 0 where
 
 -- why printing to a sink of this name stops: a failed write was counted for it
 abbrev pub HasPrintCause : PrintFault → List ℕ → Seen → Seen → Type 0
-HasPrintCause (WriteFault name) sink before now = (name ≡ sink) × HasNewFault (before.faults Writing sink) (now.faults Writing sink)
+HasPrintCause (WriteFault name) sink before now = (name ≡ sink) ×
+    HasNewFault (before.faults Writing sink) (now.faults Writing sink)
 HasPrintCause NoMemory sink before now = Unit {0}
 
 -- what a refusal leaves of the text that is due: a prefix, and after a failed write not all of it. What a unit

@@ -46,8 +46,11 @@ fn offer<C: Consumer>(
     entry: &mut Entry<C>,
     unit: &Unit,
 ) -> Result<bool, NoMemory>
-    ensures raw { result ≡ Ok true → ((groups_state groups.now).table.options.grouping ≡ Raw) × (query.now.always ≡ true) }
-    ensures gave { IfOk result (λ took. Gave C.keep C.output C.represents (if took then raw_groups unit.now else []) false entry.old entry.new) }
+    ensures raw { result ≡ Ok true → ((groups_state groups.now).table.options.grouping ≡ Raw) ×
+        (query.now.always ≡ true) }
+    ensures gave { IfOk result
+        (λ took. Gave C.keep C.output C.represents
+        (if took then raw_groups unit.now else []) false entry.old entry.new) }
 {
     if !query.always {
         return Ok(false);
@@ -68,7 +71,10 @@ pub(crate) fn complete<C: Consumer>(
     next: Next<'_>,
 ) -> Result<Vec<Chosen>, NoMemory>
     requires asked { (groups_state groups.old).queries ≡ query.now ∷ [] }
-    ensures completed { IfOk result (λ left. Completed C.keep C.output C.represents query.now next.entry (groups_state groups.old).table (groups_state groups.new).table entry.old entry.new left.items) }
+    ensures completed { IfOk result
+        (λ left. Completed C.keep C.output C.represents query.now next.entry
+        (groups_state groups.old).table
+        (groups_state groups.new).table entry.old entry.new left.items) }
     ensures asked { (groups_state groups.new).queries ≡ query.now ∷ [] }
 {
     let mut left = Vec::new(alloc);
@@ -89,7 +95,8 @@ pub(crate) fn complete<C: Consumer>(
 
 /// Gives an entry a group, where the first query holds for it.
 fn give_group<C: Consumer>(entry: &mut Entry<C>, chosen: &Chosen) -> Result<(), NoMemory>
-    ensures { OnOk result (Gave C.keep C.output C.represents (first_held (chosen.now ∷ [])) false entry.old entry.new) }
+    ensures { OnOk result (Gave C.keep C.output C.represents
+        (first_held (chosen.now ∷ [])) false entry.old entry.new) }
 {
     let [true, ..] = chosen.holds.as_slice() else {
         return Ok(());
@@ -104,7 +111,8 @@ pub(crate) fn give_all<C: Consumer>(
     all: &[Chosen],
     ended: bool,
 ) -> Result<(), NoMemory>
-    ensures { OnOk result (Gave C.keep C.output C.represents (first_held all.now) ended entry.old entry.new) }
+    ensures { OnOk result (Gave C.keep C.output C.represents
+        (first_held all.now) ended entry.old entry.new) }
 {
     for chosen in all {
         give_group(entry, chosen)?;

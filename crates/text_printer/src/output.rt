@@ -30,9 +30,12 @@ pub enum TextEnding {
 }
 
 /// Writes the message of an item, if it has one, to standard error.
-fn report<W: World>(alloc: Global, world: &mut W, item: &Item) -> Result<(), WorldFault>
-    ensures ok { OnOk result (Wrote ERRORS (message_of item.now) (W.seen world.old) (W.seen world.new)) }
-    ensures err { OnErr result (WroteOn ERRORS [] (λ text. IsProperPrefix text (message_of item.now)) (W.seen world.old) (W.seen world.new)) }
+pub fn report<W: World>(alloc: Global, world: &mut W, item: &Item) -> Result<(), WorldFault>
+    ensures ok { OnOk result (Wrote ERRORS (message_of item.now) (W.seen world.old)
+        (W.seen world.new)) }
+    ensures err { OnErr result
+        (WroteOn ERRORS [] (λ text. IsProperPrefix text (message_of item.now)) (W.seen world.old)
+        (W.seen world.new)) }
     ensures cause { IsErrOf result WorldFault.Failed → HasNewFault ((W.seen world.old).faults Writing (codes "stderr")) ((W.seen world.new).faults Writing (codes "stderr")) }
 {
     match item {
@@ -70,11 +73,15 @@ impl<'q, C: Consumer> Output for TextOutput<'q, C> {
 
     type Ending = TextEnding;
 
-    ghost printed = { λ start now calls done. TextPrinted C.keep C.output C.represents start.head.items (output_plan C.keep C.output start) (printer_state now.printer) calls done };
+    ghost printed = { λ start now calls done.
+        TextPrinted C.keep C.output C.represents start.head.items
+        (output_plan C.keep C.output start) (printer_state now.printer) calls done };
 
-    ghost ended = { λ start ending calls done last all. TextEnded (printer_state start.printer).sink (output_due C.keep C.output start) ending calls done last all };
+    ghost ended = { λ start ending calls done last all. TextEnded (printer_state start.printer).sink
+        (output_due C.keep C.output start) ending calls done last all };
 
-    ghost starved = { λ start calls met all. TextShort (printer_state start.printer).sink (output_due C.keep C.output start) calls met all };
+    ghost starved = { λ start calls met all. TextShort (printer_state start.printer).sink
+        (output_due C.keep C.output start) calls met all };
 
     ghost is_new = { λ o. IsNew C.keep C.output C.represents o };
 
@@ -82,7 +89,8 @@ impl<'q, C: Consumer> Output for TextOutput<'q, C> {
 
     ghost alone = { λ o. [] };
 
-    ghost is_ready = { λ o world. CanPrint C.keep C.output C.represents (printer_state o.printer) world };
+    ghost is_ready = { λ o world. CanPrint C.keep C.output C.represents
+        (printer_state o.printer) world };
 
     fn begin<W: World>(&mut self, world: &mut W) -> Result<Option<TextEnding>, NoMemory> {
         match self.printer.print(world, &self.head) {
@@ -118,7 +126,10 @@ impl<'q, C: Consumer> Output for TextOutput<'q, C> {
         }
     }
 
-    ghost stays = { λ start now calls more done reads. printed_stays C.keep C.output C.represents start.head.items (output_plan C.keep C.output start) (printer_state now.printer) calls more done reads };
+    ghost stays = { λ start now calls more done reads.
+        printed_stays C.keep C.output C.represents start.head.items
+        (output_plan C.keep C.output start) (printer_state now.printer) calls more done reads };
 
-    ghost ready_still = { λ o reads more s t. ready_stays C.keep C.output C.represents (printer_state o.printer) reads more s t };
+    ghost ready_still = { λ o reads more s t. ready_stays C.keep C.output C.represents
+        (printer_state o.printer) reads more s t };
 }

@@ -10,6 +10,7 @@ ghost use Rattle.vsl_dispatch.specs.Entries.{is_live};
 ghost use Rattle.vsl_dispatch.specs.declared.entry.Entry.TheVariants.{Live};
 
 use crate::next::{Next, complete, give_all};
+use crate::sink::Sink;
 use log_model::Text;
 use query_parser::Query;
 use ring_layout::Item;
@@ -17,7 +18,7 @@ use std::alloc::Global;
 use std::slice::from_ref;
 use txn_groups::Groups;
 use txn_rows::GroupOptions;
-use vio::{NoMemory, World, WorldFault, write_all};
+use vio::{NoMemory, World};
 use vsl_dispatch::{Consumer, Entry, Go};
 use vsl_record::Unit;
 
@@ -31,35 +32,6 @@ pub enum PrintFault {
     },
     /// There was no memory.
     NoMemory,
-}
-
-/// Where text is written: the handle, and its name in faults.
-#[derive(Drop)]
-struct Sink {
-    alloc: Global,
-    handle: u32,
-    name: Text,
-}
-
-impl Sink {
-    ghost use Rattle.text_printer.specs.Printer.{HasPrintCause, IsLeft};
-
-    /// Writes a text.
-    fn print<W: World>(&self, world: &mut W, text: &[u8]) -> Result<(), PrintFault>
-        requires named { IsTrue ((W.seen world.old).names Writing self.now.handle self.now.name) }
-        ensures ok { OnOk result (Wrote self.now.handle text.now (W.seen world.old) (W.seen world.new)) }
-        ensures refused { IfErr result (λ f. WroteOn self.now.handle [] (IsLeft f text.now) (W.seen world.old) (W.seen world.new)) }
-        ensures cause { IfErr result (λ f. HasPrintCause f self.now.name (W.seen world.old) (W.seen world.new)) }
-    {
-        match write_all(world, self.handle, text) {
-            Ok(()) => Ok(()),
-            Err(WorldFault::Failed) => match Text::new(self.alloc, self.name.as_str()) {
-                Ok(name) => Err(PrintFault::WriteFault { name }),
-                Err(_) => Err(PrintFault::NoMemory),
-            },
-            Err(WorldFault::NoMemory) => Err(PrintFault::NoMemory),
-        }
-    }
 }
 
 /// Groups units, gives each group for which the query holds to a consumer when it is complete, and writes what that hands out.
@@ -89,7 +61,15 @@ impl<'q, C: Consumer> Printer<'q, C> {
         sink: u32,
         name: Text,
     ) -> Result<Printer<'q, C>, NoMemory>
-        ensures { IfOk result (λ p. printer_state p ≡ record { table = record { options = options; state = no_state; failed = false }; query = query.now; entry = Live consumer; sink = sink; name = name }) }
+        ensures { IfOk result (λ p.
+            printer_state p ≡ record {
+              table =
+                  record { options = options; state = no_state; failed = false };
+              query = query.now;
+              entry = Live consumer;
+              sink = sink;
+              name = name;
+            }) }
     {
         Ok(Printer {
             alloc,
@@ -107,7 +87,10 @@ impl<'q, C: Consumer> Printer<'q, C> {
     /// Takes what comes next, and gives the consumer the groups that it completed; what the consumer hands out of them.
     fn advance(&mut self, next: Next<'_>) -> Result<Vec<u8>, NoMemory>
         ensures same { IsSameSink (printer_state self.old) (printer_state self.new) }
-        ensures advanced { IfOk result (λ text. (plan : Plan) (taken : List Taken) → Represents C.keep C.output C.represents plan (printer_state self.old) taken → Advanced C.keep C.output C.represents plan next.entry (printer_state self.new) taken text.items) }
+        ensures advanced { IfOk result (λ text. (plan : Plan) (taken : List Taken) →
+            Represents C.keep C.output C.represents plan (printer_state self.old) taken →
+            Advanced C.keep C.output C.represents plan next.entry
+            (printer_state self.new) taken text.items) }
     {
         let ended = next.is_end();
         let left = complete(
@@ -135,15 +118,27 @@ impl<'q, C: Consumer> Printer<'q, C> {
 
     /// Takes what comes next, and writes what the consumer hands out.
     fn take<W: World>(&mut self, world: &mut W, next: Next<'_>) -> Result<Go, PrintFault>
-        requires named { IsTrue ((W.seen world.old).names Writing (printer_state self.old).sink (printer_state self.old).name) }
+        requires named { IsTrue ((W.seen world.old).names Writing (printer_state self.old).sink
+            (printer_state self.old).name) }
         ensures same { IsSameSink (printer_state self.old) (printer_state self.new) }
-        ensures takes { result ≡ Ok Go.More → (plan : Plan) (taken : List Taken) → Represents C.keep C.output C.represents plan (printer_state self.old) taken → Represents C.keep C.output C.represents plan (printer_state self.new) (taken ++ item_of next.entry ∷ []) }
-        ensures done { IfOk result (λ go. (plan : Plan) (taken : List Taken) → Represents C.keep C.output C.represents plan (printer_state self.old) taken → (is_end next.entry || has_all plan (taken ++ item_of next.entry ∷ [])) ≡ is_done go) }
-        ensures writes { OnOk result ((plan : Plan) (taken : List Taken) → Represents C.keep C.output C.represents plan (printer_state self.old) taken →
-            WroteOn plan.sink (due plan taken false) (λ text. text ≡ due_with plan taken next.entry) (W.seen world.old) (W.seen world.new)) }
-        ensures refused { IfErr result (λ f. (plan : Plan) (taken : List Taken) → Represents C.keep C.output C.represents plan (printer_state self.old) taken →
-            WroteOn plan.sink (due plan taken false) (IsLeft f (due_with plan taken next.entry)) (W.seen world.old) (W.seen world.new)) }
-        ensures cause { IfErr result (λ f. HasPrintCause f (printer_state self.old).name (W.seen world.old) (W.seen world.new)) }
+        ensures takes { result ≡ Ok Go.More → (plan : Plan) (taken : List Taken) →
+            Represents C.keep C.output C.represents plan (printer_state self.old) taken →
+            Represents C.keep C.output C.represents plan (printer_state self.new)
+            (taken ++ item_of next.entry ∷ []) }
+        ensures done { IfOk result (λ go. (plan : Plan) (taken : List Taken) →
+            Represents C.keep C.output C.represents plan (printer_state self.old) taken →
+            (is_end next.entry || has_all plan (taken ++ item_of next.entry ∷ [])) ≡ is_done go) }
+        ensures writes { OnOk result ((plan : Plan) (taken : List Taken) →
+            Represents C.keep C.output C.represents plan (printer_state self.old) taken →
+            WroteOn plan.sink (due plan taken false) (λ text. text ≡ due_with plan taken next.entry)
+            (W.seen world.old) (W.seen world.new)) }
+        ensures refused { IfErr result (λ f. (plan : Plan) (taken : List Taken) →
+            Represents C.keep C.output C.represents plan (printer_state self.old) taken →
+            WroteOn plan.sink (due plan taken false) (IsLeft f (due_with plan taken next.entry))
+            (W.seen world.old) (W.seen world.new)) }
+        ensures cause { IfErr result
+            (λ f. HasPrintCause f (printer_state self.old).name (W.seen world.old)
+            (W.seen world.new)) }
     {
         let Ok(text) = self.advance(next) else {
             return Err(PrintFault::NoMemory);
@@ -154,10 +149,16 @@ impl<'q, C: Consumer> Printer<'q, C> {
 
     /// Writes a text to the sink, of no item.
     pub(crate) fn print<W: World>(&self, world: &mut W, text: &[u8]) -> Result<(), PrintFault>
-        requires named { IsTrue ((W.seen world.old).names Writing (printer_state self.now).sink (printer_state self.now).name) }
-        ensures ok { OnOk result (Wrote (printer_state self.now).sink text.now (W.seen world.old) (W.seen world.new)) }
-        ensures refused { IfErr result (λ f. WroteOn (printer_state self.now).sink [] (IsLeft f text.now) (W.seen world.old) (W.seen world.new)) }
-        ensures cause { IfErr result (λ f. HasPrintCause f (printer_state self.now).name (W.seen world.old) (W.seen world.new)) }
+        requires named { IsTrue ((W.seen world.old).names Writing (printer_state self.now).sink
+            (printer_state self.now).name) }
+        ensures ok { OnOk result (Wrote (printer_state self.now).sink text.now (W.seen world.old)
+            (W.seen world.new)) }
+        ensures refused { IfErr result
+            (λ f. WroteOn (printer_state self.now).sink [] (IsLeft f text.now) (W.seen world.old)
+            (W.seen world.new)) }
+        ensures cause { IfErr result
+            (λ f. HasPrintCause f (printer_state self.now).name (W.seen world.old)
+            (W.seen world.new)) }
     {
         self.sink.print(world, text)
     }
@@ -166,15 +167,30 @@ impl<'q, C: Consumer> Printer<'q, C> {
     /// item completed and for which the query holds. It is done with the item that completes the last group that is kept; no more may
     /// follow then.
     pub(crate) fn item<W: World>(&mut self, world: &mut W, item: &Item) -> Result<Go, PrintFault>
-        requires named { IsTrue ((W.seen world.old).names Writing (printer_state self.old).sink (printer_state self.old).name) }
+        requires named { IsTrue ((W.seen world.old).names Writing (printer_state self.old).sink
+            (printer_state self.old).name) }
         ensures same { IsSameSink (printer_state self.old) (printer_state self.new) }
-        ensures takes { result ≡ Ok Go.More → (plan : Plan) (before : List Taken) → Represents C.keep C.output C.represents plan (printer_state self.old) before → Represents C.keep C.output C.represents plan (printer_state self.new) (before ++ taken_of (item.now ∷ [])) }
-        ensures done { IfOk result (λ go. (plan : Plan) (before : List Taken) → Represents C.keep C.output C.represents plan (printer_state self.old) before → has_all plan before ≡ false → has_all plan (before ++ taken_of (item.now ∷ [])) ≡ is_done go) }
-        ensures writes { OnOk result ((plan : Plan) (before : List Taken) → Represents C.keep C.output C.represents plan (printer_state self.old) before →
-            WroteOn plan.sink (due plan before false) (λ text. text ≡ due plan (before ++ taken_of (item.now ∷ [])) false) (W.seen world.old) (W.seen world.new)) }
-        ensures refused { IfErr result (λ f. (plan : Plan) (before : List Taken) → Represents C.keep C.output C.represents plan (printer_state self.old) before →
-            WroteOn plan.sink (due plan before false) (IsLeft f (due plan (before ++ taken_of (item.now ∷ [])) false)) (W.seen world.old) (W.seen world.new)) }
-        ensures cause { IfErr result (λ f. HasPrintCause f (printer_state self.old).name (W.seen world.old) (W.seen world.new)) }
+        ensures takes { result ≡ Ok Go.More → (plan : Plan) (before : List Taken) →
+            Represents C.keep C.output C.represents plan (printer_state self.old) before →
+            Represents C.keep C.output C.represents plan (printer_state self.new)
+            (before ++ taken_of (item.now ∷ [])) }
+        ensures done { IfOk result (λ go. (plan : Plan) (before : List Taken) →
+            Represents C.keep C.output C.represents plan (printer_state self.old) before →
+            has_all plan before ≡ false →
+            has_all plan (before ++ taken_of (item.now ∷ [])) ≡ is_done go) }
+        ensures writes { OnOk result ((plan : Plan) (before : List Taken) →
+            Represents C.keep C.output C.represents plan (printer_state self.old) before →
+            WroteOn plan.sink (due plan before false)
+            (λ text. text ≡ due plan (before ++ taken_of (item.now ∷ [])) false) (W.seen world.old)
+            (W.seen world.new)) }
+        ensures refused { IfErr result (λ f. (plan : Plan) (before : List Taken) →
+            Represents C.keep C.output C.represents plan (printer_state self.old) before →
+            WroteOn plan.sink (due plan before false)
+            (IsLeft f (due plan (before ++ taken_of (item.now ∷ [])) false)) (W.seen world.old)
+            (W.seen world.new)) }
+        ensures cause { IfErr result
+            (λ f. HasPrintCause f (printer_state self.old).name (W.seen world.old)
+            (W.seen world.new)) }
     {
         match item {
             Item::Unit(unit) => self.take(world, Next::Unit(unit)),
@@ -186,15 +202,29 @@ impl<'q, C: Consumer> Printer<'q, C> {
     /// Takes a unit, and writes what the consumer hands out of the groups that it completed and for which the query holds. It is
     /// done with the unit that completes the last group that is kept; no more may follow then.
     pub fn unit<W: World>(&mut self, world: &mut W, unit: Unit) -> Result<Go, PrintFault>
-        requires named { IsTrue ((W.seen world.old).names Writing (printer_state self.old).sink (printer_state self.old).name) }
+        requires named { IsTrue ((W.seen world.old).names Writing (printer_state self.old).sink
+            (printer_state self.old).name) }
         ensures same { IsSameSink (printer_state self.old) (printer_state self.new) }
-        ensures takes { result ≡ Ok Go.More → (plan : Plan) (taken : List Taken) → Represents C.keep C.output C.represents plan (printer_state self.old) taken → Represents C.keep C.output C.represents plan (printer_state self.new) (taken ++ TakenUnit unit ∷ []) }
-        ensures done { IfOk result (λ go. (plan : Plan) (taken : List Taken) → Represents C.keep C.output C.represents plan (printer_state self.old) taken → has_all plan (taken ++ TakenUnit unit ∷ []) ≡ is_done go) }
-        ensures writes { OnOk result ((plan : Plan) (taken : List Taken) → Represents C.keep C.output C.represents plan (printer_state self.old) taken →
-            WroteOn plan.sink (due plan taken false) (λ text. text ≡ due plan (taken ++ TakenUnit unit ∷ []) false) (W.seen world.old) (W.seen world.new)) }
-        ensures refused { IfErr result (λ f. (plan : Plan) (taken : List Taken) → Represents C.keep C.output C.represents plan (printer_state self.old) taken →
-            WroteOn plan.sink (due plan taken false) (IsLeft f (due plan (taken ++ TakenUnit unit ∷ []) false)) (W.seen world.old) (W.seen world.new)) }
-        ensures cause { IfErr result (λ f. HasPrintCause f (printer_state self.old).name (W.seen world.old) (W.seen world.new)) }
+        ensures takes { result ≡ Ok Go.More → (plan : Plan) (taken : List Taken) →
+            Represents C.keep C.output C.represents plan (printer_state self.old) taken →
+            Represents C.keep C.output C.represents plan (printer_state self.new)
+            (taken ++ TakenUnit unit ∷ []) }
+        ensures done { IfOk result (λ go. (plan : Plan) (taken : List Taken) →
+            Represents C.keep C.output C.represents plan (printer_state self.old) taken →
+            has_all plan (taken ++ TakenUnit unit ∷ []) ≡ is_done go) }
+        ensures writes { OnOk result ((plan : Plan) (taken : List Taken) →
+            Represents C.keep C.output C.represents plan (printer_state self.old) taken →
+            WroteOn plan.sink (due plan taken false)
+            (λ text. text ≡ due plan (taken ++ TakenUnit unit ∷ []) false) (W.seen world.old)
+            (W.seen world.new)) }
+        ensures refused { IfErr result (λ f. (plan : Plan) (taken : List Taken) →
+            Represents C.keep C.output C.represents plan (printer_state self.old) taken →
+            WroteOn plan.sink (due plan taken false)
+            (IsLeft f (due plan (taken ++ TakenUnit unit ∷ []) false)) (W.seen world.old)
+            (W.seen world.new)) }
+        ensures cause { IfErr result
+            (λ f. HasPrintCause f (printer_state self.old).name (W.seen world.old)
+            (W.seen world.new)) }
     {
         self.take(world, Next::Unit(&unit))
     }
@@ -203,28 +233,49 @@ impl<'q, C: Consumer> Printer<'q, C> {
     /// where the query holds for them. It is done with the overrun that completes the last group that is kept; no more may
     /// follow then.
     pub fn lost<W: World>(&mut self, world: &mut W) -> Result<Go, PrintFault>
-        requires named { IsTrue ((W.seen world.old).names Writing (printer_state self.old).sink (printer_state self.old).name) }
+        requires named { IsTrue ((W.seen world.old).names Writing (printer_state self.old).sink
+            (printer_state self.old).name) }
         ensures same { IsSameSink (printer_state self.old) (printer_state self.new) }
-        ensures takes { result ≡ Ok Go.More → (plan : Plan) (taken : List Taken) → Represents C.keep C.output C.represents plan (printer_state self.old) taken → Represents C.keep C.output C.represents plan (printer_state self.new) (taken ++ Missed ∷ []) }
-        ensures done { IfOk result (λ go. (plan : Plan) (taken : List Taken) → Represents C.keep C.output C.represents plan (printer_state self.old) taken → has_all plan (taken ++ Missed ∷ []) ≡ is_done go) }
-        ensures writes { OnOk result ((plan : Plan) (taken : List Taken) → Represents C.keep C.output C.represents plan (printer_state self.old) taken →
-            WroteOn plan.sink (due plan taken false) (λ text. text ≡ due plan (taken ++ Missed ∷ []) false) (W.seen world.old) (W.seen world.new)) }
-        ensures refused { IfErr result (λ f. (plan : Plan) (taken : List Taken) → Represents C.keep C.output C.represents plan (printer_state self.old) taken →
-            WroteOn plan.sink (due plan taken false) (IsLeft f (due plan (taken ++ Missed ∷ []) false)) (W.seen world.old) (W.seen world.new)) }
-        ensures cause { IfErr result (λ f. HasPrintCause f (printer_state self.old).name (W.seen world.old) (W.seen world.new)) }
+        ensures takes { result ≡ Ok Go.More → (plan : Plan) (taken : List Taken) →
+            Represents C.keep C.output C.represents plan (printer_state self.old) taken →
+            Represents C.keep C.output C.represents plan (printer_state self.new)
+            (taken ++ Missed ∷ []) }
+        ensures done { IfOk result (λ go. (plan : Plan) (taken : List Taken) →
+            Represents C.keep C.output C.represents plan (printer_state self.old) taken →
+            has_all plan (taken ++ Missed ∷ []) ≡ is_done go) }
+        ensures writes { OnOk result ((plan : Plan) (taken : List Taken) →
+            Represents C.keep C.output C.represents plan (printer_state self.old) taken →
+            WroteOn plan.sink (due plan taken false)
+            (λ text. text ≡ due plan (taken ++ Missed ∷ []) false) (W.seen world.old)
+            (W.seen world.new)) }
+        ensures refused { IfErr result (λ f. (plan : Plan) (taken : List Taken) →
+            Represents C.keep C.output C.represents plan (printer_state self.old) taken →
+            WroteOn plan.sink (due plan taken false)
+            (IsLeft f (due plan (taken ++ Missed ∷ []) false)) (W.seen world.old)
+            (W.seen world.new)) }
+        ensures cause { IfErr result
+            (λ f. HasPrintCause f (printer_state self.old).name (W.seen world.old)
+            (W.seen world.new)) }
     {
         self.take(world, Next::Missed)
     }
 
     /// The log has ended: completes what is pending, ends the consumer, and writes what it hands out.
     pub fn end<W: World>(&mut self, world: &mut W) -> Result<(), PrintFault>
-        requires named { IsTrue ((W.seen world.old).names Writing (printer_state self.old).sink (printer_state self.old).name) }
+        requires named { IsTrue ((W.seen world.old).names Writing (printer_state self.old).sink
+            (printer_state self.old).name) }
         ensures same { IsSameSink (printer_state self.old) (printer_state self.new) }
-        ensures writes { OnOk result ((plan : Plan) (taken : List Taken) → Represents C.keep C.output C.represents plan (printer_state self.old) taken →
-            WroteOn plan.sink (due plan taken false) (λ text. text ≡ due plan taken true) (W.seen world.old) (W.seen world.new)) }
-        ensures refused { IfErr result (λ f. (plan : Plan) (taken : List Taken) → Represents C.keep C.output C.represents plan (printer_state self.old) taken →
-            WroteOn plan.sink (due plan taken false) (IsLeft f (due plan taken true)) (W.seen world.old) (W.seen world.new)) }
-        ensures cause { IfErr result (λ f. HasPrintCause f (printer_state self.old).name (W.seen world.old) (W.seen world.new)) }
+        ensures writes { OnOk result ((plan : Plan) (taken : List Taken) →
+            Represents C.keep C.output C.represents plan (printer_state self.old) taken →
+            WroteOn plan.sink (due plan taken false) (λ text. text ≡ due plan taken true)
+            (W.seen world.old) (W.seen world.new)) }
+        ensures refused { IfErr result (λ f. (plan : Plan) (taken : List Taken) →
+            Represents C.keep C.output C.represents plan (printer_state self.old) taken →
+            WroteOn plan.sink (due plan taken false) (IsLeft f (due plan taken true))
+            (W.seen world.old) (W.seen world.new)) }
+        ensures cause { IfErr result
+            (λ f. HasPrintCause f (printer_state self.old).name (W.seen world.old)
+            (W.seen world.new)) }
     {
         self.take(world, Next::End)?;
         Ok(())

@@ -171,7 +171,8 @@ pub fn consumer_of(
     requires reads { is_counting job.now.tool ≡ false }
     requires selection { selection ≡ showing_of job.now }
     requires format { HasFormat job.now format }
-    ensures { IfOk result (λ c. IsJobConsumer consumer_keep consumer_output consumer_represents job.now c) }
+    ensures { IfOk result (λ c.
+        IsJobConsumer consumer_keep consumer_output consumer_represents job.now c) }
 {
     match job.tool {
         Tool::Ncsa => Ok(ToolConsumer::Ncsa(ncsa_consumer(alloc, job, format)?)),

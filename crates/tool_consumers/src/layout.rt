@@ -51,7 +51,8 @@ fn put_member_units(
     selection: &Selection,
     member: &Member,
 ) -> Result<(), NoMemory>
-    ensures { OnOk result (out.new.items ≡ out.old.items ++ log_bytes (units_of member.now.vxid (shown_member selection.now member.now).records)) }
+    ensures { OnOk result (out.new.items ≡ out.old.items ++ log_bytes
+        (units_of member.now.vxid (shown_member selection.now member.now).records)) }
 {
     if selection.shows_every_record() {
         return put_units(out, member.vxid, &member.records.view());
@@ -62,7 +63,8 @@ fn put_member_units(
 
 /// Adds what is shown of a group as the units of a log file.
 fn put_group_units(out: &mut Vec<u8>, selection: &Selection, group: &Group) -> Result<(), NoMemory>
-    ensures { OnOk result (out.new.items ≡ out.old.items ++ log_bytes (file_units (shown selection.now group.now))) }
+    ensures { OnOk result (out.new.items ≡ out.old.items ++ log_bytes
+        (file_units (shown selection.now group.now))) }
 {
     for member in group.members.as_slice() {
         if selection.shows_member(member) {
@@ -85,7 +87,8 @@ pub fn put_group(out: &mut Vec<u8>, look: &Look, group: &Group) -> Result<(), No
 /// Adds records as units of a log file, each by itself.
 #[tactic(auto, unfolding(crate::specs::inside::Consumer::alone_bytes))]
 fn put_each_alone(out: &mut Vec<u8>, vxid: Vxid, records: &RecordsView<'_>) -> Result<(), NoMemory>
-    ensures { OnOk result (out.new.items ≡ out.old.items ++ flat_map (alone_bytes vxid) records.now) }
+    ensures { OnOk result (out.new.items ≡ out.old.items ++ flat_map
+        (alone_bytes vxid) records.now) }
 {
     for i in 0..records.len() {
         put_alone(vxid, &records.get(i), out)?;

@@ -37,8 +37,10 @@ AllSay given = All (λ (one : Given). says one.choice one.value ≡ true) given
 
 -- of an option that gathers nothing, given again, the last counts: the one before it might as well not be there
 abbrev pub LastCounts : Type 0
-LastCounts = (before between after : List Given) (first last : Given) (job : Job) → first.choice ≡ last.choice → gathers last.choice ≡ false → says last.choice last.value ≡ true
-    → with_options (before ++ first ∷ (between ++ last ∷ after)) job ≡ with_options (before ++ (between ++ last ∷ after)) job
+LastCounts = (before between after : List Given) (first last : Given) (job : Job) → first.choice ≡ last.choice →
+    gathers last.choice ≡ false → says last.choice last.value ≡ true
+    → with_options (before ++ first ∷ (between ++ last ∷ after)) job ≡ with_options
+    (before ++ (between ++ last ∷ after)) job
 
 -- the query that an option gives
 abbrev pub query_choice : Choice → List ℕ → List QueryText

@@ -2,8 +2,8 @@
 use Rattle.std.specs.Prelude.{ℕ, Bool, true, false, List, Option}
 use Rattle.std.specs.List.{list_any}
 use Rattle.word_forms.specs.Lookup.{first_name}
-use Rattle.tool_words.specs.declared.commands.Command.{Command}
-use Rattle.tool_words.specs.declared.commands.Command.TheVariants as commands
+use Rattle.tool_words.specs.declared.commands.CommandName.{CommandName}
+use Rattle.tool_words.specs.declared.commands.CommandName.TheVariants as commands
 use Rattle.tool_words.specs.declared.commands.TheConstants.{COMMANDS}
 use Rattle.tool_words.specs.declared.job.Tool.{Tool}
 use Rattle.tool_words.specs.declared.job.Tool.TheVariants as tools
@@ -17,13 +17,15 @@ is_same_tool tools.Stat tools.Stat = true
 is_same_tool one other = false
 
 -- whether two commands are one
-abbrev pub is_same_command : Command → Command → Bool
+abbrev pub is_same_command : CommandName → CommandName → Bool
 is_same_command (commands.Tool one) (commands.Tool other) = is_same_tool one other
+is_same_command commands.Convert commands.Convert = true
+is_same_command one other = false
 
 -- whether a command is among these
-abbrev pub is_among : Command → List Command → Bool
+abbrev pub is_among : CommandName → List CommandName → Bool
 is_among command having = list_any (λ one. is_same_command one command) having
 
 -- the command of a name, where there is one
-abbrev pub command_named : List ℕ → Option Command
+abbrev pub command_named : List ℕ → Option CommandName
 command_named name = first_name (λ row. row.0.now) (λ row. row.1) COMMANDS name

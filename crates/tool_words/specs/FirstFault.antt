@@ -14,4 +14,5 @@ is_of_word fault = false
 
 -- a fault of a word is answered whatever words follow
 abbrev pub FirstFaultStays : Type 0
-FirstFaultStays = (words more : List (List ℕ)) (fault : UsageFault) → is_of_word fault ≡ true → job_of words ≡ Err fault → job_of (words ++ more) ≡ Err fault
+FirstFaultStays = (words more : List (List ℕ)) (fault : UsageFault) → is_of_word fault ≡ true →
+    job_of words ≡ Err fault → job_of (words ++ more) ≡ Err fault

@@ -68,7 +68,8 @@ with_query file value job = record job { queries = job.queries ++ record { file 
 
 -- one more rule
 abbrev pub with_rule : Bool → Bool → ℕ → List ℕ → Job → Job
-with_rule include pattern at value job = record job { rules = job.rules ++ record { include = include; regex = pattern; text = value; word = at } ∷ [] }
+with_rule include pattern at value job =
+    record job { rules = job.rules ++ record { include = include; regex = pattern; text = value; word = at } ∷ [] }
 
 -- what an option changes in a job, by the place and the text of its value. `-d` changes nothing, because a log is read
 -- from its beginning anyway, and `-1` only lets a tool end (this project's choice)

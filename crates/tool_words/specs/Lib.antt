@@ -1,5 +1,6 @@
 pub mod Again
 pub mod Answers
+pub mod Command
 pub mod Commands
 pub mod FirstFault
 pub mod Fold

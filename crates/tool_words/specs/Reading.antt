@@ -75,7 +75,8 @@ takes given choice AccessGrouping value = bytes_eq value (codes "vxid") || bytes
 
 -- an option is given, with its value, none for a flag
 abbrev pub with_given : Choice → Reading → ℕ → List ℕ → Reading
-with_given choice reading at value = record { tool = reading.tool; given = reading.given ++ record { choice = choice; word = at; value = value } ∷ [] }
+with_given choice reading at value =
+    record { tool = reading.tool; given = reading.given ++ record { choice = choice; word = at; value = value } ∷ [] }
 
 -- the name of the tool
 abbrev pub read_tool : Option Tool → Reading → ℕ → Result Reading UsageFault
@@ -90,7 +91,8 @@ read_operand reading at word = if bytes_eq word (codes "-") then Err (UnknownOpt
 abbrev pub read_given : Option Meaning → Reading → ℕ → List ℕ → Result Reading UsageFault
 read_given None reading at word = read_operand reading at word
 read_given (Some (meanings.Flag choice)) reading at value = Ok (with_given choice reading at value)
-read_given (Some (meanings.Value choice form)) reading at value = if takes reading.given choice form value then Ok (with_given choice reading at value) else Err (BadValue at)
+read_given (Some (meanings.Value choice form)) reading at value = if takes reading.given choice form value then
+    Ok (with_given choice reading at value) else Err (BadValue at)
 read_given (Some meanings.NotHere) reading at value = Err (faults.NotHere at)
 
 -- what is given next

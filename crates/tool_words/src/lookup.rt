@@ -5,14 +5,18 @@ ghost use Rattle.tool_words.specs.Options.{letters_in, letters_of, long_meaning_
 ghost use Rattle.tool_words.specs.Fold.{number_for};
 ghost use Rattle.word_forms.specs.Lookup.{first_letter, first_name};
 
-use crate::commands::{Command, is_one_of};
+use crate::commands::{CommandName, is_one_of};
 use crate::job::Tool;
 use crate::number::read_number;
 use crate::options::{Choice, LETTERS, Meaning, WORDS, range};
 use word_forms::name_in;
 
 /// What a letter means to a command by the first row that has both.
-fn letter_in(rows: &[(u8, &[Command], Meaning)], command: Command, letter: u8) -> Option<Meaning>
+fn letter_in(
+    rows: &[(u8, &[CommandName], Meaning)],
+    command: CommandName,
+    letter: u8,
+) -> Option<Meaning>
     ensures { result ≡ first_letter (letters_in (λ having. having.now) command rows.now) letter }
 {
     for row in rows {
@@ -31,16 +35,17 @@ pub(crate) fn letter_meaning(tool: Tool, letter: u8) -> Option<Meaning>
     ensures ascii { OnSome result (letter < 128) }
 {
     match tool {
-        Tool::Log => letter_in(&LETTERS, Command::Tool(Tool::Log), letter),
-        Tool::Ncsa => letter_in(&LETTERS, Command::Tool(Tool::Ncsa), letter),
-        Tool::Top => letter_in(&LETTERS, Command::Tool(Tool::Top), letter),
-        Tool::Stat => letter_in(&LETTERS, Command::Tool(Tool::Stat), letter),
+        Tool::Log => letter_in(&LETTERS, CommandName::Tool(Tool::Log), letter),
+        Tool::Ncsa => letter_in(&LETTERS, CommandName::Tool(Tool::Ncsa), letter),
+        Tool::Top => letter_in(&LETTERS, CommandName::Tool(Tool::Top), letter),
+        Tool::Stat => letter_in(&LETTERS, CommandName::Tool(Tool::Stat), letter),
     }
 }
 
 /// The words before the tool.
 fn long_table() -> &'static [(&'static str, Meaning)]
-    ensures { (word : List ℕ) → first_name (λ row. row.0.now) (λ row. row.1) result.now word ≡ long_meaning_of word }
+    ensures { (word : List ℕ) →
+        first_name (λ row. row.0.now) (λ row. row.1) result.now word ≡ long_meaning_of word }
 {
     &WORDS
 }

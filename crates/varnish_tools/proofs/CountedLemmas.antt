@@ -23,11 +23,14 @@ use Rattle.vsl_file.specs.File.{most_bytes}
 use Rattle.feed_files.specs.declared.fault.FeedFault.{FeedFault}
 use Rattle.feed_files.specs.declared.fault.FeedFault.TheVariants as feeds
 use Rattle.feed_files.specs.Feeds.{Feed, FeedStops, most_feed_bytes}
+use Rattle.tool_words.specs.declared.command.Command.{Command}
+use Rattle.tool_words.specs.declared.command.Command.TheVariants.{ForTool, ForConvert}
+use Rattle.tool_words.specs.declared.command.Names.{Names}
 use Rattle.tool_words.specs.declared.fault.UsageFault.{UsageFault}
 use Rattle.tool_words.specs.declared.job.Job.{Job}
 use Rattle.tool_words.specs.declared.job.Tool.{Tool}
 use Rattle.tool_words.specs.declared.job.Tool.TheVariants as tools
-use Rattle.tool_words.specs.Job.{job_of}
+use Rattle.tool_words.specs.Command.{command_of}
 use Rattle.one_command.specs.Promise.{Works}
 use Rattle.one_run.specs.declared.met.Met.{Met}
 use Rattle.one_run.specs.declared.pass.RunEnd.{RunEnd}
@@ -38,17 +41,21 @@ use Rattle.run_sources.specs.declared.file_items.FileStop.TheVariants as stops
 use Rattle.text_printer.specs.declared.output.TextEnding.{TextEnding}
 use Rattle.text_printer.specs.declared.output.TextEnding.TheVariants as endings
 use Rattle.text_printer.specs.Ends.{Due, TextEnded, TextWritten}
+use Rattle.ring_layout.specs.declared.item.Item.{Item}
+use Rattle.run_sources.specs.Sources.{FileCame}
+use Rattle.unit_output.specs.Units.{units_due}
 use Rattle.job_steps.specs.declared.fault.ToolFault.{ToolFault}
 use Rattle.job_steps.specs.declared.fault.ToolFault.TheVariants.{BadFormat, NoOpen, ReadFault, WriteFault, NotALog, Damaged, TooLarge}
 use Rattle.job_steps.specs.Jobs.{file_of, is_counting, text_fault}
-use Rattle.job_steps.specs.Steps.{Step, RefuseWords, TakeRules, TakeQuery, TakeFormat, OpenLog, ReadFeed, MakeSink, Found, IsRuleAnswer, Passes, Stops, feed_answer, feed_steps, listings_of, logs_of, most_query_bytes, named_answer, steps_of}
+use Rattle.job_steps.specs.Steps.{Step, RefuseWords, TakeRules, TakeQuery, TakeFormat, OpenLog, ReadFeed, MakeSink, Found, FoundLog, FoundSink, IsRuleAnswer, Passes, Stops, feed_answer, feed_steps, listings_of, logs_of, most_query_bytes, named_answer, names_steps, steps_of}
 use Rattle.job_runs.specs.declared.record.RunRecord.{RunRecord}
 use Rattle.job_runs.specs.declared.record.RunRecord.TheVariants.{Nothing}
 use Rattle.job_runs.specs.Counters.{PrintsCounters, WritesText}
-use Rattle.job_runs.specs.Rows.{PrintsGroups, end_answer, job_due}
+use Rattle.job_runs.specs.Rows.{PrintsGroups, job_due, log_answer}
 use Rattle.job_runs.specs.Sources.{CameOf, StopsOf}
 use Rattle.varnish_tools.specs.declared.outcome.Outcome.{Outcome}
-use Rattle.varnish_tools.specs.Theorem.{IsFaithful, StatedRan, alone_of}
+use Rattle.varnish_tools.specs.Commands.{alone_of}
+use Rattle.varnish_tools.specs.Theorem.{IsFaithful, StatedRan}
 use Rattle.varnish_tools.proofs.FoundLemmas.{found_feeds, found_file}
 use Rattle.varnish_tools.proofs.PartLemmas.{counter_parts, feeds_found, group_parts, passed_alone}
 use Rattle.varnish_tools.proofs.QuietLemmas.{rose_within}
@@ -144,7 +151,7 @@ opened_named false name h calls s t is opens input did =
     subst (λ (u : Seen). IsNamed h name u) (sym made.2) (record { given = opened.given; named = opened.is_named })
 
 -- the log that a job's steps found is given, and has the name of its file; for feeds and counters there is none
-log_named : (b c : Bool) (job : Job) (found : List Found) (calls : List Call) (h : ℕ) (s t : Seen) → is_counting job.tool ≡ b → is_some job.file ≡ c → HasStreams s → Passed Passes Stops (steps_of (Ok job)) found calls → Did calls s t → IsOneOf h (logs_of found)
+log_named : (b c : Bool) (job : Job) (found : List Found) (calls : List Call) (h : ℕ) (s t : Seen) → is_counting job.tool ≡ b → is_some job.file ≡ c → HasStreams s → Passed Passes Stops (steps_of (Ok (ForTool job))) found calls → Did calls s t → IsOneOf h (logs_of found)
     → IsNamed h (file_of job) t
 log_named true c job found calls h s t counts is streams passed did one = absurd (subst (λ (hs : List ℕ). IsOneOf h hs) (counter_parts job found calls s t counts passed did).so.logs_are one)
 log_named false true job found calls h s t groups is streams passed did one =
@@ -160,6 +167,19 @@ log_named false false job found calls h s t groups is streams passed did one =
     let fed = feeds_found job.reclen job.seg _ g.inputs g.own (subst (λ (b : Bool). Passed Passes Stops (if b then OpenLog (file_of job) ∷ [] else feed_steps job) g.inputs g.own) is g.passed_own) in
     absurd (subst (λ (hs : List ℕ). IsOneOf h hs) (found_feeds g.texts g.inputs found fed.0 g.sink g.empty g.are fed.1).logs_are one)
 
+-- the log that a command of two names found is given, and has its name
+opened_first : (names : Names) (found : List Found) (calls : List Call) (h sink : ℕ) (empty : Bool) (s t : Seen) → HasStreams s → found ≡ FoundLog h ∷ FoundSink sink empty ∷ [] → Passed Passes Stops (names_steps names) found calls → Did calls s t → IsNamed h names.input t
+opened_first names found calls h sink empty s t streams are passed did =
+    let p = subst (λ (us : List Found). Passed Passes Stops (names_steps names) us calls) are passed in
+    let parts = did_apart p.0 p.1 s t (subst (λ (cs : List Call). Did cs s t) p.2 did) in
+    let log = p.3 in
+    let same : h ≡ log.0 = same_log h log.0 log.1 in
+    let opened = opened_named (bytes_eq names.input (codes "-")) names.input log.0 p.0 s parts.0 refl log.2 (record { given = streams.input_given; named = streams.input }) parts.1 in
+    subst (λ (i : ℕ). IsNamed i names.input t) (sym same) (named_later log.0 names.input p.1 parts.0 t parts.2 opened)
+  where
+    same_log : (k other : ℕ) → FoundLog k ≡ FoundLog other → k ≡ other
+    same_log k other same = cc
+
 -- ---- a run
 
 -- counters
@@ -168,33 +188,33 @@ counters_counted sink text fault calls s t (inl p) did = let no : Some fault ≡
 counters_counted sink text fault calls s t (inr p) did = counted_as fault (WriteFault (codes "-")) s t (some_same fault (WriteFault (codes "-")) p.0)
     (did_fail Writing (codes "-") (Write sink p.1.0 (calling.Failed (codes "-"))) (Write sink p.1.0 (calling.Failed (codes "-")) ∷ []) s t (inl refl) (refl, refl) (subst (λ (cs : List Call). Did cs s t) p.1.2 did))
 
--- groups: a write of the output failed, or a read of the log; of what that holds no count speaks
-groups_counted : (job : Job) (logs : List ℕ) (listings : List Listing) (recorded : RunRecord) (sink : ℕ) (d : Due) (fault : ToolFault) (end : RunEnd TextEnding FileStop) (met : Met) (calls : List Call) (s t : Seen) → ((h : ℕ) → IsOneOf h logs → IsNamed h (file_of job) s)
-    → Some fault ≡ end_answer job end → Ran (CameOf logs job listings recorded) (StopsOf logs t) (TextWritten sink d) (TextEnded sink d) (ERRORS ∷ sink ∷ []) end met calls → Did calls s t → IsCounted fault s t
-groups_counted job logs listings recorded sink d fault (ends.ByOutput endings.Whole) met calls s t known is r did = absurd cc
-groups_counted job logs listings recorded sink d fault (ends.ByOutput endings.Kept) met calls s t known is r did = absurd cc
-groups_counted job logs listings recorded sink d fault (ends.ByOutput (endings.Unwritten name)) met calls s t known is r did =
+-- a text that is due: a write of the output failed, or a read of the log; of what that holds no count speaks
+due_counted : (file : List ℕ) (logs : List ℕ) (came : List Call → List Item → Bool → Type 0) (sink : ℕ) (d : Due) (fault : ToolFault) (end : RunEnd TextEnding FileStop) (met : Met) (calls : List Call) (s t : Seen) → ((h : ℕ) → IsOneOf h logs → IsNamed h file s)
+    → Some fault ≡ log_answer file end → Ran came (StopsOf logs t) (TextWritten sink d) (TextEnded sink d) (ERRORS ∷ sink ∷ []) end met calls → Did calls s t → IsCounted fault s t
+due_counted file logs came sink d fault (ends.ByOutput endings.Whole) met calls s t known is r did = absurd cc
+due_counted file logs came sink d fault (ends.ByOutput endings.Kept) met calls s t known is r did = absurd cc
+due_counted file logs came sink d fault (ends.ByOutput (endings.Unwritten name)) met calls s t known is r did =
     let ended = r.ends.5 in
     let cause = ended.cause in
     counted_as fault (WriteFault name) s t (some_same fault (WriteFault name) is)
     (subst (λ (n : List ℕ). IsCounted (WriteFault n) s t) (sym ended.ends.0) (did_fail Writing d.name (Write sink cause.0 (calling.Failed d.name)) calls s t cause.1 (refl, refl) did))
-groups_counted job logs listings recorded sink d fault (ends.ByOutput endings.Unreported) met calls s t known is r did =
+due_counted file logs came sink d fault (ends.ByOutput endings.Unreported) met calls s t known is r did =
     let cause = (r.ends.5).cause in
     counted_as fault (WriteFault (codes "stderr")) s t (some_same fault (WriteFault (codes "stderr")) is) (did_fail Writing (codes "stderr") (Write ERRORS cause.0 (calling.Failed (codes "stderr"))) calls s t cause.1 (refl, refl) did)
-groups_counted job [] listings recorded sink d fault (ends.BySource why) met calls s t known is r did = absurd r.ends.1
-groups_counted job (h ∷ others) listings recorded sink d fault (ends.BySource stops.ReadFault) met calls s t known is r did =
+due_counted file [] came sink d fault (ends.BySource why) met calls s t known is r did = absurd r.ends.1
+due_counted file (h ∷ others) came sink d fault (ends.BySource stops.ReadFault) met calls s t known is r did =
     let failed = (r.ends.1).failed in
     let log = known h (inl refl) in
-    counted_as fault (ReadFault (file_of job)) s t (some_same fault (ReadFault (file_of job)) is) (did_fail_each h failed.0 (file_of job) calls s t log.given log.named failed.1 did)
-groups_counted job (h ∷ others) listings recorded sink d fault (ends.BySource (stops.NotALog at)) met calls s t known is r did = counted_as fault (NotALog (file_of job) at) s t (some_same fault (NotALog (file_of job) at) is) tt
-groups_counted job (h ∷ others) listings recorded sink d fault (ends.BySource (stops.Damaged at)) met calls s t known is r did = counted_as fault (Damaged (file_of job) at) s t (some_same fault (Damaged (file_of job) at) is) tt
-groups_counted job (h ∷ others) listings recorded sink d fault (ends.BySource stops.TooLarge) met calls s t known is r did = counted_as fault (TooLarge (file_of job) most_bytes) s t (some_same fault (TooLarge (file_of job) most_bytes) is) tt
+    counted_as fault (ReadFault file) s t (some_same fault (ReadFault file) is) (did_fail_each h failed.0 file calls s t log.given log.named failed.1 did)
+due_counted file (h ∷ others) came sink d fault (ends.BySource (stops.NotALog at)) met calls s t known is r did = counted_as fault (NotALog file at) s t (some_same fault (NotALog file at) is) tt
+due_counted file (h ∷ others) came sink d fault (ends.BySource (stops.Damaged at)) met calls s t known is r did = counted_as fault (Damaged file at) s t (some_same fault (Damaged file at) is) tt
+due_counted file (h ∷ others) came sink d fault (ends.BySource stops.TooLarge) met calls s t known is r did = counted_as fault (TooLarge file most_bytes) s t (some_same fault (TooLarge file most_bytes) is) tt
 
 -- the run of a job
 run_counted : (b : Bool) (job : Job) (fault : ToolFault) (recorded : RunRecord) (found : List Found) (calls : List Call) (s t : Seen) → ((h : ℕ) → IsOneOf h (logs_of found) → IsNamed h (file_of job) s)
     → MatchBool b (PrintsCounters job (Some fault) recorded found calls) (PrintsGroups job t (Some fault) recorded found calls) → Did calls s t → IsCounted fault s t
 run_counted true job fault recorded found calls s t known p did = counters_counted p.0 _ fault calls s t p.3.writes did
-run_counted false job fault recorded found calls s t known p did = groups_counted job (logs_of found) (listings_of found) recorded p.1 (job_due job p.0 p.2) fault p.4.end p.4.met calls s t known p.4.answers p.4.ran did
+run_counted false job fault recorded found calls s t known p did = due_counted (file_of job) (logs_of found) (CameOf (logs_of found) job (listings_of found) recorded) p.1 (job_due job p.0 p.2) fault p.4.end p.4.met calls s t known p.4.answers p.4.ran did
 
 -- ---- the work
 
@@ -204,13 +224,21 @@ early_counted steps fault calls s t p did =
     let parts = did_apart p.first p.last s t (subst (λ (cs : List Call). Did cs s t) p.are did) in
     counted_within fault s parts.0 t t (did_counts p.first s parts.0 parts.1) (stops_counted p.step fault p.last parts.0 t p.stops parts.2) (did_counts [] t t refl)
 
-work_counted : (stated : Result Job UsageFault) (fault : ToolFault) (recorded : RunRecord) (work : List Call) (s t : Seen) → HasStreams s → Works Passes Stops (StatedRan stated) alone_of Nothing (steps_of stated) t (Some fault) recorded work → Did work s t → IsCounted fault s t
+work_counted : (stated : Result Command UsageFault) (fault : ToolFault) (recorded : RunRecord) (work : List Call) (s t : Seen) → HasStreams s → Works Passes Stops (StatedRan stated) alone_of Nothing (steps_of stated) t (Some fault) recorded work → Did work s t → IsCounted fault s t
 work_counted stated fault recorded work s t streams (inl early) did = counted_as fault early.by s t (some_same fault early.by early.is) (early_counted (steps_of stated) early.by work s t early.stopped did)
 work_counted (Err why) fault recorded work s t streams (inr ran) did = absurd ran.ran
-work_counted (Ok job) fault recorded work s t streams (inr ran) did =
+work_counted (Ok (ForTool job)) fault recorded work s t streams (inr ran) did =
     let parts = did_apart ran.first ran.last s t (subst (λ (cs : List Call). Did cs s t) ran.are did) in
     counted_within fault s parts.0 t t (did_counts ran.first s parts.0 parts.1)
     (run_counted (is_counting job.tool) job fault recorded ran.found ran.last parts.0 t (λ h one. log_named (is_counting job.tool) (is_some job.file) job ran.found ran.first h s parts.0 refl refl streams ran.passed parts.1 one) ran.ran parts.2)
+    (did_counts [] t t refl)
+work_counted (Ok (ForConvert names)) fault recorded work s t streams (inr ran) did =
+    let parts = did_apart ran.first ran.last s t (subst (λ (cs : List Call). Did cs s t) ran.are did) in
+    let p = ran.ran in
+    let known : (k : ℕ) → IsOneOf k (p.0 ∷ []) → IsNamed k names.input parts.0 =
+    λ k one. subst (λ (i : ℕ). IsNamed i names.input parts.0) (sym (only_one k p.0 one)) (opened_first names ran.found ran.first p.0 p.1 p.2 s parts.0 streams p.3 ran.passed parts.1) in
+    counted_within fault s parts.0 t t (did_counts ran.first s parts.0 parts.1)
+    (due_counted names.input (p.0 ∷ []) (FileCame p.0) p.1 (units_due names.output) fault p.4.end p.4.met ran.last parts.0 t known p.4.answers p.4.ran parts.2)
     (did_counts [] t t refl)
 
 -- the fault of an outcome is counted
@@ -218,5 +246,5 @@ pub fault_counted : (fault : ToolFault) (words : List (List ℕ)) (outcome : Out
 fault_counted fault words outcome before now streams p is =
     let q = p.works in
     counted_within fault before before q.at now (did_counts [] before before refl)
-    (work_counted (job_of words) fault outcome.run q.work before q.at streams (subst (λ (f : Option ToolFault). Works Passes Stops (StatedRan (job_of words)) alone_of Nothing (steps_of (job_of words)) q.at f outcome.run q.work) is q.works) q.did)
+    (work_counted (command_of words) fault outcome.run q.work before q.at streams (subst (λ (f : Option ToolFault). Works Passes Stops (StatedRan (command_of words)) alone_of Nothing (steps_of (command_of words)) q.at f outcome.run q.work) is q.works) q.did)
     (did_counts q.said q.at now q.told)

@@ -16,9 +16,12 @@ use Rattle.ring_layout.specs.Items.{items_of}
 use Rattle.traffic_feed.specs.declared.listing.Listing.{Listing}
 use Rattle.feed_files.specs.Feeds.{AreFeedsRead, AreListings, FeedsHold, feeds_from}
 use Rattle.one_command.specs.Promise.{Says}
+use Rattle.tool_words.specs.declared.command.Command.{Command}
+use Rattle.tool_words.specs.declared.command.Command.TheVariants.{ForTool}
 use Rattle.tool_words.specs.declared.fault.UsageFault.{UsageFault}
 use Rattle.tool_words.specs.declared.job.Job.{Job}
 use Rattle.tool_words.specs.Job.{job_of}
+use Rattle.tool_words.proofs.CommandLemmas.{asks_tool}
 use Rattle.job_steps.specs.declared.fault.ToolFault.{ToolFault}
 use Rattle.job_steps.specs.declared.fault.ToolFault.TheVariants.{WriteFault}
 use Rattle.job_steps.specs.Jobs.{file_of, is_counting, is_on_threads}
@@ -69,7 +72,7 @@ record FeedsAre (job : Job) (listings : List Listing) (found : List Found) (s t 
   so : FoundSo found parts.texts [] listings parts.sink parts.empty
 
 feeds_are : OneListings → TellsRead → (job : Job) (contents : List (List ℕ)) (listings : List Listing) (found : List Found) (calls : List Call) (s t : Seen) → is_counting job.tool ≡ false → is_some job.file ≡ false → FeedsHold s job.feeds contents
-    → AreListings job.reclen job.seg contents listings → Passed Passes Stops (steps_of (Ok job)) found calls → Did calls s t → FeedsAre job listings found s t
+    → AreListings job.reclen job.seg contents listings → Passed Passes Stops (steps_of (Ok (ForTool job))) found calls → Did calls s t → FeedsAre job listings found s t
 feeds_are one read job contents listings found calls s t groups fed tells are passed did =
     let g = group_parts job found calls s t groups passed did in
     let own = feeds_found job.reclen job.seg (feeds_from 0 job.feeds) g.inputs g.own (subst (λ (b : Bool). Passed Passes Stops (if b then OpenLog (file_of job) ∷ [] else feed_steps job) g.inputs g.own) fed g.passed_own) in
@@ -84,7 +87,7 @@ Wrote job listings fault recorded s t P = (ask : Ask) (sink : ℕ) (empty : Bool
     → (every : List Item) × (ended : Bool) × WritesOf sink (job_due job ask empty) fault every ended calls × (PrintsItems job fault every ended s t → P)
 
 module _ (one : OneListings) (read : TellsRead) (job : Job) (contents : List (List ℕ)) (listings : List Listing) (groups : is_counting job.tool ≡ false) (fed : is_some job.file ≡ false) (are : AreListings job.reclen job.seg contents listings) where
-  work_prints : (P : Type 0) (message : List ℕ) (fault : Option ToolFault) (recorded : RunRecord) (s t : Seen) → HasStreams s → FeedsHold s job.feeds contents → Wrote job listings fault recorded s t P → WorksOff (Says message) (Ok job) fault recorded s t → WasStopped fault recorded ⊎ P
+  work_prints : (P : Type 0) (message : List ℕ) (fault : Option ToolFault) (recorded : RunRecord) (s t : Seen) → HasStreams s → FeedsHold s job.feeds contents → Wrote job listings fault recorded s t P → WorksOff (Says message) (Ok (ForTool job)) fault recorded s t → WasStopped fault recorded ⊎ P
   work_prints P message fault recorded s t streams tells writes q = elim q.works [
     | inl early ↦ inl (ap (λ (o : Option ToolFault). is_some o) early.is, early.none)
     | inr ran ↦
@@ -97,8 +100,8 @@ module _ (one : OneListings) (read : TellsRead) (job : Job) (contents : List (Li
   ]
 
 -- that a job is the one that words state
-stated_work : (words : List (List ℕ)) (outcome : Outcome) (job : Job) (before now : Seen) → job_of words ≡ Ok job → IsFaithful words outcome before now → WorksOff (Says (fault_message words outcome.fault)) (Ok job) outcome.fault outcome.run before now
-stated_work words outcome job before now states p = subst (λ (why : Result Job UsageFault). WorksOff (Says (fault_message words outcome.fault)) why outcome.fault outcome.run before now) states p.works
+stated_work : (words : List (List ℕ)) (outcome : Outcome) (job : Job) (before now : Seen) → job_of words ≡ Ok job → IsFaithful words outcome before now → WorksOff (Says (fault_message words outcome.fault)) (Ok (ForTool job)) outcome.fault outcome.run before now
+stated_work words outcome job before now states p = subst (λ (why : Result Command UsageFault). WorksOff (Says (fault_message words outcome.fault)) why outcome.fault outcome.run before now) (asks_tool words job states) p.works
 
 -- what was written of feeds that were told, in a stated order
 pub feeds_printed : OneListings → TellsRead → FeedsWrite → (words : List (List ℕ)) (outcome : Outcome) (job : Job) (contents : List (List ℕ)) (listings : List Listing) (before now : Seen) → job_of words ≡ Ok job → is_some job.file ≡ false → is_counting job.tool ≡ false
@@ -129,7 +132,7 @@ wrote_text h text fault calls (inr part) =
     (subst (λ (xs : List ℕ). IsPrefix xs text) (sym is) part.1.1.prefix, λ none. let bad : Some (WriteFault (codes "-")) ≡ None = sym part.0 ∙ none in absurd cc)
 
 module _ (one : OneListings) (read : TellsRead) (job : Job) (contents : List (List ℕ)) (listings : List Listing) (counts : is_counting job.tool ≡ true) (are : AreListings job.reclen job.seg contents listings) where
-  work_counts : (message : List ℕ) (fault : Option ToolFault) (recorded : RunRecord) (s t : Seen) → FeedsHold s job.feeds contents → WorksOff (Says message) (Ok job) fault recorded s t → WasStopped fault recorded ⊎ PrintsCounted job fault listings s t
+  work_counts : (message : List ℕ) (fault : Option ToolFault) (recorded : RunRecord) (s t : Seen) → FeedsHold s job.feeds contents → WorksOff (Says message) (Ok (ForTool job)) fault recorded s t → WasStopped fault recorded ⊎ PrintsCounted job fault listings s t
   work_counts message fault recorded s t tells q = elim q.works [
     | inl early ↦ inl (ap (λ (o : Option ToolFault). is_some o) early.is, early.none)
     | inr ran ↦
@@ -141,7 +144,7 @@ module _ (one : OneListings) (read : TellsRead) (job : Job) (contents : List (Li
         let so = subst (λ (ls : List Listing). CountsSo job ls OUTPUT fault recorded ran.last) (of.so.listings_are ∙ same) (subst (λ (z : ℕ × Bool). CountsSo job (listings_of ran.found) z.0 fault recorded ran.last) to_out g.3) in
         let wrote = wrote_text OUTPUT (counters_text job listings so.log so.waits) fault ran.last so.writes in
         let apart : OUTPUT ≢ ERRORS = λ e. cc in
-        inr (record { log = so.log; waits = so.waits; put = so.put; text = written_by OUTPUT ran.last; part = wrote.0; done = wrote.1; gains = run_gains job message fault recorded OUTPUT s t apart q ran })
+        inr (record { log = so.log; waits = so.waits; put = so.put; text = written_by OUTPUT ran.last; part = wrote.0; done = wrote.1; gains = run_gains (ForTool job) message fault recorded OUTPUT s t apart q ran })
   ]
 
 -- what was written of counters of feeds that were told

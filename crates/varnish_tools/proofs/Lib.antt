@@ -11,3 +11,4 @@ mod PlainLemmas
 mod FedLemmas
 mod QuietLemmas
 mod CountedLemmas
+mod ConvertedLemmas

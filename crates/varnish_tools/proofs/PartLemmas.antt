@@ -13,6 +13,7 @@ use Rattle.vio.proofs.StepLemmas.{passed_one}
 use Rattle.vio.proofs.TouchLemmas.{did_touch}
 use Rattle.traffic_feed.specs.declared.listing.Listing.{Listing}
 use Rattle.feed_files.specs.Feeds.{Feed, FeedPasses, FeedStops, feeds_from}
+use Rattle.tool_words.specs.declared.command.Command.TheVariants.{ForTool}
 use Rattle.tool_words.specs.declared.job.Job.{Job}
 use Rattle.tool_words.specs.declared.job.QueryText.{QueryText}
 use Rattle.job_steps.specs.Jobs.{format_text, is_counting, write_of}
@@ -94,7 +95,7 @@ texts_found caseless n (query ∷ queries) (u ∷ us) calls s t p did =
 
 -- those before its input
 abbrev pub early : Job → List Step
-early job = word_steps (Ok job) ++ (queries_from job.caseless 0 job.queries ++ TakeFormat job.tool (format_text job) ∷ [])
+early job = word_steps job ++ (queries_from job.caseless 0 job.queries ++ TakeFormat job.tool (format_text job) ∷ [])
 
 -- they found the texts of its queries
 early_found : (job : Job) (found : List Found) (calls : List Call) (s t : Seen) → Passed Passes Stops (early job) found calls → Did calls s t
@@ -132,10 +133,10 @@ pub record GroupParts (job : Job) (found : List Found) (s t : Seen) : Type 0 whe
   pub is_made : IsMadeBy job.append (write_of job) sink empty made
   pub did_made : Did made at t
 
-pub group_parts : (job : Job) (found : List Found) (calls : List Call) (s t : Seen) → is_counting job.tool ≡ false → Passed Passes Stops (steps_of (Ok job)) found calls → Did calls s t → GroupParts job found s t
+pub group_parts : (job : Job) (found : List Found) (calls : List Call) (s t : Seen) → is_counting job.tool ≡ false → Passed Passes Stops (steps_of (Ok (ForTool job))) found calls → Did calls s t → GroupParts job found s t
 group_parts job found calls s t groups passed did =
     let reading = early job ++ input_steps job in
-    let whole : Passed Passes Stops (word_steps (Ok job) ++ group_steps job) found calls = subst (λ (b : Bool). Passed Passes Stops (word_steps (Ok job) ++ (if b then counter_steps job else group_steps job)) found calls) groups passed in
+    let whole : Passed Passes Stops (word_steps job ++ group_steps job) found calls = subst (λ (b : Bool). Passed Passes Stops (word_steps job ++ (if b then counter_steps job else group_steps job)) found calls) groups passed in
     let a = passed_apart reading (MakeSink job.append (write_of job) ∷ []) found calls whole in
     let b = passed_apart (early job) (input_steps job) a.found_first a.first a.passed_first in
     let one = passed_alone (MakeSink job.append (write_of job)) a.found_last a.last a.passed_last in
@@ -178,7 +179,7 @@ pub record CounterParts (job : Job) (found : List Found) (s t : Seen) : Type 0 w
   pub read : Passed (FeedPasses job.reclen job.seg) FeedStops (feeds_from 0 job.feeds) listings own
   pub did : Did own s at
 
-pub counter_parts : (job : Job) (found : List Found) (calls : List Call) (s t : Seen) → is_counting job.tool ≡ true → Passed Passes Stops (steps_of (Ok job)) found calls → Did calls s t → CounterParts job found s t
+pub counter_parts : (job : Job) (found : List Found) (calls : List Call) (s t : Seen) → is_counting job.tool ≡ true → Passed Passes Stops (steps_of (Ok (ForTool job))) found calls → Did calls s t → CounterParts job found s t
 counter_parts job [] calls s t counts p did = absurd p
 counter_parts job (u ∷ us) calls s t counts p did =
     let later : Passed Passes Stops (counter_steps job) us p.1 = subst (λ (b : Bool). Passed Passes Stops (if b then counter_steps job else group_steps job) us p.1) counts p.4 in

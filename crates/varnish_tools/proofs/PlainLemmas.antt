@@ -13,10 +13,13 @@ use Rattle.vsl_select.specs.Shown.{shown}
 use Rattle.one_command.specs.Promise.{Says}
 use Rattle.run_sources.specs.Sources.{unit_items}
 use Rattle.text_printer.specs.Ends.{whole}
+use Rattle.tool_words.specs.declared.command.Command.{Command}
+use Rattle.tool_words.specs.declared.command.Command.TheVariants.{ForTool}
 use Rattle.tool_words.specs.declared.fault.UsageFault.{UsageFault}
 use Rattle.tool_words.specs.declared.job.Job.{Job}
 use Rattle.tool_words.specs.declared.job.Tool.{Tool}
 use Rattle.tool_words.specs.declared.job.Tool.TheVariants as tools
+use Rattle.tool_words.proofs.CommandLemmas.{asks_tool}
 use Rattle.job_steps.specs.declared.fault.ToolFault.{ToolFault}
 use Rattle.job_steps.specs.Jobs.{file_of, options_of, showing_of}
 use Rattle.job_steps.specs.Queries.{Ask}
@@ -81,15 +84,15 @@ plain_told words job units s p = record {
   bytes = p.bytes;
   told = subst (λ (f : Option (List ℕ)). MatchBool (bytes_eq (unwrap_or f []) (codes "-")) (s.left INPUT ≡ Some p.bytes) (s.held (unwrap_or f []) ≡ Some p.bytes)) (sym p.is_log)
       (subst (λ (b : Bool). MatchBool b (s.left INPUT ≡ Some p.bytes) (s.held p.name ≡ Some p.bytes)) (sym (not_stream p.name p.is_file)) p.held);
-  file = (p.most, p.file);
+  file = (p.most, (p.version, p.file));
 }
 
 module _ (writes_told : TellsWrites) (words : List (List ℕ)) (outcome : Outcome) (s t : Seen) (streams : HasStreams s) (p : IsFaithful words outcome s t) where
   silent : (job : Job) (units : Log) → NamesLog words job units s → outcome.fault ≡ None → Gains (s.written ERRORS) (t.written ERRORS) []
   silent job units q none =
-      let stated = subst (λ (r : Result Job UsageFault). WorksOff (Says (fault_message words outcome.fault)) r outcome.fault outcome.run s t) q.states p.works in
+      let stated = subst (λ (r : Result Command UsageFault). WorksOff (Says (fault_message words outcome.fault)) r outcome.fault outcome.run s t) (asks_tool words job q.states) p.works in
       errors_silent writes_told job units Whole q.groups (ap (λ (f : Option (List ℕ)). is_some f) q.is_log) outcome.run s t streams (plain_told words job units s q)
-      (subst (λ (f : Option ToolFault). WorksOff (Says (fault_message words f)) (Ok job) f outcome.run s t) none stated)
+      (subst (λ (f : Option ToolFault). WorksOff (Says (fault_message words f)) (Ok (ForTool job)) f outcome.run s t) none stated)
 
   -- what was printed of the log that words name
   pub prints_plain : PrintsPlain words outcome s t

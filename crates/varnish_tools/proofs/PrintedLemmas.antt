@@ -12,6 +12,8 @@ use Rattle.ring_layout.specs.declared.item.Item.{Item}
 use Rattle.traffic_feed.specs.declared.listing.Listing.{Listing}
 use Rattle.one_command.specs.Promise.{RanOn, Says}
 use Rattle.one_command.proofs.PromiseLemmas.{promised_gain, said_other}
+use Rattle.tool_words.specs.declared.command.Command.{Command}
+use Rattle.tool_words.specs.declared.command.Command.TheVariants.{ForTool}
 use Rattle.tool_words.specs.declared.job.Job.{Job}
 use Rattle.job_steps.specs.declared.fault.ToolFault.{ToolFault}
 use Rattle.job_steps.specs.Jobs.{is_counting, write_of}
@@ -24,7 +26,8 @@ use Rattle.job_runs.specs.Sources.{CameOf, RecordsOf, StopsOf}
 use Rattle.job_runs.specs.Counters.{PrintsCounters}
 use Rattle.job_runs.specs.Rows.{IsAsked, JobRan, PrintsGroups, RanFor, end_answer, job_due}
 use Rattle.job_runs.specs.Told.{WritesOf}
-use Rattle.varnish_tools.specs.Theorem.{StatedRan, WorksOff, alone_of}
+use Rattle.varnish_tools.specs.Commands.{alone_of}
+use Rattle.varnish_tools.specs.Theorem.{StatedRan, WorksOff}
 use Rattle.varnish_tools.specs.Told.{PrintsItems}
 use Rattle.varnish_tools.proofs.FoundLemmas.{FoundSo}
 use Rattle.varnish_tools.proofs.PartLemmas.{GroupParts}
@@ -53,25 +56,25 @@ ran_over job found texts logs listings sink empty at fault recorded calls groups
       over = subst (λ (hs : List ℕ). RanFor hs (CameOf hs job listings recorded) (StopsOf hs at) (RecordsOf hs job recorded) sink (job_due job g.0 empty) (end_answer job) fault calls) so.logs_are of_listings;
     }
 
--- what the last of a job's calls wrote to a handle but standard error it gained: nothing was written before them, nor by the message
-pub run_gains : (job : Job) (message : List ℕ) (fault : Option ToolFault) (recorded : RunRecord) (h : ℕ) (s t : Seen) → h ≢ ERRORS → (q : WorksOff (Says message) (Ok job) fault recorded s t)
-    → (ran : RanOn Passes Stops (StatedRan (Ok job)) alone_of Nothing (steps_of (Ok job)) q.at fault recorded q.work) → Gains (s.written h) (t.written h) (written_by h ran.last)
-run_gains job message fault recorded h s t apart q ran =
-    let gained = promised_gain Passes Stops (StatedRan (Ok job)) alone_of Nothing (Says message) (steps_of (Ok job)) fault recorded h s t (λ calls says. said_other h message calls apart says) q in
-    let within = passed_within (steps_of (Ok job)) ran.found ran.first ran.passed in
+-- what the last of a command's calls wrote to a handle but standard error it gained: nothing was written before them, nor by the message
+pub run_gains : (command : Command) (message : List ℕ) (fault : Option ToolFault) (recorded : RunRecord) (h : ℕ) (s t : Seen) → h ≢ ERRORS → (q : WorksOff (Says message) (Ok command) fault recorded s t)
+    → (ran : RanOn Passes Stops (StatedRan (Ok command)) alone_of Nothing (steps_of (Ok command)) q.at fault recorded q.work) → Gains (s.written h) (t.written h) (written_by h ran.last)
+run_gains command message fault recorded h s t apart q ran =
+    let gained = promised_gain Passes Stops (StatedRan (Ok command)) alone_of Nothing (Says message) (steps_of (Ok command)) fault recorded h s t (λ calls says. said_other h message calls apart says) q in
+    let within = passed_within (steps_of (Ok command)) ran.found ran.first ran.passed in
     let last : written_by h q.work ≡ written_by h ran.last =
     ap (λ (cs : List Call). written_by h cs) ran.are ∙ written_append h ran.first ran.last ∙ ap (λ (xs : List ℕ). xs ++ written_by h ran.last) (within.writes h) in
     subst (λ (text : List ℕ). Gains (s.written h) (t.written h) text) last gained
 
 -- what such a run wrote of items is what OUT gained
-pub items_printed : (job : Job) (message : List ℕ) (fault : Option ToolFault) (recorded : RunRecord) (s t : Seen) (every : List Item) (ended : Bool) (logs : List ℕ) (listings : List Listing) → HasStreams s → (q : WorksOff (Says message) (Ok job) fault recorded s t)
-    → (ran : RanOn Passes Stops (StatedRan (Ok job)) alone_of Nothing (steps_of (Ok job)) q.at fault recorded q.work) → (mid : Seen) → Did ran.first s mid → Did ran.last mid q.at → (out : GroupParts job ran.found s mid) → FoundSo ran.found out.texts logs listings out.sink out.empty
+pub items_printed : (job : Job) (message : List ℕ) (fault : Option ToolFault) (recorded : RunRecord) (s t : Seen) (every : List Item) (ended : Bool) (logs : List ℕ) (listings : List Listing) → HasStreams s → (q : WorksOff (Says message) (Ok (ForTool job)) fault recorded s t)
+    → (ran : RanOn Passes Stops (StatedRan (Ok (ForTool job))) alone_of Nothing (steps_of (Ok (ForTool job))) q.at fault recorded q.work) → (mid : Seen) → Did ran.first s mid → Did ran.last mid q.at → (out : GroupParts job ran.found s mid) → FoundSo ran.found out.texts logs listings out.sink out.empty
     → (g : RanOver job ran.found logs listings out.sink out.empty q.at fault recorded ran.last) → WritesOf out.sink (job_due job g.ask out.empty) fault every ended ran.last → PrintsItems job fault every ended s t
 items_printed job message fault recorded s t every ended logs listings streams q ran mid did_first did_last out so g wrote =
     let sink = out.sink in
     let apart = sink_apart (bytes_eq (write_of job) (codes "-")) job.append (write_of job) sink out.empty out.made out.at mid out.is_made out.did_made in
-    let within = passed_within (steps_of (Ok job)) ran.found ran.first ran.passed in
-    let touches = did_touch [] [] (opens_of (steps_of (Ok job))) (creates_of (steps_of (Ok job))) ran.first s mid within.within did_first in
+    let within = passed_within (steps_of (Ok (ForTool job))) ran.found ran.first ran.passed in
+    let touches = did_touch [] [] (opens_of (steps_of (Ok (ForTool job)))) (creates_of (steps_of (Ok (ForTool job)))) ran.first s mid within.within did_first in
     let silent : written_by sink (ran.last ++ q.said) ≡ written_by sink ran.last = written_append sink ran.last q.said ∙ ap (λ (xs : List ℕ). written_by sink ran.last ++ xs) (said_other sink message q.said apart q.says) ∙ append-nil (written_by sink ran.last) in
     record {
       ask = g.ask;
@@ -85,5 +88,5 @@ items_printed job message fault recorded s t every ended logs listings streams q
           (on_append logs (ERRORS ∷ sink ∷ []) ran.last q.said g.over.on (says_on logs (sink ∷ []) message q.said q.says)) (did_then ran.last q.said mid q.at t did_last q.told) silent (bytes_eq (write_of job) (codes "-")) out.made out.is_made out.did_made;
       part = wrote.part;
       done = wrote.done;
-      gains = run_gains job message fault recorded sink s t apart q ran;
+      gains = run_gains (ForTool job) message fault recorded sink s t apart q ran;
     }

@@ -10,7 +10,7 @@ use Rattle.vio.specs.Touches.{IsOneOf}
 use Rattle.vio.specs.Calls.{AreWithin, Call, Create, Did, Does, Failed, FailedEach, IsWithin, Open, Refuse, Take, Write, created_in, has_failed, none_failed, opened_in}
 use Rattle.vio.proofs.CallLemmas.{did_counts}
 use Rattle.vio.proofs.TouchLemmas.{one_of_either, only_one, touch_own}
-use Rattle.tool_words.specs.Job.{job_of}
+use Rattle.tool_words.specs.Command.{command_of}
 use Rattle.job_steps.specs.Steps.{Step, OpenLog, MakeSink, creates_of, opens_of, reads, reads_of, writes, writes_of}
 use Rattle.varnish_tools.specs.declared.outcome.Outcome.{Outcome}
 use Rattle.varnish_tools.specs.Theorem.{IsFaithful, asked_of}
@@ -98,8 +98,8 @@ pub quiet_work : (words : List (List ℕ)) (outcome : Outcome) (before now : See
     → ((kind : CallKind) (name : List ℕ) → HasNewFault (before.faults kind name) (now.faults kind name) → ⊥) → none_failed p.works.work ≡ true
 quiet_work words outcome before now streams p quiet =
     let q = p.works in
-    let steps = asked_of (job_of words) in
-    let touches = works_touch (job_of words) q.at outcome.fault outcome.run q.work q.works in
+    let steps = asked_of (command_of words) in
+    let touches = works_touch (command_of words) q.at outcome.fault outcome.run q.work q.works in
     elim (calls_rise (reads_of steps) (ERRORS ∷ writes_of steps) (opens_of steps) (creates_of steps) q.work before q.at touches.0 q.did (reads_named steps before streams) (writes_named steps before streams)) [
       | inl none ↦ none
       | inr rose ↦ absurd (quiet rose.0 rose.1 (rose_within rose.0 rose.1 before before q.at now (did_counts [] before before refl) rose.2 (did_counts q.said q.at now q.told)))

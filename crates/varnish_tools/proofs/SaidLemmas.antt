@@ -5,9 +5,10 @@ use Rattle.log_model.specs.declared.fault.Halt.TheVariants.{Fault, NoMemory}
 use Rattle.vio.specs.World.{Seen}
 use Rattle.vio.specs.Calls.{Call, Called}
 use Rattle.one_command.specs.Promise.{Says, SaysPart}
+use Rattle.tool_words.specs.declared.command.Command.{Command}
 use Rattle.tool_words.specs.declared.fault.UsageFault.{UsageFault}
 use Rattle.tool_words.specs.declared.job.Job.{Job}
-use Rattle.tool_words.specs.Job.{job_of}
+use Rattle.tool_words.specs.Command.{command_of}
 use Rattle.job_steps.specs.declared.fault.ToolFault.{ToolFault}
 use Rattle.job_runs.specs.declared.record.Ran.{Ran}
 use Rattle.job_runs.specs.declared.record.RunRecord.{RunRecord}
@@ -30,21 +31,21 @@ part_said (Err e) words fault f written s t is text part = part_of words fault f
 -- ---- behind the work
 
 -- the work is settled
-pub settled_work : (M : Type 0) (stated : Result Job UsageFault) (worked : Result Ran (Halt ToolFault)) (ran : Ran) (s t : Seen) → IsSettled {M = M} worked (Ok ran) → Called (IsWorked stated t worked) s t → Called (DidWork stated t ran.fault ran.run) s t
+pub settled_work : (M : Type 0) (stated : Result Command UsageFault) (worked : Result Ran (Halt ToolFault)) (ran : Ran) (s t : Seen) → IsSettled {M = M} worked (Ok ran) → Called (IsWorked stated t worked) s t → Called (DidWork stated t ran.fault ran.run) s t
 settled_work M stated (Ok other) ran s t same p = subst (λ (r : Ran). Called (DidWork stated t r.fault r.run) s t) (sym same) p
 settled_work M stated (Err (Fault fault)) ran s t is p = rw (is.0, is.1) p
 settled_work M stated (Err NoMemory) ran s t is p = absurd is
 
-pub settled_short : {M : Type 0} (stated : Result Job UsageFault) (worked : Result Ran (Halt ToolFault)) (e : M) (s t : Seen) → IsSettled worked (Err e) → Called (IsWorked stated t worked) s t → Called (LacksWork stated) s t
+pub settled_short : {M : Type 0} (stated : Result Command UsageFault) (worked : Result Ran (Halt ToolFault)) (e : M) (s t : Seen) → IsSettled worked (Err e) → Called (IsWorked stated t worked) s t → Called (LacksWork stated) s t
 settled_short stated (Ok other) e s t is p = absurd is
 settled_short stated (Err (Fault fault)) e s t is p = absurd is
 settled_short stated (Err NoMemory) e s t is p = p
 
 -- what was said behind it
-pub works_off : (IsSaid : List Call → Type 0) (stated : Result Job UsageFault) (fault : Option ToolFault) (recorded : RunRecord) (s t u : Seen) → Called (DidWork stated t fault recorded) s t → Called IsSaid t u → WorksOff IsSaid stated fault recorded s u
+pub works_off : (IsSaid : List Call → Type 0) (stated : Result Command UsageFault) (fault : Option ToolFault) (recorded : RunRecord) (s t u : Seen) → Called (DidWork stated t fault recorded) s t → Called IsSaid t u → WorksOff IsSaid stated fault recorded s u
 works_off IsSaid stated fault recorded s t u p q = record { work = p.calls; at = t; did = p.did; works = p.is; said = q.calls; told = q.did; says = q.is }
 
 -- or was not, for want of memory
-pub lacks_message : (words : List (List ℕ)) (fault : Option ToolFault) (recorded : RunRecord) (s t u : Seen) → Called (DidWork (job_of words) t fault recorded) s t → Called (SaysPartOf words fault) t u → LacksMessage words s u
+pub lacks_message : (words : List (List ℕ)) (fault : Option ToolFault) (recorded : RunRecord) (s t u : Seen) → Called (DidWork (command_of words) t fault recorded) s t → Called (SaysPartOf words fault) t u → LacksMessage words s u
 lacks_message words fault recorded s t u p q =
-    let f = q.is.0 in (f, recorded, works_off (SaysPart (message words f)) (job_of words) (Some f) recorded s t u (subst (λ (x : Option ToolFault). Called (DidWork (job_of words) t x recorded) s t) q.is.1 p) (record { calls = q.calls; did = q.did; is = q.is.2 }))
+    let f = q.is.0 in (f, recorded, works_off (SaysPart (message words f)) (command_of words) (Some f) recorded s t u (subst (λ (x : Option ToolFault). Called (DidWork (command_of words) t x recorded) s t) q.is.1 p) (record { calls = q.calls; did = q.did; is = q.is.2 }))

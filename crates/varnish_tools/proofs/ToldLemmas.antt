@@ -20,9 +20,12 @@ use Rattle.one_command.proofs.PromiseLemmas.{promised_gain, said_other}
 use Rattle.run_sources.specs.Sources.{FileCame, FileStopped, unit_items}
 use Rattle.run_sources.specs.Told.{TellsLog}
 use Rattle.text_printer.specs.Messages.{messages_of}
+use Rattle.tool_words.specs.declared.command.Command.{Command}
+use Rattle.tool_words.specs.declared.command.Command.TheVariants.{ForTool}
 use Rattle.tool_words.specs.declared.fault.UsageFault.{UsageFault}
 use Rattle.tool_words.specs.declared.job.Job.{Job}
 use Rattle.tool_words.specs.Job.{job_of}
+use Rattle.tool_words.proofs.CommandLemmas.{asks_tool}
 use Rattle.job_steps.specs.declared.fault.ToolFault.{ToolFault}
 use Rattle.job_steps.specs.Good.{AreGoodSteps}
 use Rattle.job_steps.specs.Jobs.{file_of, is_counting, write_of}
@@ -40,7 +43,8 @@ use Rattle.job_runs.specs.Rows.{JobRan, PrintsGroups, RanFor, end_answer, job_du
 use Rattle.job_runs.specs.Told.{WritesOf}
 use Rattle.varnish_tools.specs.declared.outcome.Outcome.{Outcome}
 use Rattle.varnish_tools.specs.Faults.{fault_message}
-use Rattle.varnish_tools.specs.Theorem.{IsFaithful, StatedRan, WorksOff, alone_of}
+use Rattle.varnish_tools.specs.Commands.{alone_of}
+use Rattle.varnish_tools.specs.Theorem.{IsFaithful, StatedRan, WorksOff}
 use Rattle.varnish_tools.specs.Told.{PrintsLog, TellsInput, WasStopped}
 use Rattle.varnish_tools.proofs.FoundLemmas.{FoundSo, found_feeds, found_file}
 use Rattle.varnish_tools.proofs.PartLemmas.{GroupParts, counter_parts, early, feeds_found, group_parts, passed_alone}
@@ -49,13 +53,13 @@ use Rattle.varnish_tools.proofs.PrintedLemmas.{items_printed, ran_over}
 -- ---- a log that is told
 
 -- what a handle told to have left stays so while steps pass
-kept_told : (steps : List Step) (found : List Found) (calls : List Call) (h : ℕ) (units : Log) (ending : FileEnding) (s t : Seen) → Passed Passes Stops steps found calls → Did calls s t → TellsLog h units ending s → TellsLog h units ending t
+pub kept_told : (steps : List Step) (found : List Found) (calls : List Call) (h : ℕ) (units : Log) (ending : FileEnding) (s t : Seen) → Passed Passes Stops steps found calls → Did calls s t → TellsLog h units ending s → TellsLog h units ending t
 kept_told steps found calls h units ending s t p did tells =
     let touches = did_touch [] [] (opens_of steps) (creates_of steps) calls s t (passed_within steps found calls p).within did in
     record { given = touches.given h tells.given; bytes = tells.bytes; told = touches.left h tells.given (λ none. none) ∙ tells.told; file = tells.file }
 
 -- the log that is opened is the one that is told
-opened_told : (b : Bool) (name bytes : List ℕ) (h : ℕ) (units : Log) (ending : FileEnding) (calls : List Call) (r s t : Seen) → MatchBool b (r.left INPUT ≡ Some bytes) (r.held name ≡ Some bytes) → MatchBool b ((h ≡ INPUT) × (calls ≡ [])) (calls ≡ Open name h ∷ [])
+pub opened_told : (b : Bool) (name bytes : List ℕ) (h : ℕ) (units : Log) (ending : FileEnding) (calls : List Call) (r s t : Seen) → MatchBool b (r.left INPUT ≡ Some bytes) (r.held name ≡ Some bytes) → MatchBool b ((h ≡ INPUT) × (calls ≡ [])) (calls ≡ Open name h ∷ [])
     → IsFile bytes units ending → HasStreams r → (TellsLog INPUT units ending r → TellsLog INPUT units ending s) → (r.held name ≡ Some bytes → s.held name ≡ Some bytes) → Did calls s t → TellsLog h units ending t
 opened_told true name bytes h units ending calls r s t told opens file streams left held did =
     let same : t ≡ s = subst (λ (cs : List Call). Did cs s t) opens.1 did in
@@ -72,7 +76,7 @@ record LogFound (job : Job) (units : Log) (ending : FileEnding) (found : List Fo
   so : FoundSo found parts.texts (h ∷ []) [] parts.sink parts.empty
   tells : TellsLog h units ending t
 
-log_found : (job : Job) (units : Log) (ending : FileEnding) (found : List Found) (calls : List Call) (s t : Seen) → is_counting job.tool ≡ false → is_some job.file ≡ true → HasStreams s → TellsInput job units ending s → Passed Passes Stops (steps_of (Ok job)) found calls
+log_found : (job : Job) (units : Log) (ending : FileEnding) (found : List Found) (calls : List Call) (s t : Seen) → is_counting job.tool ≡ false → is_some job.file ≡ true → HasStreams s → TellsInput job units ending s → Passed Passes Stops (steps_of (Ok (ForTool job))) found calls
     → Did calls s t → LogFound job units ending found s t
 log_found job units ending found calls s t groups file streams tells passed did =
     let g = group_parts job found calls s t groups passed did in
@@ -112,7 +116,7 @@ TellsWrites = (job : Job) (ask : Ask) (h : ℕ) (others : List ℕ) (sink : ℕ)
     → RanFor (h ∷ others) (FileCame h) (λ why cs met. FileStopped h why cs met now) (RecordsCount recorded) sink (job_due job ask empty) (end_answer job) fault calls → WritesOf sink (job_due job ask empty) fault (unit_items units) (is_whole ending) calls
 
 module _ (writes_told : TellsWrites) (job : Job) (units : Log) (ending : FileEnding) (groups : is_counting job.tool ≡ false) (file : is_some job.file ≡ true) where
-  work_prints : (message : List ℕ) (fault : Option ToolFault) (recorded : RunRecord) (s t : Seen) → HasStreams s → TellsInput job units ending s → WorksOff (Says message) (Ok job) fault recorded s t → WasStopped fault recorded ⊎ PrintsLog job fault units ending s t
+  work_prints : (message : List ℕ) (fault : Option ToolFault) (recorded : RunRecord) (s t : Seen) → HasStreams s → TellsInput job units ending s → WorksOff (Says message) (Ok (ForTool job)) fault recorded s t → WasStopped fault recorded ⊎ PrintsLog job fault units ending s t
   work_prints message fault recorded s t streams tells q = elim q.works [
     | inl early ↦ inl (ap (λ (o : Option ToolFault). is_some o) early.is, early.none)
     | inr ran ↦
@@ -125,7 +129,7 @@ module _ (writes_told : TellsWrites) (job : Job) (units : Log) (ending : FileEnd
   ]
 
   -- and where there is no message standard error gained nothing, if there is no fault
-  pub errors_silent : (recorded : RunRecord) (s t : Seen) → HasStreams s → TellsInput job units ending s → WorksOff (Says []) (Ok job) None recorded s t → Gains (s.written ERRORS) (t.written ERRORS) []
+  pub errors_silent : (recorded : RunRecord) (s t : Seen) → HasStreams s → TellsInput job units ending s → WorksOff (Says []) (Ok (ForTool job)) None recorded s t → Gains (s.written ERRORS) (t.written ERRORS) []
   errors_silent recorded s t streams tells q = elim q.works [
     | inl early ↦ let no : None ≡ Some early.by = early.is in absurd cc
     | inr ran ↦
@@ -134,7 +138,7 @@ module _ (writes_told : TellsWrites) (job : Job) (units : Log) (ending : FileEnd
         let out = of.parts in
         let g = ran_over job ran.found out.texts (of.h ∷ []) [] out.sink out.empty q.at None recorded ran.last groups of.so ran.ran in
         let wrote = writes_told job g.ask of.h [] out.sink out.empty units ending None recorded ran.last parts.0 q.at of.tells parts.2 g.over in
-        let first : written_by ERRORS ran.first ≡ [] = (passed_within (steps_of (Ok job)) ran.found ran.first ran.passed).writes ERRORS in
+        let first : written_by ERRORS ran.first ≡ [] = (passed_within (steps_of (Ok (ForTool job))) ran.found ran.first ran.passed).writes ERRORS in
         let last : written_by ERRORS ran.last ≡ [] = prefix_none (written_by ERRORS ran.last) (subst (λ (text : List ℕ). IsPrefix (written_by ERRORS ran.last) text) (units_silent units) wrote.told) in
         let work : written_by ERRORS q.work ≡ [] = ap (λ (cs : List Call). written_by ERRORS cs) ran.are ∙ written_append ERRORS ran.first ran.last ∙ (λ i. first i ++ last i) in
         let all : written_by ERRORS (q.work ++ q.said) ≡ [] = written_append ERRORS q.work q.said ∙ (λ i. work i ++ says_none q.said q.says i) in
@@ -146,13 +150,13 @@ pub log_printed : TellsWrites → (words : List (List ℕ)) (outcome : Outcome) 
     → IsFaithful words outcome before now → WasStopped outcome.fault outcome.run ⊎ PrintsLog job outcome.fault units ending before now
 log_printed writes_told words outcome job units ending before now states file groups streams tells p =
     work_prints writes_told job units ending groups file (fault_message words outcome.fault) outcome.fault outcome.run before now streams tells
-    (subst (λ (stated : Result Job UsageFault). WorksOff (Says (fault_message words outcome.fault)) stated outcome.fault outcome.run before now) states p.works)
+    (subst (λ (stated : Result Command UsageFault). WorksOff (Says (fault_message words outcome.fault)) stated outcome.fault outcome.run before now) (asks_tool words job states) p.works)
 
 -- ---- a fault has a call that failed
 
 -- that only a call that failed stops good steps; that a fault of a run has such a call, or its log stopped it; and that a whole log doesn't
 abbrev pub GoodPass : Type 0
-GoodPass = (stated : Result Job UsageFault) (fault : ToolFault) (calls : List Call) (before now : Seen) → AreGoodSteps before (steps_of stated) → Did calls before now → Stopped Passes Stops (steps_of stated) fault calls → SomeFailed calls
+GoodPass = (stated : Result Command UsageFault) (fault : ToolFault) (calls : List Call) (before now : Seen) → AreGoodSteps before (steps_of stated) → Did calls before now → Stopped Passes Stops (steps_of stated) fault calls → SomeFailed calls
 
 abbrev pub FaultCause : Type 0
 FaultCause = (job : Job) (fault : ToolFault) (recorded : RunRecord) (found : List Found) (calls : List Call) (now : Seen) → JobRan job now (Some fault) recorded found calls → HasCause (logs_of found) (file_of job) fault calls now
@@ -169,7 +173,7 @@ none_found : (h : ℕ) (logs : List ℕ) → logs ≡ [] → IsOneOf h logs → 
 none_found h logs none is = subst (λ (hs : List ℕ). IsOneOf h hs) none is
 
 -- a log that was told to be whole stops no run; there is none for feeds and for counters
-log_stops : WholeRuns → (b c : Bool) (job : Job) (found : List Found) (first last : List Call) (h : ℕ) (fault : ToolFault) (r s t : Seen) → is_counting job.tool ≡ b → is_some job.file ≡ c → HasStreams r → TellsWhole job r → Passed Passes Stops (steps_of (Ok job)) found first
+log_stops : WholeRuns → (b c : Bool) (job : Job) (found : List Found) (first last : List Call) (h : ℕ) (fault : ToolFault) (r s t : Seen) → is_counting job.tool ≡ b → is_some job.file ≡ c → HasStreams r → TellsWhole job r → Passed Passes Stops (steps_of (Ok (ForTool job))) found first
     → Did first r s → Did last s t → IsOneOf h (logs_of found) → StoppedByLog h (file_of job) fault last t → ⊥
 log_stops whole true c job found first last h fault r s t counts is streams tells passed did more one stopped = none_found h (logs_of found) (counter_parts job found first r s counts passed did).so.logs_are one
 log_stops whole false true job found first last h fault r s t groups is streams tells passed did more one stopped =
@@ -182,9 +186,9 @@ log_stops whole false false job found first last h fault r s t groups is streams
     let fed = feeds_found job.reclen job.seg _ g.inputs g.own (subst (λ (b : Bool). Passed Passes Stops (if b then OpenLog (file_of job) ∷ [] else feed_steps job) g.inputs g.own) is g.passed_own) in
     none_found h (logs_of found) (found_feeds g.texts g.inputs found fed.0 g.sink g.empty g.are fed.1).logs_are one
 
-module _ (pass : GoodPass) (cause : FaultCause) (whole : WholeRuns) (job : Job) (s t : Seen) (streams : HasStreams s) (good : AreGoodSteps s (steps_of (Ok job))) (tells : TellsWhole job s) where
-  work_failed : (fault : ToolFault) (recorded : RunRecord) (work : List Call) → Did work s t → Works Passes Stops (StatedRan (Ok job)) alone_of Nothing (steps_of (Ok job)) t (Some fault) recorded work → SomeFailed work
-  work_failed fault recorded work did (inl early) = pass (Ok job) early.by work s t good did early.stopped
+module _ (pass : GoodPass) (cause : FaultCause) (whole : WholeRuns) (job : Job) (s t : Seen) (streams : HasStreams s) (good : AreGoodSteps s (steps_of (Ok (ForTool job)))) (tells : TellsWhole job s) where
+  work_failed : (fault : ToolFault) (recorded : RunRecord) (work : List Call) → Did work s t → Works Passes Stops (StatedRan (Ok (ForTool job))) alone_of Nothing (steps_of (Ok (ForTool job))) t (Some fault) recorded work → SomeFailed work
+  work_failed fault recorded work did (inl early) = pass (Ok (ForTool job)) early.by work s t good did early.stopped
   work_failed fault recorded work did (inr ran) =
       let parts = did_apart ran.first ran.last s t (subst (λ (cs : List Call). Did cs s t) ran.are did) in
       elim (cause job fault recorded ran.found ran.last t ran.ran) [
@@ -192,14 +196,14 @@ module _ (pass : GoodPass) (cause : FaultCause) (whole : WholeRuns) (job : Job) 
         | inr log ↦ absurd (log_stops whole (is_counting job.tool) (is_some job.file) job ran.found ran.first ran.last log.0 fault s parts.0 t refl refl streams tells ran.passed parts.1 parts.2 log.1 log.2)
       ]
 
-  work_whole : (fault : Option ToolFault) (recorded : RunRecord) (work : List Call) → Did work s t → Works Passes Stops (StatedRan (Ok job)) alone_of Nothing (steps_of (Ok job)) t fault recorded work → none_failed work ≡ true → fault ≡ None
+  work_whole : (fault : Option ToolFault) (recorded : RunRecord) (work : List Call) → Did work s t → Works Passes Stops (StatedRan (Ok (ForTool job))) alone_of Nothing (steps_of (Ok (ForTool job))) t fault recorded work → none_failed work ≡ true → fault ≡ None
   work_whole None recorded work did works none = refl
   work_whole (Some fault) recorded work did works none = absurd (none_or_some work none (work_failed fault recorded work did works))
 
 -- words whose job has what it needs have no fault where no call failed
-pub no_fault : GoodPass → FaultCause → WholeRuns → (words : List (List ℕ)) (outcome : Outcome) (job : Job) (before now : Seen) → job_of words ≡ Ok job → HasStreams before → AreGoodSteps before (steps_of (Ok job)) → TellsWhole job before
+pub no_fault : GoodPass → FaultCause → WholeRuns → (words : List (List ℕ)) (outcome : Outcome) (job : Job) (before now : Seen) → job_of words ≡ Ok job → HasStreams before → AreGoodSteps before (steps_of (Ok (ForTool job))) → TellsWhole job before
     → (p : IsFaithful words outcome before now) → none_failed p.works.work ≡ true → outcome.fault ≡ None
 no_fault pass cause whole words outcome job before now states streams good tells p none =
     let q = p.works in
     work_whole pass cause whole job before q.at streams good tells outcome.fault outcome.run q.work q.did
-    (subst (λ (stated : Result Job UsageFault). Works Passes Stops (StatedRan stated) alone_of Nothing (steps_of stated) q.at outcome.fault outcome.run q.work) states q.works) none
+    (subst (λ (stated : Result Command UsageFault). Works Passes Stops (StatedRan stated) alone_of Nothing (steps_of stated) q.at outcome.fault outcome.run q.work) (asks_tool words job states) q.works) none

@@ -12,20 +12,25 @@ use Rattle.vio.proofs.TouchLemmas.{one_of_left, one_of_right}
 use Rattle.one_command.specs.Promise.{Says, SaysPart, Works}
 use Rattle.vsl_select.specs.declared.rule_text.SelectFault.{SelectFault}
 use Rattle.vsl_select.specs.Shown.{rules_fault}
+use Rattle.tool_words.specs.declared.command.Command.{Command}
+use Rattle.tool_words.specs.declared.command.Command.TheVariants.{ForTool, ForConvert}
+use Rattle.tool_words.specs.declared.command.Names.{Names}
 use Rattle.tool_words.specs.declared.fault.UsageFault.{UsageFault}
 use Rattle.tool_words.specs.declared.fault.UsageFault.TheVariants.{NoTool}
 use Rattle.tool_words.specs.declared.job.Job.{Job}
-use Rattle.tool_words.specs.Job.{job_of}
+use Rattle.tool_words.specs.Command.{command_of}
 use Rattle.job_steps.specs.declared.fault.ToolFault.{ToolFault}
 use Rattle.job_steps.specs.Jobs.{is_counting}
-use Rattle.job_steps.specs.Steps.{Step, RefuseWords, TakeRules, Found, Passes, Stops, job_steps, logs_of, opens_of, creates_of, reads_of, writes_of, steps_of}
+use Rattle.job_steps.specs.Steps.{Step, RefuseWords, TakeRules, Found, Passes, Stops, job_steps, logs_of, names_steps, opens_of, creates_of, reads_of, writes_of, steps_of}
 use Rattle.job_steps.proofs.StepFacts.{StaysWithin, passed_within, stopped_within}
 use Rattle.job_runs.specs.declared.record.RunRecord.{RunRecord}
 use Rattle.job_runs.specs.declared.record.RunRecord.TheVariants.{Nothing}
+use Rattle.job_runs.specs.Converts.{ConvertRan, ConvertShort}
 use Rattle.job_runs.specs.Counters.{CountersShort, PrintsCounters, WritesText}
 use Rattle.job_runs.specs.Rows.{GroupsShort, JobRan, JobShort, PrintsGroups}
 use Rattle.varnish_tools.specs.Faults.{message}
-use Rattle.varnish_tools.specs.Theorem.{LacksWork, StatedRan, TouchesJob, TouchesSteps, alone_of, asked_of}
+use Rattle.varnish_tools.specs.Commands.{alone_of}
+use Rattle.varnish_tools.specs.Theorem.{LacksWork, StatedRan, TouchesJob, TouchesSteps, asked_of}
 use Rattle.varnish_tools.specs.inside.Works.{DidWork, SaysPartOf}
 use Rattle.varnish_tools.proofs.FoundLemmas.{found_log, found_sink, handle_in, one_of_both, sink_is}
 
@@ -86,14 +91,20 @@ short_on : (job : Job) (found : List Found) (calls : List Call) → JobShort job
 short_on job found calls (inl none) = rw none tt
 short_on job found calls (inr p) = either_on (is_counting job.tool) found calls (counters_short_on job found calls) (groups_short_on job found calls) p
 
+convert_on : (names : Names) (at : Seen) (fault : Option ToolFault) (recorded : RunRecord) (found : List Found) (calls : List Call) → ConvertRan names at fault recorded found calls → AreOn (logs_of found) (ERRORS ∷ flat_map handle_in found) calls
+convert_on names at fault recorded found calls p = rw p.3 p.4.on
+
+convert_short_on : (names : Names) (found : List Found) (calls : List Call) → ConvertShort names found calls → AreOn (logs_of found) (ERRORS ∷ flat_map handle_in found) calls
+convert_short_on names found calls p = elim p.4 [ inl none ↦ rw none tt | inr q ↦ rw p.3 q.2 ]
+
 -- ---- words
 
 -- a job whose rules are good is asked its steps
-pub asked_good : (job : Job) → rules_fault job.caseless job.rules ≡ None → asked_of (Ok job) ≡ job_steps job
+pub asked_good : (job : Job) → rules_fault job.caseless job.rules ≡ None → asked_of (Ok (ForTool job)) ≡ job_steps job
 asked_good job rules = rw rules refl
 
 -- so is one whose steps passed
-pub asked_passed : (job : Job) (found : List Found) (calls : List Call) → Passed Passes Stops (steps_of (Ok job)) found calls → asked_of (Ok job) ≡ job_steps job
+pub asked_passed : (job : Job) (found : List Found) (calls : List Call) → Passed Passes Stops (steps_of (Ok (ForTool job))) found calls → asked_of (Ok (ForTool job)) ≡ job_steps job
 asked_passed job (u ∷ us) calls p = asked_good job p.3.2
 asked_passed job [] calls p = absurd p
 
@@ -110,34 +121,37 @@ stopped_first x steps (y ∷ earlier) later step [] first last fault never silen
 stopped_first x steps (y ∷ earlier) later step (u ∷ us) first last fault never silent e p s = absurd (never u p.0 (subst (λ (z : Step). Passes z u p.0) (sym (ap head_of e)) p.3))
 
 -- words that are refused, and rules, call nothing; a job whose rules are good stays within its steps
-job_touch : (job : Job) (why : Option SelectFault) (fault : ToolFault) (calls : List Call) → rules_fault job.caseless job.rules ≡ why → Stopped Passes Stops (steps_of (Ok job)) fault calls → TouchesSteps (if is_some why then [] else job_steps job) calls
-job_touch job None fault calls rules p = touch_within (job_steps job) calls (stopped_within (steps_of (Ok job)) fault calls p)
+job_touch : (job : Job) (why : Option SelectFault) (fault : ToolFault) (calls : List Call) → rules_fault job.caseless job.rules ≡ why → Stopped Passes Stops (steps_of (Ok (ForTool job))) fault calls → TouchesSteps (if is_some why then [] else job_steps job) calls
+job_touch job None fault calls rules p = touch_within (job_steps job) calls (stopped_within (steps_of (Ok (ForTool job))) fault calls p)
 job_touch job (Some why) fault calls rules p = touch_none [] calls (p.are
     ∙ stopped_first (TakeRules job.caseless job.rules) (job_steps job) p.earlier p.later p.step p.found p.first p.last fault (λ u cs passes. let no : Some why ≡ None = sym rules ∙ passes.2 in absurd cc) (λ cs stops. stops.0) p.parts p.passed p.stops)
 
-stopped_touch : (stated : Result Job UsageFault) (fault : ToolFault) (calls : List Call) → Stopped Passes Stops (steps_of stated) fault calls → TouchesSteps (asked_of stated) calls
+stopped_touch : (stated : Result Command UsageFault) (fault : ToolFault) (calls : List Call) → Stopped Passes Stops (steps_of stated) fault calls → TouchesSteps (asked_of stated) calls
 stopped_touch (Err why) fault calls p = touch_none [] calls (p.are ∙ stopped_first (RefuseWords why) [] p.earlier p.later p.step p.found p.first p.last fault (λ u cs passes. passes) (λ cs stops. stops.0) p.parts p.passed p.stops)
-stopped_touch (Ok job) fault calls p = job_touch job (rules_fault job.caseless job.rules) fault calls refl p
+stopped_touch (Ok (ForTool job)) fault calls p = job_touch job (rules_fault job.caseless job.rules) fault calls refl p
+stopped_touch (Ok (ForConvert names)) fault calls p = touch_within (names_steps names) calls (stopped_within (names_steps names) fault calls p)
 
 -- ---- the work
 
-ran_touch : (job : Job) (found : List Found) (first last : List Call) → Passed Passes Stops (steps_of (Ok job)) found first → AreOn (logs_of found) (ERRORS ∷ flat_map handle_in found) last → TouchesSteps (asked_of (Ok job)) (first ++ last)
-ran_touch job found first last passed on = rw (asked_passed job found first passed) (touch_on (steps_of (Ok job)) found first last passed on)
+ran_touch : (job : Job) (found : List Found) (first last : List Call) → Passed Passes Stops (steps_of (Ok (ForTool job))) found first → AreOn (logs_of found) (ERRORS ∷ flat_map handle_in found) last → TouchesSteps (asked_of (Ok (ForTool job))) (first ++ last)
+ran_touch job found first last passed on = rw (asked_passed job found first passed) (touch_on (steps_of (Ok (ForTool job))) found first last passed on)
 
 -- what was worked off touches what its steps name
-pub works_touch : (stated : Result Job UsageFault) (at : Seen) (fault : Option ToolFault) (recorded : RunRecord) (calls : List Call) → Works Passes Stops (StatedRan stated) alone_of Nothing (steps_of stated) at fault recorded calls → TouchesSteps (asked_of stated) calls
+pub works_touch : (stated : Result Command UsageFault) (at : Seen) (fault : Option ToolFault) (recorded : RunRecord) (calls : List Call) → Works Passes Stops (StatedRan stated) alone_of Nothing (steps_of stated) at fault recorded calls → TouchesSteps (asked_of stated) calls
 works_touch stated at fault recorded calls (inl p) = stopped_touch stated p.by calls p.stopped
 works_touch (Err why) at fault recorded calls (inr p) = absurd p.ran
-works_touch (Ok job) at fault recorded calls (inr p) = rw p.are (ran_touch job p.found p.first p.last p.passed (run_on job at fault recorded p.found p.last p.ran))
+works_touch (Ok (ForTool job)) at fault recorded calls (inr p) = rw p.are (ran_touch job p.found p.first p.last p.passed (run_on job at fault recorded p.found p.last p.ran))
+works_touch (Ok (ForConvert names)) at fault recorded calls (inr p) = rw p.are (touch_on (names_steps names) p.found p.first p.last p.passed (convert_on names at fault recorded p.found p.last p.ran))
 
 -- so does what had no memory
-pub lacks_touch : (stated : Result Job UsageFault) (calls : List Call) → LacksWork stated calls → TouchesSteps (asked_of stated) calls
+pub lacks_touch : (stated : Result Command UsageFault) (calls : List Call) → LacksWork stated calls → TouchesSteps (asked_of stated) calls
 lacks_touch stated calls (inl p) = (
   within_more [] (reads_of (asked_of stated)) [] (ERRORS ∷ writes_of (asked_of stated)) (opens_of (asked_of stated)) (opens_of (asked_of stated)) [] (creates_of (asked_of stated)) calls (λ h is. absurd is) (λ h is. absurd is) (λ n is. is) (λ n is. absurd is) p.0,
   omega (arith, p.1, length-append (opens_of (asked_of stated)) (creates_of (asked_of stated))),
 )
 lacks_touch (Err why) calls (inr p) = absurd p.short
-lacks_touch (Ok job) calls (inr p) = rw p.are (ran_touch job p.found p.first p.last p.passed (short_on job p.found p.last p.short))
+lacks_touch (Ok (ForTool job)) calls (inr p) = rw p.are (ran_touch job p.found p.first p.last p.passed (short_on job p.found p.last p.short))
+lacks_touch (Ok (ForConvert names)) calls (inr p) = rw p.are (touch_on (names_steps names) p.found p.first p.last p.passed (convert_short_on names p.found p.last p.short))
 
 -- ---- the message
 
@@ -161,7 +175,7 @@ touch_said steps work said touch on =
     )
 
 -- the work, and what was said behind it
-pub said_touches : (IsSaid : List Call → Type 0) (stated : Result Job UsageFault) (fault : Option ToolFault) (recorded : RunRecord) (s t u : Seen) → ((calls : List Call) → IsSaid calls → AreOn [] (ERRORS ∷ []) calls)
+pub said_touches : (IsSaid : List Call → Type 0) (stated : Result Command UsageFault) (fault : Option ToolFault) (recorded : RunRecord) (s t u : Seen) → ((calls : List Call) → IsSaid calls → AreOn [] (ERRORS ∷ []) calls)
     → Called (DidWork stated t fault recorded) s t → Called IsSaid t u → Called (TouchesSteps (asked_of stated)) s u
 said_touches IsSaid stated fault recorded s t u on p q = record {
   calls = p.calls ++ q.calls;
@@ -170,12 +184,12 @@ said_touches IsSaid stated fault recorded s t u on p q = record {
 }
 
 -- whether all of the message was said, or not
-pub whole_touches : (stated : Result Job UsageFault) (fault : Option ToolFault) (recorded : RunRecord) (text : List ℕ) (s t u : Seen) → Called (DidWork stated t fault recorded) s t → Called (Says text) t u → Called (TouchesSteps (asked_of stated)) s u
+pub whole_touches : (stated : Result Command UsageFault) (fault : Option ToolFault) (recorded : RunRecord) (text : List ℕ) (s t u : Seen) → Called (DidWork stated t fault recorded) s t → Called (Says text) t u → Called (TouchesSteps (asked_of stated)) s u
 whole_touches stated fault recorded text s t u = said_touches (Says text) stated fault recorded s t u (says_on [] [] text)
 
-pub part_touches : (words : List (List ℕ)) (fault : Option ToolFault) (recorded : RunRecord) (s t u : Seen) → Called (DidWork (job_of words) t fault recorded) s t → Called (SaysPartOf words fault) t u → Called (TouchesJob words) s u
-part_touches words fault recorded s t u = said_touches (SaysPartOf words fault) (job_of words) fault recorded s t u (λ calls is. part_on (message words is.0) calls is.2)
+pub part_touches : (words : List (List ℕ)) (fault : Option ToolFault) (recorded : RunRecord) (s t u : Seen) → Called (DidWork (command_of words) t fault recorded) s t → Called (SaysPartOf words fault) t u → Called (TouchesJob words) s u
+part_touches words fault recorded s t u = said_touches (SaysPartOf words fault) (command_of words) fault recorded s t u (λ calls is. part_on (message words is.0) calls is.2)
 
 -- there was no memory for the work
-pub lacks_touches : (stated : Result Job UsageFault) (s t : Seen) → Called (LacksWork stated) s t → Called (TouchesSteps (asked_of stated)) s t
+pub lacks_touches : (stated : Result Command UsageFault) (s t : Seen) → Called (LacksWork stated) s t → Called (TouchesSteps (asked_of stated)) s t
 lacks_touches stated s t p = record { calls = p.calls; did = p.did; is = lacks_touch stated p.calls p.is }

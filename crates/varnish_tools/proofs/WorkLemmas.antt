@@ -11,6 +11,9 @@ use Rattle.vio.proofs.StepLemmas.{passed_then, stopped_one}
 use Rattle.one_command.proofs.PromiseLemmas.{early_first, early_behind}
 use Rattle.run_sources.specs.Sources.{FileCame, FileStopped}
 use Rattle.traffic_feed.specs.declared.listing.Listing.{Listing}
+use Rattle.tool_words.specs.declared.command.Command.{Command}
+use Rattle.tool_words.specs.declared.command.Command.TheVariants.{ForTool, ForConvert}
+use Rattle.tool_words.specs.declared.command.Names.{Names}
 use Rattle.tool_words.specs.declared.fault.UsageFault.{UsageFault}
 use Rattle.tool_words.specs.declared.job.Job.{Job}
 use Rattle.vsl_select.specs.Showing.{Showing}
@@ -19,66 +22,69 @@ use Rattle.job_steps.specs.declared.fault.ToolFault.TheVariants.{Usage}
 use Rattle.job_steps.specs.declared.steps.Begun.{Begun}
 use Rattle.job_steps.specs.declared.steps.Counting.{Counting}
 use Rattle.job_steps.specs.declared.steps.Input.{Input}
+use Rattle.job_steps.specs.declared.steps.Opened.{Opened}
 use Rattle.job_steps.specs.declared.steps.Input.TheVariants as inputs
-use Rattle.job_steps.specs.Begun.{HasInput, IsBegun, IsCounting, IsShown}
+use Rattle.job_steps.specs.Begun.{HasInput, IsBegun, IsCounting, IsOpened, IsShown}
 use Rattle.job_steps.specs.Jobs.{is_counting}
 use Rattle.job_steps.specs.Queries.{Ask, AreAsked, HoldsAsAsked}
-use Rattle.job_steps.specs.Steps.{Step, RefuseWords, Found, FoundListing, FoundNone, Passes, Stops, counter_steps, group_steps, job_steps, word_steps, opens_of}
+use Rattle.job_steps.specs.Steps.{Step, RefuseWords, Found, FoundListing, FoundNone, Passes, Stops, counter_steps, group_steps, job_steps, names_steps, word_steps, opens_of}
 use Rattle.job_steps.proofs.TookLemmas.{called_so}
 use Rattle.job_runs.specs.declared.record.Ran.{Ran}
 use Rattle.job_runs.specs.declared.record.RunRecord.{RunRecord}
 use Rattle.job_runs.specs.declared.record.RunRecord.TheVariants.{Nothing}
 use Rattle.job_runs.specs.Sources.{BeganOf, CameOf, FedCame, FeedsCame, LogBegan, RecordsCount, RecordsOf, StopsOf}
+use Rattle.job_runs.specs.Converts.{Converts, ConvertsPart}
 use Rattle.job_runs.specs.Counters.{CountsSo, WritesText}
 use Rattle.job_runs.specs.Rows.{IsAsked, JobRan, JobShort, RanFor, end_answer, job_due}
 use Rattle.job_runs.specs.Runs.{CountsShort, RanShort, RanSo}
-use Rattle.varnish_tools.specs.Theorem.{StatedRan, alone_of, asked_of}
+use Rattle.varnish_tools.specs.Commands.{alone_of}
+use Rattle.varnish_tools.specs.Theorem.{StatedRan, asked_of}
 use Rattle.varnish_tools.specs.inside.Works.{IsWorked}
 use Rattle.varnish_tools.proofs.FoundLemmas.{CountingSo, FoundSo, found_behind, found_counting, found_feeds, found_file}
 use Rattle.varnish_tools.proofs.TouchLemmas.{asked_good}
 
 -- the words ended the work
-pub words_end : (stated : Result Job UsageFault) (halt : Halt ToolFault) (s : Seen) → IfFault {A = Ran} (Err halt) (λ fault. (why : UsageFault) × (stated ≡ Err why) × (fault ≡ Usage why)) → Called (IsWorked stated s (Err halt)) s s
+pub words_end : (stated : Result Command UsageFault) (halt : Halt ToolFault) (s : Seen) → IfFault {A = Ran} (Err halt) (λ fault. (why : UsageFault) × (stated ≡ Err why) × (fault ≡ Usage why)) → Called (IsWorked stated s (Err halt)) s s
 words_end stated (Fault fault) s p = rw (p.1, p.2) (record { calls = []; did = refl; is = inl (record { by = Usage p.0; is = refl; none = refl; stopped = stopped_one Passes Stops (RefuseWords p.0) (Usage p.0) [] (refl, refl); fail = refl }) })
 words_end stated NoMemory s p = record { calls = []; did = refl; is = inl (tt, omega arith) }
 
--- what work comes to is said of the words that state the job
-pub of_words : (stated : Result Job UsageFault) (job : Job) (r : Result Ran (Halt ToolFault)) (s t : Seen) → stated ≡ Ok job → Called (IsWorked (Ok job) t r) s t → Called (IsWorked stated t r) s t
-of_words stated job r s t states p = subst (λ (st : Result Job UsageFault). Called (IsWorked st t r) s t) (sym states) p
+-- what work comes to is said of the words that ask for the command
+pub of_words : (stated : Result Command UsageFault) (command : Command) (r : Result Ran (Halt ToolFault)) (s t : Seen) → stated ≡ Ok command → Called (IsWorked (Ok command) t r) s t → Called (IsWorked stated t r) s t
+of_words stated command r s t asks p = subst (λ (st : Result Command UsageFault). Called (IsWorked st t r) s t) (sym asks) p
 
 -- ---- the rules
 
 -- they ended the work
-pub rules_end : (job : Job) (halt : Halt ToolFault) (s : Seen) → Halted Passes Stops [] (word_steps (Ok job)) halt [] → Called (IsWorked (Ok job) s (Err halt)) s s
-rules_end job (Fault fault) s p = record { calls = []; did = refl; is = early_first Passes Stops (StatedRan (Ok job)) alone_of Nothing (word_steps (Ok job)) (job_steps job) s fault [] p.0 refl }
+pub rules_end : (job : Job) (halt : Halt ToolFault) (s : Seen) → Halted Passes Stops [] (word_steps job) halt [] → Called (IsWorked (Ok (ForTool job)) s (Err halt)) s s
+rules_end job (Fault fault) s p = record { calls = []; did = refl; is = early_first Passes Stops (StatedRan (Ok (ForTool job))) alone_of Nothing (word_steps job) (job_steps job) s fault [] p.0 refl }
 rules_end job NoMemory s p = record { calls = []; did = refl; is = inl (tt, omega arith) }
 
 -- they are good
 abbrev pub PassedRules : Job → Showing → Type 0
-PassedRules job selection = PassedSo Passes Stops (IsShown job selection) (word_steps (Ok job)) []
+PassedRules job selection = PassedSo Passes Stops (IsShown job selection) (word_steps job) []
 
 module _ (job : Job) (selection : Showing) (rules : PassedRules job selection) where
-  passed_rules : Passed Passes Stops (word_steps (Ok job)) (FoundNone ∷ []) []
-  passed_rules = subst (λ (us : List Found). Passed Passes Stops (word_steps (Ok job)) us []) rules.is.are rules.passed
+  passed_rules : Passed Passes Stops (word_steps job) (FoundNone ∷ []) []
+  passed_rules = subst (λ (us : List Found). Passed Passes Stops (word_steps job) us []) rules.is.are rules.passed
 
-  asked : asked_of (Ok job) ≡ job_steps job
+  asked : asked_of (Ok (ForTool job)) ≡ job_steps job
   asked = asked_good job passed_rules.3.2
 
   -- a step of the job ended the work
-  steps_end : (halt : Halt ToolFault) (s t : Seen) → Called (Halted Passes Stops (opens_of (job_steps job)) (job_steps job) halt) s t → Called (IsWorked (Ok job) t (Err halt)) s t
-  steps_end (Fault fault) s t p = called_so (λ calls q. early_behind Passes Stops (StatedRan (Ok job)) alone_of Nothing (word_steps (Ok job)) (job_steps job) t fault (FoundNone ∷ []) [] calls passed_rules q.0 q.1) p
+  steps_end : (halt : Halt ToolFault) (s t : Seen) → Called (Halted Passes Stops (opens_of (job_steps job)) (job_steps job) halt) s t → Called (IsWorked (Ok (ForTool job)) t (Err halt)) s t
+  steps_end (Fault fault) s t p = called_so (λ calls q. early_behind Passes Stops (StatedRan (Ok (ForTool job))) alone_of Nothing (word_steps job) (job_steps job) t fault (FoundNone ∷ []) [] calls passed_rules q.0 q.1) p
   steps_end NoMemory s t p = called_so (λ calls q. inl (subst (λ (steps : List Step). OnlyOpen (opens_of steps) calls) (sym asked) q)) p
 
-  pub job_end : (steps : List Step) (halt : Halt ToolFault) (s t : Seen) → steps ≡ job_steps job → Called (Halted Passes Stops (opens_of steps) steps halt) s t → Called (IsWorked (Ok job) t (Err halt)) s t
+  pub job_end : (steps : List Step) (halt : Halt ToolFault) (s t : Seen) → steps ≡ job_steps job → Called (Halted Passes Stops (opens_of steps) steps halt) s t → Called (IsWorked (Ok (ForTool job)) t (Err halt)) s t
   job_end steps halt s t are p = steps_end halt s t (subst (λ (xs : List Step). Called (Halted Passes Stops (opens_of xs) xs halt) s t) are p)
 
   -- the steps of the job passed
-  passed_all : (IsSo : List Found → Type 0) (steps : List Step) (calls : List Call) → steps ≡ job_steps job → (p : PassedSo Passes Stops IsSo steps calls) → Passed Passes Stops (word_steps (Ok job) ++ job_steps job) (found_behind p.found) calls
-  passed_all IsSo steps calls are p = passed_then Passes Stops (word_steps (Ok job)) (job_steps job) (FoundNone ∷ []) p.found [] calls passed_rules (subst (λ (xs : List Step). Passed Passes Stops xs p.found calls) are p.passed)
+  passed_all : (IsSo : List Found → Type 0) (steps : List Step) (calls : List Call) → steps ≡ job_steps job → (p : PassedSo Passes Stops IsSo steps calls) → Passed Passes Stops (word_steps job ++ job_steps job) (found_behind p.found) calls
+  passed_all IsSo steps calls are p = passed_then Passes Stops (word_steps job) (job_steps job) (FoundNone ∷ []) p.found [] calls passed_rules (subst (λ (xs : List Step). Passed Passes Stops xs p.found calls) are p.passed)
 
   -- and then it ran
   pub job_ran : (IsSo : List Found → Type 0) (steps : List Step) (ran : Ran) (s t u : Seen) → steps ≡ job_steps job → Called (PassedSo Passes Stops IsSo steps) s t
-      → ((us : List Found) → IsSo us → Called (RanSo (JobRan job u ran.fault ran.run (found_behind us))) t u) → Called (IsWorked (Ok job) u (Ok ran)) s u
+      → ((us : List Found) → IsSo us → Called (RanSo (JobRan job u ran.fault ran.run (found_behind us))) t u) → Called (IsWorked (Ok (ForTool job)) u (Ok ran)) s u
   job_ran IsSo steps ran s t u are p run =
       let q = run p.is.found p.is.is in record {
         calls = p.calls ++ q.calls;
@@ -88,7 +94,7 @@ module _ (job : Job) (selection : Showing) (rules : PassedRules job selection) w
 
   -- or had no memory
   pub job_short : (IsSo : List Found → Type 0) (steps : List Step) (s t u : Seen) → steps ≡ job_steps job → Called (PassedSo Passes Stops IsSo steps) s t
-      → ((us : List Found) → IsSo us → Called (JobShort job (found_behind us)) t u) → Called (IsWorked (Ok job) u (Err NoMemory)) s u
+      → ((us : List Found) → IsSo us → Called (JobShort job (found_behind us)) t u) → Called (IsWorked (Ok (ForTool job)) u (Err NoMemory)) s u
   job_short IsSo steps s t u are p run =
       let q = run p.is.found p.is.is in record {
         calls = p.calls ++ q.calls;
@@ -172,3 +178,27 @@ module _ (job : Job) (counting : Counting) (us : List Found) (counts : is_counti
 
   pub counters_short : (t u : Seen) → Called (CountsShort job counting.listings.items counting.sink.handle) t u → Called (JobShort job (found_behind us)) t u
   counters_short t u = called_so counters_part
+
+-- ---- convert
+
+-- a step ended the work
+pub convert_end : (names : Names) (halt : Halt ToolFault) (s t : Seen) → Called (Halted Passes Stops (opens_of (names_steps names)) (names_steps names) halt) s t → Called (IsWorked (Ok (ForConvert names)) t (Err halt)) s t
+convert_end names (Fault fault) s t p = called_so (λ calls q. inl (record { by = fault; is = refl; none = refl; stopped = q.0; fail = q.1 })) p
+convert_end names NoMemory s t p = called_so (λ calls q. inl q) p
+
+module _ (names : Names) (opened : Opened) (s t u : Seen) (p : Called (PassedSo Passes Stops (IsOpened opened) (names_steps names)) s t) where
+  -- the steps passed, and then it ran
+  pub convert_ran : (ran : Ran) → Called (RanSo (Converts names opened.handle opened.sink.handle u ran.fault ran.run)) t u → Called (IsWorked (Ok (ForConvert names)) u (Ok ran)) s u
+  convert_ran ran q = record {
+    calls = p.calls ++ q.calls;
+    did = did_then p.calls q.calls s t u p.did q.did;
+    is = inr (record { found = p.is.found; first = p.calls; last = q.calls; are = refl; passed = p.is.passed; ran = (opened.handle, opened.sink.handle, opened.sink.empty, p.is.is, q.is.0); fail = last_failed_then p.calls q.calls p.is.fail q.is.1 });
+  }
+
+  -- or had no memory
+  pub convert_short : Called (ConvertsPart names opened.handle opened.sink.handle) t u → Called (IsWorked (Ok (ForConvert names)) u (Err NoMemory)) s u
+  convert_short q = record {
+    calls = p.calls ++ q.calls;
+    did = did_then p.calls q.calls s t u p.did q.did;
+    is = inr (record { found = p.is.found; first = p.calls; last = q.calls; are = refl; passed = p.is.passed; fail = p.is.fail; short = (opened.handle, opened.sink.handle, opened.sink.empty, p.is.is, q.is) });
+  }

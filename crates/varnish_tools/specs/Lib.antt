@@ -1,4 +1,5 @@
 pub mod Faults
+pub mod Commands
 pub mod Theorem
 pub mod Texts
 pub mod Told

@@ -7,6 +7,7 @@ use Rattle.job_steps.specs.Good.{TellsText}
 -- these are the texts of queries: of each the one that the world tells, which is that of its word, or what its file holds
 abbrev pub AreTexts : Seen → List QueryText → List (List ℕ) → Type 0
 AreTexts before [] [] = Unit {0}
-AreTexts before (query ∷ queries) (text ∷ texts) = ((told : List ℕ) → TellsText before query told → text ≡ told) × AreTexts before queries texts
+AreTexts before (query ∷ queries) (text ∷ texts) = ((told : List ℕ) → TellsText before query told → text ≡ told) ×
+    AreTexts before queries texts
 AreTexts before [] (text ∷ texts) = ⊥
 AreTexts before (query ∷ queries) [] = ⊥

@@ -13,11 +13,15 @@ use Rattle.ring_layout.specs.declared.item.Item.{Item}
 use Rattle.ring_layout.specs.History.{IsReadHistory, ReachesTail, AddUp}
 use Rattle.ring_layout.specs.Items.{items_of}
 use Rattle.log_ring.specs.Closed.{ClosedState}
-use Rattle.vsl_file.specs.File.{FileEnding, IsFile, is_whole}
+use Rattle.vsl_file.specs.File.{FileEnding, IsFile, Whole, is_whole}
 use Rattle.traffic_feed.specs.declared.listing.Listing.{Listing}
 use Rattle.txn_partition.specs.Partition.{partition}
+use Rattle.tool_words.specs.declared.command.Names.{Names}
 use Rattle.tool_words.specs.declared.job.Job.{Job}
+use Rattle.run_sources.specs.declared.file_items.FileStop.{FileStop}
 use Rattle.run_sources.specs.Sources.{unit_items}
+use Rattle.run_sources.specs.Told.{named_ending}
+use Rattle.unit_output.specs.Units.{converted}
 use Rattle.text_printer.specs.Ends.{whole}
 use Rattle.job_steps.specs.declared.fault.ToolFault.{ToolFault}
 use Rattle.job_steps.specs.Jobs.{file_of, units_of, with_made, write_of}
@@ -27,15 +31,19 @@ use Rattle.vsl_dispatch.specs.Groups.{kept}
 use Rattle.job_runs.specs.declared.record.RunRecord.{RunRecord}
 use Rattle.job_runs.specs.declared.record.RunRecord.TheVariants.{Closed, Nothing}
 use Rattle.job_runs.specs.Counters.{ArePut, counters_text}
-use Rattle.job_runs.specs.Rows.{job_due}
+use Rattle.job_runs.specs.Rows.{job_due, stop_answer}
 use Rattle.job_runs.specs.Sources.{AreFed}
 use Rattle.varnish_tools.specs.Texts.{AreTexts}
 
--- the world tells that the log of a job has these units and ends so: its file holds them, or standard input has them left
-pub record TellsInput (job : Job) (units : Log) (ending : FileEnding) (before : Seen) : Type 0 where
+-- the world tells that what is read under this name has these units and ends so: its file holds them, or standard input has them left
+pub record TellsNamed (name : List ℕ) (units : Log) (ending : FileEnding) (before : Seen) : Type 0 where
   pub bytes : List ℕ
-  pub told : MatchBool (bytes_eq (file_of job) (codes "-")) (before.left INPUT ≡ Some bytes) (before.held (file_of job) ≡ Some bytes)
+  pub told : MatchBool (bytes_eq name (codes "-")) (before.left INPUT ≡ Some bytes) (before.held name ≡ Some bytes)
   pub file : IsFile bytes units ending
+
+-- so it tells of the log of a job
+abbrev pub TellsInput : Job → Log → FileEnding → Seen → Type 0
+TellsInput job units ending before = TellsNamed (file_of job) units ending before
 
 -- a file was created under this name, and has this handle: it began empty or not, and holds this text behind what it began with, as far as that is told and no message goes to it
 pub record IsFileSink (append : Bool) (name : List ℕ) (h : ℕ) (empty : Bool) (text : List ℕ) (before now : Seen) : Type 0 where
@@ -44,11 +52,17 @@ pub record IsFileSink (append : Bool) (name : List ℕ) (h : ℕ) (empty : Bool)
   pub is_named : now.names Writing h name ≡ true
   pub emptied : append ≡ false → empty ≡ true
   pub is_empty : (first : List ℕ) → begins_with append name before ≡ Some first → empty ≡ (length first == 0)
-  pub holds : (first : List ℕ) → begins_with append name before ≡ Some first → before.names Writing ERRORS name ≡ false → now.held name ≡ Some (first ++ text)
+  pub holds : (first : List ℕ) → begins_with append name before ≡ Some first →
+      before.names Writing ERRORS name ≡ false → now.held name ≡ Some (first ++ text)
 
 -- OUT is standard output, or such a file
+abbrev pub IsOutNamed : Bool → List ℕ → ℕ → Bool → List ℕ → Seen → Seen → Type 0
+IsOutNamed append name h empty text before now =
+    MatchBool (bytes_eq name (codes "-")) ((h ≡ OUTPUT) × (empty ≡ true)) (IsFileSink append name h empty text before now)
+
+-- that of a job
 abbrev pub IsOut : Job → ℕ → Bool → List ℕ → Seen → Seen → Type 0
-IsOut job h empty text before now = MatchBool (bytes_eq (write_of job) (codes "-")) ((h ≡ OUTPUT) × (empty ≡ true)) (IsFileSink job.append (write_of job) h empty text before now)
+IsOut job h empty text before now = IsOutNamed job.append (write_of job) h empty text before now
 
 -- the job was stopped before its run: it has a fault, and nothing was taken
 abbrev pub WasStopped : Option ToolFault → RunRecord → Type 0
@@ -74,7 +88,8 @@ PrintsLog job fault units ending before now = PrintsItems job fault (unit_items 
 
 -- what was written of listings that are fed in the order that a job states: of all that a reader meets of them
 abbrev pub PrintsFeeds : Job → Option ToolFault → List Listing → Seen → Seen → Type 0
-PrintsFeeds job fault listings before now = (log : Log) × (history : List (HistoryItem LogUnit)) × AreFed job listings log history × PrintsItems job fault (items_of history) true before now
+PrintsFeeds job fault listings before now = (log : Log) × (history : List (HistoryItem LogUnit)) ×
+    AreFed job listings log history × PrintsItems job fault (items_of history) true before now
 
 -- what was written of listings that threads put: of all that the one reader of the ring took, which is recorded; that goes up to the log's tail where it had ended, and then
 -- what it took and what it missed add up
@@ -102,4 +117,18 @@ pub record PrintsCounted (job : Job) (fault : Option ToolFault) (listings : List
 
 -- what is written of the groups of a log's partition: behind the header, where one is due, of those that are asked for, at most as many as are kept
 abbrev pub parted_text : Job → Ask → Bool → Log → List ℕ
-parted_text job ask empty units = head_text job empty ++ output_of job (kept job.keep (chosen ask (partition units job.grouping))) true
+parted_text job ask empty units =
+    head_text job empty ++ output_of job (kept job.keep (chosen ask (partition units job.grouping))) true
+
+-- what was written where a log of these units is converted that ends so: OUT gained a part of a log file of them; without a fault all of it, and then the log is whole; and all of it
+-- where the fault says how the log ends
+pub record PrintsConverted (names : Names) (fault : Option ToolFault) (units : Log) (ending : FileEnding) (before now : Seen) : Type 0 where
+  pub sink : ℕ
+  pub empty : Bool
+  pub text : List ℕ
+  pub is_out : IsOutNamed false names.output sink empty text before now
+  pub part : IsPrefix text (converted units)
+  pub done : fault ≡ None → (ending ≡ Whole) × (text ≡ converted units)
+  pub stops : (why : FileStop) (named : FileEnding) → fault ≡ Some (stop_answer names.input why) →
+      named_ending why ≡ Some named → (ending ≡ named) × (text ≡ converted units)
+  pub gains : Gains (before.written sink) (now.written sink) text

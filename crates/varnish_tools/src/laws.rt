@@ -10,7 +10,10 @@ ghost use Rattle.traffic_feed.specs.declared.listing.Listing.{Listing};
 ghost use Rattle.feed_files.specs.Feeds.{AreListings, FeedsHold};
 ghost use Rattle.txn_rows.specs.Grouping.{is_raw};
 ghost use Rattle.txn_partition.specs.Partition.{Regular, Calm};
+ghost use Rattle.tool_words.specs.declared.command.Command.TheVariants.{ForTool, ForConvert};
+ghost use Rattle.tool_words.specs.declared.command.Names.{Names};
 ghost use Rattle.tool_words.specs.declared.job.Job.{Job};
+ghost use Rattle.tool_words.specs.Command.{command_of};
 ghost use Rattle.tool_words.specs.Job.{job_of};
 ghost use Rattle.job_steps.specs.declared.fault.ToolFault.TheVariants.{NoOpen, ReadFault, WriteFault};
 ghost use Rattle.job_steps.specs.Good.{AreGoodSteps};
@@ -22,10 +25,12 @@ ghost use Rattle.job_steps.specs.Steps.{steps_of};
 ghost use Rattle.job_runs.specs.Rows.{job_due};
 ghost use Rattle.varnish_tools.specs.declared.outcome.Outcome.{Outcome};
 ghost use Rattle.varnish_tools.specs.Theorem.{IsFaithful, PrintsPlain};
-ghost use Rattle.varnish_tools.specs.Told.{PrintsCounted, PrintsFeeds, PrintsLog, PrintsRing, TellsInput, WasStopped, parted_text};
+ghost use Rattle.varnish_tools.specs.Told.{PrintsConverted, PrintsCounted, PrintsFeeds, PrintsLog, PrintsRing, TellsInput, TellsNamed, WasStopped, parted_text};
 
 use feed_files::{feeds_are_listings_or_have_a_fault, told_feeds_are_read};
-use job_runs::{faults_have_failed_calls, feeds_are_written, told_logs_are_written};
+use job_runs::{
+    converted_logs_are_written, faults_have_failed_calls, feeds_are_written, told_logs_are_written,
+};
 use job_steps::good_steps_pass;
 use txn_partition::groups_are_the_partition;
 
@@ -33,7 +38,8 @@ use txn_partition::groups_are_the_partition;
 /// the main theorem follows from it.
 pub fn plain_logs_are_printed()
     ensures { (words : List (List ℕ)) (outcome : Outcome) (before now : Seen) →
-        HasStreams before → IsFaithful words outcome before now → PrintsPlain words outcome before now }
+        HasStreams before → IsFaithful words outcome before now →
+        PrintsPlain words outcome before now }
 {
     told_logs_are_written();
 }
@@ -41,25 +47,47 @@ pub fn plain_logs_are_printed()
 /// Where the world told what the log of a job holds, OUT gained a part of what is due of that log, and without a fault all of it; or
 /// a step stopped the job.
 pub fn told_logs_are_printed()
-    ensures { (words : List (List ℕ)) (outcome : Outcome) (job : Job) (units : Log) (ending : FileEnding) (before now : Seen) →
-        job_of words ≡ Ok job → is_some job.file ≡ true → is_counting job.tool ≡ false → HasStreams before → TellsInput job units ending before →
-        IsFaithful words outcome before now → WasStopped outcome.fault outcome.run ⊎ PrintsLog job outcome.fault units ending before now }
+    ensures { (words : List (List ℕ)) (outcome : Outcome) (job : Job) (units : Log)
+        (ending : FileEnding) (before now : Seen) →
+        job_of words ≡ Ok job → is_some job.file ≡ true → is_counting job.tool ≡ false →
+        HasStreams before → TellsInput job units ending before →
+        IsFaithful words outcome before now → WasStopped outcome.fault outcome.run ⊎
+        PrintsLog job outcome.fault units ending before now }
 {
     told_logs_are_written();
+}
+
+/// Where the world told what the log holds that words ask to be converted, OUT gained a part of a log file of its units: all of it
+/// without a fault, for which that log is whole, and where the fault says how it ends; or a step stopped the work.
+pub fn told_logs_are_converted()
+    ensures { (words : List (List ℕ)) (outcome : Outcome) (names : Names) (units : Log)
+        (ending : FileEnding) (before now : Seen) →
+        command_of words ≡ Ok (ForConvert names) → HasStreams before →
+        TellsNamed names.input units ending before →
+        IsFaithful words outcome before now → WasStopped outcome.fault outcome.run ⊎
+        PrintsConverted names outcome.fault units ending before now }
+{
+    converted_logs_are_written();
 }
 
 /// Where the world told what the feeds of a job hold, OUT gained a part of what is due of all that a reader meets of their
 /// listings in the order that the job states, and without a fault all of it; on threads of all that the one reader of the ring
 /// took; or a step stopped the job.
 pub fn told_feeds_are_printed()
-    ensures stated { (words : List (List ℕ)) (outcome : Outcome) (job : Job) (contents : List (List ℕ)) (listings : List Listing) (before now : Seen) →
-        job_of words ≡ Ok job → is_some job.file ≡ false → is_counting job.tool ≡ false → is_on_threads job ≡ false → HasStreams before →
+    ensures stated { (words : List (List ℕ)) (outcome : Outcome) (job : Job)
+        (contents : List (List ℕ)) (listings : List Listing) (before now : Seen) →
+        job_of words ≡ Ok job → is_some job.file ≡ false → is_counting job.tool ≡ false →
+        is_on_threads job ≡ false → HasStreams before →
         FeedsHold before job.feeds contents → AreListings job.reclen job.seg contents listings →
-        IsFaithful words outcome before now → WasStopped outcome.fault outcome.run ⊎ PrintsFeeds job outcome.fault listings before now }
-    ensures live { (words : List (List ℕ)) (outcome : Outcome) (job : Job) (contents : List (List ℕ)) (listings : List Listing) (before now : Seen) →
-        job_of words ≡ Ok job → is_some job.file ≡ false → is_counting job.tool ≡ false → is_on_threads job ≡ true → HasStreams before →
+        IsFaithful words outcome before now → WasStopped outcome.fault outcome.run ⊎
+        PrintsFeeds job outcome.fault listings before now }
+    ensures live { (words : List (List ℕ)) (outcome : Outcome) (job : Job)
+        (contents : List (List ℕ)) (listings : List Listing) (before now : Seen) →
+        job_of words ≡ Ok job → is_some job.file ≡ false → is_counting job.tool ≡ false →
+        is_on_threads job ≡ true → HasStreams before →
         FeedsHold before job.feeds contents → AreListings job.reclen job.seg contents listings →
-        IsFaithful words outcome before now → WasStopped outcome.fault outcome.run ⊎ PrintsRing job outcome.fault outcome.run listings before now }
+        IsFaithful words outcome before now → WasStopped outcome.fault outcome.run ⊎
+        PrintsRing job outcome.fault outcome.run listings before now }
 {
     feeds_are_listings_or_have_a_fault();
     told_feeds_are_read();
@@ -69,9 +97,12 @@ pub fn told_feeds_are_printed()
 /// Where the world told what the feeds of varnishstat hold, standard output gained a part of the counters of their listings, and
 /// without a fault all of it; or a step stopped the job.
 pub fn told_counters_are_printed()
-    ensures { (words : List (List ℕ)) (outcome : Outcome) (job : Job) (contents : List (List ℕ)) (listings : List Listing) (before now : Seen) →
-        job_of words ≡ Ok job → is_counting job.tool ≡ true → FeedsHold before job.feeds contents → AreListings job.reclen job.seg contents listings →
-        IsFaithful words outcome before now → WasStopped outcome.fault outcome.run ⊎ PrintsCounted job outcome.fault listings before now }
+    ensures { (words : List (List ℕ)) (outcome : Outcome) (job : Job) (contents : List (List ℕ))
+        (listings : List Listing) (before now : Seen) →
+        job_of words ≡ Ok job → is_counting job.tool ≡ true → FeedsHold before job.feeds contents →
+        AreListings job.reclen job.seg contents listings →
+        IsFaithful words outcome before now → WasStopped outcome.fault outcome.run ⊎
+        PrintsCounted job outcome.fault listings before now }
 {
     feeds_are_listings_or_have_a_fault();
     told_feeds_are_read();
@@ -80,9 +111,12 @@ pub fn told_counters_are_printed()
 /// Words whose job needs nothing that it doesn't have, over a whole log or over feeds, have no fault where no call failed.
 pub fn good_words_have_no_fault()
     ensures { (words : List (List ℕ)) (outcome : Outcome) (job : Job) (before now : Seen) →
-        job_of words ≡ Ok job → HasStreams before → AreGoodSteps before (steps_of (Ok job)) →
-        (is_some job.file ≡ true → is_counting job.tool ≡ false → (units : Log) × TellsInput job units Whole before) →
-        (p : IsFaithful words outcome before now) → none_failed p.works.work ≡ true → outcome.fault ≡ None }
+        job_of words ≡ Ok job → HasStreams before →
+        AreGoodSteps before (steps_of (Ok (ForTool job))) →
+        (is_some job.file ≡ true → is_counting job.tool ≡ false →
+        (units : Log) × TellsInput job units Whole before) →
+        (p : IsFaithful words outcome before now) → none_failed p.works.work ≡ true →
+        outcome.fault ≡ None }
 {
     good_steps_pass();
     faults_have_failed_calls();
@@ -91,15 +125,26 @@ pub fn good_words_have_no_fault()
 /// A fault says that a file couldn't be opened or created, that a read failed or that a write failed, only where the count of
 /// such calls rose under the very name that it says. Where no count rose, no call of the work failed.
 pub fn faults_are_counted()
-    ensures opened { (words : List (List ℕ)) (outcome : Outcome) (before now : Seen) (name : List ℕ) →
-        HasStreams before → IsFaithful words outcome before now → outcome.fault ≡ Some (NoOpen name) →
-        HasNewFault (before.faults Opening name) (now.faults Opening name) ⊎ HasNewFault (before.faults Creating name) (now.faults Creating name) }
+    ensures opened { (words : List (List ℕ)) (outcome : Outcome) (before now : Seen)
+        (name : List ℕ) →
+        HasStreams before → IsFaithful words outcome before now →
+        outcome.fault ≡ Some (NoOpen name) →
+        HasNewFault (before.faults Opening name) (now.faults Opening name) ⊎
+        HasNewFault (before.faults Creating name) (now.faults Creating name) }
     ensures read { (words : List (List ℕ)) (outcome : Outcome) (before now : Seen) (name : List ℕ) →
-        HasStreams before → IsFaithful words outcome before now → outcome.fault ≡ Some (ReadFault name) → HasNewFault (before.faults Reading name) (now.faults Reading name) }
-    ensures written { (words : List (List ℕ)) (outcome : Outcome) (before now : Seen) (name : List ℕ) →
-        HasStreams before → IsFaithful words outcome before now → outcome.fault ≡ Some (WriteFault name) → HasNewFault (before.faults Writing name) (now.faults Writing name) }
-    ensures quiet { (words : List (List ℕ)) (outcome : Outcome) (before now : Seen) → HasStreams before → (p : IsFaithful words outcome before now) →
-        ((kind : CallKind) (name : List ℕ) → ¬ (HasNewFault (before.faults kind name) (now.faults kind name))) → none_failed p.works.work ≡ true }
+        HasStreams before → IsFaithful words outcome before now →
+        outcome.fault ≡ Some (ReadFault name) →
+        HasNewFault (before.faults Reading name) (now.faults Reading name) }
+    ensures written { (words : List (List ℕ)) (outcome : Outcome) (before now : Seen)
+        (name : List ℕ) →
+        HasStreams before → IsFaithful words outcome before now →
+        outcome.fault ≡ Some (WriteFault name) →
+        HasNewFault (before.faults Writing name) (now.faults Writing name) }
+    ensures quiet { (words : List (List ℕ)) (outcome : Outcome) (before now : Seen) →
+        HasStreams before → (p : IsFaithful words outcome before now) →
+        ((kind : CallKind) (name : List ℕ) →
+        ¬ (HasNewFault (before.faults kind name) (now.faults kind name))) →
+        none_failed p.works.work ≡ true }
 {}
 
 /// Of a log that is told whole, and that keeps within the limit and the timeout of a job that groups, what is due is what is

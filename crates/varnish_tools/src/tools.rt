@@ -6,6 +6,8 @@ ghost use Rattle.vio.specs.World.{Seen};
 ghost use Rattle.vio.specs.Calls.{Called};
 ghost use Rattle.vsl_dispatch.specs.Groups.{is_filled};
 ghost use Rattle.one_command.specs.Promise.{Says};
+ghost use Rattle.tool_words.specs.declared.command.Command.TheVariants.{ForTool, ForConvert};
+ghost use Rattle.tool_words.specs.Command.{command_of, is_other};
 ghost use Rattle.tool_words.specs.Job.{job_of};
 ghost use Rattle.tool_words.specs.Sound.{IsSound};
 ghost use Rattle.job_steps.specs.Jobs.{is_on_threads};
@@ -16,10 +18,12 @@ ghost use Rattle.varnish_tools.specs.inside.Works.{IsWorked, SaysPartOf};
 use crate::laws::plain_logs_are_printed;
 use crate::message::{message_of, status_of};
 use crate::outcome::{Outcome, settled};
-use job_runs::{Ran, print_counters, print_feeds, print_live, print_live_counters, print_log};
+use job_runs::{
+    Ran, convert_log, print_counters, print_feeds, print_live, print_live_counters, print_log,
+};
 use job_steps::{
-    Begun, Input, ToolFault, is_counting, is_on_threads, read_job, read_selection,
-    take_counter_steps, take_group_steps,
+    Begun, Input, ToolFault, is_counting, is_on_threads, read_command, read_selection,
+    take_counter_steps, take_group_steps, take_names_steps,
 };
 use log_model::Halt;
 use one_command::say;
@@ -27,7 +31,7 @@ use std::alloc::Global;
 use std::sync::Wait;
 use std::thread::Threads;
 use tool_consumers::consumer_of;
-use tool_words::Job;
+use tool_words::{Command, Job, Names};
 use traffic_feed::Gate;
 use vio::{NoMemory, World};
 
@@ -36,7 +40,8 @@ fn work_alone<W: World>(alloc: Global, job: &Job, world: &mut W) -> Result<Ran, 
     requires sound { IsSound job.now }
     requires keeps { is_filled job.now.keep [] ≡ false }
     requires alone { is_on_threads job.now ≡ false }
-    ensures { Called (IsWorked (Ok job.now) (W.seen world.new) result) (W.seen world.old) (W.seen world.new) }
+    ensures { Called (IsWorked (Ok (ForTool job.now)) (W.seen world.new) result) (W.seen world.old)
+        (W.seen world.new) }
 {
     let selection = read_selection(alloc, job)?;
     if is_counting(job.tool) {
@@ -69,7 +74,8 @@ fn work_on_threads<R: Threads + Wait + Sync, W: World, G: Gate>(
     requires sound { IsSound job.now }
     requires keeps { is_filled job.now.keep [] ≡ false }
     requires threads { is_on_threads job.now ≡ true }
-    ensures { Called (IsWorked (Ok job.now) (W.seen world.new) result) (W.seen world.old) (W.seen world.new) }
+    ensures { Called (IsWorked (Ok (ForTool job.now)) (W.seen world.new) result) (W.seen world.old)
+        (W.seen world.new) }
 {
     let selection = read_selection(alloc, job)?;
     if is_counting(job.tool) {
@@ -93,6 +99,19 @@ fn work_on_threads<R: Threads + Wait + Sync, W: World, G: Gate>(
     }
 }
 
+/// Works off `convert` under these names, but for the message of a fault.
+fn work_convert<W: World>(
+    alloc: Global,
+    names: &Names,
+    world: &mut W,
+) -> Result<Ran, Halt<ToolFault>>
+    ensures { Called (IsWorked (Ok (ForConvert names.now)) (W.seen world.new) result)
+        (W.seen world.old) (W.seen world.new) }
+{
+    let opened = take_names_steps(alloc, names, world)?;
+    Ok(convert_log(alloc, names, opened, world)?)
+}
+
 /// Says the message of a fault on standard error. That this write fails changes nothing else.
 fn report<W: World>(
     alloc: Global,
@@ -100,8 +119,12 @@ fn report<W: World>(
     world: &mut W,
     fault: &Option<ToolFault>,
 ) -> Result<(), NoMemory>
-    ensures said { OnOk result (Called (Says (fault_message (map string_bytes words.now) fault.now)) (W.seen world.old) (W.seen world.new)) }
-    ensures part { OnErr result (Called (SaysPartOf (map string_bytes words.now) fault.now) (W.seen world.old) (W.seen world.new)) }
+    ensures said { OnOk result
+        (Called (Says (fault_message (map string_bytes words.now) fault.now)) (W.seen world.old)
+        (W.seen world.new)) }
+    ensures part { OnErr result
+        (Called (SaysPartOf (map string_bytes words.now) fault.now) (W.seen world.old)
+        (W.seen world.new)) }
 {
     let Some(fault) = fault else {
         return Ok(());
@@ -117,9 +140,18 @@ fn finish<W: World>(
     worked: Result<Ran, Halt<ToolFault>>,
     world: &mut W,
 ) -> Result<Outcome, NoMemory>
-    ensures faithful { (before : Seen) → Called (IsWorked (job_of (map string_bytes words.now)) (W.seen world.old) worked) before (W.seen world.old) → IfOk result (λ o. IsFaithful (map string_bytes words.now) o before (W.seen world.new)) }
-    ensures memory { (before : Seen) → Called (IsWorked (job_of (map string_bytes words.now)) (W.seen world.old) worked) before (W.seen world.old) → OnErr result (IsCutShort (map string_bytes words.now) before (W.seen world.new)) }
-    ensures touches { (before : Seen) → Called (IsWorked (job_of (map string_bytes words.now)) (W.seen world.old) worked) before (W.seen world.old) → Called (TouchesJob (map string_bytes words.now)) before (W.seen world.new) }
+    ensures faithful { (before : Seen) →
+        Called (IsWorked (command_of (map string_bytes words.now)) (W.seen world.old) worked) before
+        (W.seen world.old) → IfOk result
+        (λ o. IsFaithful (map string_bytes words.now) o before (W.seen world.new)) }
+    ensures memory { (before : Seen) →
+        Called (IsWorked (command_of (map string_bytes words.now)) (W.seen world.old) worked) before
+        (W.seen world.old) → OnErr result
+        (IsCutShort (map string_bytes words.now) before (W.seen world.new)) }
+    ensures touches { (before : Seen) →
+        Called (IsWorked (command_of (map string_bytes words.now)) (W.seen world.old) worked) before
+        (W.seen world.old) → Called (TouchesJob (map string_bytes words.now)) before
+        (W.seen world.new) }
 {
     let Ran { fault, run } = settled(worked)?;
     report(alloc, words, world, &fault)?;
@@ -139,11 +171,38 @@ pub fn run_alone<W: World>(
     requires sound { IsSound job.now }
     requires keeps { is_filled job.now.keep [] ≡ false }
     requires alone { is_on_threads job.now ≡ false }
-    ensures faithful { IfOk result (λ o. IsFaithful (map string_bytes words.now) o (W.seen world.old) (W.seen world.new)) }
-    ensures memory { OnErr result (IsCutShort (map string_bytes words.now) (W.seen world.old) (W.seen world.new)) }
-    ensures touches { Called (TouchesJob (map string_bytes words.now)) (W.seen world.old) (W.seen world.new) }
+    ensures faithful { IfOk result
+        (λ o. IsFaithful (map string_bytes words.now) o (W.seen world.old) (W.seen world.new)) }
+    ensures memory { OnErr result
+        (IsCutShort (map string_bytes words.now) (W.seen world.old) (W.seen world.new)) }
+    ensures touches { Called (TouchesJob (map string_bytes words.now)) (W.seen world.old)
+        (W.seen world.new) }
 {
     let worked = work_alone(alloc, job, world);
+    finish(alloc, words, worked, world)
+}
+
+/// Does what words ask for whose command is no tool: `convert`. It starts no thread and waits for nobody, and its contract is that
+/// of `run_tools`.
+pub fn run_other<W: World>(
+    alloc: Global,
+    words: &[String],
+    world: &mut W,
+) -> Result<Outcome, NoMemory>
+    requires other { is_other (map string_bytes words.now) ≡ true }
+    ensures faithful { IfOk result
+        (λ o. IsFaithful (map string_bytes words.now) o (W.seen world.old) (W.seen world.new)) }
+    ensures memory { OnErr result
+        (IsCutShort (map string_bytes words.now) (W.seen world.old) (W.seen world.new)) }
+    ensures touches { Called (TouchesJob (map string_bytes words.now)) (W.seen world.old)
+        (W.seen world.new) }
+{
+    let names = match read_command(alloc, words) {
+        Ok(Command::ForConvert(names)) => names,
+        Ok(Command::ForTool(_)) => unreachable!(),
+        Err(halt) => return finish(alloc, words, Err(halt), world),
+    };
+    let worked = work_convert(alloc, &names, world);
     finish(alloc, words, worked, world)
 }
 
@@ -164,6 +223,9 @@ pub fn run_alone<W: World>(
 /// this thread reads. Workers run to their end, and are joined before the call returns, whatever it answers. A gate, for tests,
 /// is asked before each put and each call of the reader, of which no clause here speaks. Every other job waits for nobody.
 ///
+/// Of `convert` what is written gains the header of a log file and the units of the log that is read, those before its damage where it
+/// is damaged.
+///
 /// The status is 0 without a fault, 2 where the words, a pattern, the text of a query or the format is refused, and else 1. After
 /// `NoMemory` a prefix of the output was written.
 ///
@@ -176,15 +238,20 @@ pub fn run_tools<R: Threads + Wait + Sync, W: World, G: Gate>(
     world: &mut W,
     gate: &G,
 ) -> Result<Outcome, NoMemory>
-    ensures plain { IfOk result (λ o. PrintsPlain (map string_bytes words.now) o (W.seen world.old) (W.seen world.new)) }
-    ensures faithful { IfOk result (λ o. IsFaithful (map string_bytes words.now) o (W.seen world.old) (W.seen world.new)) }
-    ensures memory { OnErr result (IsCutShort (map string_bytes words.now) (W.seen world.old) (W.seen world.new)) }
-    ensures touches { Called (TouchesJob (map string_bytes words.now)) (W.seen world.old) (W.seen world.new) }
+    ensures plain { IfOk result
+        (λ o. PrintsPlain (map string_bytes words.now) o (W.seen world.old) (W.seen world.new)) }
+    ensures faithful { IfOk result
+        (λ o. IsFaithful (map string_bytes words.now) o (W.seen world.old) (W.seen world.new)) }
+    ensures memory { OnErr result
+        (IsCutShort (map string_bytes words.now) (W.seen world.old) (W.seen world.new)) }
+    ensures touches { Called (TouchesJob (map string_bytes words.now)) (W.seen world.old)
+        (W.seen world.new) }
 {
     // A law, by which the plain case follows.
     plain_logs_are_printed();
-    let job = match read_job(alloc, words) {
-        Ok(job) => job,
+    let job = match read_command(alloc, words) {
+        Ok(Command::ForTool(job)) => job,
+        Ok(Command::ForConvert(_)) => return run_other(alloc, words, world),
         Err(halt) => return finish(alloc, words, Err(halt), world),
     };
     if !is_on_threads(&job) {

@@ -3,7 +3,7 @@ use Rattle.std.specs.Prelude.{ℕ, List, [], ◌∷◌, Option, Some, None, opti
 use Rattle.std.specs.Str.{bytes_eq}
 use Rattle.system_world.specs.Questions.{is_help}
 use Rattle.tool_words.specs.Commands.{command_named, is_same_command}
-use Rattle.tool_words.specs.declared.commands.Command.{Command}
+use Rattle.tool_words.specs.declared.commands.CommandName.{CommandName}
 use Rattle.vtools.specs.declared.answers.TheConstants.{VERSION}
 use Rattle.vtools.specs.declared.asked.Asked.{Asked}
 use Rattle.vtools.specs.declared.asked.Asked.TheVariants.{Help, HelpOf, Version}
@@ -28,17 +28,17 @@ asked_of (name ∷ word ∷ []) = asked_behind name word
 asked_of (name ∷ word ∷ more ∷ words) = None
 
 -- the text of a command by the first row that has it
-abbrev pub help_in : {R : Type 0} → (R → Command) → (R → List ℕ) → List R → Command → Option (List ℕ)
+abbrev pub help_in : {R : Type 0} → (R → CommandName) → (R → List ℕ) → List R → CommandName → Option (List ℕ)
 help_in command_of text_of [] command = None
 help_in command_of text_of (row ∷ rows) command =
     if is_same_command (command_of row) command then Some (text_of row) else help_in command_of text_of rows command
 
 -- the help of a command by its row
-abbrev pub help_row : Command → Option (List ℕ)
+abbrev pub help_row : CommandName → Option (List ℕ)
 help_row command = help_in (λ row. row.0) (λ row. row.1.now) HELPS command
 
 -- the help of a command: that of its row, which each command has
-abbrev pub help_of : Command → List ℕ
+abbrev pub help_of : CommandName → List ℕ
 help_of command = unwrap_or (help_row command) HELP.now
 
 -- what is printed where this is asked

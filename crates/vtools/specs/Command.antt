@@ -9,4 +9,5 @@ use Rattle.varnish_tools.specs.Theorem.{IsFaithful, IsCutShort, TouchesJob}
 abbrev pub IsToolStatus : List (List ℕ) → ℕ → Seen → Seen → Type 0
 IsToolStatus words status before now =
     Called (TouchesJob words) before now
-    × (((outcome : Outcome) × (status ≡ outcome.status) × IsFaithful words outcome before now) ⊎ ((status ≡ 3) × IsCutShort words before now))
+    × (((outcome : Outcome) × (status ≡ outcome.status) × IsFaithful words outcome before now) ⊎
+    ((status ≡ 3) × IsCutShort words before now))

@@ -5,7 +5,7 @@ ghost use Rattle.std.specs.String.{string_bytes};
 ghost use Rattle.vtools.specs.Asked.{asked_alone, asked_behind, asked_of};
 
 use system_world::is_help;
-use tool_words::{Command, command_named};
+use tool_words::{CommandName, command_named};
 
 /// What the words of a command line ask of the program itself: one of its texts.
 #[derive(Clone, Copy, Debug, PartialEq, Eq)]
@@ -13,7 +13,7 @@ pub enum Asked {
     /// What the program does.
     Help,
     /// What a command takes.
-    HelpOf(Command),
+    HelpOf(CommandName),
     /// Which version it is.
     Version,
 }

@@ -1,7 +1,7 @@
 //! What is printed for help. `tools/options.py` makes the usage, the sentences, the options and the examples of `HELP` by
 //! the rows of commands and of options, and of these rows and `HELP` the text of each command.
 
-use tool_words::{Command, Tool};
+use tool_words::{CommandName, Tool};
 
 /// What `vtools --help` prints.
 pub const HELP: &str = "\
@@ -19,6 +19,7 @@ usage: vtools [OPTIONS] varnishlog [-g GROUPING] [-L N] [-T N] [-q TEXT]
        vtools [--feed FILE].. [--gen N,SEED] [--ring N] [--reclen N]
               [--feed-first | --turns SEED] TOOL .., as above without -r FILE
        vtools [OPTIONS] varnishstat (-1 | -j | -l) [-f GLOB]..
+       vtools convert IN OUT
 
 varnishlog prints the records of a log file, a group of them when it is
 complete, or writes them as a log file. varnishncsa prints a line for each
@@ -27,7 +28,9 @@ records, and prints each once with its count when the log has ended. They take
 all records, or those that are chosen. In place of a log file they take feeds:
 texts of records, as Varnish's own varnishlog -g raw prints them, or requests
 that are made up. varnishstat prints counters of feeds, and takes no log file.
-vslog --help says how the log of a running Varnish becomes a log file.
+vslog --help says how the log of a running Varnish becomes a log file. convert
+writes the units of the log file IN as a log file OUT, in the form in which log
+files are written. The name - is standard input, or output.
 
   -r FILE           reads the log file FILE; - is standard input
   -g vxid           groups records by transaction; this is the default
@@ -126,6 +129,8 @@ An example of each tool:
       prints each URL that clients asked for, with its count
   vtools --feed FILE varnishstat -1 -f 'MAIN.cache_*'
       prints how many requests were hits, and how many misses
+  vtools convert FILE OUT
+      writes a log file of an earlier release as one of this release
 
   vtools --help       prints this text
   vtools TOOL --help  prints what the tool takes, as does -h behind it
@@ -140,11 +145,12 @@ docs/FORMATS.md.
 
 // made by tools/options.py: commands
 /// What `vtools NAME --help` prints of each command.
-pub static HELPS: [(Command, &str); 4] = [
-    (Command::Tool(Tool::Log), LOG_HELP),
-    (Command::Tool(Tool::Ncsa), NCSA_HELP),
-    (Command::Tool(Tool::Top), TOP_HELP),
-    (Command::Tool(Tool::Stat), STAT_HELP),
+pub static HELPS: [(CommandName, &str); 5] = [
+    (CommandName::Tool(Tool::Log), LOG_HELP),
+    (CommandName::Tool(Tool::Ncsa), NCSA_HELP),
+    (CommandName::Tool(Tool::Top), TOP_HELP),
+    (CommandName::Tool(Tool::Stat), STAT_HELP),
+    (CommandName::Convert, CONVERT_HELP),
 ];
 
 /// What `vtools varnishlog --help` prints.
@@ -403,5 +409,23 @@ Exit status: 0 done, 1 the input or the outside failed, 2 the command line, a
 pattern, a query or a format was refused, 3 out of memory.
 
 Manual: man vtools-varnishstat.
+";
+
+/// What `vtools convert --help` prints.
+const CONVERT_HELP: &str = "\
+convert writes the units of the log file IN as a log file OUT, in the form in
+which log files are written.
+
+usage: vtools convert IN OUT
+
+An example:
+
+  vtools convert FILE OUT
+      writes a log file of an earlier release as one of this release
+
+Exit status: 0 done, 1 the input or the outside failed, 2 the command line, a
+pattern, a query or a format was refused, 3 out of memory.
+
+Manual: man vtools-convert.
 ";
 // made until here

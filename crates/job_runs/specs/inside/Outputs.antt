@@ -18,7 +18,14 @@ use Rattle.job_runs.specs.Sources.{AreFed}
 
 -- the plan of a job's printer with a query, to this handle
 abbrev pub job_plan : Job → Query → ℕ → Plan
-job_plan job query handle = record { options = options_of job; query = query; keep = job.keep; writes = output_of job; sink = handle; name = write_of job }
+job_plan job query handle = record {
+  options = options_of job;
+  query = query;
+  keep = job.keep;
+  writes = output_of job;
+  sink = handle;
+  name = write_of job;
+}
 
 -- an output of a job with a query, which printed nothing: to this handle, of what is empty or not
 pub record IsJobOutput {C : Type 0} (keep : C → Option ℕ) (output : C → List Group → Bool → List ℕ) (represents : C → List Group → Bool → List ℕ → Type 0) (job : Job) (query : Query) (handle : ℕ) (empty : Bool) (o : TextOutput C) : Type 0 where

@@ -47,7 +47,9 @@ module _ {C : Type 0} (keep : C → Option ℕ) (output : C → List Group → B
 
   -- an entry was given these groups, and was ended or not
   pub record Gave (groups : List Group) (ended : Bool) (old new : Entry C) : Type 0 where
-    pub each : (most : Option ℕ) (writes : List Group → Bool → List ℕ) (before : List Group) (taken : List ℕ) → Stands keep output represents most writes old before taken → StandsOr ended most writes new (before ++ groups) taken
+    pub each : (most : Option ℕ) (writes : List Group → Bool → List ℕ) (before : List Group) (taken : List ℕ) →
+        Stands keep output represents most writes old before taken →
+        StandsOr ended most writes new (before ++ groups) taken
 
   -- a table took what comes next; of the groups that it completed and for which the query holds, an entry was given the first, and these are left
   pub record Completed (query : Query) (next : Next) (old new : TableState) (entry_old entry_new : Entry C) (left : List Chosen) : Type 0 where
@@ -55,7 +57,9 @@ module _ {C : Type 0} (keep : C → Option ℕ) (output : C → List Group → B
     pub state : new.state ≡ (taken_step old.options (item_of next) old.state).state
     pub sound : old.failed ≡ false → new.failed ≡ false
     pub given : List Group
-    pub groups : held_groups query (reported old.options.grouping (taken_step old.options (item_of next) old.state).groups) ≡ given ++ first_held left
+    pub groups : held_groups query
+        (reported old.options.grouping (taken_step old.options (item_of next) old.state).groups) ≡ given ++
+        first_held left
     pub gave : Gave given false entry_old entry_new
 
   -- a printer took what comes next, and this is the text that its consumer handed out, which is gone where it has all groups that are kept, or at the end

@@ -5,22 +5,24 @@ use Rattle.log_model.specs.declared.fault.Halt.TheVariants.{Fault, NoMemory}
 use Rattle.vio.specs.World.{Seen}
 use Rattle.vio.specs.Calls.{Call}
 use Rattle.one_command.specs.Promise.{SaysPart, Works}
+use Rattle.tool_words.specs.declared.command.Command.{Command}
 use Rattle.tool_words.specs.declared.fault.UsageFault.{UsageFault}
-use Rattle.tool_words.specs.declared.job.Job.{Job}
 use Rattle.job_steps.specs.declared.fault.ToolFault.{ToolFault}
 use Rattle.job_steps.specs.Steps.{Passes, Stops, steps_of}
 use Rattle.job_runs.specs.declared.record.Ran.{Ran}
 use Rattle.job_runs.specs.declared.record.RunRecord.{RunRecord}
 use Rattle.job_runs.specs.declared.record.RunRecord.TheVariants.{Nothing}
 use Rattle.varnish_tools.specs.Faults.{message}
-use Rattle.varnish_tools.specs.Theorem.{LacksWork, StatedRan, alone_of}
+use Rattle.varnish_tools.specs.Commands.{alone_of}
+use Rattle.varnish_tools.specs.Theorem.{LacksWork, StatedRan}
 
 -- the words were worked off by these calls
-abbrev pub DidWork : Result Job UsageFault → Seen → Option ToolFault → RunRecord → List Call → Type 0
-DidWork stated at fault recorded calls = Works Passes Stops (StatedRan stated) alone_of Nothing (steps_of stated) at fault recorded calls
+abbrev pub DidWork : Result Command UsageFault → Seen → Option ToolFault → RunRecord → List Call → Type 0
+DidWork stated at fault recorded calls = Works Passes Stops (StatedRan stated) alone_of Nothing
+    (steps_of stated) at fault recorded calls
 
 -- what working off comes to: a run, a fault of a step, or want of memory
-abbrev pub IsWorked : Result Job UsageFault → Seen → Result Ran (Halt ToolFault) → List Call → Type 0
+abbrev pub IsWorked : Result Command UsageFault → Seen → Result Ran (Halt ToolFault) → List Call → Type 0
 IsWorked stated at (Ok ran) calls = DidWork stated at ran.fault ran.run calls
 IsWorked stated at (Err (Fault fault)) calls = DidWork stated at (Some fault) Nothing calls
 IsWorked stated at (Err NoMemory) calls = LacksWork stated calls

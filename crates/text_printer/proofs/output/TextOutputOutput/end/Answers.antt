@@ -5,7 +5,8 @@ use Rattle.one_run.proofs.RunLemmas.{made_so}
 use Rattle.text_printer.specs.Ends.{whole}
 use Rattle.text_printer.specs.Messages.{messages_of}
 use Rattle.text_printer.specs.Output.{output_due}
-use Rattle.text_printer.proofs.OutputLemmas.{end_told, put, short, unwritten}
+use Rattle.text_printer.proofs.OutputLemmas.{end_told}
+use Rattle.text_printer.proofs.WriteLemmas.{put, short, unwritten}
 use Rattle.text_printer.proofs.output.TextOutputOutput.end.Goals as goal
 
 pub returns-in-Ok : goal.returns-in-Ok

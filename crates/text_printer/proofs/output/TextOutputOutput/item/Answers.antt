@@ -5,7 +5,8 @@ use Rattle.text_printer.specs.Output.{output_plan}
 use Rattle.text_printer.specs.Printer.{is_done}
 use Rattle.text_printer.proofs.DueLemmas.{taken_append}
 use Rattle.text_printer.proofs.EndLemmas.{due_grows}
-use Rattle.text_printer.proofs.OutputLemmas.{sink_apart, item_told, unreported, unsaid, put, unwritten, short}
+use Rattle.text_printer.proofs.OutputLemmas.{sink_apart, item_told}
+use Rattle.text_printer.proofs.WriteLemmas.{unreported, unsaid, put, unwritten, short}
 use Rattle.text_printer.proofs.output.TextOutputOutput.item.Goals as goal
 
 pub returns-in-Err-Failed-clause-prints : goal.returns-in-Err-Failed-clause-prints
