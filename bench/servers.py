@@ -3,6 +3,7 @@
 import contextlib
 import http.client
 import os
+import re
 import socket
 import subprocess
 import sys
@@ -11,7 +12,16 @@ import time
 from http.server import BaseHTTPRequestHandler, ThreadingHTTPServer
 
 PATIENCE = 20  # seconds that a server is given to begin
-UNKNOWN_TAGS = "Backend,BackendReuse,BackendStart,VdpAcct"  # tags of Varnish that are none of ours
+GONE = "Backend,BackendReuse,BackendStart"  # tags that Varnish has no more since 7.3
+
+
+def unknown_tags():
+    """The tags of the Varnish that runs here that are none of ours."""
+    told = subprocess.run(["varnishlog", "-V"], stdin=subprocess.DEVNULL, capture_output=True, text=True)
+    found = re.search(r"varnish-(\d+)\.(\d+)", told.stdout + told.stderr)
+    if not found:
+        sys.exit(f"varnishlog -V: {told.stdout}{told.stderr}")
+    return "VdpAcct" if (int(found[1]), int(found[2])) >= (7, 3) else f"{GONE},VdpAcct"
 
 
 def text_of(kind, number):

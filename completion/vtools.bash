@@ -37,6 +37,9 @@ _vtools_options() {
             [-1]=flag [-j]=flag [-l]=flag [-f]=counter
         )
         ;;
+    convert)
+        takes=()
+        ;;
     vslog)
         takes=(
             [-t]=flag [-w]=file [-a]=flag [-q]=flag [--strict]=flag
@@ -71,7 +74,10 @@ _vtools_words() {
         ;;
     # made by tools/completion.py: words
     tool)
-        words='varnishlog varnishncsa varnishtop varnishstat'
+        words='varnishlog varnishncsa varnishtop varnishstat convert'
+        ;;
+    naming)
+        words='convert'
         ;;
     feed)
         words='--feed --gen'
@@ -269,6 +275,13 @@ _vtools_offer() {
     done
 }
 
+# Whether the tool takes names of files that stand behind no option.
+_vtools_has_names() {
+    local words=""
+    _vtools_words naming
+    [[ " vslog $words " == *" $tool "* ]]
+}
+
 # Gives in COMPREPLY what the word at the cursor can become, in a command line of the program $1. Behind an option that
 # is refused nothing is offered.
 _vtools() {
@@ -299,7 +312,7 @@ _vtools() {
         elif [[ -z $tool ]]; then
             tool=$word
             _vtools_options "$tool"
-        elif [[ $tool != vslog ]]; then
+        elif ! _vtools_has_names; then
             return 0
         fi
     done
@@ -315,7 +328,7 @@ _vtools() {
         else
             COMPREPLY=("$word")
         fi
-    elif [[ $tool == vslog && $word != -* ]]; then
+    elif [[ $word != -* ]] && _vtools_has_names; then
         _vtools_offer 0 file
     else
         [[ -n $tool ]] || _vtools_offer 0 tool
@@ -324,7 +337,7 @@ _vtools() {
         _vtools_offer 0 "$kind"
         case ${#typed[@]}:$tool in
         2:*) _vtools_offer 0 alone ;;
-        3:"${typed[1]}") ((${#takes[@]} == 0)) || _vtools_offer 0 behind_tool ;;
+        3:"${typed[1]}") ((${#takes[@]} == 0)) && ! _vtools_has_names || _vtools_offer 0 behind_tool ;;
         esac
     fi
     return 0

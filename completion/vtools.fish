@@ -218,6 +218,7 @@ complete -c vtools -n __vtools_is_before -a varnishlog -d 'prints the records of
 complete -c vtools -n __vtools_is_before -a varnishncsa -d 'prints a line for each request, as a web server does in its access log'
 complete -c vtools -n __vtools_is_before -a varnishtop -d 'counts equal records, and prints each once with its count when the log has ended'
 complete -c vtools -n __vtools_is_before -a varnishstat -d 'prints counters of feeds, and takes no log file'
+complete -c vtools -n __vtools_is_before -a convert -d 'writes the units of the log file IN as a log file OUT, in the form in which log files are written'
 complete -c vtools -n __vtools_is_before -l feed -r -F -d 'feeds the listing FILE, lines as varnishlog -g raw prints them, at most 16 MiB'
 complete -c vtools -n __vtools_is_before -l gen -x -d 'feeds N requests that are made from SEED, 1 to 100000 and 0 to 65536, behind the listings'
 complete -c vtools -n __vtools_is_fed -l feed-first -d 'puts feed after feed into a ring, and then reads it'
@@ -285,4 +286,6 @@ complete -c vtools -n '__vtools_is varnishstat' -s 1 -d 'prints a line for each 
 complete -c vtools -n '__vtools_is varnishstat' -s j -d 'prints them as JSON, also beside -1'
 complete -c vtools -n '__vtools_is varnishstat' -s l -d 'prints the names of counters, also beside -1 and -j'
 complete -c vtools -n '__vtools_is varnishstat' -s f -x -a '(__vtools_counter f)' -d 'prints only counters whose whole name GLOB matches'
+complete -c vtools -n '__vtools_is convert; and __vtools_has 2' -l help -d 'prints what the tool takes'
+complete -c vtools -n '__vtools_is convert' -F
 # made until here

@@ -81,10 +81,13 @@ check_rows() {
 
 COMP_WORDBREAKS=$' \t\n"\'@><=;|&(:'
 check_rows <<'ROWS'
-vtools | => --feed --gen --help --version varnishlog varnishncsa varnishstat varnishtop
+vtools | => --feed --gen --help --version convert varnishlog varnishncsa varnishstat varnishtop
 vtools varnishn| => varnishncsa
 vtools --v| => --version
 vtools --help | =>
+vtools convert | => access.log at@one folder log log:old my_log queries
+vtools convert log q| => queries
+vtools convert -| => --help
 vtools --feed| => --feed
 vtools --feed log --feed| => --feed --feed-first
 vtools --feed-first -| => --feed --gen

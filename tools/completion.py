@@ -52,6 +52,12 @@ def taken(command):
     return [(option.name, kind_of(option), option.value, told(option)) for option in options.here(command)]
 
 
+def names_behind(command):
+    """The names that a command takes behind its own, and no options."""
+    of_names = [command for command in options.all_commands().values() if not command.is_tool]
+    return {row.name: re.findall(r"\b[A-Z]{2,}\b", row.usage.partition(row.name)[2]) for row in of_names}.get(command, [])
+
+
 def feeding():
     """The options before the tool that feed."""
     return [option.name for option in options.here("vtools") if option.form in ("FeedName", "CountAndSeed")]
@@ -105,6 +111,7 @@ def words():
     comparisons = re.findall(r'^        b"(\S+)" => Operator::', COMPARISONS.read_text(), re.M)
     return {
         "tool": {name: command.does for name, command in options.all_commands().items()},
+        "naming": dict.fromkeys(command for command in options.COMMANDS if names_behind(command)),
         "feed": dict.fromkeys(feeding()),
         **{OF_FORM[form]: form_words(form) for form in OF_FORM},
         "tag": dict.fromkeys(tags),
@@ -167,7 +174,8 @@ def zsh_array(name, words):
 def for_zsh(rows, kinds):
     """What the completion for zsh has."""
     rows = {"feed": [row for row in rows["vtools"] if row[0] in kinds["feed"]], **rows}
-    made = {tool: lines((zsh_option(*row) for row in rows[tool]), 12) for tool in rows}
+    names = {tool: [quoted(f"{n}:{name}:_files") for n, name in enumerate(names_behind(tool), 1)] for tool in rows}
+    made = {tool: lines([*(zsh_option(*row) for row in rows[tool]), *names[tool]], 12) for tool in rows}
     arrays = [zsh_array(f"{kind}s", kinds[kind]) for kind in ("tool", "feed", *LISTED)]
     options = {tool: array("specs", made[tool], 8) for tool in rows}
     return {"options": case_of(options), "words": "\n".join(arrays)}
@@ -203,6 +211,7 @@ def for_fish(rows, kinds):
     for tool in kinds["tool"]:
         given.append((f"'__vtools_is {tool}; and __vtools_has 2'", "-l help -d 'prints what the tool takes'"))
         given += [(f"'__vtools_is {tool}'", fish_option(*row)) for row in rows[tool]]
+        given += [(f"'__vtools_is {tool}'", "-F")] if names_behind(tool) else []
     options = (f"complete -c vtools -n {condition} {option}" for condition, option in given)
     return {"words": lines(lists, 0), "options": lines(options, 0)}
 

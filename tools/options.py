@@ -44,7 +44,7 @@ COMING_FROM = TOP / "docs/COMING_FROM_VARNISH.md"
 HELP_COLUMNS = 80
 OPTION_COLUMNS = {"vtools": 20, "vslog": 12}  # where the help says what an option does
 KINDS = {"Flag": "flag", "Value": "value", "NotHere": "absent"}
-VARIANT = re.compile(r"Command::\w+(?:\(\w+::\w+\))?")
+VARIANT = re.compile(r"CommandName::\w+(?:\(\w+::\w+\))?")
 SETS = re.compile(r"^const (\w+): Commands = &\[(.*?)\];$", re.M | re.S)
 USAGE = re.compile(r"^/// usage: (\w+ .*)$", re.M)
 NAME = re.compile(r"--[a-z-]+|(?<![\w-])[A-Za-z1](?![\w-])|[A-Z]{2,}")
@@ -167,7 +167,7 @@ def rows_of(path, tables):
 
 COMMAND_ROWS = [(row, comments) for row, comments, _ in rows_of(COMMAND_SOURCE, ["COMMANDS"])]
 COMMANDS = {name: variant for (_, name, _, variant), _ in COMMAND_ROWS}
-TOOLS = tuple(name for name, variant in COMMANDS.items() if variant.startswith("Command::Tool("))
+TOOLS = tuple(name for name, variant in COMMANDS.items() if variant.startswith("CommandName::Tool("))
 PAGES = {name: TOP / f"docs/man/vtools-{name}.1" for name in COMMANDS} | {
     program: TOP / f"docs/man/{program}.1" for program in HELPS
 }
@@ -391,7 +391,7 @@ def all_helps():
     rows = [f"    ({command.variant}, {command.constant()}),\n" for command in commands.values()]
     parts = [
         f"/// What `vtools NAME --help` prints of each command.\n"
-        f"pub static HELPS: [(Command, &str); {len(rows)}] = [\n{''.join(rows)}];\n",
+        f"pub static HELPS: [(CommandName, &str); {len(rows)}] = [\n{''.join(rows)}];\n",
         *[
             f"/// What `vtools {name} --help` prints.\n"
             f'const {command.constant()}: &str = "\\\n{helps[name]}";\n'

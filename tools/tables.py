@@ -42,15 +42,16 @@ RAISED = {
     "EachWait": "each time that a writer that puts a unit finds another at work",
     "EachWrap": "each unit that wraps in the ring",
 }
-# The limits that a definition gives as a number, by the page of their subject, each with its crate.
+# The limits that a definition gives as a number, by the page of their subject, each with its crate; where the definition is
+# by cases, with the case.
 LIMITS = {
     "tags": ["vsl_tags first_tag", "vsl_tags last_tag", "vsl_tags longest_name"],
     "log-files": [
-        *["vsl_record most_payload", "vsl_record vxid_end", "vsl_record most_words", "vsl_select most_file_words"],
+        *["vsl_record most_payload", "vsl_words vxid_end_of Two", "vsl_words most_words_of Two", "vsl_select most_file_words"],
         "vsl_file most_bytes",
     ],
     "feeds": [
-        *["feed_files most_feed_bytes", "raw_records most_digits", "traffic_feed most_records", "traffic_feed draw_end"],
+        *["feed_files most_feed_bytes", "txn_rows most_digits", "traffic_feed most_records", "traffic_feed draw_end"],
         *["ring_layout overrun_distance", "ring_layout seek_distance", "ring_layout last_tail"],
         *["log_ring most_writers", "log_ring most_readers"],
     ],
@@ -189,9 +190,9 @@ def title_of(page):
 def limits_table():
     """The limits that definitions give, each with the comment above the definition."""
     index, rows = definitions.Index(), []
-    for page, crate, name in ((page, *limit.split()) for page, limits in LIMITS.items() for limit in limits):
+    for page, crate, name, *of in ((page, *limit.split()) for page, limits in LIMITS.items() for limit in limits):
         items = [spec.items[name] for spec in index.specs if spec.crate == crate and name in spec.items]
-        value = items and re.search(rf"^{name} = ([0-9_]+|2 \^ \d+)$", items[0].body, re.M)
+        value = items and re.search(rf"^{' '.join([name, *of])} = ([0-9_]+|2 \^ \d+)$", items[0].body, re.M)
         if len(items) != 1 or not value:
             refuse(f"{crate} has not one number {name}")
         sentence, _ = definitions.split_source(items[0].comment)

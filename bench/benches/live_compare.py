@@ -11,11 +11,9 @@ from typing import NamedTuple
 
 import varnish_log
 import vslog
-from servers import UNKNOWN_TAGS
+from servers import unknown_tags
 
 AT_ONCE = 1 << 20  # bytes of lines that are compared at once
-UNSAFE = {"Debug", "HttpGarbage", "Hash"}  # tags whose bytes varnishlog prints with escapes
-PRINTABLE = range(0x20, 0x7F)
 SHOWN = 3  # lines that differ
 
 
@@ -78,18 +76,6 @@ def records_of(path):
             yield vxid, mark, tag, bytes(payload)
 
 
-def varnish_line(vxid, mark, number, payload):
-    """The line that varnishlog prints of a record under -g raw."""
-    name, payload = varnish_log.NAMES[number], bytes(payload)
-    if name in varnish_log.WITHOUT_TEXT:
-        text = b"[%s]" % payload.hex().encode()
-    elif name in UNSAFE:
-        text = b'"%s"' % b"".join(bytes([byte]) if byte in PRINTABLE else b"%%%02x" % byte for byte in payload)
-    else:
-        text = payload.partition(b"\0")[0]
-    return b"%10d %-14s %s %s\n" % (vxid, name.encode(), mark.encode(), text)
-
-
 def taken_of(came, counts, theirs):
     """What is to be taken of what went into vslog. Of a binary log varnishlog's lines are compared on the way."""
     if theirs is None:
@@ -99,7 +85,7 @@ def taken_of(came, counts, theirs):
     for entry in varnish_log.read_entries(bytes_of(came.taken), counts):
         record = varnish_log.taken_entry(entry, counts)
         if record:
-            theirs.want(varnish_line(*entry[1:]))
+            theirs.want(varnish_log.varnish_line(*entry[1:]))
             yield record
 
 
@@ -108,7 +94,7 @@ def compare_records(program, came):
     raw, counts, ids, many = ["varnishlog", "-g", "raw", "-r"], collections.Counter(), set(), 0
     ours, theirs = Lines("vtools", [program, *raw, came.written]), None
     if came.name != "text":
-        theirs = Lines("varnishlog", [*raw, came.taken, "-x", UNKNOWN_TAGS])
+        theirs = Lines("varnishlog", [*raw, came.taken, "-x", unknown_tags()])
     for record, got in itertools.zip_longest(taken_of(came, counts, theirs), records_of(came.written)):
         if record != got:
             raise Differs(f"the record {many} is {got}, not {record}")

@@ -9,7 +9,7 @@ import sys
 import tempfile
 
 from servers import (
-    UNKNOWN_TAGS, backend, free_port, message_of, probe, refusing_port, started, varnishd_words, wait_until,
+    backend, free_port, message_of, probe, refusing_port, started, unknown_tags, varnishd_words, wait_until,
     wait_until_still,
 )
 
@@ -54,7 +54,7 @@ def write_log(path, folder):
         vcl = os.path.join(HERE, "varnish_traffic.vcl")
         varnishd = stack.enter_context(started(varnishd_words(vcl, folder, ports, places, MEMORY), errors))
         wait_until(lambda: probe(port), varnishd, errors)
-        words = ["varnishlog", "-n", os.path.join(folder, "varnish"), "-g", "raw", "-x", UNKNOWN_TAGS, "-w", path]
+        words = ["varnishlog", "-n", os.path.join(folder, "varnish"), "-g", "raw", "-x", unknown_tags(), "-w", path]
         with started(words, lost) as varnishlog:
             # it writes when it has read all, so the first bytes show that it reads
             wait_until(lambda: probe(port) and os.path.exists(path) and os.path.getsize(path) > 0, varnishlog, lost)

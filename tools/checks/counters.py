@@ -21,12 +21,12 @@ QUICK_RINGS, QUICK_RECLENS = [64, RING], [16, RECLEN]
 MADE = [
     *[(count, 7, RING, RECLEN) for count in (1, 2, 3, 10, 1000)],
     *[(100, seed, RING, RECLEN) for seed in (0, 1, 2, 3, 4242, 65534, 65535, 65536)],
-    *[(100, 7, ring, RECLEN) for ring in (64, 65, 66, 71, 74, 75, 76, 100, 128, 1024, 1048576)],
+    *[(100, 7, ring, RECLEN) for ring in (64, 65, 66, 71, 75, 87, 88, 89, 100, 128, 1024, 1048576)],
     *[(100, 7, ring, reclen) for ring in (64, 65, 80) for reclen in (16, 17, 40, 41, 42, 4000)],
 ]
 LAST_SEED = 60  # of the turns of two feeds
 LAST_READ_SEED = 12  # of the turns of a reader and requests that are made up
-READ = 40, 7  # how many requests, and their seed
+READ = 45, 7  # how many requests, and their seed
 GLOBS = ["*", "**", "", "MAIN.*", "*miss*", "*_*_*", "*s*s*s*", "M*.*e*q", "MAIN.?", "main.*", "cache_hit", "*" * 10000]
 
 

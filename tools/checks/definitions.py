@@ -11,7 +11,7 @@ from checks.running import TOP, Failed
 
 LEFT = "tools/definitions_left.txt"
 MOST_COLUMNS = 150
-WIDE = {"src": 287, "specs": 201}  # how many lines are wider, of each folder of a crate
+WIDE = {"src": 33, "specs": 53}  # how many lines are wider, of each folder of a crate
 IMPORT = re.compile(r" *(//|--|(pub )?(ghost )?use )")  # or a comment
 CLAUSE = re.compile(r" *(ensures|requires|ghost) |.*[^\x00-\x7f]")
 

@@ -196,8 +196,8 @@ def goes_on(edges, what, words, first, then, wanted):
 
 def large(edges):
     """FILE has more than 16 MiB: the units of the real log a hundred times. Zero bytes are no unit."""
-    units, lines = LOG.read_bytes()[len(HEADER) :], LINES.read_bytes() * 100
-    edges.write("large.log", HEADER, units * 100)
+    log, lines = LOG.read_bytes(), LINES.read_bytes() * 100
+    edges.write("large.log", log[: len(HEADER)], log[len(HEADER) :] * 100)
     edges.run("a large log", "varnishlog -g raw -r large.log", stdout=lines)
     edges.run("a large log to a file", "varnishlog -g raw -w large -r large.log")
     edges.run("a large log, read back", "varnishlog -g raw -r large", stdout=lines)

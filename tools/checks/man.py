@@ -18,7 +18,7 @@ from checks.running import TOP, Failed, run, temporary_folder
 DOCUMENTS = ("docs/COMING_FROM_VARNISH.md",)
 FILES = {
     **{"log": "real-1.vslog", "traffic": "real-1.raw"},
-    **{name: name for name in ("varnish.vsl", "varnish.raw", "json.sed")},
+    **{name: name for name in ("varnish.vsl", "varnish.raw", "varnish-7.7.vsl", "json.sed")},
 }
 OF_PAGES = re.compile(r"^\.PP\n\.nf\n\.RS\n(\$ .*?)\n\.RE\n\.fi$", re.DOTALL | re.MULTILINE)
 OF_DOCUMENTS = re.compile(r"^```text\n(\$ .*?)\n```$", re.DOTALL | re.MULTILINE)

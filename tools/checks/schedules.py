@@ -10,9 +10,9 @@ from checks.running import Failed, compare, temporary_folder, write_tree
 SEG = 64
 RECLEN = 255
 LAST_SEED = 200
-BATCHES = 60
+BATCHES = 61
 NAMES = ["a", "b"]
-WHOLE = 4 * (SEG - 3)  # bytes of a payload whose record makes a unit of a whole segment
+WHOLE = 4 * (SEG - 4)  # bytes of a payload whose record makes a unit of a whole segment
 SIZES = [0, 1, 5, 17, 60, 120, 200, WHOLE - 4, WHOLE - 1]  # bytes of other payloads
 
 

@@ -1,11 +1,12 @@
 """Runs vslog over logs of Varnish that are cut, changed, and made up, beside tools/reference/varnish_log.py.
 
 The records of what it writes are compared with those of the script, and so are its messages and its status; where a
-unit ends may differ with how the input is cut into pieces. One log is of a real server: it is cut at each of its first
-bytes, and each of its first bytes is changed. Others are made up from a seed, in all forms that a record or a line may
-have, and run with -q and --strict too; some have the longest parts that there may be. They come by name, from standard
-input, and in pieces, and go to standard output, to a file, and behind what a file has. Of the real log that comes in
-pieces, all that is whole is written before the next piece comes.
+unit ends may differ with how the input is cut into pieces. A log of each form is of a real server: it is cut at each of
+its first bytes, and each of its first bytes is changed; and the script finds in it what the text has that its own
+varnishlog printed of it. Others are made up from a seed, in all forms that a record or a line may have, and run with -q
+and --strict too; some have the longest parts that there may be. They come by name, from standard input, and in pieces,
+and go to standard output, to a file, and behind what a file has. Of a real log that comes in pieces, all that is whole
+is written before the next piece comes.
 """
 
 import collections
@@ -56,21 +57,22 @@ CUT_SHORT = "vslog: {name}: ends inside a part: {left} bytes"
 DAMAGED = "vslog: {name}: damaged at {place} {at}"
 FAULT_STATUS = 1
 
-LOG, TEXT = TOP / "examples/varnish.vsl", TOP / "examples/varnish.raw"
-CUTS, CUTS_BEHIND = 4000, 100
-CHANGED, CHANGED_WHOLLY = 200, 8  # so many first bytes are changed, and so many of these to all others
+# Real logs with their texts; so many of a log's first bytes are cut, and so many are changed.
+REALS = {"varnish": (4000, 200), "varnish-7.7": (1000, 100)}
+CUTS_BEHIND = 100
+CHANGED_WHOLLY = 8  # so many first bytes are changed to all others
 OTHER_BYTES = 0x00, 0x01, 0x40, 0xC0, 0xFF
 SEED = 7
 LIVE_PIECES, MOST_PIECES = 30, 12
 LEAST_PIECE = 4096  # bytes of a file that are read at once
-END = varnish_log.NAMES.index("End")
 AT_ONCE = 2 * (os.cpu_count() or 1)
 
-FIRST_BYTES = [b"", b"V", b"VSL", b"VSL\1", b"VSLO", b"VSLOG-1\n", b"VSM\0", b"\x1f\x8b\x08\0", b"   1", b"\xff\0\xff"]
+FIRST_BYTES = [b"", b"V", b"VSL", b"VSL\1", b"VSL3", b"VSLO", b"VSLOG-1\n", b"VSM\0", b"\x1f\x8b\x08\0", b"   1", b"\xff\0\xff"]
 LENGTHS = [0, 0, 1, 1, 2, 3, 4, 5, 8, 13, 30, 60, 255, 3999, 4000, 4001, 4002, 9000, 65535]
 PAYLOADS = [b"", b"", b" ", b"a b  c ", b"\t\x7f\\x09\xc8", b"\0", b"a\0b", b"\r"]
 PAYLOADS += [b"4" * length for length in (3999, 4000, 4001)]
-VXIDS = [b"0", b"1", b"2", b"2", b"2", b"3", b"0000000002", b"00000000002", b"1073741823", b"1073741824", b"9" * 11]
+VXIDS = [b"0", b"1", b"2", b"2", b"2", b"3", b"%019d" % 2, b"%020d" % 2, b"4294967296"]
+VXIDS += [b"%d" % (vslog.MOST_VXID + more) for more in (0, 1)] + [b"9" * 20]
 NAMES = [b"End", b"Begin", b"VCL_Log", b"reqURL", b"H2RxHdr", b"Backend", b"VdpAcct", b"Nope", b"44", b"Req*", b"none"]
 LINES = [
     *[b"", b" ", b"   ", b"\t", b"#", b"# 2 End c", b" # 2 End c", b"*   << Request  >> 2     ", b"-   End          "],
@@ -228,22 +230,25 @@ def wait_until(what, holds):
         time.sleep(0.0002)
 
 
-def records_in(draw):
+def records_in(draw, form):
     """Some records of a binary log, with and without a zero byte at the end, and any bytes in the last word."""
-    many, vxid, mark = draw.randrange(12), 2, 1
+    many, vxid, mark, names = draw.randrange(12), 2, 1, form.names
     for _ in range(many):
         if draw.randrange(3) == 0:
-            vxid, mark = draw.choice([0, 1, 2, 3, vslog.MOST_VXID]), draw.randrange(3)
-        number = draw.choice([draw.randrange(256), draw.randrange(1, 97), draw.randrange(87, 91), END])
+            vxid, mark = draw.choice([0, 1, 2, 3, (1 << form.vxid_bits) - 1]), draw.randrange(3)
+        named = [names.index(draw.choice([*varnish_log.WITHOUT_TEXT, "End"]))]
+        number = draw.choice([draw.randrange(256), draw.randrange(1, len(names)), *named, names.index("End")])
         payload = draw.randbytes(draw.choice(LENGTHS if draw.randrange(20) == 0 else LENGTHS[:13]))
         payload = payload[:-1] + b"\0" if payload and draw.randrange(3) else payload
         filling = draw.randbytes(-len(payload) % 4)
-        yield struct.pack("<II", number << 24 | len(payload), mark << 30 | vxid) + payload + filling
+        word, whose = number << 24 | form.version << 16 | len(payload), mark << form.mark_place | vxid
+        yield struct.pack(form.words, word, whose) + payload + filling
 
 
 def binary_log(draw):
     """A binary log, of ten one with other first bytes, of five one that is cut, and of five one with a changed byte."""
-    log = varnish_log.FILE_MARK + b"".join(records_in(draw))
+    form = draw.choice([*varnish_log.FORMS.values()])
+    log = form.file_mark + b"".join(records_in(draw, form))
     if draw.randrange(10) == 0:
         log = draw.choice(FIRST_BYTES) + log[4:] * draw.randrange(2)
     if draw.randrange(5) == 0:
@@ -268,24 +273,24 @@ def text_log(draw):
     """A text, of ten one with other first bytes, whose last line may lack its line feed."""
     text = b"".join(line(draw) + draw.choice([b"\n", b"\n", b"\n", b"\r\n"]) for _ in range(draw.randrange(14)))
     if draw.randrange(10) == 0:
-        text = draw.choice([*FIRST_BYTES, varnish_log.FILE_MARK]) + text
+        text = draw.choice([*FIRST_BYTES, *varnish_log.FORMS]) + text
     return text[:-1] if draw.randrange(3) == 0 else text
 
 
-def changed_logs(log):
+def changed_logs(name, log, cuts, changed):
     """The log's first part with each of some bytes changed."""
-    for at in range(CHANGED):
+    for at in range(changed):
         others = range(256) if at < CHANGED_WHOLLY else (*OTHER_BYTES, log[at] ^ 0x01, log[at] ^ 0x80)
         for byte in {*others} - {log[at]}:
-            what = f"the real log's first {CUTS} bytes with {byte} for byte {at}"
-            yield what, log[:at] + bytes([byte]) + log[at + 1 : CUTS], []
+            what = f"the first {cuts} bytes of {name} with {byte} for byte {at}"
+            yield what, log[:at] + bytes([byte]) + log[at + 1 : cuts], []
 
 
-def cut_logs(log):
+def cut_logs(name, log, cuts):
     """The log cut at each place of its first part, and at some behind."""
-    behind = random.Random(SEED).sample(range(CUTS, len(log)), CUTS_BEHIND)
-    for size in [*range(CUTS), *behind]:
-        yield f"the real log's first {size} bytes", log[:size], []
+    behind = random.Random(SEED).sample(range(cuts, len(log)), CUTS_BEHIND)
+    for size in [*range(cuts), *behind]:
+        yield f"the first {size} bytes of {name}", log[:size], []
 
 
 def limit_logs():
@@ -294,8 +299,10 @@ def limit_logs():
         for end in (b"\n", b"\r\n", b""):
             for line in (b"2 ReqURL c " + b"/" * (size - 11), b" " * size):
                 yield f"a text with a line of {size} bytes and {end}", b"1 End c\n" + line + end, ["-t"]
-    longest = bytes([0xFF, 0xFF, 0, END, 2, 0, 0, 0]) + bytes(65536)
-    yield "five of the longest record", varnish_log.FILE_MARK + 5 * longest, []
+    for form in varnish_log.FORMS.values():
+        word = form.names.index("End") << 24 | form.version << 16 | 0xFFFF
+        longest = struct.pack(form.words, word, 2) + bytes(65536)
+        yield f"five of the longest record behind {form.file_mark}", form.file_mark + 5 * longest, []
 
 
 def made_up_logs(many):
@@ -315,14 +322,25 @@ def all_words(program, way, what, log, words):
         way(program, what, log, words, folder)
 
 
+def same_text(name, log, text):
+    """Fails where the records of a real log aren't those of the text that its own varnishlog printed of it."""
+    lines = [varnish_log.varnish_line(*entry[1:]) for entry in varnish_log.read_entries(log, collections.Counter())]
+    if b"".join(lines) != text:
+        raise Failed(f"the records of {name}.vsl aren't those of {name}.raw")
+
+
 def check(program, many):
-    log, text = LOG.read_bytes(), TEXT.read_bytes()
-    reals = [("the real log", log, []), ("its text", text, ["-t"])]
+    logs = {name: (TOP / f"examples/{name}.vsl").read_bytes() for name in REALS}
+    reals = [(name, log, []) for name, log in logs.items()]
+    reals += [(f"the text of {name}", (TOP / f"examples/{name}.raw").read_bytes(), ["-t"]) for name in REALS]
+    for name, log in logs.items():
+        same_text(name, log, (TOP / f"examples/{name}.raw").read_bytes())
+    cut = [row for name, (cuts, _) in REALS.items() for row in cut_logs(name, logs[name], cuts)]
+    changed = [row for name, sizes in REALS.items() for row in changed_logs(name, logs[name], *sizes)]
     with concurrent.futures.ThreadPoolExecutor(AT_ONCE) as pool:
         runs = [pool.submit(live, program, *real) for real in reals]
         runs += [pool.submit(all_words, program, of_file, *real) for real in reals]
-        runs += [pool.submit(of_input, program, *cut) for cut in cut_logs(log)]
-        runs += [pool.submit(of_input, program, *changed) for changed in changed_logs(log)]
+        runs += [pool.submit(of_input, program, *row) for row in [*cut, *changed]]
         runs += [pool.submit(of_input, program, *limit) for limit in limit_logs()]
         runs += [pool.submit(all_words, program, *made) for made in made_up_logs(many)]
         try:

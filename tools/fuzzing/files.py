@@ -9,22 +9,27 @@ import vslog
 
 
 class Log(typing.NamedTuple):
-    """A log file of these units."""
+    """A log file of these units, in this version."""
 
     units: list
+    version: vslog.Version = vslog.TWO
 
     def data(self):
-        return vslog.HEADER + b"".join(vslog.unit(*unit) for unit in self.units)
+        return self.version.header + b"".join(vslog.unit(*unit, self.version) for unit in self.units)
+
+    def versions(self):
+        """The versions in which its units can be written."""
+        return [one for one in vslog.VERSIONS if all(vxid <= one.most_vxid for vxid, _, _ in self.units)]
 
     def parts(self):
         """Its units, and the records of each; a unit without one is left out."""
-        yield self.units, Log
+        yield self.units, lambda left: self._replace(units=left)
         for at, (vxid, mark, records) in enumerate(self.units):
             yield records, lambda left, at=at, vxid=vxid, mark=mark: self.with_unit(at, vxid, mark, left)
 
     def with_unit(self, at, *unit):
         *_, records = unit
-        return Log([*self.units[:at], *[unit] * bool(records), *self.units[at + 1 :]])
+        return self._replace(units=[*self.units[:at], *[unit] * bool(records), *self.units[at + 1 :]])
 
     def told(self):
         """The records in lines, with an empty line between units."""

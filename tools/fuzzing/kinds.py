@@ -16,9 +16,9 @@ PREFIXES = 251  # of a long log
 MOST_SEED = 65536
 TELLING_BYTES = [0, 1, 2, 0x2A, 0x2C, 0x40, 0x5D, 0x80, 0xC0, 0xFE, 0xFF]  # of the words of a unit
 TELLING_WORDS = [
-    *[0xFE000002, 0xFE000003, 0xFE100000, 0xFE100001, 0xFE0000FF, 0xFF000003],  # headers of units
+    *[0xFE000002, 0xFE000003, 0xFE000004, 0xFE100001, 0xFE200000, 0xFE200001, 0xFE0000FF, 0xFF000004],  # headers of units
     *[0x00000000, 0x01000000, 0x5C000004, 0x5D000000, 0x2A000FA0, 0x2A000FA1, 0x2A010000],  # tags and lengths
-    *[0x40000001, 0x80000001, 0xC0000001, 0x7FFFFFFF, 0xBFFFFFFF],  # marks and VXIDs
+    *[0x40000000, 0x80000000, 0xC0000000, 0x40000001, 0xC0000001, 0x3FFFFFFF, 0x7FFFFFFF, 0xBFFFFFFF],  # marks and VXIDs
 ]
 GLOBS = ["*", "*shm*", "MAIN.*_*", "*s*s*", "MAIN.cache_hit", "cache_hit", "*.s_re*y*", "", "**q", "main.*", "MAIN.?*"]
 
@@ -41,9 +41,15 @@ def of_log(tool, *words, log):
     return CommandLine([tool, *once, *words, "-r", "-"], {}, log)
 
 
+def log_of(draw, units):
+    """A log file of these units, in a version that has words for them."""
+    log = Log(units)
+    return log._replace(version=draw.choice(log.versions()))
+
+
 def groups(draw, _):
     """A hostile log under a grouping: all of its groups, those that queries take, or a report."""
-    log, options = Log(logs.hostile(draw)), [*limits(draw), "-g", draw.choice(GROUPINGS)]
+    log, options = log_of(draw, logs.hostile(draw)), [*limits(draw), "-g", draw.choice(GROUPINGS)]
     queries = asked(texts.of_query(draw, 4) for _ in range(draw.choice([1, 1, 2])))
     listed = ("varnishlog", draw.choice([[], ["-v"]]))
     tool, more = draw.choice([listed, ("varnishlog", queries), ("varnishtop", draw.choice([[], queries]))])
@@ -81,7 +87,7 @@ def changed(draw, data):
 
 def cut(draw, _):
     """A log file that is cut or has other bytes: its groups up to there, what is written of them, lines, a report."""
-    data = Log(logs.any_log(draw)).data()
+    data = log_of(draw, logs.any_log(draw)).data()
     for _ in range(draw.choice([1, 1, 2])):
         data = changed(draw, data)
     tool = draw.choice(["varnishlog", "varnishlog", "varnishlog", "varnishncsa", "varnishtop"])
@@ -89,6 +95,7 @@ def cut(draw, _):
     words = [tool, *["-1"] * (tool == "varnishtop"), *grouping, *limits(draw)]
     words += ["-w", "out"] if tool != "varnishtop" and draw.randrange(4) == 0 else []
     yield CommandLine([*words, "-r", "f"], {"f": Bytes(data)})
+    yield CommandLine(["convert", "f", draw.choice(["out", "-"])], {"f": Bytes(data)})
 
 
 def words(draw, _):
@@ -129,7 +136,7 @@ def selection(draw, _):
     words = ["varnishlog", *flags, *rules, *asks, "-g", draw.choice(GROUPINGS)]
     old = {"out": Bytes(draw.choice([b"", b"old"]))} if draw.randrange(3) == 0 else {}
     written = draw.choice([[], [], ["-w", "out"], ["-aw", "out"], ["-Aw", "out"], ["-aAw", "out"], ["-w", "-"]])
-    yield CommandLine([*words, *written, "-r", "-"], old, Log(logs.any_log(draw)))
+    yield CommandLine([*words, *written, "-r", "-"], old, log_of(draw, logs.any_log(draw)))
 
 
 def fed(draw, _):

@@ -17,7 +17,7 @@ PAYLOADS = {
 LETTERS = [b"x", b"x", b"x", b"y", b" ", b"\\x09", b"\xe9", b"\0"]
 SIZES = [0, 1, 3, 15, 16, 17, 60, 120, 200, 239, 240, 241, 244, 245, 255, 256, 300] * 3 + [3999, 4000, 4001, 5000]
 BAD = [
-    *[b"x", b" # x", b"\t", b"1073741824 End c", b"00000000002 End c", b"-2 End c", b"2 Nope c", b"2 Req* c"],
+    *[b"x", b" # x", b"\t", b"4611686018427387904 End c", b"%020d End c" % 2, b"-2 End c", b"2 Nope c", b"2 Req* c"],
     *[b"2 44 c", b"2 End", b"2 End C", b"2 End cb", b"2\tEnd c", b"*   << Request  >> 2", b"2 End c\r x"],
 ]
 BETWEEN = [b"\n", b"# a comment\n", b"  \n", b"#\r\n", b" \r\n", b"\r\n"]
@@ -38,7 +38,7 @@ def line(draw, vxid, mark):
     if draw.randrange(3):
         return b"%10d %-14s %s %s" % (vxid, tag.encode(), mark.encode(), said) + end
     first, *between = (b" " * draw.choice(sizes) for sizes in ([0, 0, 1, 2], [1, 1, 2, 5], [1, 1, 2, 5]))
-    parts = [b"%0*d" % (draw.choice([1, 10]), vxid), draw.choice([str.lower, str.upper])(tag).encode(), mark.encode()]
+    parts = [b"%0*d" % (draw.choice([1, 10, vslog.MOST_DIGITS]), vxid), draw.choice([str.lower, str.upper])(tag).encode(), mark.encode()]
     behind = b" " + said if said or draw.randrange(2) else b""
     return first + parts[0] + between[0] + parts[1] + between[1] + parts[2] + behind + end
 
@@ -48,7 +48,7 @@ def listing(draw, most=25):
     parts, vxid, mark = [], 1, "c"
     for _ in range(draw.randint(0, most)):
         if draw.randrange(3) == 0:
-            vxid, mark = draw.choice([0, 1, 2, 3, 4, vslog.MOST_VXID]), draw.choice(MARKS)
+            vxid, mark = draw.choice([0, 1, 2, 3, 4, 1 << 30, 1 << 32, vslog.MOST_VXID]), draw.choice(MARKS)
         parts.append(line(draw, vxid, mark))
         if draw.randrange(8) == 0:
             parts.append(draw.choice(BETWEEN))

@@ -12,7 +12,7 @@ OTHERS = [
     *[("ReqURL", payload) for payload in (b"/", b"/a", b"/b?c", b"\x01\x7f\\ \xc3", b"\\x01")],
 ]
 NOT_WELL_FORMED = [
-    *[b"", b"req", b"Req 2 esi", b"req -2 esi", b"req 2x esi", b"req 1073741824 esi", b"req 00000000002 esi"],
+    *[b"", b"req", b"Req 2 esi", b"req -2 esi", b"req 2x esi", b"req 4611686018427387904 esi", b"req %020d esi" % 2],
 ]
 
 
@@ -25,7 +25,7 @@ class Hostile:
 
     def __init__(self, draw):
         self.draw, self.time = draw, 100 * PART
-        first = draw.choice([1] * 5 + [999999996, MOST_VXID - 7])
+        first = draw.choice([1] * 5 + [(1 << 32) - 4, 9999999996, MOST_VXID - 7])
         self.vxids = range(first, first + 1 + draw.randrange(8))
         self.parents = {vxid: draw.choice(self.vxids) for vxid in self.vxids}
         self.reasons = draw.choice([[b"esi"], [b"rxreq"], [b"esi", b"restart", b"rxreq", b"fetch", b""]])
@@ -200,16 +200,16 @@ def served(draw, most=6):
 # Words of a unit: about as many as one has that is written, or two, and about as many as one has that is read.
 WIDE = [MOST_WRITTEN + more for more in (-1, 0, 1, 2, 3, 4464)] + [2 * MOST_WRITTEN + more for more in (-2, -1, 0, 1)]
 WIDEST = [MOST_WORDS + more for more in (-1, 0, 0, 1, 2)]
-LONG, SHORT = [1002, 1002, 1001, 700], [1002, 257, 33, 6, 3, 2]  # words of a record
-LONGEST = 1002
+LONG, SHORT = [1003, 1003, 1002, 701], [1003, 258, 34, 7, 4, 3]  # words of a record
+LEAST, LONGEST = 3, 1003
 
 
 def filled(draw, words, long):
     """Records of exactly so many words."""
     size = draw.choice(LONG if long else SHORT)
-    count = (words - 2) // size
+    count = (words - LEAST) // size
     rest = words - size * count
-    rests = [rest] if rest <= LONGEST else [2, rest - 2]
+    rests = [rest] if rest <= LONGEST else [LEAST, rest - LEAST]
     letter = draw.choice([b"a", b"b", b"\xe9", b"\x01"])
     body = [of_words(draw, size, letter)] * count
     return body + [of_words(draw, size, letter) for size in rests]
@@ -217,7 +217,7 @@ def filled(draw, words, long):
 
 def of_words(draw, words, letter):
     """A record of so many words."""
-    return draw.choice(["VCL_Log", "ReqURL", "Debug"]), letter * max(4 * (words - 2) - draw.choice([0, 0, 1, 3]), 0)
+    return draw.choice(["VCL_Log", "ReqURL", "Debug"]), letter * max(4 * (words - LEAST) - draw.choice([0, 0, 1, 3]), 0)
 
 
 def wide(draw):

@@ -8,7 +8,7 @@ import sys
 import typing
 
 from decimals import PART, parts_of
-from vslog import MOST_VXID, escaped, raw_line
+from vslog import MOST_DIGITS, MOST_VXID, escaped, raw_line
 
 LIMIT, TIMEOUT = 1000, 120  # without -L and -T
 sys.setrecursionlimit(100000)  # trees may be deep
@@ -18,7 +18,7 @@ KINDS = {b"sess": "Session", b"req": "Request", b"bereq": "BeReq"}
 def read_claim(payload):
     """The type, VXID and reason of a Begin or a Link; no type and the number 0 where it isn't well formed."""
     kind, number, reason = (payload.split() + [b""] * 3)[:3]
-    right = kind in KINDS and re.fullmatch(rb"[0-9]{1,10}", number) and int(number) <= MOST_VXID
+    right = kind in KINDS and re.fullmatch(rb"[0-9]{1,%d}" % MOST_DIGITS, number) and int(number) <= MOST_VXID
     return (kind, int(number), reason) if right else (None, 0, b"")
 
 

@@ -12,13 +12,13 @@ import dataclasses
 import re
 import typing
 
-from vslog import MOST_VXID, TAGS, raw_line, record_words, unit_words
+from vslog import MOST_DIGITS, MOST_VXID, TAGS, raw_line, record_words, unit_words
 
 SEGMENTS = 8  # of a ring
 OVERRUN_DISTANCE = 6  # segments by which the tail is ahead of a reader that is overrun
 SEEK_DISTANCE = 4  # segments by which the tail is ahead of the segment in which that reader goes on
 NAMES = {name.lower().encode(): name for name in TAGS[1:]}
-LINE = re.compile(rb" *([0-9]{1,10}) +([^ ]+) +([cb-])(?: (.*))?", re.DOTALL)
+LINE = re.compile(rb" *([0-9]{1,%d}) +([^ ]+) +([cb-])(?: (.*))?" % MOST_DIGITS, re.DOTALL)
 
 
 class BadLine(Exception):
@@ -52,7 +52,7 @@ def read_line(line, number):
 
 def read_listing(data, reclen, seg):
     """The units of a listing, and how often a batch was cut because a segment has no room for more of it."""
-    most_payload = min(reclen, 4 * (seg - 3))
+    most_payload = min(reclen, 4 * (seg - unit_words([("End", b"")])))
     units, cuts, batch = [], 0, None  # the batch is the last unit, where it may still grow
     for number, line in enumerate(listing_lines(data), 1):
         if line.startswith(b"#"):

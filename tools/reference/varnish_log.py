@@ -14,16 +14,15 @@ import itertools
 import re
 import struct
 import sys
+import typing
 
 sys.dont_write_bytecode = True
-from vslog import MARKS, MOST_PAYLOAD, MOST_VXID, TAGS, NotRead, raw_line
+from vslog import MARKS, MOST_DIGITS, MOST_PAYLOAD, MOST_VXID, TAGS, NotRead, raw_line
 
-FILE_MARK = b"VSL\0"
-MOST_DIGITS = 10  # of a VXID
 MOST_HELD = 262208  # bytes in which a line's line feed must come
 MESSAGE = "Method URL Protocol Status Reason Header Unset Lost".split()
-# The names of Varnish's tags by their numbers, by vsl(7) of Varnish 7.1.
-NAMES = [
+# The names of all of Varnish's tags, by their numbers in Varnish 7.1.
+ALL_NAMES = [
     *["none", "Debug", "Error", "CLI", "SessOpen", "SessClose", "BackendOpen", "BackendReuse", "BackendClose"],
     *["HttpGarbage", "Proxy", "ProxyGarbage", "Backend", "Length", "FetchError"],
     *[message + part for message in ("Req", "Resp", "Bereq", "Beresp", "Obj") for part in MESSAGE],
@@ -34,6 +33,38 @@ NAMES = [
     *["SessError", "VCL_use", "Notice", "VdpAcct"],
 ]
 WITHOUT_TEXT = {"H2RxHdr", "H2RxBody", "H2TxHdr", "H2TxBody"}
+UNSAFE = {"Debug", "HttpGarbage", "Hash"}  # tags whose bytes varnishlog prints with escapes
+PRINTABLE = range(0x20, 0x7F)
+
+
+class Form(typing.NamedTuple):
+    """What tells one form of the binary log from another."""
+
+    file_mark: bytes
+    version: int  # bits 16 to 23 of a record's first word
+    words: str  # the first word, and the number of VXID and mark, whose two highest bits are the mark's
+    vxid_bits: int
+    lacks: frozenset  # names of tags
+
+    @property
+    def head(self):
+        """How many bytes a record has before those of its own."""
+        return struct.calcsize(self.words)
+
+    @property
+    def mark_place(self):
+        """Below the two bits of the mark."""
+        return 8 * (self.head - 4) - 2
+
+    @property
+    def names(self):
+        """The names of the tags by their numbers."""
+        return [name for name in ALL_NAMES if name not in self.lacks]
+
+
+NARROW = Form(b"VSL\0", 0, "<II", 30, frozenset())
+WIDE = Form(b"VSL2", 1, "<IQ", 51, frozenset({"BackendReuse", "Backend", "BackendStart"}))
+FORMS = {form.file_mark: form for form in (NARROW, WIDE)}
 OUR_NAMES = {name.lower().encode(): name for name in TAGS[1:]}
 TAKEN = frozenset(OUR_NAMES.values())
 # A record's line: VXID, name and mark with spaces between them, and perhaps a space and a payload.
@@ -47,7 +78,7 @@ def looks_of(first):
     """What a file looks like whose first four bytes are these, as many as it has."""
     if not first:
         return "empty"
-    if first == FILE_MARK:
+    if first in FORMS:
         return "binary"
     if first == b"VSLO":
         return "our log"
@@ -78,17 +109,19 @@ def check_looks(data, others):
 
 
 def read_entries(data, counts):
-    """All records of a binary log, each as place, VXID, mark, number of its tag, bytes. Where none begins, NotRead."""
+    """All records of a binary log, each as place, VXID, mark, name of its tag or None, bytes. Where none begins, NotRead."""
     check_looks(data, NO_BINARY)
-    at = 4
-    while at + 8 <= len(data):
-        head, number = struct.unpack_from("<II", data, at)
-        start, stop = at + 8, at + 8 + (head & 0xFFFF)
-        if head >> 16 & 0xFF or number >> 30 == 3:
+    form, at = FORMS[bytes(data[:4])], 4
+    names = dict(enumerate(form.names))
+    while at + form.head <= len(data):
+        word, number = struct.unpack_from(form.words, data, at)
+        start, stop = at + form.head, at + form.head + (word & 0xFFFF)
+        mark, vxid = divmod(number, 1 << form.mark_place)
+        if word >> 16 & 0xFF != form.version or mark == 3 or vxid >> form.vxid_bits:
             raise NotRead("damaged", at)
         if (stop + 3) // 4 * 4 > len(data):
             break
-        yield at, number & MOST_VXID, MARKS[number >> 30], head >> 24, data[start:stop]
+        yield at, vxid, MARKS[mark], names.get(word >> 24), data[start:stop]
         at = (stop + 3) // 4 * 4
     counts["bytes"] += len(data) - at
 
@@ -112,10 +145,21 @@ def taken(at, record, counts, is_strict):
 
 def taken_entry(entry, counts, is_strict=False):
     """What is taken of a record of a binary log: of a text without the zero byte at its end."""
-    at, vxid, mark, number, payload = entry
-    name = NAMES[number] if number < len(NAMES) else None
+    at, vxid, mark, name, payload = entry
     has_zero = name not in WITHOUT_TEXT and payload[-1:] == b"\0"
     return taken(at, (vxid, mark, name, payload[:-1] if has_zero else payload), counts, is_strict)
+
+
+def varnish_line(vxid, mark, name, payload):
+    """The line that Varnish's own varnishlog prints of a record of a binary log under -g raw."""
+    payload = bytes(payload)
+    if name in WITHOUT_TEXT:
+        text = b"[%s]" % payload.hex().encode()
+    elif name in UNSAFE:
+        text = b'"%s"' % b"".join(bytes([byte]) if byte in PRINTABLE else b"%%%02x" % byte for byte in payload)
+    else:
+        text = payload.partition(b"\0")[0]
+    return b"%10d %-14s %s %s\n" % (vxid, name.encode(), mark.encode(), text)
 
 
 def read_binary(data, counts, is_strict=False):

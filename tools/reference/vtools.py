@@ -27,7 +27,7 @@ from patterns import NotClaimed
 from queries import asked_by
 from reports import report
 from selection import Selection, read_rule
-from vslog import HEADER, NotRead, read_units
+from vslog import HEADER, NotRead, read_units, unit
 from words import Refused
 from written_logs import written
 
@@ -92,10 +92,16 @@ class Run:
         if job.tool == "varnishstat":
             self.counters(job)
             return
+        if job.tool == words_of.CONVERT:
+            self.converted(job)
+            return
         queries = [self.query(number, job, *given) for number, given in enumerate(job.queries)]
         output = OUTPUTS[job.tool](job)
         items = self.items(job)
-        self.groups(job, queries, items, output, self.sink(job, output))
+        sink = self.sink(job)
+        if not sink.has:
+            sink.write(output.head)
+        self.groups(job, queries, items, output, sink)
 
     def bytes_of(self, name, most=None):
         """All bytes of a file; Refused where it can't be read, or has more than so many."""
@@ -149,8 +155,8 @@ class Run:
         except NotRead as damage:
             raise Refused(f"vtools: {name}: {damage}", 1) from None
 
-    def sink(self, job, output):
-        """Standard output or the file of -w, with the output's first bytes where it has none."""
+    def sink(self, job):
+        """Standard output or the file that is written."""
         name = job.values.get("-w", "-")
         if name == "-":
             sink = self.stdout
@@ -158,8 +164,6 @@ class Run:
             sink = Sink(name, 0)
         else:
             sink = self.file = self.created(name, job)
-        if not sink.has:
-            sink.write(output.head)
         return sink
 
     def created(self, name, job):
@@ -192,6 +196,13 @@ class Run:
             else:
                 yield from table.take_unit(*item)
         yield from table.flush()
+
+    def converted(self, job):
+        """Writes each unit of a log, as it is, behind a header."""
+        units, sink = self.items(job), self.sink(job)
+        sink.write(HEADER)
+        for each in units:
+            sink.write(unit(*each))
 
     def counters(self, job):
         """Puts all feeds, and prints names or counters."""

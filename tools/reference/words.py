@@ -12,6 +12,7 @@ from selection import read_rule
 FLAGS = {"varnishlog": "aAbcCdEv", "varnishncsa": "abcCdE", "varnishtop": "1bcCdEf", "varnishstat": "1jl"}
 WITH_VALUE = {"varnishlog": "giIkLqQrTwxX", "varnishncsa": "FgkLqQrTw", "varnishtop": "giIkLqQrTxX", "varnishstat": "f"}
 ABSENT = {"varnishlog": "DhnPRtuV", "varnishncsa": "DfhjnPRtV", "varnishtop": "hnptV", "varnishstat": "hInrtVxX"}
+CONVERT = "convert"
 GROUPINGS = ["raw", "vxid", "request", "session"]
 OF_ACCESS_LINES = ["vxid", "request"]  # the groupings that varnishncsa takes
 RANGES = {"-k": (1, 999999999), "-L": (1, 1000000), "-T": (1, 1000000)}
@@ -165,8 +166,17 @@ def check_texts(words):
 
 def asks_for_help(words):
     """Whether the words ask for a help or a version, whose texts aren't said here."""
-    is_of_tool = len(words) == 2 and words[0] in FLAGS and words[1] in ("--help", "-h")
-    return is_of_tool or words in (["--help"], ["--version"])
+    is_of_command = len(words) == 2 and words[0] in (*FLAGS, CONVERT) and words[1] in ("--help", "-h")
+    return is_of_command or words in (["--help"], ["--version"])
+
+
+def names(words):
+    """The job of a command of two names behind its own: the log that is read, and the file that is written."""
+    if len(words) < 3:
+        raise Refused("vtools: no log")
+    if len(words) > 3:
+        raise Refused(f"vtools: bad value: {words[3]}")
+    return Job(tool=words[0], values={"-r": words[1], "-w": words[2]})
 
 
 def read(words):
@@ -174,6 +184,8 @@ def read(words):
     check_texts(words)
     if asks_for_help(words):
         raise NotClaimed
+    if words[:1] == [CONVERT]:
+        return names(words)
     job = Reader(words).read()
     check_whole(job)
     check_rules(job)

@@ -2,9 +2,9 @@
 
 use crate::comparing::same;
 use acceptance_support::{
-    ALSO_WHOLE, Answer, ENDS_EARLY, Ending, FETCH, FETCH_GROUPS, FETCH_TO_FILE, FIRST_WHOLE,
-    HEADER, KINDS, LAST_WHOLE, Log, ONE_PING, OPEN_GROUPS, OPEN_TO_FILE, PING_TO_FILE,
-    REQUEST_WITH_FETCH, differs, taken, world_with,
+    Answer, CHANGES, ChangedBytes, Ending, FETCH, FETCH_GROUPS, FETCH_TO_FILE, HEADER, Log,
+    OLD_CHANGES, OLD_FETCH, OLD_FETCH_TO_FILE, ONE_PING, OPEN_GROUPS, OPEN_TO_FILE, PING_TO_FILE,
+    differs, taken, world_with,
 };
 use std::alloc::Global;
 use std::process::Abort;
@@ -96,13 +96,15 @@ fn expect_cuts<R: Abort + Threads + Wait + Sync>(rt: &R, alloc: Global, log: &Lo
 }
 
 /// The logs that are cut.
-const CUT: [Log; 6] = [
+const CUT: [Log; 8] = [
     ONE_PING,
     FETCH,
     FETCH_GROUPS,
     OPEN_GROUPS,
     PING_TO_FILE,
     OPEN_TO_FILE,
+    OLD_FETCH,
+    OLD_FETCH_TO_FILE,
 ];
 
 #[test]
@@ -119,13 +121,19 @@ fn a_file_of_more_than_16_mebibytes_is_read_as_far_as_it_is_a_log(rt: HostRuntim
     let mut bytes = Vec::from_slice(rt.alloc(), ONE_PING.bytes).expect(&rt, "memory");
     bytes.resize(16_777_217, 0).expect(&rt, "memory");
     let (_, line, _) = ONE_PING.units[0];
-    let want = taken(Ending::Damaged(28), 1, line);
-    expect_answer(&rt, rt.alloc(), &ONE_PING, &bytes, usize::MAX, &want, 28);
+    let want = taken(Ending::Damaged(32), 1, line);
+    expect_answer(&rt, rt.alloc(), &ONE_PING, &bytes, usize::MAX, &want, 32);
 }
 
-/// The request and its fetch with this value at this place.
-fn changed_to(place: usize, value: u8) -> [u8; 100] {
-    let mut bytes = REQUEST_WITH_FETCH;
+/// The file of a table with this value at this place.
+fn changed_to(
+    rt: &impl Abort,
+    alloc: Global,
+    table: &ChangedBytes,
+    place: usize,
+    value: u8,
+) -> Vec<u8> {
+    let mut bytes = Vec::from_slice(alloc, table.bytes).expect(rt, "memory");
     if let Some(byte) = bytes.get_mut(place) {
         *byte = value;
     }
@@ -148,14 +156,14 @@ fn read_content(rt: &impl Abort, alloc: Global, bytes: &[u8]) -> (usize, Option<
 }
 
 /// Whether the file stays whole with this value at this place.
-fn is_whole(place: usize, value: u8) -> bool {
-    let first = FIRST_WHOLE.get(place).copied().unwrap_or(255);
-    let last = LAST_WHOLE.get(place).copied().unwrap_or(0);
+fn is_whole(table: &ChangedBytes, place: usize, value: u8) -> bool {
+    let first = table.first_whole.get(place).copied().unwrap_or(255);
+    let last = table.last_whole.get(place).copied().unwrap_or(0);
     if first <= value && value <= last {
         return true;
     }
-    for (at, first, last) in ALSO_WHOLE {
-        if at == place && first <= value && value <= last {
+    for (at, first, last) in table.also_whole {
+        if *at == place && *first <= value && value <= *last {
             return true;
         }
     }
@@ -163,81 +171,92 @@ fn is_whole(place: usize, value: u8) -> bool {
 }
 
 /// How many units the file has with this value at this place, and at which byte no unit begins, if it ends early.
-fn early_end(place: usize, value: u8) -> Option<(usize, u64)> {
-    for (at, changed, units, wrong) in ENDS_EARLY {
-        if at == place && changed == value {
-            return Some((units, wrong));
+fn early_end(table: &ChangedBytes, place: usize, value: u8) -> Option<(usize, u64)> {
+    for (at, changed, units, wrong) in table.ends_early {
+        if *at == place && *changed == value {
+            return Some((*units, *wrong));
         }
     }
     None
 }
 
 /// How many units the file has with this value at this place, and why no more, if it isn't whole.
-fn content_of_changed(place: usize, value: u8) -> (usize, Option<FileFault>) {
-    if is_whole(place, value) {
+fn content_of_changed(table: &ChangedBytes, place: usize, value: u8) -> (usize, Option<FileFault>) {
+    if is_whole(table, place, value) {
         return (2, None);
     }
-    if let Some((units, at)) = early_end(place, value) {
+    if let Some((units, at)) = early_end(table, place, value) {
         return (units, Some(FileFault::Damaged { at }));
     }
     if place < HEADER.len() {
         return (0, Some(FileFault::NotALog { at: place as u64 }));
     }
     // the first unit is whole where the second one was changed
-    if place < 44 {
+    if place < table.first_end {
         return (0, Some(FileFault::Damaged { at: 8 }));
     }
-    (1, Some(FileFault::Damaged { at: 44 }))
+    let at = table.first_end as u64;
+    (1, Some(FileFault::Damaged { at }))
 }
 
 /// Reads the file with this value at this place.
-fn expect_content(rt: &impl Abort, alloc: Global, place: usize, value: u8) {
-    let (units, fault) = read_content(rt, alloc, &changed_to(place, value));
-    let (whole, wrong) = content_of_changed(place, value);
-    same(
-        rt,
-        (place, value, units, fault),
-        (place, value, whole, wrong),
-    );
+fn expect_content(rt: &impl Abort, alloc: Global, table: &ChangedBytes, place: usize, value: u8) {
+    let bytes = changed_to(rt, alloc, table, place, value);
+    let (units, fault) = read_content(rt, alloc, &bytes);
+    let (whole, wrong) = content_of_changed(table, place, value);
+    let changed = (table.name, place, value);
+    same(rt, (changed, units, fault), (changed, whole, wrong));
 }
 
 /// Each value once, at these places in turn.
-fn expect_values(rt: &impl Abort, alloc: Global, places: &[usize]) {
+fn expect_values(rt: &impl Abort, alloc: Global, table: &ChangedBytes, places: &[usize]) {
     for value in 0..=255u8 {
         let place = places.get(usize::from(value) % places.len().max(1));
-        expect_content(rt, alloc, *place.expect(rt, "a place"), value);
+        expect_content(rt, alloc, table, *place.expect(rt, "a place"), value);
     }
 }
 
 /// The values beside a range of values at a place, and its ends; of the range of all values nothing.
-fn expect_ends(rt: &impl Abort, alloc: Global, place: usize, first: u8, last: u8) {
+fn expect_ends(
+    rt: &impl Abort,
+    alloc: Global,
+    table: &ChangedBytes,
+    place: usize,
+    first: u8,
+    last: u8,
+) {
     if first == 0 && last == 255 {
         return;
     }
-    expect_content(rt, alloc, place, first.wrapping_sub(1));
-    expect_content(rt, alloc, place, last.wrapping_add(1));
+    expect_content(rt, alloc, table, place, first.wrapping_sub(1));
+    expect_content(rt, alloc, table, place, last.wrapping_add(1));
     if first < last {
-        expect_content(rt, alloc, place, first);
-        expect_content(rt, alloc, place, last);
+        expect_content(rt, alloc, table, place, first);
+        expect_content(rt, alloc, table, place, last);
     }
 }
 
 /// Of each kind of byte each value, at one of its places; at each place the values round the ends of those with which the
 /// file stays whole; and what ends it early.
+fn expect_changes(rt: &impl Abort, alloc: Global, table: &ChangedBytes) {
+    for places in table.kinds {
+        expect_values(rt, alloc, table, *places);
+    }
+    for (place, (first, last)) in table.first_whole.iter().zip(table.last_whole).enumerate() {
+        expect_ends(rt, alloc, table, place, *first, *last);
+    }
+    for (place, first, last) in table.also_whole {
+        expect_ends(rt, alloc, table, *place, *first, *last);
+    }
+    for (place, value, _, _) in table.ends_early {
+        expect_content(rt, alloc, table, *place, *value);
+    }
+}
+
 #[test]
 fn a_changed_byte_is_seen_where_it_matters(rt: HostRuntime) {
-    let alloc = rt.alloc();
-    for places in KINDS {
-        expect_values(&rt, alloc, places);
-    }
-    for place in 0..REQUEST_WITH_FETCH.len() {
-        expect_ends(&rt, alloc, place, FIRST_WHOLE[place], LAST_WHOLE[place]);
-    }
-    for (place, first, last) in ALSO_WHOLE {
-        expect_ends(&rt, alloc, place, first, last);
-    }
-    for (place, value, _, _) in ENDS_EARLY {
-        expect_content(&rt, alloc, place, value);
+    for table in &[CHANGES, OLD_CHANGES] {
+        expect_changes(&rt, rt.alloc(), table);
     }
 }
 
@@ -256,29 +275,36 @@ fn expect_change<R: Abort + Threads + Wait + Sync>(
     rt: &R,
     alloc: Global,
     log: &Log,
+    table: &ChangedBytes,
     place: usize,
     value: u8,
     piece: usize,
 ) {
-    let (units, fault) = content_of_changed(place, value);
+    let (units, fault) = content_of_changed(table, place, value);
     let Some(ending) = ending_of_fault(fault) else {
         return;
     };
     let mut text = Vec::new(alloc);
     let want = answer_of_units(rt, log, units, ending, &mut text);
-    let bytes = changed_to(place, value);
+    let bytes = changed_to(rt, alloc, table, place, value);
     expect_answer(rt, alloc, log, &bytes, piece, &want, place);
 }
 
-/// The logs of the request and its fetch.
-const CHANGED: [Log; 3] = [FETCH, FETCH_GROUPS, FETCH_TO_FILE];
+/// The logs of the request and its fetch, and what changes do to each.
+const CHANGED: [(Log, ChangedBytes); 5] = [
+    (FETCH, CHANGES),
+    (FETCH_GROUPS, CHANGES),
+    (FETCH_TO_FILE, CHANGES),
+    (OLD_FETCH, OLD_CHANGES),
+    (OLD_FETCH_TO_FILE, OLD_CHANGES),
+];
 
 #[test]
 fn a_changed_file_prints_the_units_before_the_changed_one(rt: HostRuntime) {
-    for log in &CHANGED {
+    for (log, table) in &CHANGED {
         for (value, piece) in [(0, 3), (128, 64), (255, 1000)] {
-            for place in 0..REQUEST_WITH_FETCH.len() {
-                expect_change(&rt, rt.alloc(), log, place, value, piece);
+            for place in 0..table.bytes.len() {
+                expect_change(&rt, rt.alloc(), log, table, place, value, piece);
             }
         }
     }

@@ -18,11 +18,11 @@ mod traffic;
 pub use answers::{
     Answer, Ending, Took, is_fault_of, message_of, refused, status_of, taken, took_of,
 };
-pub use byte_table::{ALSO_WHOLE, ENDS_EARLY, FIRST_WHOLE, KINDS, LAST_WHOLE, REQUEST_WITH_FETCH};
+pub use byte_table::{CHANGES, ChangedBytes, OLD_CHANGES, REQUEST_WITH_FETCH};
 pub use gates::{Hold, HoldingGate, Step, UnevenGate};
 pub use logs::{
-    FETCH, FETCH_GROUPS, FETCH_TO_FILE, HEADER, Log, ONE_PING, OPEN_BYTES, OPEN_GROUPS,
-    OPEN_TO_FILE, PING_BYTES, PING_TO_FILE, PRINT_F,
+    FETCH, FETCH_GROUPS, FETCH_TO_FILE, HEADER, Log, OLD_FETCH, OLD_FETCH_TO_FILE, ONE_PING,
+    OPEN_BYTES, OPEN_GROUPS, OPEN_TO_FILE, PING_BYTES, PING_TO_FILE, PRINT_F,
 };
 pub use running::{differs, run_words, world_with};
 pub use texts::{

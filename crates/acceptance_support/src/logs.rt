@@ -1,9 +1,9 @@
 //! Log files whose text is known.
 
-use crate::byte_table::REQUEST_WITH_FETCH;
+use crate::byte_table::{OLD_REQUEST_WITH_FETCH, REQUEST_WITH_FETCH};
 
-/// The bytes with which each log file begins.
-pub const HEADER: &[u8] = b"VSLOG-1\n";
+/// The bytes with which each log file begins that is written.
+pub const HEADER: &[u8] = b"VSLOG-2\n";
 
 /// The words that print each record of the file `f` by itself.
 pub const PRINT_F: &[&str] = &["varnishlog", "-g", "raw", "-r", "f"];
@@ -47,7 +47,7 @@ pub const OUT: Sink = Sink {
 
 /// A log of a unit of one record, of no transaction and no mark.
 pub const PING_BYTES: &[u8] =
-    b"VSLOG-1\n\x05\x00\x00\xfe\x07\x00\x00\x03\x00\x00\x00\x00Rd ping\x00";
+    b"VSLOG-2\n\x06\x00\x00\xfe\x07\x00\x00\x03\x00\x00\x00\x00\x00\x00\x00\x00Rd ping\x00";
 
 /// A unit of one record, of no transaction and no mark.
 pub const ONE_PING: Log = Log {
@@ -55,7 +55,7 @@ pub const ONE_PING: Log = Log {
     words: PRINT_F,
     bytes: PING_BYTES,
     head: b"",
-    units: &[(28, b"         0 CLI            - Rd ping\n", b"")],
+    units: &[(32, b"         0 CLI            - Rd ping\n", b"")],
     sink: OUTPUT,
 };
 
@@ -71,7 +71,7 @@ pub const FETCH: Log = Log {
     words: PRINT_F,
     bytes: &REQUEST_WITH_FETCH,
     head: b"",
-    units: &[(44, FETCH_LINES, b""), (100, REQUEST_LINES, b"")],
+    units: &[(52, FETCH_LINES, b""), (120, REQUEST_LINES, b"")],
     sink: OUTPUT,
 };
 
@@ -89,7 +89,7 @@ pub const FETCH_GROUPS: Log = Log {
     words: BY_TRANSACTION,
     bytes: &REQUEST_WITH_FETCH,
     head: b"",
-    units: &[(44, FETCH_TEXT, b""), (100, REQUEST_TEXT, b"")],
+    units: &[(52, FETCH_TEXT, b""), (120, REQUEST_TEXT, b"")],
     sink: OUTPUT,
 };
 
@@ -99,7 +99,7 @@ const OPEN_TEXT: &[u8] =
 
 /// A log of a request that begins and doesn't end, and then the backend's unit.
 pub const OPEN_BYTES: &[u8] =
-    b"VSLOG-1\n\x06\x00\x00\xfe\x0b\x00\x00\x2a\x09\x00\x00\x40req 1 rxreq\x00\x09\x00\x00\xfe\x0d\x00\x00\x2a\x03\x00\x00\x80bereq 2 fetch\x00\x00\x00\x00\x00\x00\x2c\x03\x00\x00\x80";
+    b"VSLOG-2\n\x07\x00\x00\xfe\x0b\x00\x00\x2a\x09\x00\x00\x00\x00\x00\x00\x40req 1 rxreq\x00\x0b\x00\x00\xfe\x0d\x00\x00\x2a\x03\x00\x00\x00\x00\x00\x00\x80bereq 2 fetch\x00\x00\x00\x00\x00\x00\x2c\x03\x00\x00\x00\x00\x00\x00\x80";
 
 /// A request that begins and doesn't end, and then the backend's unit, by transaction.
 pub const OPEN_GROUPS: Log = Log {
@@ -107,7 +107,7 @@ pub const OPEN_GROUPS: Log = Log {
     words: BY_TRANSACTION,
     bytes: OPEN_BYTES,
     head: b"",
-    units: &[(32, b"", OPEN_TEXT), (68, FETCH_TEXT, OPEN_TEXT)],
+    units: &[(36, b"", OPEN_TEXT), (80, FETCH_TEXT, OPEN_TEXT)],
     sink: OUTPUT,
 };
 
@@ -118,8 +118,8 @@ pub const PING_TO_FILE: Log = Log {
     bytes: PING_BYTES,
     head: HEADER,
     units: &[(
-        28,
-        b"\x05\x00\x00\xfe\x07\x00\x00\x03\x00\x00\x00\x00Rd ping\x00",
+        32,
+        b"\x06\x00\x00\xfe\x07\x00\x00\x03\x00\x00\x00\x00\x00\x00\x00\x00Rd ping\x00",
         b"",
     )],
     sink: OUT,
@@ -127,7 +127,7 @@ pub const PING_TO_FILE: Log = Log {
 
 /// The unit of the request that doesn't end, once it is flushed.
 const OPEN_UNIT: &[u8] =
-    b"\x0e\x00\x00\xfe\x0b\x00\x00\x2a\x09\x00\x00\x40req 1 rxreq\x00\x05\x00\x00\x2d\x09\x00\x00\x40flush\x00\x00\x00\x05\x00\x00\x2c\x09\x00\x00\x40synth\x00\x00\x00";
+    b"\x11\x00\x00\xfe\x0b\x00\x00\x2a\x09\x00\x00\x00\x00\x00\x00\x40req 1 rxreq\x00\x05\x00\x00\x2d\x09\x00\x00\x00\x00\x00\x00\x40flush\x00\x00\x00\x05\x00\x00\x2c\x09\x00\x00\x00\x00\x00\x00\x40synth\x00\x00\x00";
 
 /// The request that doesn't end and the backend's unit, by transaction, as a log file.
 pub const OPEN_TO_FILE: Log = Log {
@@ -135,16 +135,17 @@ pub const OPEN_TO_FILE: Log = Log {
     words: &["varnishlog", "-w", "out", "-r", "f"],
     bytes: OPEN_BYTES,
     head: HEADER,
-    units: &[
-        (32, b"", OPEN_UNIT),
-        (
-            68,
-            b"\x09\x00\x00\xfe\x0d\x00\x00\x2a\x03\x00\x00\x80bereq 2 fetch\x00\x00\x00\x00\x00\x00\x2c\x03\x00\x00\x80",
-            OPEN_UNIT,
-        ),
-    ],
+    units: &[(36, b"", OPEN_UNIT), (80, FETCH_UNIT, OPEN_UNIT)],
     sink: OUT,
 };
+
+/// The unit of the backend's transaction, as it is written.
+const FETCH_UNIT: &[u8] =
+    b"\x0b\x00\x00\xfe\x0d\x00\x00\x2a\x03\x00\x00\x00\x00\x00\x00\x80bereq 2 fetch\x00\x00\x00\x00\x00\x00\x2c\x03\x00\x00\x00\x00\x00\x00\x80";
+
+/// The unit of the client's transaction, as it is written.
+const REQUEST_UNIT: &[u8] =
+    b"\x11\x00\x00\xfe\x0b\x00\x00\x2a\x02\x00\x00\x00\x00\x00\x00\x40req 1 rxreq\x00\x0d\x00\x00\x2b\x02\x00\x00\x00\x00\x00\x00\x40bereq 3 fetch\x00\x00\x00\x00\x00\x00\x2c\x02\x00\x00\x00\x00\x00\x00\x40";
 
 /// The backend's unit and the client's, by transaction, as a log file, which is the same one.
 pub const FETCH_TO_FILE: Log = Log {
@@ -152,17 +153,22 @@ pub const FETCH_TO_FILE: Log = Log {
     words: &["varnishlog", "-w", "out", "-r", "f"],
     bytes: &REQUEST_WITH_FETCH,
     head: HEADER,
-    units: &[
-        (
-            44,
-            b"\x09\x00\x00\xfe\x0d\x00\x00\x2a\x03\x00\x00\x80bereq 2 fetch\x00\x00\x00\x00\x00\x00\x2c\x03\x00\x00\x80",
-            b"",
-        ),
-        (
-            100,
-            b"\x0e\x00\x00\xfe\x0b\x00\x00\x2a\x02\x00\x00\x40req 1 rxreq\x00\x0d\x00\x00\x2b\x02\x00\x00\x40bereq 3 fetch\x00\x00\x00\x00\x00\x00\x2c\x02\x00\x00\x40",
-            b"",
-        ),
-    ],
+    units: &[(52, FETCH_UNIT, b""), (120, REQUEST_UNIT, b"")],
     sink: OUT,
+};
+
+/// The same two units in a log file of version 1, record by record.
+pub const OLD_FETCH: Log = Log {
+    name: "a request of version 1",
+    bytes: &OLD_REQUEST_WITH_FETCH,
+    units: &[(44, FETCH_LINES, b""), (100, REQUEST_LINES, b"")],
+    ..FETCH
+};
+
+/// Those, by transaction, as a log file, which is written in version 2.
+pub const OLD_FETCH_TO_FILE: Log = Log {
+    name: "two transactions of version 1 to a file",
+    bytes: &OLD_REQUEST_WITH_FETCH,
+    units: &[(44, FETCH_UNIT, b""), (100, REQUEST_UNIT, b"")],
+    ..FETCH_TO_FILE
 };

@@ -90,7 +90,7 @@ fn put_request(
 }
 
 /// The listing of the feed of this number with so many requests, each with its session. The first of four is a miss.
-/// The units of a request have at most 46 words: 9 of its backend's, 22 of its own and 15 of its session's.
+/// The units of a miss have 56 words: 11 of its backend's, 27 of its own and 18 of its session's. Those of others have 38.
 fn listing_of(alloc: Global, feed: u8, requests: u8) -> Result<Vec<u8>, NoMemory> {
     let mut listing = Vec::new(alloc);
     for number in 0..requests {
@@ -110,7 +110,7 @@ pub fn listings_of(alloc: Global, feeds: u8, requests: u8) -> Result<Vec<Vec<u8>
 }
 
 /// What fills a record that is as long as a segment of 64 words.
-const FILLING: [u8; 244] = [b'a'; 244];
+const FILLING: [u8; 240] = [b'a'; 240];
 
 /// A listing of twelve units of a record, each as long as a segment of 64 words.
 pub fn twelve_units(alloc: Global) -> Result<Vec<u8>, NoMemory> {

@@ -92,21 +92,21 @@ fn a_message_that_fails_changes_nothing_else(rt: HostRuntime) {
 
 /// A log, a tool, and how many calls their run makes, each of three bytes at most.
 const COUNTS: [(Input, Tool, usize); 7] = [
-    // an open, 10 reads and one at the end, and 12 writes
-    (PING, RAW, 24),
-    // an open, 34 reads and one at the end, 24 writes for the first unit and 37 for the second
-    (LOG, RAW, 97),
+    // an open, 11 reads and one at the end, and 12 writes
+    (PING, RAW, 25),
+    // an open, 40 reads and one at the end, 24 writes for the first unit and 37 for the second
+    (LOG, RAW, 103),
     // the same reads, 28 writes for the first transaction and 39 for the second
-    (LOG, TRANSACTIONS, 103),
-    // an open, 23 reads and one at the end, 28 writes for the second unit and 38 for the flush
-    (OPEN, TRANSACTIONS, 91),
-    // an open, a creation, 3 writes for the header, 10 reads and one at the end, and 7 writes
-    (PING, RAW_UNITS, 23),
+    (LOG, TRANSACTIONS, 109),
+    // an open, 27 reads and one at the end, 28 writes for the second unit and 38 for the flush
+    (OPEN, TRANSACTIONS, 95),
+    // an open, a creation, 3 writes for the header, 11 reads and one at the end, and 8 writes
+    (PING, RAW_UNITS, 25),
     // the same without a header
-    (PING, MORE_UNITS, 20),
-    // an open, a creation, 3 writes for the header, 23 reads and one at the end, 12 writes for the second unit and 19 for
+    (PING, MORE_UNITS, 22),
+    // an open, a creation, 3 writes for the header, 27 reads and one at the end, 15 writes for the second unit and 23 for
     // the flush
-    (OPEN, TRANSACTION_UNITS, 60),
+    (OPEN, TRANSACTION_UNITS, 71),
 ];
 
 #[test]

@@ -48,10 +48,10 @@ fn add(rt: &impl Abort, text: &mut Vec<u8>, more: &[u8]) {
 }
 
 /// The bytes that fill the log of such a request.
-const FILLING: [u8; 212] = [b'a'; 212];
+const FILLING: [u8; 200] = [b'a'; 200];
 
 /// A listing of twelve requests of as many sessions, each a unit of 64 words, of VXIDs behind this one: one word for the
-/// unit, 6 for Begin, 55 for the log and 2 for End.
+/// unit, 7 for Begin, 53 for the log and 3 for End.
 fn long_requests(rt: &impl Abort, alloc: Global, before: u32) -> Vec<u8> {
     let mut listing = Vec::new(alloc);
     for unit in 1..=12u8 {

@@ -173,7 +173,7 @@ pub const LOG: Input = Input {
     before: &[],
     behind: &["-r", "f"],
     is_log: true,
-    ends: &[44, 100],
+    ends: &[52, 120],
     piece: 40,
     order: Order::Same,
     ending: Ending::Done,
@@ -183,14 +183,14 @@ pub const LOG: Input = Input {
 pub const PING: Input = Input {
     name: "a ping",
     files: &[("f", Content::Bytes(PING_BYTES))],
-    ends: &[28],
+    ends: &[32],
     ..LOG
 };
 
 pub const OPEN: Input = Input {
     name: "an open transaction",
     files: &[("f", Content::Bytes(OPEN_BYTES))],
-    ends: &[32, 68],
+    ends: &[36, 80],
     ..LOG
 };
 
@@ -213,15 +213,15 @@ pub const ASKED: Input = Input {
 
 /// The same without its last byte.
 const CUT_REQUEST: &[u8] =
-    b"VSLOG-1\n\x09\x00\x00\xfe\x0d\x00\x00\x2a\x03\x00\x00\x80bereq 2 fetch\x00\x00\x00\x00\x00\x00\x2c\x03\x00\x00\x80\x0e\x00\x00\xfe\x0b\x00\x00\x2a\x02\x00\x00\x40req 1 rxreq\x00\x0d\x00\x00\x2b\x02\x00\x00\x40bereq 3 fetch\x00\x00\x00\x00\x00\x00\x2c\x02\x00\x00";
+    b"VSLOG-2\n\x0b\x00\x00\xfe\x0d\x00\x00\x2a\x03\x00\x00\x00\x00\x00\x00\x80bereq 2 fetch\x00\x00\x00\x00\x00\x00\x2c\x03\x00\x00\x00\x00\x00\x00\x80\x11\x00\x00\xfe\x0b\x00\x00\x2a\x02\x00\x00\x00\x00\x00\x00\x40req 1 rxreq\x00\x0d\x00\x00\x2b\x02\x00\x00\x00\x00\x00\x00\x40bereq 3 fetch\x00\x00\x00\x00\x00\x00\x2c\x02\x00\x00\x00\x00\x00\x00";
 
 /// What ends with a fault where no call fails, whose message may fail.
 pub const FAULTS: [Input; 5] = [
     Input {
         name: "a cut log",
         files: &[("f", Content::Bytes(CUT_REQUEST))],
-        ends: &[44],
-        ending: Ending::Damaged(44),
+        ends: &[52],
+        ending: Ending::Damaged(52),
         ..LOG
     },
     Input {
@@ -263,7 +263,7 @@ const FIRST_FEED: &[u8] =
 const SECOND_FEED: &[u8] =
     b"        12 Begin          c req 11 rxreq\n        12 End            c \n        14 Begin          c req 13 rxreq\n        14 ReqURL         c /b\n        14 End            c \n";
 
-/// Feeds, one after the other, which most of the rows below are like. Their units have 42 words.
+/// Feeds, one after the other, which most of the rows below are like. Their units have 52 words.
 pub const FEEDS: Input = Input {
     name: "feeds, one after the other",
     files: &[

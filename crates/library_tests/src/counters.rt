@@ -9,6 +9,7 @@ use ring_layout::Shape;
 use std::alloc::Global;
 use std::process::Abort;
 use traffic_feed::{Listing, generate};
+use vsl_record::Vxid;
 use vsl_stat::{Globs, stat_json, stat_list, stat_text};
 
 /// The most that a pass adds to a counter, 2^56.
@@ -77,7 +78,7 @@ fn made(rt: &impl Abort, alloc: Global, words: u32) -> Listing {
 }
 
 /// So many batches were cut, and the units have these VXIDs and so many words.
-fn expect_listing(rt: &impl Abort, listing: &Listing, cuts: u64, units: &[(u32, usize)]) {
+fn expect_listing(rt: &impl Abort, listing: &Listing, cuts: u64, units: &[(Vxid, usize)]) {
     let all = listing.units.as_slice();
     same(rt, (listing.cuts, all.len()), (cuts, units.len()));
     for (unit, want) in all.iter().zip(units.iter()) {
@@ -88,13 +89,13 @@ fn expect_listing(rt: &impl Abort, listing: &Listing, cuts: u64, units: &[(u32, 
 #[test]
 fn a_request_is_made_of_two_units(rt: HostRuntime) {
     let listing = made(&rt, rt.alloc(), 65536);
-    expect_listing(&rt, &listing, 0, &[(2, 75), (1, 30)]);
+    expect_listing(&rt, &listing, 0, &[(2, 88), (1, 35)]);
 }
 
 #[test]
 fn a_request_is_cut_before_its_second_timestamp(rt: HostRuntime) {
     let listing = made(&rt, rt.alloc(), 64);
-    expect_listing(&rt, &listing, 1, &[(2, 53), (2, 23), (1, 30)]);
+    expect_listing(&rt, &listing, 1, &[(2, 63), (2, 26), (1, 35)]);
 }
 
 #[test]

@@ -15,9 +15,9 @@ const CLAIMS: [(&[u8], Kind, Vxid, Reason); 6] = [
     (b"sess 0 HTTP/1", Kind::Session, 0, Reason::Other),
     (b"req 0000000002 esi x", Kind::Request, 2, Reason::Esi),
     (
-        b" req\t1073741823",
+        b" req\t4611686018427387903",
         Kind::Request,
-        1_073_741_823,
+        4_611_686_018_427_387_903,
         Reason::Other,
     ),
     (b"\treq\t \t7\trxreq\t", Kind::Request, 7, Reason::Rxreq),

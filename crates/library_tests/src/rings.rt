@@ -7,7 +7,7 @@ use ring_layout::{Placed, Shape, place_after, segment_of};
 use std::alloc::Global;
 use std::process::Abort;
 use traffic_feed::{ListFault, Listing, read_listing};
-use vsl_record::Unit;
+use vsl_record::{Unit, Vxid};
 
 /// The last tail that a ring has, less ten: 2^62 - 10.
 const LATE_TAIL: u64 = 4_611_686_018_427_387_894;
@@ -31,7 +31,7 @@ fn listing_of(rt: &impl Abort, alloc: Global, bytes: &[u8]) -> Result<Listing, L
 }
 
 /// The unit has this VXID, and is of one record with this payload.
-fn expect_unit(rt: &impl Abort, unit: &Unit, vxid: u32, payload: &[u8]) {
+fn expect_unit(rt: &impl Abort, unit: &Unit, vxid: Vxid, payload: &[u8]) {
     let records = unit.records();
     same(rt, (unit.vxid(), records.len()), (vxid, 1));
     for i in 0..records.len() {
@@ -63,15 +63,15 @@ fn no_unit_lies_behind_the_last_tail(rt: HostRuntime) {
     let shape = least_shape(&rt);
     let last = Placed {
         start: LATE_TAIL,
-        tail: 4_611_686_018_427_387_897,
+        tail: 4_611_686_018_427_387_898,
         wraps: false,
     };
     same(&rt, place_after(shape, LATE_TAIL, 64), None);
-    same(&rt, place_after(shape, LATE_TAIL, 3), Some(last));
+    same(&rt, place_after(shape, LATE_TAIL, 4), Some(last));
 }
 
 /// The VXIDs and payloads of the two lines.
-const UNITS: [(u32, &[u8]); 2] = [(1, b"a"), (2, b"b")];
+const UNITS: [(Vxid, &[u8]); 2] = [(1, b"a"), (2, b"b")];
 
 #[test]
 fn two_lines_are_two_units(rt: HostRuntime) {

@@ -4,6 +4,7 @@
 
 ghost use Rattle.std.specs.Prelude.{◌≡◌, ◌<◌};
 ghost use Rattle.std.specs.List.{All};
+ghost use Rattle.vsl_record.specs.Unit.{vxid_end};
 
 use std::alloc::Global;
 use std::fmt::Debug;
@@ -52,14 +53,14 @@ pub fn made_unit(
     vxid: Vxid,
     given: &[Rec<'_>],
 ) -> Result<Unit, UnitFault>
-    requires { vxid < 1073741824 }
+    requires { vxid < vxid_end }
 {
     Unit::new(vxid, Mark::Client, records_of(rt, alloc, given))
 }
 
 /// The unit of a client's records.
 pub fn unit_of(rt: &impl Abort, alloc: Global, vxid: Vxid, given: &[Rec<'_>]) -> Unit
-    requires { vxid < 1073741824 }
+    requires { vxid < vxid_end }
 {
     made_unit(rt, alloc, vxid, given).expect(rt, "a unit")
 }

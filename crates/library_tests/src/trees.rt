@@ -1,6 +1,7 @@
 //! Groups over trees: the answers of queries, and the marks of what is still pending.
 
 ghost use Rattle.std.specs.Prelude.{◌≡◌, ◌<◌, length};
+ghost use Rattle.vsl_record.specs.Unit.{vxid_end};
 ghost use Rattle.txn_groups.specs.Groups.{groups_state};
 
 use crate::support::{same, unit_of};
@@ -33,7 +34,7 @@ fn queries_of(rt: &impl Abort, alloc: Global) -> Vec<Query>
 
 /// A request that begins and gets a response with this status, and has not ended.
 fn answered(rt: &impl Abort, alloc: Global, vxid: Vxid, status: &[u8]) -> Unit
-    requires { vxid < 1073741824 }
+    requires { vxid < vxid_end }
 {
     let tag = tag_called(b"RespStatus").expect(rt, "a tag");
     let begin: &[u8] = b"req 1 rxreq";
@@ -65,7 +66,7 @@ fn step(
     status: &[u8],
     out: &mut Vec<Chosen>,
 )
-    requires { vxid < 1073741824 }
+    requires { vxid < vxid_end }
     ensures { (groups_state groups.new).queries ≡ (groups_state groups.old).queries }
 {
     let unit = answered(rt, alloc, vxid, status);

@@ -1,43 +1,47 @@
-//! Records and units, up to the longest: 1,048,576 words.
+//! Records and units, up to the longest: 2,097,152 words.
 
 use crate::support::{Rec, made_unit, same, unit_of};
 use std::alloc::Global;
 use std::process::Abort;
-use vsl_record::{Mark, Record, RecordFault, Unit, UnitFault, WordFault, read_unit, unit_words};
+use vsl_record::{
+    Mark, Record, RecordFault, Unit, UnitFault, Version, Vxid, WordFault, read_unit, read_unit1,
+    unit_words,
+};
 use vsl_tags::Tag;
 use vsl_tags::named::END;
 
 /// A unit of one record: CLI "Rd ping", of no transaction and no mark.
-const ONE_PING: [u32; 5] = [
-    0xfe00_0005,
+const ONE_PING: [u32; 6] = [
+    0xfe00_0006,
     0x0300_0007,
+    0x0000_0000,
     0x0000_0000,
     0x7020_6452,
     0x0067_6e69,
 ];
 
-/// How many records have the longest payload. Each takes 1,002 words, all 1,048,092.
-const LONG_RECORDS: usize = 1046;
+/// How many records have the longest payload. Each takes 1,003 words, all 2,096,270.
+const LONG_RECORDS: usize = 2090;
 
 /// The longest payload.
 const LONG: [u8; 4000] = [0x61; 4000];
 
-/// A last record of 1,924 bytes takes 483 words, and one byte more takes a word more.
-const LAST: [u8; 1925] = [0x62; 1925];
+/// A last record of 3,512 bytes takes 881 words, and one byte more takes a word more.
+const LAST: [u8; 3513] = [0x62; 3513];
 
 /// The words of a record with the longest payload: its length and its tag, its VXID and its mark, and its bytes.
-const LONG_HEAD: [u32; 2] = [0x2d00_0fa0, 0x4000_0005];
+const LONG_HEAD: [u32; 3] = [0x2d00_0fa0, 0x0000_0005, 0x4000_0000];
 
 const LONG_WORDS: [u32; 1000] = [0x6161_6161; 1000];
 
-/// The words of the first 1,924 bytes of the last record.
-const LAST_WORDS: [u32; 481] = [0x6262_6262; 481];
+/// The words of the first 3,512 bytes of the last record.
+const LAST_WORDS: [u32; 878] = [0x6262_6262; 878];
 
 /// The number of the tag VSL.
 const VSL: u8 = 45;
 
 /// The transaction.
-const VXID: u32 = 5;
+const VXID: Vxid = 5;
 
 /// A payload of more bytes than a record has.
 const TOO_LONG: [u8; 4001] = [0xa5; 4001];
@@ -59,7 +63,7 @@ fn add(rt: &impl Abort, words: &mut Vec<u32>, more: &[u32]) {
 }
 
 /// The words of the unit of those records: a header that counts so many, the words of the long records,
-/// and those of the last one, which begin with this head and end with these after 1,924 bytes.
+/// and those of the last one, which begin with this head and end with these after 3,512 bytes.
 fn long_words(rt: &impl Abort, alloc: Global, count: u32, head: u32, after: &[u32]) -> Vec<u32> {
     let mut words = Vec::new(alloc);
     add(rt, &mut words, &[0xfe00_0000 | count]);
@@ -67,7 +71,7 @@ fn long_words(rt: &impl Abort, alloc: Global, count: u32, head: u32, after: &[u3
         add(rt, &mut words, &LONG_HEAD);
         add(rt, &mut words, &LONG_WORDS);
     }
-    add(rt, &mut words, &[head, 0x4000_0005]);
+    add(rt, &mut words, &[head, 0x0000_0005, 0x4000_0000]);
     add(rt, &mut words, &LAST_WORDS);
     add(rt, &mut words, after);
     words
@@ -93,7 +97,7 @@ fn expect_records(rt: &impl Abort, read: &Unit, made: &Unit) {
 }
 
 /// The unit has this VXID, this mark, and so many records.
-fn expect_head(rt: &impl Abort, unit: &Unit, vxid: u32, mark: Mark, records: usize) {
+fn expect_head(rt: &impl Abort, unit: &Unit, vxid: Vxid, mark: Mark, records: usize) {
     same(
         rt,
         (unit.vxid(), unit.mark(), unit.records().len()),
@@ -104,11 +108,11 @@ fn expect_head(rt: &impl Abort, unit: &Unit, vxid: u32, mark: Mark, records: usi
 #[test]
 fn the_longest_unit_is_read(rt: HostRuntime) {
     let alloc = rt.alloc();
-    let (last, _) = LAST.split_at(1924);
+    let (last, _) = LAST.split_at(3512);
     let made = long_unit(&rt, alloc, last).expect(&rt, "a unit");
-    let spelled = long_words(&rt, alloc, 1_048_576, 0x2d00_0784, &[]);
+    let spelled = long_words(&rt, alloc, 2_097_152, 0x2d00_0db8, &[]);
     let (read, taken) = read(&rt, alloc, &spelled);
-    same(&rt, (spelled.len(), taken), (1_048_576, 1_048_576));
+    same(&rt, (spelled.len(), taken), (2_097_152, 2_097_152));
     expect_head(&rt, &read, VXID, Mark::Client, LONG_RECORDS + 1);
     expect_head(&rt, &made, VXID, Mark::Client, LONG_RECORDS + 1);
     expect_records(&rt, &read, &made);
@@ -118,10 +122,16 @@ fn the_longest_unit_is_read(rt: HostRuntime) {
 fn a_unit_of_one_word_more_is_refused(rt: HostRuntime) {
     let alloc = rt.alloc();
     let refused = long_unit(&rt, alloc, &LAST).err();
-    same(&rt, refused, Some(UnitFault::TooLong { words: 1_048_577 }));
-    let spelled = long_words(&rt, alloc, 1_048_577, 0x2d00_0785, &[0x0000_0062]);
-    same(&rt, spelled.len(), 1_048_577);
-    expect_fault(&rt, alloc, &spelled, WordFault::BadLength { at: 0 });
+    same(&rt, refused, Some(UnitFault::TooLong { words: 2_097_153 }));
+    let spelled = long_words(&rt, alloc, 2_097_153, 0x2d00_0db9, &[0x0000_0062]);
+    same(&rt, spelled.len(), 2_097_153);
+    expect_fault(
+        &rt,
+        alloc,
+        Version::Two,
+        &spelled,
+        WordFault::BadLength { at: 0 },
+    );
 }
 
 #[test]
@@ -135,7 +145,7 @@ fn a_payload_has_at_most_4000_bytes(rt: HostRuntime) {
     same(
         &rt,
         (made.tag.number(), made.mark, made.view().words()),
-        (92, Mark::Backend, 1002),
+        (92, Mark::Backend, 1003),
     );
     same(&rt, made.payload.as_slice(), longest);
 }
@@ -152,7 +162,7 @@ fn a_unit_has_a_record(rt: HostRuntime) {
 #[test]
 fn one_ping_is_read(rt: HostRuntime) {
     let (unit, taken) = read(&rt, rt.alloc(), &ONE_PING);
-    same(&rt, taken, 5);
+    same(&rt, taken, 6);
     expect_head(&rt, &unit, 0, Mark::Plain, 1);
     let records = unit.records();
     for i in 0..records.len() {
@@ -177,23 +187,59 @@ fn a_unit_tells_its_words(rt: HostRuntime) {
     }
 }
 
-/// The words begin with no unit, and this is their first fault.
-fn expect_fault(rt: &impl Abort, alloc: Global, words: &[u32], fault: WordFault) {
-    same(rt, read_unit(alloc, words).err(), Some(fault));
+/// The first fault of words that begin with no unit of this version.
+fn fault_of(alloc: Global, version: Version, words: &[u32]) -> Option<WordFault> {
+    match version {
+        Version::One => read_unit1(alloc, words).err(),
+        Version::Two => read_unit(alloc, words).err(),
+    }
+}
+
+/// The words begin with no unit of this version, and this is their first fault.
+fn expect_fault(rt: &impl Abort, alloc: Global, version: Version, words: &[u32], fault: WordFault) {
+    same(rt, fault_of(alloc, version, words), Some(fault));
 }
 
 /// Words that begin with no unit, and their first fault.
 type Faulty = (&'static [u32], WordFault);
 
 /// Each of these has its fault.
-fn expect_faults(rt: &impl Abort, alloc: Global, rows: &[Faulty]) {
+fn expect_faults(rt: &impl Abort, alloc: Global, version: Version, rows: &[Faulty]) {
     for (words, fault) in rows {
-        expect_fault(rt, alloc, *words, *fault);
+        expect_fault(rt, alloc, version, *words, *fault);
     }
 }
 
 /// Words whose header is at fault, or alone.
 const AT_THE_HEADER: [Faulty; 6] = [
+    (&[], WordFault::Short),
+    (
+        &[
+            0xfe00_0006,
+            0x0300_0007,
+            0x0000_0000,
+            0x0000_0000,
+            0x7020_6452,
+        ],
+        WordFault::Short,
+    ),
+    (
+        &[
+            0x0300_0007,
+            0x0000_0000,
+            0x0000_0000,
+            0x7020_6452,
+            0x0067_6e69,
+        ],
+        WordFault::BadTag { at: 0 },
+    ),
+    (&[0xfe00_0003], WordFault::BadLength { at: 0 }),
+    (&[0xfe20_0001], WordFault::BadLength { at: 0 }),
+    (&[0xfe20_0000], WordFault::Short),
+];
+
+/// The same of version 1.
+const OLD_AT_THE_HEADER: [Faulty; 6] = [
     (&[], WordFault::Short),
     (
         &[0xfe00_0005, 0x0300_0007, 0x0000_0000, 0x7020_6452],
@@ -210,25 +256,101 @@ const AT_THE_HEADER: [Faulty; 6] = [
 
 #[test]
 fn a_header_at_fault_is_told_before_words_that_are_missing(rt: HostRuntime) {
-    expect_faults(&rt, rt.alloc(), &AT_THE_HEADER);
+    expect_faults(&rt, rt.alloc(), Version::Two, &AT_THE_HEADER);
+    expect_faults(&rt, rt.alloc(), Version::One, &OLD_AT_THE_HEADER);
 }
 
 /// Words whose first record is at fault. The last row is the ping, filled with a one.
 const AT_A_FIRST_RECORD: [Faulty; 7] = [
     (
-        &[0xfe00_0003, 0x0000_0000, 0, 0],
+        &[
+            0xfe00_0004,
+            0x0000_0000,
+            0x0000_0000,
+            0x0000_0000,
+            0x0000_0000,
+        ],
         WordFault::BadTag { at: 1 },
     ),
     (
-        &[0xfe00_0003, 0xff00_0000, 0, 0],
+        &[
+            0xfe00_0004,
+            0xff00_0000,
+            0x0000_0000,
+            0x0000_0000,
+            0x0000_0000,
+        ],
         WordFault::BadTag { at: 1 },
     ),
     (
-        &[0xfe00_0003, 0x0300_0fa1, 0xc000_0000, 0],
+        &[
+            0xfe00_0004,
+            0x0300_0fa1,
+            0x0000_0000,
+            0xc000_0000,
+            0x0000_0000,
+        ],
         WordFault::BadLength { at: 1 },
     ),
     (
-        &[0xfe00_0003, 0x0300_0001, 0, 0x61],
+        &[
+            0xfe00_0004,
+            0x0300_0001,
+            0x0000_0000,
+            0x0000_0000,
+            0x0000_0061,
+        ],
+        WordFault::BadLength { at: 1 },
+    ),
+    (
+        &[
+            0xfe00_0005,
+            0x0300_0001,
+            0x0000_0000,
+            0xc000_0000,
+            0x0100_0061,
+        ],
+        WordFault::BadMark { at: 3 },
+    ),
+    (
+        &[
+            0xfe00_0005,
+            0x0300_0001,
+            0x0000_0000,
+            0x8000_0000,
+            0x0000_0161,
+        ],
+        WordFault::BadPadding { at: 4 },
+    ),
+    (
+        &[
+            0xfe00_0006,
+            0x0300_0007,
+            0x0000_0000,
+            0x0000_0000,
+            0x7020_6452,
+            0x0167_6e69,
+        ],
+        WordFault::BadPadding { at: 5 },
+    ),
+];
+
+/// The same of version 1.
+const OLD_AT_A_FIRST_RECORD: [Faulty; 7] = [
+    (
+        &[0xfe00_0003, 0x0000_0000, 0x0000_0000, 0x0000_0000],
+        WordFault::BadTag { at: 1 },
+    ),
+    (
+        &[0xfe00_0003, 0xff00_0000, 0x0000_0000, 0x0000_0000],
+        WordFault::BadTag { at: 1 },
+    ),
+    (
+        &[0xfe00_0003, 0x0300_0fa1, 0xc000_0000, 0x0000_0000],
+        WordFault::BadLength { at: 1 },
+    ),
+    (
+        &[0xfe00_0003, 0x0300_0001, 0x0000_0000, 0x0000_0061],
         WordFault::BadLength { at: 1 },
     ),
     (
@@ -253,11 +375,115 @@ const AT_A_FIRST_RECORD: [Faulty; 7] = [
 
 #[test]
 fn a_first_record_at_fault_is_told(rt: HostRuntime) {
-    expect_faults(&rt, rt.alloc(), &AT_A_FIRST_RECORD);
+    expect_faults(&rt, rt.alloc(), Version::Two, &AT_A_FIRST_RECORD);
+    expect_faults(&rt, rt.alloc(), Version::One, &OLD_AT_A_FIRST_RECORD);
 }
 
-/// Words whose second record is at fault. In the last row it is cut.
-const AT_A_LATER_RECORD: [Faulty; 6] = [
+/// Words whose second record is at fault. In the last two rows it is cut.
+const AT_A_LATER_RECORD: [Faulty; 8] = [
+    (
+        &[
+            0xfe00_0007,
+            0x2c00_0000,
+            0x0000_0007,
+            0x4000_0000,
+            0x2c00_0000,
+            0x0000_0008,
+            0x4000_0000,
+            0x0000_0000,
+        ],
+        WordFault::Mixed { at: 5 },
+    ),
+    (
+        &[
+            0xfe00_0007,
+            0x2c00_0000,
+            0x0000_0007,
+            0x4000_0000,
+            0x2c00_0000,
+            0x0000_0007,
+            0xc000_0000,
+            0x0000_0000,
+        ],
+        WordFault::Mixed { at: 6 },
+    ),
+    (
+        &[
+            0xfe00_0007,
+            0x2c00_0000,
+            0x0000_0007,
+            0x4000_0000,
+            0x2c00_0000,
+            0x0000_0007,
+            0x4000_0001,
+            0x0000_0000,
+        ],
+        WordFault::Mixed { at: 6 },
+    ),
+    (
+        &[
+            0xfe00_0008,
+            0x2c00_0000,
+            0x0000_0007,
+            0x4000_0000,
+            0xff00_0001,
+            0x0000_0008,
+            0x4000_0000,
+            0x0100_0061,
+        ],
+        WordFault::BadTag { at: 4 },
+    ),
+    (
+        &[
+            0xfe00_0008,
+            0x2c00_0000,
+            0x0000_0007,
+            0x4000_0000,
+            0x0300_0001,
+            0x0000_0007,
+            0x4000_0000,
+            0x0100_0061,
+        ],
+        WordFault::BadPadding { at: 7 },
+    ),
+    (
+        &[
+            0xfe00_0008,
+            0x2c00_0000,
+            0x0000_0007,
+            0x4000_0000,
+            0x0300_0005,
+            0x0000_0007,
+            0x4000_0000,
+            0x0100_0061,
+        ],
+        WordFault::BadLength { at: 4 },
+    ),
+    (
+        &[
+            0xfe00_0005,
+            0x2c00_0000,
+            0x0000_0007,
+            0x4000_0000,
+            0x2c00_0000,
+        ],
+        WordFault::BadLength { at: 4 },
+    ),
+    (
+        &[
+            0xfe00_0006,
+            0x2c00_0000,
+            0x0000_0007,
+            0x4000_0000,
+            0x2c00_0000,
+            0x0000_0007,
+        ],
+        WordFault::BadLength { at: 4 },
+    ),
+];
+
+/// The same of version 1. In the last row it is cut.
+const OLD_AT_A_LATER_RECORD: [Faulty; 6] = [
     (
         &[
             0xfe00_0006,
@@ -265,7 +491,7 @@ const AT_A_LATER_RECORD: [Faulty; 6] = [
             0x4000_0007,
             0x2c00_0000,
             0x4000_0008,
-            0,
+            0x0000_0000,
         ],
         WordFault::Mixed { at: 4 },
     ),
@@ -276,7 +502,7 @@ const AT_A_LATER_RECORD: [Faulty; 6] = [
             0x4000_0007,
             0x2c00_0000,
             0xc000_0007,
-            0,
+            0x0000_0000,
         ],
         WordFault::Mixed { at: 4 },
     ),
@@ -321,5 +547,6 @@ const AT_A_LATER_RECORD: [Faulty; 6] = [
 
 #[test]
 fn a_later_record_at_fault_is_told(rt: HostRuntime) {
-    expect_faults(&rt, rt.alloc(), &AT_A_LATER_RECORD);
+    expect_faults(&rt, rt.alloc(), Version::Two, &AT_A_LATER_RECORD);
+    expect_faults(&rt, rt.alloc(), Version::One, &OLD_AT_A_LATER_RECORD);
 }

@@ -11,7 +11,7 @@ use std::thread::Threads;
 use varnish_tools::{Gate, OpenGate};
 
 /// A ring, and how many requests each of one to four feeds has. Together they have fewer words than six segments, so
-/// that no reader is overrun: a request has fewer than 48.
+/// that no reader is overrun: of four requests the first has 56, and each other one 38.
 struct RingCase {
     words: &'static [&'static str],
     stated: &'static [&'static str],

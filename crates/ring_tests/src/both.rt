@@ -10,7 +10,7 @@ use ring_plain::{PlainCursor, PlainRing};
 use std::alloc::Global;
 use std::marker::Model;
 use std::process::Abort;
-use vsl_record::Unit;
+use vsl_record::{Unit, Vxid};
 
 /// A ring of segments of 64 words, with its writer and its cursor.
 pub trait AnyRing: Drop {
@@ -24,7 +24,7 @@ pub trait AnyRing: Drop {
     fn leave(&mut self);
 
     /// What the cursor meets next, and the VXID and the number of the unit that it took, or 0.
-    fn next(&mut self) -> (Step, u32, u64);
+    fn next(&mut self) -> (Step, Vxid, u64);
 
     /// Goes on, where the cursor is overrun.
     fn seek(&mut self) -> Option<Sought>;
@@ -80,7 +80,7 @@ impl AnyRing for Plain {
     }
 
     #[tactic(auto, using(crate::proofs::StandingLemmas::stands_next))]
-    fn next(&mut self) -> (Step, u32, u64) {
+    fn next(&mut self) -> (Step, Vxid, u64) {
         let step = self.cursor.next(&self.ring);
         match step {
             Step::Took => (step, self.cursor.unit().vxid(), self.cursor.number()),
@@ -134,7 +134,7 @@ impl AnyRing for Shared {
         }
     }
 
-    fn next(&mut self) -> (Step, u32, u64) {
+    fn next(&mut self) -> (Step, Vxid, u64) {
         let step = self.reader.next(&self.ring);
         match step {
             Step::Took => (step, self.reader.unit().vxid(), self.reader.number()),

@@ -121,7 +121,7 @@ fn expect_seen(rt: &impl Abort, alloc: Global, words: u8) {
 
 #[test]
 fn a_unit_is_seen_once_its_last_word_is_stored(rt: HostRuntime) {
-    for words in 3u8..64 {
+    for words in 4u8..64 {
         expect_seen(&rt, rt.alloc(), words);
     }
 }

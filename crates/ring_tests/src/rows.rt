@@ -37,14 +37,14 @@ use Row::{Ended, Fills, Follows, Leaves, Overrun, Passes, Puts, Refuses, Seeks, 
 
 /// The unit of this number is put, which has so many words.
 fn put<T: AnyRing>(rt: &impl Abort, alloc: Global, ring: &mut T, number: u8, words: u8) {
-    let unit = unit_of(rt, alloc, u32::from(number), words);
+    let unit = unit_of(rt, alloc, u64::from(number), words);
     same(rt, (number, ring.put(&unit)), (number, Ok(())));
 }
 
 /// The cursor takes the unit of this number.
 fn take<T: AnyRing>(rt: &impl Abort, ring: &mut T, number: u8) {
     let before = u64::from(number).saturating_sub(1);
-    same(rt, ring.next(), (Step::Took, u32::from(number), before));
+    same(rt, ring.next(), (Step::Took, u64::from(number), before));
     same(rt, ring.is_lost(), false);
 }
 
@@ -137,7 +137,7 @@ fn run_both(rt: &impl Abort, alloc: Global, rows: &[Row]) {
 
 #[test]
 fn a_new_cursor_waits_at_the_first_place(rt: HostRuntime) {
-    run_both(&rt, rt.alloc(), &[Waits(0), Passes(1, 3), Waits(3)]);
+    run_both(&rt, rt.alloc(), &[Waits(0), Passes(1, 4), Waits(4)]);
 }
 
 const LONGER_THAN_A_SEGMENT: [Row; 4] = [Refuses(65), Waits(0), Passes(1, 64), Waits(64)];

@@ -10,7 +10,7 @@ use ring_layout::Shape;
 use std::alloc::Global;
 use std::fmt::Debug;
 use std::process::Abort;
-use vsl_record::{Mark, Record, Unit};
+use vsl_record::{Mark, Record, Unit, Vxid};
 use vsl_tags::Tag;
 
 /// The number of the tag VCL_Log.
@@ -89,15 +89,15 @@ pub fn open_trio(rt: &impl Abort, alloc: Global) -> (Ring, WriterPass, WriterPas
 }
 
 /// What the payload of a unit with this VXID is filled with.
-pub fn filling(vxid: u32) -> u8 {
+pub fn filling(vxid: Vxid) -> u8 {
     (vxid % 251) as u8
 }
 
-/// A unit of one record, which has so many words: 3 for the heads of the unit and the record, and the payload's.
-pub fn unit_of(rt: &impl Abort, alloc: Global, vxid: u32, words: u8) -> Unit
+/// A unit of one record, which has so many words: 4 for the heads of the unit and the record, and the payload's.
+pub fn unit_of(rt: &impl Abort, alloc: Global, vxid: Vxid, words: u8) -> Unit
     requires { vxid < vxid_end }
 {
-    let size = 4 * words.saturating_sub(3) as usize;
+    let size = 4 * words.saturating_sub(4) as usize;
     let payload = vec![in alloc; filling(vxid); size].expect(rt, "memory");
     let tag = Tag::from_number(VCL_LOG).expect(rt, "24 is a tag");
     let one = Record::new(alloc, tag, Mark::Client, payload.as_slice()).expect(rt, "a record");

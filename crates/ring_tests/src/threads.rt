@@ -13,19 +13,19 @@ use std::sync::Wait;
 use std::thread::{Threads, join};
 use vsl_record::{Unit, UnitView};
 
-/// How many units each writer puts. Together they have 33,268 words.
-const UNITS: u32 = 500;
+/// How many units each writer puts. Together they have 33,412 words.
+const UNITS: u64 = 500;
 
 /// A lap is left with 448 to 511 words of units, so that 65 to 74 of them wrap.
 const WRAPS: (u64, u64) = (65, 74);
 
 /// How many words the unit of this number has.
-fn words_of(number: u32) -> u8 {
-    3 + (number % 62) as u8
+fn words_of(number: u64) -> u8 {
+    4 + (number % 61) as u8
 }
 
 /// Units whose VXIDs are twice their numbers, and this more.
-fn units_from(rt: &impl Abort, alloc: Global, first: u32) -> Vec<Unit>
+fn units_from(rt: &impl Abort, alloc: Global, first: u64) -> Vec<Unit>
     requires { first < 2 }
 {
     let mut units = Vec::new(alloc);
@@ -77,7 +77,7 @@ struct Seen {
     /// How many units the seeks told as missed.
     missed: u64,
     /// The next number that may come of each writer.
-    next: [u32; 2],
+    next: [u64; 2],
     /// Whether each writer's numbers grew, and each unit had its payload.
     as_put: bool,
 }
@@ -92,7 +92,7 @@ fn is_as_put(unit: UnitView<'_>) -> bool
     let vxid = unit.vxid();
     let payload = unit.item(0).payload();
     let byte = filling(vxid);
-    payload.len() + 12 == 4 * words_of(vxid / 2) as usize && payload.iter().all(|b| *b == byte)
+    payload.len() + 16 == 4 * words_of(vxid / 2) as usize && payload.iter().all(|b| *b == byte)
 }
 
 impl Seen {
@@ -152,11 +152,7 @@ fn a_reader_takes_units_of_two_writers_in_their_orders(rt: HostRuntime) {
     // The last unit of the log is one writer's last, and no cursor ends before it.
     same(&rt, seen.next[0].max(seen.next[1]), UNITS);
     // Each unit that was put was taken, or told as missed.
-    same(
-        &rt,
-        seen.taken.wrapping_add(seen.missed),
-        u64::from(2 * UNITS),
-    );
+    same(&rt, seen.taken.wrapping_add(seen.missed), 2 * UNITS);
     let wraps = lefts.0.wraps().saturating_add(lefts.1.wraps());
     same(&rt, WRAPS.0 <= wraps && wraps <= WRAPS.1, true);
     let writers = Vec::from_array(alloc, [lefts.0, lefts.1]).expect(&rt, "memory");
