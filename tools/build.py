@@ -106,6 +106,7 @@ def build_below(tops):
     return status
 
 
-if len(sys.argv) < 2 or not all((CRATES / name).is_dir() for name in sys.argv[1:]):
-    sys.exit("usage: tools/build.py CRATE ..")
-sys.exit(build_below(sys.argv[1:]))
+if __name__ == "__main__":
+    if len(sys.argv) < 2 or not all((CRATES / name).is_dir() for name in sys.argv[1:]):
+        sys.exit("usage: tools/build.py CRATE ..")
+    sys.exit(build_below(sys.argv[1:]))

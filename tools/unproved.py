@@ -34,14 +34,25 @@ def opened_for_writing(pipe, call):
     return None
 
 
-def reader_of(pipe):
-    """The program that reads a pipe, in the folder of its try."""
-    for process in pathlib.Path("/proc").glob("[0-9]*"):
-        try:
-            if int(process.name) != os.getpid() and any(it.readlink() == pipe for it in (process / "fd").iterdir()):
+def reads(process, pipe):
+    """Whether a process has a pipe open."""
+    try:
+        return any(it.readlink() == pipe for it in (process / "fd").iterdir())
+    except OSError:
+        return False  # another user's, or it has ended
+
+
+def reader_of(pipe, call):
+    """The program that reads a pipe, in the folder of its try.
+
+    A pipe has a reader from the moment on in which a program asks for it, and the program its file a while later, which
+    is long on a busy machine.
+    """
+    while call.poll() is None:
+        for process in pathlib.Path("/proc").glob("[0-9]*"):
+            if int(process.name) != os.getpid() and reads(process, pipe):
                 return process / "cwd" / "program"
-        except OSError:
-            pass  # another user's, or it has ended
+        time.sleep(0.05)
     raise NotBuilt(f"no process reads {pipe}")
 
 
@@ -59,7 +70,7 @@ def build(crate, to):
             raise NotBuilt(said.read_text(errors="replace"))
         try:
             to.parent.mkdir(parents=True, exist_ok=True)
-            shutil.copyfile(reader_of(pipe), to)
+            shutil.copyfile(reader_of(pipe, call), to)
             to.chmod(0o755)
         finally:
             os.close(pen)
