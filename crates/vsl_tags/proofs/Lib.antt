@@ -1,5 +1,6 @@
 mod TableChecks
 pub mod NameLemmas
+pub mod RankLemmas
 mod GlobLemmas
 mod TagSetLemmas
 mod Examples

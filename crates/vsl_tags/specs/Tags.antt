@@ -1,7 +1,9 @@
 -- The tags of log records: their numbers and names (vsl(7), in this project's subset; which tags there are, and their order, are
 -- this project's choice).
 use Rattle.std.specs.Prelude.{ℕ, ◌+◌, ◌-◌, ◌≤◌, List, [], ◌∷◌, ◌++◌, map, length, replicate, slice_index_or, codes}
-use Rattle.std.specs.List.{position_or_len}
+use Rattle.std.specs.Cmp.Lexicographic.{slice_cmp}
+use Rattle.std.specs.List.{filter, position_or_len}
+use Rattle.std.specs.Ordering.{is_lt, nat_cmp}
 use Rattle.std.specs.Str.{bytes_eq, str_to_ascii_lowercase}
 
 -- the lowest number of a tag
@@ -92,6 +94,10 @@ tag_names =
 -- the name of the tag with this number, for a tag's number alone; the first name is that of the lowest number
 abbrev pub tag_name : ℕ → List ℕ
 tag_name n = slice_index_or tag_names (n - first_tag) []
+
+-- the rank of the tag with this number: how many tags have names that come before its own, by bytes
+unfoldable pub tag_rank : ℕ → ℕ
+tag_rank n = length (filter (λ name. is_lt (slice_cmp nat_cmp name (tag_name n))) tag_names)
 
 -- the number of the tag `Timestamp`
 abbrev pub timestamp_tag : ℕ

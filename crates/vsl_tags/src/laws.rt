@@ -1,10 +1,12 @@
 //! Laws: functions that do nothing, for what their clauses say.
 
 ghost use Rattle.std.specs.Prelude.{◌≡◌, ◌↔◌, ◌∷◌, [], Bool, IsTrue, List, codes, map, ℕ};
+ghost use Rattle.std.specs.Cmp.Lexicographic.{slice_cmp};
+ghost use Rattle.std.specs.Ordering.{nat_cmp};
 ghost use Rattle.std.specs.Str.{str_to_ascii_lowercase};
 ghost use Rattle.vsl_tags.specs.declared.named.TheConstants.{SESS_OPEN, SESS_CLOSE, BACKEND_OPEN, FETCH_ERROR, VCL_CALL, VCL_RETURN, VCL_LOG, REQ_START, REQ_ACCT, BEREQ_ACCT, HIT, HIT_MISS, HIT_PASS, TIMESTAMP, BEGIN, LINK, END, REQ_METHOD, REQ_URL, REQ_PROTOCOL, REQ_HEADER, RESP_STATUS, RESP_HEADER, BEREQ_METHOD, BEREQ_URL, BEREQ_PROTOCOL, BEREQ_HEADER, BERESP_STATUS, BERESP_HEADER};
 ghost use Rattle.vsl_tags.specs.Glob.{IsFit, fits};
-ghost use Rattle.vsl_tags.specs.Tags.{IsTag, begin_tag, end_tag, link_tag, number_of_lower, tag_name, timestamp_tag, vsl_tag};
+ghost use Rattle.vsl_tags.specs.Tags.{IsTag, begin_tag, end_tag, link_tag, number_of_lower, tag_name, tag_rank, timestamp_tag, vsl_tag};
 
 use crate::number::Tag;
 
@@ -13,6 +15,11 @@ use crate::number::Tag;
 pub fn names_differ()
     ensures found { (n : ℕ) → IsTag n → number_of_lower (str_to_ascii_lowercase (tag_name n)) ≡ n }
     ensures differ { (m n : ℕ) → IsTag m → IsTag n → str_to_ascii_lowercase (tag_name m) ≡ str_to_ascii_lowercase (tag_name n) → m ≡ n }
+{}
+
+/// The ranks of tags compare as the names do, by bytes.
+pub fn ranks_order_names()
+    ensures { (m n : ℕ) → IsTag m → IsTag n → nat_cmp (tag_rank m) (tag_rank n) ≡ slice_cmp nat_cmp (tag_name m) (tag_name n) }
 {}
 
 /// The numbers that crates name are those of the tags that they are called after.
