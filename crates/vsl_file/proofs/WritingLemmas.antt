@@ -1,19 +1,20 @@
 -- Writing a unit: the bytes of a record and of its words.
-use Rattle.std.proofs.Common.{◌≡◌, ℕ, suc, ◌+◌, ◌-◌, ◌*◌, ◌/◌, ◌%◌, ◌^◌, ◌<◌, List, [], ◌∷◌, ◌++◌, length, length-append, take, get_or, refl, sym, ap, ◌∙◌, append_assoc, arith}
+use Rattle.std.proofs.Common.{◌≡◌, ℕ, suc, ◌+◌, ◌-◌, ◌*◌, ◌/◌, ◌%◌, ◌^◌, ◌<◌, List, [], ◌∷◌, ◌++◌, length, length-append, take, drop, get_or, refl, sym, ap, ◌∙◌, append_assoc, arith}
 use Rattle.std.specs.Prelude.{Result, Ok, Err, OnOk}
 use Rattle.std.specs.Int.{w32, w64, to_le_bytes}
 use Rattle.std.specs.List.{flat_map}
-use Rattle.std.proofs.lemmas.List.{append-nil, take_more}
+use Rattle.std.proofs.lemmas.List.{append-nil, drop_more, take_more}
 use Rattle.std.proofs.lemmas.List.Concat.{flat_map-append, flat_map-cons}
 use Rattle.std.proofs.lemmas.Nat.{le_bytes_4}
 use Rattle.std.proofs.Math.Seq.{take-append-add}
 use Rattle.vsl_record.specs.declared.mark.Mark.{Mark}
 use Rattle.vsl_record.specs.declared.record_type.Record.{Record}
 use Rattle.vsl_record.specs.Unit.{LogUnit}
-use Rattle.vsl_record.specs.Words.{packed, header_mark, id_of, word_of, word_bytes, record_words, body_words}
+use Rattle.vsl_record.specs.Words.{packed, header_mark, id_of, word_of, word_bytes, record_words, body_words_of}
 use Rattle.vsl_words.specs.declared.version.Version.TheVariants.{Two}
 use Rattle.vsl_record.proofs.Steps.{IsBytes, below_cons}
-use Rattle.vsl_file.specs.File.{record_bytes, unit_bytes}
+use Rattle.vsl_record.proofs.WordLemmas.{length-word_bytes}
+use Rattle.vsl_file.specs.File.{alone_bytes, alone_unit, record_bytes, unit_bytes}
 use Rattle.vsl_file.specs.inside.Writing.{filled}
 
 -- the bytes of a number of 64 bits are those of its two words, and only what it is modulo 2^64 counts
@@ -68,9 +69,9 @@ body_bytes vxid (rec ∷ records) =
     ap word_bytes (flat_map-cons (record_words vxid) rec records) ∙ flat_map-append (to_le_bytes w32) (record_words vxid rec) (flat_map (record_words vxid) records) ∙ ap (λ (x : List ℕ). record_bytes vxid rec ++ x) (body_bytes vxid records) ∙ sym (flat_map-cons (record_bytes vxid) rec records)
 
 -- a unit's bytes are those of its header and of its records
-pub unit_whole : (count : ℕ) (u : LogUnit) → count ≡ 1 + length (body_words u) → unit_bytes u ≡ to_le_bytes w32 (header_mark + count) ++ flat_map (record_bytes u.vxid) u.records
+pub unit_whole : (count : ℕ) (u : LogUnit) → count ≡ 1 + length (body_words_of Two u) → unit_bytes u ≡ to_le_bytes w32 (header_mark + count) ++ flat_map (record_bytes u.vxid) u.records
 unit_whole count u count_is =
-    ap (λ (x : List ℕ). to_le_bytes w32 (header_mark + (1 + length (body_words u))) ++ x) (body_bytes u.vxid u.records)
+    ap (λ (x : List ℕ). to_le_bytes w32 (header_mark + (1 + length (body_words_of Two u))) ++ x) (body_bytes u.vxid u.records)
     ∙ ap (λ (n : ℕ). to_le_bytes w32 (header_mark + n) ++ flat_map (record_bytes u.vxid) u.records) (sym count_is)
 
 -- the bytes of the unit of one record are those of its header and of the record
@@ -95,3 +96,25 @@ unit_of_parts u vxid records vxid_is records_is =
 pub body_more : (f : Record → List ℕ) (records : List Record) (i : ℕ) (rec : Record) → i < length records → rec ≡ get_or records i rec → flat_map f (take (i + 1) records) ≡ flat_map f (take i records) ++ f rec
 body_more f records i rec within is =
     ap (flat_map f) (take_more records i rec within ∙ ap (λ (r : Record). take i records ++ r ∷ []) (sym is)) ∙ flat_map-append f (take i records) (rec ∷ []) ∙ ap (λ (x : List ℕ). flat_map f (take i records) ++ x) (append-nil (f rec))
+
+-- one record more was added as a unit by itself
+pub one_alone : (vxid : ℕ) (records : List Record) (i : ℕ) (rec : Record) (old mid new : List ℕ) → i < length records → rec ≡ get_or records i rec → mid ≡ old ++ alone_bytes vxid (take i records)
+    → new ≡ mid ++ unit_bytes (alone_unit vxid rec) → new ≡ old ++ alone_bytes vxid (take (i + 1) records)
+one_alone vxid records i rec old mid new within is so_far added =
+    let bytes : List ℕ = alone_bytes vxid (take i records) in
+    added ∙ ap (λ (x : List ℕ). x ++ unit_bytes (alone_unit vxid rec)) so_far ∙ append_assoc old bytes (unit_bytes (alone_unit vxid rec)) ∙ ap (λ (x : List ℕ). old ++ x) (sym (body_more (λ (r : Record). unit_bytes (alone_unit vxid r)) records i rec within is))
+
+-- of the bytes of the records from one on, its own come first, and behind them are those of the others
+pub pieces : (vxid : ℕ) (records : List Record) (i : ℕ) (rec : Record) (left : List ℕ) → i < length records → rec ≡ get_or records i rec → left ≡ flat_map (record_bytes vxid) (drop i records)
+    → left ≡ record_bytes vxid rec ++ flat_map (record_bytes vxid) (drop (i + 1) records)
+pieces vxid records i rec left within is left_is =
+    let f : Record → List ℕ = record_bytes vxid in
+    left_is ∙ ap (flat_map f) (drop_more records i rec within) ∙ sym (ap (λ (r : Record). f r ++ flat_map f (drop (i + 1) records)) is)
+
+-- a record has four bytes a word
+pub record_size : (vxid : ℕ) (rec : Record) → length (record_bytes vxid rec) ≡ 4 * length (record_words vxid rec)
+record_size vxid rec = length-word_bytes (record_words vxid rec)
+
+-- behind a unit's header are the bytes of its records
+pub body_behind : (u : LogUnit) (bytes : List ℕ) → bytes ≡ unit_bytes u → drop 4 bytes ≡ flat_map (record_bytes u.vxid) u.records
+body_behind u bytes is = ap (drop 4) (is ∙ unit_whole (1 + length (body_words_of Two u)) u refl)

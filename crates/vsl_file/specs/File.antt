@@ -1,5 +1,5 @@
 -- The content of a log file: its units, and how it ends (this project's choice).
-use Rattle.std.specs.Prelude.{◌≡◌, ◌≢◌, ℕ, ◌+◌, ◌*◌, ◌/◌, ◌%◌, ◌^◌, ◌<◌, ◌≤◌, ◌==◌, ◌&&◌, ◌||◌, ◌⊎◌, nat_lt, nat_le, Bool, true, false, List, [], ◌++◌, length, take, slice_get, codes}
+use Rattle.std.specs.Prelude.{◌≡◌, ◌≢◌, ℕ, ◌+◌, ◌*◌, ◌/◌, ◌%◌, ◌^◌, ◌<◌, ◌≤◌, ◌==◌, ◌&&◌, ◌||◌, ◌⊎◌, nat_lt, nat_le, Bool, true, false, List, [], ◌∷◌, ◌++◌, length, take, slice_get, codes}
 use Rattle.std.specs.Int.{w32, from_le_bytes}
 use Rattle.std.specs.List.{flat_map, AllByRecursion}
 use Rattle.vsl_words.specs.declared.version.Version.{Version}
@@ -46,6 +46,14 @@ unit_bytes = unit_bytes_of Two
 -- the bytes of a log in version 2
 abbrev pub log_bytes : Log → List ℕ
 log_bytes = log_bytes_of Two
+
+-- a record of this VXID as a unit by itself
+abbrev pub alone_unit : ℕ → Record → LogUnit
+alone_unit vxid rec = record { vxid = vxid; mark = rec.mark; records = rec ∷ [] }
+
+-- the bytes of records of this VXID, each as a unit by itself
+abbrev pub alone_bytes : ℕ → List Record → List ℕ
+alone_bytes vxid records = flat_map (λ rec. unit_bytes (alone_unit vxid rec)) records
 
 -- how a file ends
 pub data FileEnding : Type 0 where

@@ -1,6 +1,6 @@
 //! Writing a log file: its header and its units.
 
-ghost use Rattle.std.specs.Prelude.{◌≡◌, ◌+◌, ◌<◌, ◌≤◌, ◌++◌, ◌∷◌, [], ℕ, length, slice_index, OnOk, OnErr};
+ghost use Rattle.std.specs.Prelude.{◌≡◌, ◌+◌, ◌<◌, ◌≤◌, ◌++◌, ℕ, length, slice_index, OnOk, OnErr};
 ghost use Rattle.std.specs.Int.{w32, to_le_bytes};
 ghost use Rattle.std.specs.List.{flat_map};
 ghost use Rattle.log_model.specs.Adding.{Puts};
@@ -15,7 +15,7 @@ use crate::header::HEADER;
 use crate::steps::WORD;
 use log_model::or_cut_back;
 use vio::NoMemory;
-use vsl_record::{HEADER_MARK, Mark, RecordView, RecordsView, TOP_BYTE, Unit, Vxid, count_words};
+use vsl_record::{HEADER_MARK, Mark, RecordsView, TOP_BYTE, Unit, Vxid, count_words};
 use vsl_tags::Tag;
 
 /// What fills the last word of a payload, at most.
@@ -82,7 +82,7 @@ fn put_body(vxid: Vxid, records: &RecordsView<'_>, out: &mut Vec<u8>) -> Result<
 }
 
 /// Adds the header word of a unit of so many words.
-fn put_head(words: usize, out: &mut Vec<u8>) -> Result<(), NoMemory>
+pub(crate) fn put_head(words: usize, out: &mut Vec<u8>) -> Result<(), NoMemory>
     requires { words ≤ most_words }
     ensures { Puts result out.old.items out.new.items (to_le_bytes w32 (header_mark + words)) }
 {
@@ -136,33 +136,14 @@ pub fn put_records(vxid: Vxid, records: &RecordsView<'_>, out: &mut Vec<u8>) -> 
     or_cut_back(put, before, out)
 }
 
-/// Adds the header and the record of a unit of one record, or a part of them.
-#[tactic(auto, using(log_model::proofs::PrefixLemmas::adding))]
-fn put_one(vxid: Vxid, rec: &RecordView<'_>, out: &mut Vec<u8>) -> Result<(), NoMemory>
-    ensures { (mark : LogMark) →
-        Puts result out.old.items out.new.items
-        (unit_bytes (record { vxid = vxid; mark = mark; records = rec.now ∷ [] })) }
-{
-    put_head(1 + rec.words(), out)?;
-    put_record(vxid, rec.mark(), rec.tag(), rec.payload(), out)
-}
-
-/// Adds the bytes of the unit of one record, as `put_records` adds those of more.
-pub fn put_alone(vxid: Vxid, rec: &RecordView<'_>, out: &mut Vec<u8>) -> Result<(), NoMemory>
-    ensures ok { OnOk result ((mark : LogMark) →
-        out.new.items ≡ out.old.items ++ unit_bytes
-        (record { vxid = vxid; mark = mark; records = rec.now ∷ [] })) }
-    ensures err { OnErr result (out.new.items ≡ out.old.items) }
-{
-    let before = out.len();
-    let put = put_one(vxid, rec, out);
-    or_cut_back(put, before, out)
-}
-
 /// Adds the bytes of a unit. After want of memory the list is as it was.
 pub fn put_unit(unit: &Unit, out: &mut Vec<u8>) -> Result<(), NoMemory>
     ensures ok { OnOk result (out.new.items ≡ out.old.items ++ unit_bytes unit.now) }
     ensures err { OnErr result (out.new.items ≡ out.old.items) }
 {
-    put_records(unit.vxid(), &unit.records(), out)
+    let Some(bytes) = unit.bytes() else {
+        return put_records(unit.vxid(), &unit.records(), out);
+    };
+    out.extend_from_slice(bytes)?;
+    Ok(())
 }

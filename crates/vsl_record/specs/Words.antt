@@ -58,10 +58,6 @@ most_words = most_words_of Two
 abbrev pub record_words : ℕ → Record → List ℕ
 record_words = record_words_of Two
 
--- the words of a unit's records
-abbrev pub body_words : LogUnit → List ℕ
-body_words = body_words_of Two
-
 -- the words of a unit
 abbrev pub unit_words : LogUnit → List ℕ
 unit_words = unit_words_of Two

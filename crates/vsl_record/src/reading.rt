@@ -12,7 +12,7 @@ ghost use Rattle.vsl_record.specs.Blocks.{block_records, entry_record, IsBlock, 
 ghost use Rattle.vsl_record.specs.inside.Blocks.{IsPlaced};
 ghost use Rattle.vsl_record.specs.inside.UnitReading.{IsHeaded, IsPayloadRead, IsRecordRead, AreRecordsRead, StopsAt, differing};
 
-use crate::body::Body;
+use crate::body::{Block, Body};
 use crate::entry::Entry;
 use crate::fault::WordFault;
 use crate::lent::RecordView;
@@ -244,7 +244,8 @@ pub(crate) fn unit_size(version: Version, head: u32, count: usize) -> Result<usi
 
 /// Reads the unit of these bytes, which are as many words as its header counts. It keeps a copy of them.
 pub(crate) fn read_checked(version: Version, room: Records, bytes: &[u8]) -> Result<Unit, WordFault>
-    requires { IsHeaded version (words_in bytes.now) }
+    requires headed { IsHeaded version (words_in bytes.now) }
+    requires whole { length bytes.now ≡ 4 * length (words_in bytes.now) }
     ensures read { IfOk result
         (λ u. IsUnitOf version u × (words_in bytes.now ≡ unit_words_of version u)) }
     ensures refused { IfErr result (λ fault. fault ≢ WordFault.NoMemory →
@@ -253,15 +254,19 @@ pub(crate) fn read_checked(version: Version, room: Records, bytes: &[u8]) -> Res
     let size = word_count(bytes);
     let (_, behind) = bytes.split_at(8);
     let id = id_in(version, behind);
-    let (mut block, entries) = room.into_parts();
+    let (mut kept, entries) = room.into_parts();
     let entries = look_at_records(version, entries, id, size, bytes)?;
-    block.clear();
-    block.extend_from_slice(bytes)?;
-    let records = Records::of_block(block, entries);
+    kept.clear();
+    kept.extend_from_slice(bytes)?;
+    let block = Block {
+        version,
+        bytes: kept,
+        entries,
+    };
     Ok(Unit::from_parts(
         id % version.vxid_end(),
         Mark::of_id(version, id),
-        Body::Packed(records),
+        Body::Packed(block),
     ))
 }
 

@@ -5,16 +5,17 @@ ghost use Rattle.std.specs.List.{All, flat_map};
 ghost use Rattle.vsl_tags.specs.Tags.{IsTag};
 ghost use Rattle.vsl_record.specs.Payload.{IsPayload};
 ghost use Rattle.vsl_record.specs.Unit.{vxid_end};
-ghost use Rattle.vsl_record.specs.Words.{IsUnit, most_words, record_words, unit_words};
-ghost use Rattle.vsl_record.specs.Bodies.{body_records};
+ghost use Rattle.vsl_record.specs.Words.{IsUnit, most_words, record_words, unit_words, word_bytes};
+ghost use Rattle.vsl_record.specs.Bodies.{body_records, IsBodyOf};
 
-use crate::body::Body;
+use crate::body::{Block, Body};
 use crate::fault::UnitFault;
 use crate::lent::RecordsView;
 use crate::mark::Mark;
 use crate::record_type::Record;
 use crate::records::Records;
 use std::marker::Model;
+use vsl_words::Version;
 
 /// A VXID (vsl(7)), the number of a transaction: below `VXID_END`.
 pub type Vxid = u64;
@@ -46,14 +47,16 @@ pub struct Unit {
 impl Model for Unit {
     ghost use Rattle.vsl_record.specs.Unit.{LogUnit};
     ghost use Rattle.vsl_record.specs.Words.{IsUnit};
-    ghost use Rattle.vsl_record.specs.Bodies.{body_records};
+    ghost use Rattle.vsl_record.specs.Bodies.{body_records, IsBodyOf};
 
     ghost Value = { LogUnit };
 
     ghost view = { λ u. record { vxid = u.vxid; mark = u.mark; records = body_records u.body } };
 
-    ghost invariant = { λ u. IsUnit
-        (record { vxid = u.vxid; mark = u.mark; records = body_records u.body }) };
+    ghost invariant = { λ u.
+        let unit : LogUnit =
+        record { vxid = u.vxid; mark = u.mark; records = body_records u.body } in
+        IsUnit unit × IsBodyOf unit u.body };
 }
 
 impl Unit {
@@ -85,7 +88,9 @@ impl Unit {
 
     /// The unit of parts that are known to be one.
     pub(crate) fn from_parts(vxid: Vxid, mark: Mark, body: Body) -> Unit
-        requires { IsUnit (record { vxid = vxid; mark = mark; records = body_records body }) }
+        requires unit { IsUnit (record { vxid = vxid; mark = mark; records = body_records body }) }
+        requires body { IsBodyOf (record { vxid = vxid; mark = mark; records = body_records body })
+            body }
         ensures { result ≡ record { vxid = vxid; mark = mark; records = body_records body } }
     {
         Unit { vxid, mark, body }
@@ -97,7 +102,23 @@ impl Unit {
     {
         match self.body {
             Body::Listed(_) => None,
-            Body::Packed(records) => Some(records),
+            Body::Packed(block) => {
+                let Block { bytes, entries, .. } = block;
+                Some(Records::of_block(bytes, entries))
+            }
+        }
+    }
+
+    /// The bytes of the unit's words, where it keeps them: a unit that was read from words of version 2 does.
+    pub fn bytes(&self) -> Option<&[u8]>
+        ensures { IfSome result (λ bytes. bytes.now ≡ word_bytes (unit_words self.now)) }
+    {
+        let Body::Packed(block) = &self.body else {
+            return None;
+        };
+        match block.version {
+            Version::One => None,
+            Version::Two => Some(&block.bytes),
         }
     }
 
@@ -122,7 +143,7 @@ impl Unit {
     {
         match &self.body {
             Body::Listed(records) => RecordsView::listed(records),
-            Body::Packed(records) => records.view(),
+            Body::Packed(block) => RecordsView::packed(&block.bytes, &block.entries),
         }
     }
 }

@@ -1,6 +1,6 @@
 //! Words that are read from bytes.
 
-ghost use Rattle.std.specs.Prelude.{◌≡◌, ◌==◌, ◌<◌, ◌≤◌, [], length, slice_index, take, drop, IfOk, IfSome, IfNone};
+ghost use Rattle.std.specs.Prelude.{◌≡◌, ◌==◌, ◌*◌, ◌<◌, ◌≤◌, [], length, slice_index, take, drop, IfOk, IfSome, IfNone};
 ghost use Rattle.std.specs.List.{list_all};
 ghost use Rattle.vsl_words.specs.Versions.{id_in, id_size, most_words_of};
 ghost use Rattle.vsl_words.specs.Words.{words_in};
@@ -61,7 +61,8 @@ pub fn word_count(bytes: &[u8]) -> usize
 pub fn keep_words(bytes: &[u8], count: usize) -> &[u8]
     requires few { count ≤ most_words_of Version.Two }
     requires enough { count ≤ length (words_in bytes.now) }
-    ensures { words_in result.now ≡ take count (words_in bytes.now) }
+    ensures words { words_in result.now ≡ take count (words_in bytes.now) }
+    ensures whole { length result.now ≡ 4 * count }
 {
     let (kept, _) = bytes.split_at(4 * count);
     kept
@@ -83,7 +84,8 @@ pub fn is_padded(bytes: &[u8], from: usize) -> bool
 
 /// The bytes of words, the lowest byte of each word first. 2^63 bytes and more count as want of memory.
 pub fn bytes_of(alloc: Global, words: &[u32]) -> Result<Vec<u8>, AllocError>
-    ensures { IfOk result (λ bytes. words_in bytes.items ≡ words.now) }
+    ensures words { IfOk result (λ bytes. words_in bytes.items ≡ words.now) }
+    ensures whole { IfOk result (λ bytes. length bytes.items ≡ 4 * length words.now) }
 {
     let mut bytes = Vec::with_capacity(alloc, words.len().saturating_mul(4))?;
     for word in words {

@@ -12,4 +12,4 @@ returns-in_err-unit-clause-refused c =
     let head : get_or words 0 0 ≡ c.header_word-head.result = c.header_word-head.ensures in
     let good : header_fault c.args.version (get_or words 0 0) (length words) ≡ None = rw (← head, c.word_count.ensures) at c.in_ok-size.ensures.good in
     let size : c.in_ok-size.size ≡ get_or words 0 0 % 16777216 = rw head c.in_ok-size.ensures.size.0 in
-    rw (p.1, p.2) (λ other. inr (good, bad_before c.args.version words c.in_ok-size.size c.in_err-unit.field-0.0 size c.in_ok-size.ensures.size.1 (rw c.keep_words.ensures at (c.in_err-unit.ensures.refused other))))
+    rw (p.1, p.2) (λ other. inr (good, bad_before c.args.version words c.in_ok-size.size c.in_err-unit.field-0.0 size c.in_ok-size.ensures.size.1 (rw c.keep_words.ensures.words at (c.in_err-unit.ensures.refused other))))

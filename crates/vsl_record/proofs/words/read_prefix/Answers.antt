@@ -11,4 +11,4 @@ returns-in_err-unit-clause-refused c =
     let head : get_or words 0 0 ≡ c.unwrap_or-head.result = search rules in
     let good : header_fault c.args.version (get_or words 0 0) (length words) ≡ None = rw (← head) at c.in_ok-size.ensures.good in
     let size : c.in_ok-size.size ≡ get_or words 0 0 % 16777216 = rw head c.in_ok-size.ensures.size.0 in
-    rw (p.1, p.2) (λ other. inr (good, bad_before c.args.version words c.in_ok-size.size c.in_err-unit.field-0.0 size c.in_ok-size.ensures.size.1 (rw (c.deref.ensures.value, c.in_ok-bytes.ensures, c.split_at.ensures.front) at (c.in_err-unit.ensures.refused other))))
+    rw (p.1, p.2) (λ other. inr (good, bad_before c.args.version words c.in_ok-size.size c.in_err-unit.field-0.0 size c.in_ok-size.ensures.size.1 (rw (c.deref.ensures.value, c.in_ok-bytes.ensures.words, c.split_at.ensures.front) at (c.in_err-unit.ensures.refused other))))
