@@ -33,11 +33,9 @@ matched caseless asked found rec rule pattern asked_text bytes read is named tex
     let part : IsPatternOf caseless (parts_of rule.text).pattern (Some pattern) = subst (IsPatternOf caseless (parts_of rule.text).pattern) is read.pattern in
     found_is ∙ ap (is_match asked asked_text) bytes_are ∙ pattern_asked caseless asked (parts_of rule.text).pattern pattern asked_text rec.payload part text_is same ∙ sym (rw named refl)
 
--- what is told of a rule that was read holds of each rule of a selection
-pub read_rule : (caseless now answer : Bool) (test : Bool → Bool) (rules items : List Rule) (i : ℕ) (rule : Rule) → ∥ All (IsRead caseless) rules ∥₁ → caseless ≡ now → items ≡ rules
-    → i < length items → rule ≡ get_or items i rule → ((c : Bool) → IsRead c rule → answer ≡ test c) → answer ≡ test now
-read_rule caseless now answer test rules items i rule read same items_are lt is told =
-    ∥∥₁_elim read (Bool-set _ _) (λ all. told caseless (rw (is, items_are) (all i rule (rw items_are at lt))) ∙ ap test same)
+-- of rules that were read each is
+pub read_here : (caseless : Bool) (rules : List Rule) (i : ℕ) (rule : Rule) → All (IsRead caseless) rules → i < length rules → rule ≡ get_or rules i rule → IsRead caseless rule
+read_here caseless rules i rule all lt is = subst (IsRead caseless) (sym is) (all i rule lt)
 
 -- ---- what the first rule says
 
@@ -53,7 +51,7 @@ module _ (is_so : RuleText → Bool) where
       of_or None y = refl
       of_or (Some x) y = refl
 
-  says_next : (text : RuleText) (rest : List RuleText) → first_says is_so (text ∷ rest) ≡ cond (is_so text) (Some text.include) (first_says is_so rest)
+  pub says_next : (text : RuleText) (rest : List RuleText) → first_says is_so (text ∷ rest) ≡ cond (is_so text) (Some text.include) (first_says is_so rest)
   says_next text rest = of_test (is_so text) (find is_so rest)
     where
       of_test : (b : Bool) (x : Option RuleText) → option_map (λ r. r.include) (cond b (Some text) x) ≡ cond b (Some text.include) (option_map (λ r. r.include) x)
@@ -79,17 +77,6 @@ module _ (is_so : RuleText → Bool) where
       behind None = refl
       behind (Some r) = refl
 
-  -- where no rule is so, none that is more than so says anything
-  pub none_without : (is_more : RuleText → Bool) (texts : List RuleText) → list_any is_so texts ≡ false → first_says (λ r. is_so r && is_more r) texts ≡ None
-  none_without is_more [] none = refl
-  none_without is_more (text ∷ texts) none =
-      let parts = or_parts (is_so text) (list_any is_so texts) none in rw parts.0 (none_without is_more texts parts.1)
-
-  -- the test of a rule's text, of the rules and of their texts
-  pub any_of_texts : (rules : List Rule) → list_any (λ r. is_so r.text) rules ≡ list_any is_so (texts_of rules)
-  any_of_texts [] = refl
-  any_of_texts (rule ∷ rules) = ap (λ (b : Bool). is_so rule.text || b) (any_of_texts rules)
-
   module _ (rules : List Rule) (i : ℕ) (rule : Rule) (lt : i < length rules) (is : rule ≡ get_or rules i rule) where
     with_it : texts_of (take (i + 1) rules) ≡ texts_of (take i rules) ++ rule.text ∷ []
     with_it = ap texts_of (take_more rules i rule lt ∙ ap (λ (r : Rule). take i rules ++ r ∷ []) (sym is)) ∙ map-append (λ (r : Rule). r.text) (take i rules) (rule ∷ [])
@@ -109,6 +96,10 @@ module _ (is_so : RuleText → Bool) where
     -- some rule is so
     pub any_here : is_so rule.text ≡ true → list_any is_so (texts_of rules) ≡ true
     any_here so = rw (split_at_it, list_any-append is_so (texts_of (take i rules)) (rule.text ∷ texts_of (drop (i + 1) rules)), so) (or_right (list_any is_so (texts_of (take i rules))) true refl)
+
+    -- no rule is so, and neither is this one
+    pub none_so : list_any is_so (texts_of (take i rules)) ≡ false → is_so rule.text ≡ false → list_any is_so (texts_of (take (i + 1) rules)) ≡ false
+    none_so none not_so = rw (with_it, list_any-append is_so (texts_of (take i rules)) (rule.text ∷ []), none, not_so) refl
 
     -- the last that is so says it
     last_next : first_says is_so (reverse (texts_of (take (i + 1) rules))) ≡ cond (is_so rule.text) (Some rule.text.include) (first_says is_so (reverse (texts_of (take i rules))))

@@ -1,7 +1,7 @@
 -- What nothing hides.
 use Rattle.std.proofs.Common.{◌≡◌, ◌==◌, Bool, true, false, List, [], ◌∷◌, length, map, get_or, refl, ap, ◌∙◌, arith}
 use Rattle.std.specs.List.{filter}
-use Rattle.std.proofs.lemmas.Bool.{eqb-true, or_left, not_from_false}
+use Rattle.std.proofs.lemmas.Bool.{and_from, eqb-true, or_left, not_from_false}
 use Rattle.std.proofs.lemmas.List.Folds.{map_fixed}
 use Rattle.vsl_record.specs.declared.record_type.Record.{Record}
 use Rattle.txn_rows.specs.declared.group.Member.{Member}
@@ -9,7 +9,7 @@ use Rattle.txn_rows.specs.declared.group.Group.{Group}
 use Rattle.vsl_select.specs.declared.rule_text.RuleText.{RuleText}
 use Rattle.vsl_select.specs.declared.rule_text.Sides.{Sides}
 use Rattle.vsl_select.specs.Showing.{Showing}
-use Rattle.vsl_select.specs.Shown.{has_sides, is_shown_member, is_shown_record, shown, shown_member}
+use Rattle.vsl_select.specs.Shown.{has_sides, is_shown_alone, is_shown_member, is_shown_record, shown, shown_member}
 
 -- a test that is true everywhere keeps a list
 keeps_all : {X : Type 0} (p : X → Bool) → ((x : X) → p x ≡ true) → (xs : List X) → filter p xs ≡ xs
@@ -25,6 +25,12 @@ record_shown sides (rule ∷ rules) caseless none rec = absurd (omega (arith, eq
 -- without rules each record of a transaction is shown
 pub records_kept : (showing : Showing) → (length showing.rules == 0) ≡ true → (records : List Record) → filter (is_shown_record showing) records ≡ records
 records_kept showing none records = keeps_all (is_shown_record showing) (record_shown showing.sides showing.rules showing.caseless none) records
+
+-- without sides and rules each record by itself is shown
+pub alone_kept : (showing : Showing) → has_sides showing.sides ≡ false → (length showing.rules == 0) ≡ true → (records : List Record) → filter (is_shown_alone showing) records ≡ records
+alone_kept showing no_sides none records =
+    keeps_all (is_shown_alone showing)
+    (λ rec. and_from _ _ (or_left _ _ (not_from_false (has_sides showing.sides) no_sides)) (record_shown showing.sides showing.rules showing.caseless none rec)) records
 
 -- without sides and rules the whole group is shown
 pub group_kept : (showing : Showing) → has_sides showing.sides ≡ false → (length showing.rules == 0) ≡ true → (group : Group) → shown showing group ≡ group

@@ -128,6 +128,14 @@ shows_mark sides marks.Client = shows_client sides
 shows_mark sides marks.Backend = sides.backend
 shows_mark sides marks.Plain = false
 
+-- whether a record by itself of this mark is shown; without -b, -c and -E each is
+abbrev pub is_shown_mark : Sides → Mark → Bool
+is_shown_mark sides mark = not (has_sides sides) || shows_mark sides mark
+
+-- whether a record by itself is shown: records of its mark are, and the rules show it
+abbrev pub is_shown_alone : Showing → Record → Bool
+is_shown_alone showing rec = is_shown_mark showing.sides rec.mark && is_shown_record showing rec
+
 -- whether a transaction of this kind and reason, or a record by itself of this mark, is shown with -b, -c or -E. The
 -- options name requests: a session is none, and of an unknown transaction nobody knows whose it is
 abbrev pub shows_kind : Sides → Kind → Reason → Mark → Bool

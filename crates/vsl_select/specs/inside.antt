@@ -1,2 +1,3 @@
 pub mod Escapes
 pub mod Reading
+pub mod Rows

@@ -12,24 +12,30 @@ use crate::level_field::LevelField;
 use crate::parts::{put_byte, put_text, put_vxid_left, title_of};
 use crate::raw::{put_raw_line, put_raw_lines, put_tag_line};
 use crate::selection::Selection;
+use crate::viewer::Viewer;
 use crate::vxid_columns::VxidColumns;
 use log_model::{NoMemory, or_cut_back};
 use txn_rows::{Group, Member};
 use vsl_record::{RecordView, Vxid};
 
 /// Adds the raw lines of the shown records of a member.
-fn put_raw_member(out: &mut Vec<u8>, selection: &Selection, member: &Member) -> Result<(), NoMemory>
-    ensures { Puts result out.old.items out.new.items
-        (member_raw_lines (shown_member selection.now member.now)) }
+fn put_raw_member(
+    out: &mut Vec<u8>,
+    viewer: &mut Viewer<'_>,
+    member: &Member,
+) -> Result<(), NoMemory>
+    ensures text { Puts result out.old.items out.new.items
+        (member_raw_lines (shown_member viewer.old member.now)) }
+    ensures same { viewer.new ≡ viewer.old }
 {
-    if selection.shows_every_record() {
+    if viewer.selection().shows_every_record() {
         return put_raw_lines(out, member.vxid, &member.records.view());
     }
     let columns = VxidColumns::new(member.vxid);
     let records = member.records.view();
     for i in 0..records.len() {
         let rec = records.get(i);
-        if selection.shows(&rec)? {
+        if viewer.shows(&rec)? {
             put_raw_line(out, &columns, &rec)?;
         }
     }
@@ -39,15 +45,16 @@ fn put_raw_member(out: &mut Vec<u8>, selection: &Selection, member: &Member) -> 
 /// Adds the raw lines of what is shown of a group of records by themselves.
 fn put_raw_members(
     out: &mut Vec<u8>,
-    selection: &Selection,
+    viewer: &mut Viewer<'_>,
     members: &[Member],
 ) -> Result<(), NoMemory>
-    ensures { Puts result out.old.items out.new.items
-        (flat_map member_raw_lines (shown_members selection.now members.now)) }
+    ensures text { Puts result out.old.items out.new.items
+        (flat_map member_raw_lines (shown_members viewer.old members.now)) }
+    ensures same { viewer.new ≡ viewer.old }
 {
     for member in members {
-        if selection.shows_member(member) {
-            put_raw_member(out, selection, member)?;
+        if viewer.selection().shows_member(member) {
+            put_raw_member(out, viewer, member)?;
         }
     }
     Ok(())
@@ -117,14 +124,15 @@ fn put_every_record(out: &mut Vec<u8>, verbose: bool, member: &Member) -> Result
 fn put_records(
     out: &mut Vec<u8>,
     verbose: bool,
-    selection: &Selection,
+    viewer: &mut Viewer<'_>,
     member: &Member,
 ) -> Result<(), NoMemory>
-    ensures { Puts result out.old.items out.new.items
+    ensures text { Puts result out.old.items out.new.items
         (flat_map (record_line verbose member.now)
-        (shown_member selection.now member.now).records) }
+        (shown_member viewer.old member.now).records) }
+    ensures same { viewer.new ≡ viewer.old }
 {
-    if selection.shows_every_record() {
+    if viewer.selection().shows_every_record() {
         return put_every_record(out, verbose, member);
     }
     let level = LevelField::new(b'-', member.level);
@@ -132,7 +140,7 @@ fn put_records(
     let records = member.records.view();
     for i in 0..records.len() {
         let rec = records.get(i);
-        if selection.shows(&rec)? {
+        if viewer.shows(&rec)? {
             put_record(out, verbose, &level, &vxid, &rec)?;
         }
     }
@@ -143,16 +151,17 @@ fn put_records(
 fn put_member(
     out: &mut Vec<u8>,
     verbose: bool,
-    selection: &Selection,
+    viewer: &mut Viewer<'_>,
     member: &Member,
 ) -> Result<(), NoMemory>
-    ensures { Puts result out.old.items out.new.items
-        (member_text verbose (shown_member selection.now member.now)) }
+    ensures text { Puts result out.old.items out.new.items
+        (member_text verbose (shown_member viewer.old member.now)) }
+    ensures same { viewer.new ≡ viewer.old }
 {
     let before = out.len();
     put_header(out, member)?;
     let behind = out.len();
-    put_records(out, verbose, selection, member)?;
+    put_records(out, verbose, viewer, member)?;
     if out.len() == behind {
         out.truncate(before);
     }
@@ -163,15 +172,16 @@ fn put_member(
 fn put_members(
     out: &mut Vec<u8>,
     verbose: bool,
-    selection: &Selection,
+    viewer: &mut Viewer<'_>,
     members: &[Member],
 ) -> Result<(), NoMemory>
-    ensures { Puts result out.old.items out.new.items
-        (flat_map (member_text verbose) (shown_members selection.now members.now)) }
+    ensures text { Puts result out.old.items out.new.items
+        (flat_map (member_text verbose) (shown_members viewer.old members.now)) }
+    ensures same { viewer.new ≡ viewer.old }
 {
     for member in members {
-        if selection.shows_member(member) {
-            put_member(out, verbose, selection, member)?;
+        if viewer.selection().shows_member(member) {
+            put_member(out, verbose, viewer, member)?;
         }
     }
     Ok(())
@@ -190,14 +200,15 @@ fn are_raw(selection: &Selection, members: &[Member]) -> bool
 fn put_transactions(
     out: &mut Vec<u8>,
     verbose: bool,
-    selection: &Selection,
+    viewer: &mut Viewer<'_>,
     members: &[Member],
 ) -> Result<(), NoMemory>
-    ensures { Puts result out.old.items out.new.items
-        (transactions_text verbose (shown_members selection.now members.now)) }
+    ensures text { Puts result out.old.items out.new.items
+        (transactions_text verbose (shown_members viewer.old members.now)) }
+    ensures same { viewer.new ≡ viewer.old }
 {
     let before = out.len();
-    put_members(out, verbose, selection, members)?;
+    put_members(out, verbose, viewer, members)?;
     if out.len() > before {
         put_byte(out, b'\n')?;
     }
@@ -208,17 +219,18 @@ fn put_transactions(
 fn put_group(
     out: &mut Vec<u8>,
     verbose: bool,
-    selection: &Selection,
+    viewer: &mut Viewer<'_>,
     group: &Group,
 ) -> Result<(), NoMemory>
-    ensures { Puts result out.old.items out.new.items
-        (group_text verbose (shown selection.now group.now)) }
+    ensures text { Puts result out.old.items out.new.items
+        (group_text verbose (shown viewer.old group.now)) }
+    ensures same { viewer.new ≡ viewer.old }
 {
     let members = group.members.as_slice();
-    if are_raw(selection, members) {
-        put_raw_members(out, selection, members)
+    if are_raw(viewer.selection(), members) {
+        put_raw_members(out, viewer, members)
     } else {
-        put_transactions(out, verbose, selection, members)
+        put_transactions(out, verbose, viewer, members)
     }
 }
 
@@ -228,14 +240,15 @@ fn put_group(
 /// Source: varnishlog(1), `-v`.
 pub fn group_text(
     group: &Group,
-    selection: &Selection,
+    viewer: &mut Viewer<'_>,
     verbose: bool,
     out: &mut Vec<u8>,
 ) -> Result<(), NoMemory>
-    ensures { Adds result out.old.items out.new.items
-        (group_text verbose (shown selection.now group.now)) }
+    ensures text { Adds result out.old.items out.new.items
+        (group_text verbose (shown viewer.old group.now)) }
+    ensures same { viewer.new ≡ viewer.old }
 {
     let before = out.len();
-    let put = put_group(out, verbose, selection, group);
+    let put = put_group(out, verbose, viewer, group);
     or_cut_back(put, before, out)
 }

@@ -1,13 +1,15 @@
 //! Raw lines: of one record, of a unit, and of records by themselves; and a tag with a text.
 #![tactic(auto, using(log_model::proofs::PrefixLemmas::adding))]
 
-ghost use Rattle.std.specs.Prelude.{◌∷◌, ◌++◌, codes, decimal};
-ghost use Rattle.std.specs.List.{flat_map};
+ghost use Rattle.std.specs.Prelude.{◌≡◌, ◌∷◌, ◌++◌, codes, decimal};
+ghost use Rattle.std.specs.List.{filter, flat_map};
 ghost use Rattle.log_model.specs.Adding.{Puts, Adds};
 ghost use Rattle.vsl_tags.specs.Tags.{name_columns};
 ghost use Rattle.vsl_select.specs.RawLine.{at_right, escaped, mark_letter, tag_line, raw_line, raw_lines};
+ghost use Rattle.vsl_select.specs.Shown.{is_shown_alone};
 
 use crate::parts::{letter_of, put_byte, put_escaped, put_text};
+use crate::viewer::Viewer;
 use crate::vxid_columns::VxidColumns;
 use log_model::{NoMemory, or_cut_back};
 use vsl_record::{Mark, RecordView, RecordsView, Unit, Vxid};
@@ -109,6 +111,27 @@ pub(crate) fn put_raw_lines(
     Ok(())
 }
 
+/// Adds the raw lines of those of the records that are shown by themselves, or a part of them.
+fn put_shown_lines(
+    out: &mut Vec<u8>,
+    vxid: Vxid,
+    viewer: &mut Viewer<'_>,
+    records: &RecordsView<'_>,
+) -> Result<(), NoMemory>
+    ensures text { Puts result out.old.items out.new.items
+        (flat_map (raw_line vxid) (filter (is_shown_alone viewer.old) records.now)) }
+    ensures same { viewer.new ≡ viewer.old }
+{
+    let columns = VxidColumns::new(vxid);
+    for i in 0..records.len() {
+        let rec = records.get(i);
+        if viewer.shows_alone(&rec)? {
+            put_raw_line(out, &columns, &rec)?;
+        }
+    }
+    Ok(())
+}
+
 /// Adds a tag's name at the left of 14 columns, a space, the text with its escapes, and a line feed. After want of memory the list is as it was.
 pub fn tag_line(tag: Tag, text: &[u8], out: &mut Vec<u8>) -> Result<(), NoMemory>
     ensures { Adds result out.old.items out.new.items (tag_line tag text.now) }
@@ -133,5 +156,22 @@ pub fn raw_lines(unit: &Unit, out: &mut Vec<u8>) -> Result<(), NoMemory>
 {
     let before = out.len();
     let put = put_raw_lines(out, unit.vxid(), &unit.records());
+    or_cut_back(put, before, out)
+}
+
+/// Adds the raw lines of those of a unit's records that are shown by themselves (varnishlog(1), `-g raw`, `-i` and `-c`).
+/// After want of memory the list is as it was.
+pub fn shown_raw_lines(
+    unit: &Unit,
+    viewer: &mut Viewer<'_>,
+    out: &mut Vec<u8>,
+) -> Result<(), NoMemory>
+    ensures text { Adds result out.old.items out.new.items
+        (flat_map (raw_line unit.now.vxid)
+        (filter (is_shown_alone viewer.old) unit.now.records)) }
+    ensures same { viewer.new ≡ viewer.old }
+{
+    let before = out.len();
+    let put = put_shown_lines(out, unit.vxid(), viewer, &unit.records());
     or_cut_back(put, before, out)
 }

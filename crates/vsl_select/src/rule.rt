@@ -1,16 +1,15 @@
 //! A rule for records, as it is read and asked.
 
-ghost use Rattle.std.specs.Prelude.{◌≡◌, ◌≢◌, Bool, Some, None, IfOk, OnOk, IfErr, IfSome, IfNone, IsOk};
+ghost use Rattle.std.specs.Prelude.{◌≡◌, ◌≢◌, Bool, Some, None, IfOk, OnOk, IfErr, IfSome, IfNone};
 ghost use Rattle.std.specs.List.{list_all};
 ghost use Rattle.std.specs.Option.{option_copied};
-ghost use Rattle.vsl_select.specs.Shown.{is_list_byte, is_matched, names_tag, pattern_fault, rule_fault, split_parts, tags_fault, unless_empty};
+ghost use Rattle.vsl_select.specs.Shown.{is_list_byte, names_tag, pattern_fault, rule_fault, split_parts, tags_fault, unless_empty};
 ghost use Rattle.vsl_select.specs.inside.Reading.{AreTagsOf, IsPatternOf, IsRead};
 
 use crate::rule_text::{RuleText, SelectFault};
-use log_model::{Halt, NoMemory};
+use log_model::Halt;
 use std::alloc::Global;
 use vsl_pattern::{NoGoodPattern, Pattern};
-use vsl_record::RecordView;
 use vsl_tags::{Tag, TagSet};
 
 /// A rule that was read. Where it has no taglist it names every tag, and where it has no pattern every payload is well.
@@ -139,22 +138,6 @@ impl Rule {
         match &self.tags {
             Some(tags) => tags.has(tag),
             None => true,
-        }
-    }
-
-    /// Whether the rule matches the record. Its tag is asked first; a payload is looked at only where there is a
-    /// pattern. What asks a pattern is made for each record that is asked, so a taglist makes `-I` and `-X` faster.
-    pub fn fits(&self, alloc: Global, rec: &RecordView<'_>) -> Result<bool, NoMemory>
-        ensures fits { (caseless : Bool) → IsRead caseless self.now →
-            IfOk result (λ b. b ≡ is_matched caseless rec.now self.now.text) }
-        ensures answered { self.now.pattern ≡ None → IsOk result }
-    {
-        if !self.names(rec.tag()) {
-            return Ok(false);
-        }
-        match &self.pattern {
-            Some(pattern) => Ok(pattern.matching(alloc)?.is_match(rec.payload())),
-            None => Ok(true),
         }
     }
 }

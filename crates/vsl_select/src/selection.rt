@@ -6,17 +6,18 @@ ghost use Rattle.std.specs.Option.{option_or};
 ghost use Rattle.vsl_record.specs.declared.record_type.Record.{Record};
 ghost use Rattle.txn_rows.specs.declared.group.Group.{Group};
 ghost use Rattle.vsl_select.specs.Showing.{Showing};
-ghost use Rattle.vsl_select.specs.Shown.{first_says, has_sides, is_esi, is_matched, is_shown_member, is_shown_record, names_tag, rules_fault, shown, shows_client, shows_everything, shows_kind, shows_mark, shows_others};
+ghost use Rattle.vsl_select.specs.Shown.{first_says, has_sides, is_esi, is_shown_alone, is_shown_mark, is_shown_member, is_shown_record, rules_fault, shown, shows_client, shows_everything, shows_mark, shows_others};
 ghost use Rattle.vsl_select.specs.inside.Reading.{IsRead};
+ghost use Rattle.vsl_select.specs.inside.Rows.{AreRulesOf, IsRowOf};
 
 use crate::file_units::first_mark;
 use crate::rule::Rule;
 use crate::rule_text::{RuleText, SelectFault, Sides};
-use log_model::NoMemory;
+use crate::tag_rows::{PLACES, TagRow, rows_of};
 use std::alloc::Global;
 use std::marker::Model;
 use txn_rows::{Kind, Member, Reason};
-use vsl_record::{Mark, RecordView, Records};
+use vsl_record::Mark;
 use vsl_tags::Tag;
 
 /// Which transactions and records are shown. Contracts see the sides and the rules that it was made of.
@@ -26,18 +27,16 @@ pub struct Selection {
     sides: Sides,
     caseless: bool,
     rules: Vec<Rule>,
-    /// Whether a rule is `-I` or `-X`.
-    patterns: bool,
-    /// Whether a record for which no rule decides is shown.
-    others: bool,
+    /// What the rules say of each tag's records, by the tag's number.
+    rows: [TagRow; PLACES],
     ghost read: { ∥ All (IsRead caseless) rules.items ∥₁ },
 }
 
 impl Model for Selection {
-    ghost use Rattle.std.specs.Prelude.{◌≡◌, map};
-    ghost use Rattle.std.specs.List.{list_any};
+    ghost use Rattle.std.specs.Prelude.{ℕ, map};
+    ghost use Rattle.vsl_tags.specs.Tags.{IsTag};
     ghost use Rattle.vsl_select.specs.Showing.{Showing};
-    ghost use Rattle.vsl_select.specs.Shown.{shows_others};
+    ghost use Rattle.vsl_select.specs.inside.Rows.{IsRowOf, row_at};
 
     ghost Value = { Showing };
 
@@ -47,9 +46,8 @@ impl Model for Selection {
       caseless = s.caseless;
     } };
 
-    ghost invariant = { λ s. (s.patterns ≡ list_any (λ r. r.regex)
-        (map (λ r. r.text) s.rules.items))
-        × (s.others ≡ shows_others (map (λ r. r.text) s.rules.items)) };
+    ghost invariant = { λ s. (tag : ℕ) → IsTag tag →
+        IsRowOf (map (λ r. r.text) s.rules.items) tag (row_at s.rows tag) };
 }
 
 /// Whether what is a client's is shown.
@@ -127,13 +125,6 @@ fn shows_others(rules: &[Rule]) -> bool
     !first_list_includes(rules) && !first_pattern_includes(rules)
 }
 
-/// Whether a rule is `-I` or `-X`.
-fn has_pattern(rules: &[Rule]) -> bool
-    ensures { result ≡ list_any (λ r. r.regex) (map (λ r. r.text) rules.now) }
-{
-    rules.iter().any(|rule| rule.text.regex)
-}
-
 impl Selection {
     /// What these sides and rules show. The rules are read in order, and the first that is refused is the answer: for its taglist,
     /// or else for its pattern. Where no side is set, all transactions are shown, and where there is no rule, all records.
@@ -152,15 +143,13 @@ impl Selection {
             rules_fault caseless rules.items ≡ Some fault) }
     {
         let rules = read_rules(alloc, rules, caseless)?;
-        let patterns = has_pattern(&rules);
-        let others = shows_others(&rules);
+        let rows = rows_of(&rules, shows_others(&rules));
         Ok(Selection {
             alloc,
             sides,
             caseless,
             rules,
-            patterns,
-            others,
+            rows,
         })
     }
 
@@ -168,6 +157,8 @@ impl Selection {
     pub fn shows_everything(&self) -> bool
         ensures told { result ≡ shows_everything self.now }
         ensures all { result ≡ true → (group : Group) → shown self.now group ≡ group }
+        ensures alone { result ≡ true → (records : List Record) →
+            filter (is_shown_alone self.now) records ≡ records }
     {
         !self.has_sides() && self.rules.is_empty()
     }
@@ -204,78 +195,26 @@ impl Selection {
         }
     }
 
-    /// What the first of `-I` and `-X` that matches the record says. It is kept out of line, since what asks a pattern takes much of the stack.
-    #[inline(never)]
-    fn first_match(&self, rec: &RecordView<'_>) -> Result<Option<bool>, NoMemory>
-        ensures said { IfOk result
-            (λ said. said ≡ first_says
-            (λ r. r.regex && is_matched self.now.caseless rec.now r) self.now.rules) }
-        ensures answered { list_any (λ r. r.regex) self.now.rules ≡ false → IsOk result }
-    {
-        for rule in &self.rules {
-            if rule.text.regex && rule.fits(self.alloc, rec)? {
-                return Ok(Some(rule.text.include));
-            }
-        }
-        Ok(None)
-    }
-
-    /// What the last of `-i` and `-x` that names the tag says.
-    fn last_named(&self, tag: Tag) -> Option<bool>
-        ensures { result ≡ first_says (λ r. not r.regex && names_tag r tag)
-            (reverse self.now.rules) }
-    {
-        let mut said = None;
-        for rule in &self.rules {
-            if !rule.text.regex && rule.names(tag) {
-                said = Some(rule.text.include);
-            }
-        }
-        said
-    }
-
-    /// What the rules say of the record, where one of them decides.
-    fn said_of(&self, rec: &RecordView<'_>) -> Result<Option<bool>, NoMemory>
-        ensures said { IfOk result
-            (λ said. said ≡ option_or
-            (first_says (λ r. r.regex && is_matched self.now.caseless rec.now r) self.now.rules)
-            (first_says (λ r. not r.regex && names_tag r rec.now.tag) (reverse self.now.rules))) }
-        ensures answered { list_any (λ r. r.regex) self.now.rules ≡ false → IsOk result }
-    {
-        if !self.patterns {
-            return Ok(self.last_named(rec.tag()));
-        }
-        match self.first_match(rec)? {
-            Some(said) => Ok(Some(said)),
-            None => Ok(self.last_named(rec.tag())),
-        }
-    }
-
-    /// Whether the record is shown, in a transaction that is. Without `-I` and `-X` this takes no memory.
+    /// Whether records by themselves of this mark are shown.
     #[inline]
-    pub fn shows(&self, rec: &RecordView<'_>) -> Result<bool, NoMemory>
-        ensures shown { IfOk result (λ b. b ≡ is_shown_record self.now rec.now) }
-        ensures answered { list_any (λ r. r.regex) self.now.rules ≡ false → IsOk result }
+    pub fn shows_mark(&self, mark: Mark) -> bool
+        ensures { result ≡ is_shown_mark self.now.sides mark }
     {
-        match self.said_of(rec)? {
-            Some(said) => Ok(said),
-            None => Ok(self.others),
-        }
+        !self.has_sides() || shows_mark(self.sides, mark)
     }
 
-    /// Copies of the shown records of a transaction.
-    pub fn shown_records(&self, member: &Member) -> Result<Records, NoMemory>
-        ensures { IfOk result (λ records.
-            records ≡ filter (is_shown_record self.now) member.now.records) }
+    /// The rules, as they were read.
+    pub(crate) fn rules(&self) -> &[Rule]
+        ensures { AreRulesOf self.now result.now }
     {
-        let mut shown = Records::new(self.alloc);
-        let records = member.records.view();
-        for i in 0..records.len() {
-            let rec = records.get(i);
-            if self.shows(&rec)? {
-                shown.push(&rec)?;
-            }
-        }
-        Ok(shown)
+        &self.rules
+    }
+
+    /// The row of a tag.
+    #[inline]
+    pub(crate) fn row(&self, tag: Tag) -> TagRow
+        ensures { IsRowOf self.now.rules tag result }
+    {
+        self.rows[usize::from(tag.number())]
     }
 }

@@ -1,8 +1,0 @@
--- what the last of the rules so far says
-use Rattle.std.proofs.Common.{◌≡◌, ◌&&◌, not, reverse, take}
-use Rattle.vsl_select.specs.Shown.{first_says, names_tag}
-use Rattle.vsl_select.proofs.RuleLemmas.{texts_of}
-use Rattle.vsl_select.proofs.selection.Selection.last_named.Given as goal
-
-abbrev pub invariant-loop-rule : goal.invariant-loop-rule
-invariant-loop-rule l = l.said ≡ first_says (λ r. not r.regex && names_tag r l.tag) (reverse (texts_of (take l.rule-index l.rule-items)))
