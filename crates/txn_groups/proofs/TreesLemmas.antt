@@ -1,7 +1,7 @@
 -- Where pending nodes go, the store of nodes goes, too.
-use Rattle.std.proofs.Common.{◌≡◌, ◌<◌, ⊎_elim, ◌⊎◌, inl, inr, ℕ, Bool, false, Option, Some, None, List, [], ◌++◌, length, map, get_or, Result, Ok, Err, refl, ap, sym, ◌∙◌, subst, arith}
+use Rattle.std.proofs.Common.{◌≡◌, ◌<◌, ◌≤◌, ⊎_elim, ◌⊎◌, inl, inr, ℕ, Bool, true, false, Option, Some, None, List, [], ◌++◌, length, map, get_or, Result, Ok, Err, refl, ap, sym, ◌∙◌, subst, arith}
 use Rattle.std.specs.Prelude.{slice_get, IfSome, IfNone}
-use Rattle.std.specs.Option.{option_map}
+use Rattle.std.specs.Option.{option_map, is_some}
 use Rattle.std.specs.Result.{OnOk}
 use Rattle.std.proofs.lemmas.List.{length-map}
 use Rattle.std.proofs.lemmas.Option.{slice_get_read}
@@ -12,7 +12,10 @@ use Rattle.txn_rows.specs.declared.group.Group.{Group}
 use Rattle.txn_rows.specs.declared.group.Grouping.{Grouping}
 use Rattle.txn_rows.specs.declared.which.Which.{Which}
 use Rattle.txn_rows.specs.Transaction.{Transaction, newest, is_pending, forced}
-use Rattle.txn_rows.specs.Grouping.{State, Leaving, no_state}
+use Rattle.txn_rows.specs.Grouping.{State, Leaving, no_state, is_behind}
+use Rattle.txn_rows.specs.Times.{IsTimed, NoneLateUpTo}
+use Rattle.txn_rows.specs.declared.which.Which.TheVariants.{Late}
+use Rattle.txn_rows.proofs.ForceAllLemmas.{first_not_meant, not_behind, begins_in_time}
 use Rattle.txn_rows.specs.Store as stores
 use Rattle.txn_rows.specs.Trees.{transaction_of, AreTrees}
 use Rattle.txn_rows.specs.Store.{test_of}
@@ -210,3 +213,15 @@ pub oldest_met : (which : Which) (p : Pending) (at : ℕ) (x : Node) (met : Bool
 oldest_met which p at x met o within read is =
     let same : o.node ≡ x = same_node p.nodes.items at o.node x o.there (slice_get_read p.nodes.items (length p.nodes.items) at x refl within read) in
     is (transaction_of_node o.node) (ap (λ (n : Node). n.ended) same) (ap (λ (n : Node). n.time) same)
+
+-- none is late up to a log time where the oldest isn't
+pub none_late_up_to : (seconds last : ℕ) (p : Pending) (at : ℕ) (x : Node) (time : ℕ) → (o : OldestAt p at) → at < length p.nodes.items → x ≡ get_or p.nodes.items at x → x.time ≡ Some time → is_some p.time ≡ true → IsTimed (state_of p) → ((now : ℕ) → now ≤ last → is_behind seconds (Some time) (Some now) ≡ false) → NoneLateUpTo seconds last (state_of p)
+none_late_up_to seconds last p at x time o within read is known times in_time =
+    let same : o.node ≡ x = same_node p.nodes.items at o.node x o.there (slice_get_read p.nodes.items (length p.nodes.items) at x refl within read) in
+    let t : Transaction = transaction_of_node o.node in
+    let time_is : t.time ≡ Some time = ap (λ (n : Node). n.time) same ∙ is in
+    record {
+      known = known;
+      none = λ now by. first_not_meant (Late seconds (Some now)) p.time t (state_of p).pending times o.is (not_behind seconds (Some now) t (ap (λ (q : Option ℕ). is_behind seconds q (Some now)) time_is ∙ in_time now by));
+      begins = λ now by. begins_in_time seconds time (Some now) p.time (state_of p).pending t times o.is time_is (in_time now by);
+    }

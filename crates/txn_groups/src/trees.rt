@@ -27,7 +27,7 @@ use log_model::NoMemory;
 use query_eval::{Chosen, Marks};
 use query_parser::Query;
 use std::alloc::Global;
-use txn_rows::{Cause, Claim, Grouping, Store, Which, raw_group};
+use txn_rows::{Cause, Claim, Grouping, Store, Which, last_in_time, raw_group};
 use vsl_record::{RecordView, RecordsView, Vxid};
 
 /// Pending transactions as trees of nodes, with an index.
@@ -156,6 +156,19 @@ impl<'q> Store for Trees<'q> {
 
     fn raise(&mut self, told: Option<u128>) {
         raise(&mut self.pending, told);
+    }
+
+    fn last_in_time(&mut self, seconds: u32) -> Option<u128> {
+        let Some(now) = self.pending.time else {
+            return None;
+        };
+        let Some(at) = seek_oldest(&self.pending, &mut self.low) else {
+            return Some(last_in_time(seconds, now));
+        };
+        let Some(time) = self.pending.nodes[at].time else {
+            return None;
+        };
+        Some(last_in_time(seconds, time))
     }
 
     fn end_row(

@@ -197,13 +197,13 @@ oldest_meant which t (u ∷ pending) first passes =
     rw none (oldest_meant which t pending (rw q at first) passes))
 
 -- what began later is no further behind
-behind_later : (seconds old time : ℕ) (now : Option ℕ) → old ≤ time → is_behind seconds (Some old) now ≡ false → is_behind seconds (Some time) now ≡ false
+pub behind_later : (seconds old time : ℕ) (now : Option ℕ) → old ≤ time → is_behind seconds (Some old) now ≡ false → is_behind seconds (Some time) now ≡ false
 behind_later seconds old time None le e = refl
 behind_later seconds old time (Some now) le e =
     let d : ℕ = seconds * second in
     le-ltb (time + d) now (omega (arith, le, ltb-false (old + d) now e))
 
-not_behind : (seconds : ℕ) (now : Option ℕ) (t : Transaction) → is_behind seconds t.time now ≡ false → is_late seconds now t ≡ false
+pub not_behind : (seconds : ℕ) (now : Option ℕ) (t : Transaction) → is_behind seconds t.time now ≡ false → is_late seconds now t ≡ false
 not_behind seconds now t e = by_cases (is_late seconds now t ≡ false) (not t.ended) (λ u. ap (λ (b : Bool). b && is_behind seconds t.time now) u ∙ e) (λ u. ap (λ (b : Bool). b && is_behind seconds t.time now) u)
 
 none_late_after : (seconds old high : ℕ) (now : Option ℕ) (pending : List Transaction) → is_behind seconds (Some old) now ≡ false → TimesRise old high (times_of pending) → list_any (is_late seconds now) pending ≡ false
@@ -233,6 +233,27 @@ none_late_unknown seconds now (t ∷ pending) n =
 none_late : (seconds : ℕ) (now time : Option ℕ) (pending : List Transaction) (t : Transaction) → RiseTo time (times_of pending) → oldest is_unfinished pending ≡ Some t → is_late seconds now t ≡ false → list_any (is_late seconds now) pending ≡ false
 none_late seconds now None pending t h first e = none_late_unknown seconds now pending h
 none_late seconds now (Some high) pending t h first e = none_late_known seconds 0 high now pending t h first e
+
+-- the oldest that has not ended began no later than the log time
+rise_le : (low high : ℕ) (times : List (Option ℕ)) → TimesRise low high times → low ≤ high
+rise_le low high [] r = r
+rise_le low high (told ∷ times) r = omega (arith, r.2, rise_le r.0 high times r.3)
+
+began_before : (low high time : ℕ) (pending : List Transaction) (t : Transaction) → TimesRise low high (times_of pending) → oldest is_unfinished pending ≡ Some t → t.time ≡ Some time → time ≤ high
+began_before low high time [] t r first is = absurd (cc)
+began_before low high time (u ∷ pending) t r first is =
+    by_cases (time ≤ high) (not u.ended)
+    (λ q. let same : Some u ≡ Some t = rw q at first in
+    let here : u ≡ t = (cc) in
+    let times : Some r.0 ≡ Some time = sym r.1 ∙ ap (λ (x : Transaction). x.time) here ∙ is in
+    let at : r.0 ≡ time = (cc) in
+    omega (arith, at, rise_le r.0 high (times_of pending) r.3))
+    (λ q. began_before r.0 high time pending t r.3 (rw q at first) is)
+
+-- where that isn't late, one that begins isn't
+pub begins_in_time : (seconds time : ℕ) (now log : Option ℕ) (pending : List Transaction) (t : Transaction) → RiseTo log (times_of pending) → oldest is_unfinished pending ≡ Some t → t.time ≡ Some time → is_behind seconds (Some time) now ≡ false → is_behind seconds log now ≡ false
+begins_in_time seconds time now None pending t h first is e = refl
+begins_in_time seconds time now (Some high) pending t h first is e = behind_later seconds time high now (began_before 0 high time pending t h first is) e
 
 -- the oldest of those is one, and so some are
 pub oldest_passes : (test : Transaction → Bool) (t : Transaction) (pending : List Transaction) → oldest test pending ≡ Some t → test t ≡ true

@@ -17,6 +17,8 @@ pub mod EndLemmas
 pub mod PendingLemmas
 pub mod TakeLemmas
 pub mod PlainLemmas
+pub mod QuietLemmas
+mod FirstFieldLemmas
 pub mod TakenLemmas
 pub mod TableLemmas
 pub mod OrderLemmas

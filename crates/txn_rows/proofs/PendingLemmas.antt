@@ -1,8 +1,8 @@
 -- Rows that begin, and which is open.
-use Rattle.std.proofs.Common.{◌≡◌, ◌+◌, ℕ, Bool, true, false, not, eqb, cond, Option, None, List, [], ◌∷◌, ◌++◌, set, map, take, drop, get_or, refl, ap, sym, ◌∙◌, subst, arith}
+use Rattle.std.proofs.Common.{◌≡◌, ◌+◌, ℕ, Bool, true, false, not, ◌||◌, eqb, cond, Option, None, List, [], ◌∷◌, ◌++◌, set, map, take, drop, get_or, refl, ap, sym, ◌∙◌, subst, arith}
 use Rattle.std.specs.Option.{option_map}
 use Rattle.std.proofs.lemmas.Bool.{eq-eqb, or_parts}
-use Rattle.std.proofs.lemmas.List.{map-append, length-set, drop-set-lt, get_or_default, get_or-set_same, get_or_append_left, drop-append-le, length_push}
+use Rattle.std.proofs.lemmas.List.{map-append, length-map, drop-map, get_or-map, length-set, drop-set-lt, get_or_default, get_or-set_same, get_or_append_left, drop-append-le, length_push}
 use Rattle.vsl_tags.specs.Tags.{begin_tag}
 use Rattle.txn_rows.specs.declared.rows.Row.{Row}
 use Rattle.txn_rows.specs.declared.group.Kind.TheVariants as kinds
@@ -13,7 +13,7 @@ use Rattle.txn_rows.specs.declared.group.Group.{Group}
 use Rattle.txn_rows.specs.declared.group.Grouping.{Grouping}
 use Rattle.vsl_record.specs.declared.record_type.Record.{Record}
 use Rattle.txn_rows.specs.Claim.{claim_of, own_claim}
-use Rattle.txn_rows.specs.Grouping.{with_new, ended_one}
+use Rattle.txn_rows.specs.Grouping.{with_new, ended_one, timed}
 use Rattle.txn_rows.specs.Trees.{transaction_of, IsNewestRow, AreTrees}
 use Rattle.txn_rows.specs.inside.Rows.{row_told, with_one, Rows, left_rows, LeftRows}
 use Rattle.txn_rows.specs.States.{state_with}
@@ -125,6 +125,22 @@ newest_stays vxid at change keeps rows row new is read told = record {
       ∙ ap (λ (r : Row). r.vxid) read ∙ is.is row;
   none_after = ap (λ (rs : List Row). is_pending vxid (map transaction_of rs)) (drop-set-lt (at + 1) rows at new (omega arith)) ∙ is.none_after;
 }
+
+-- rows that take a time have the VXIDs that they had
+times_pending : (vxid : ℕ) (now : Option ℕ) (rows : List Row) → is_pending vxid (map transaction_of (map (row_told (timed now)) rows)) ≡ is_pending vxid (map transaction_of rows)
+times_pending vxid now [] = refl
+times_pending vxid now (row ∷ rows) = ap (λ (b : Bool). eqb row.vxid vxid || b) (times_pending vxid now rows)
+
+pub newest_timed : (vxid at : ℕ) (now : Option ℕ) (rows : List Row) → IsNewestRow vxid at rows → IsNewestRow vxid at (map (row_told (timed now)) rows)
+newest_timed vxid at now rows is =
+    let told : Row → Row = row_told (timed now) in
+    record {
+      within = omega (arith, is.within, length-map rows told);
+      is = λ d. ap (λ (r : Row). r.vxid) (get_or-map told rows at d d is.within) ∙ is.is d;
+      none_after =
+          ap (λ (rs : List Row). is_pending vxid (map transaction_of rs)) (drop-map told (at + 1) rows)
+          ∙ times_pending vxid now (drop (at + 1) rows) ∙ is.none_after;
+    }
 
 -- rows after a record
 pub added : (begun vxid at : ℕ) (rec : Record) (rows : List Row) (row new : Row) → AreTrees begun rows → IsNewestRow vxid at rows → row ≡ get_or rows at row → new ≡ row_told (with_one rec) row → Rows begun (with_kind vxid rec (with_record vxid rec (map transaction_of rows))) (set rows at new)

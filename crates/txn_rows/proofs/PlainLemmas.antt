@@ -1,63 +1,35 @@
 -- A record that tells nothing but itself.
-use Rattle.std.proofs.Common.{◌≡◌, ◌+◌, ◌<◌, ◌≤◌, ◌&&◌, ℕ, Bool, true, false, not, cond, eqb, Option, Some, None, List, [], ◌∷◌, ◌++◌, length, take, drop, get_or, refl, ap, sym, ◌∙◌, append_assoc, append-nil, arith}
+use Rattle.std.proofs.Common.{◌≡◌, ◌+◌, ◌<◌, ℕ, Bool, true, false, not, cond, eqb, Option, Some, None, List, [], ◌∷◌, ◌++◌, length, take, drop, get_or, refl, ap, sym, ◌∙◌, append_assoc, append-nil, arith}
 use Rattle.std.specs.List.{list_all}
 use Rattle.std.specs.Option.{option_map}
-use Rattle.std.proofs.lemmas.Bool.{and_parts, not-true, le-ltb}
+use Rattle.std.proofs.lemmas.Bool.{le-ltb}
 use Rattle.std.proofs.lemmas.List.{length-map}
 use Rattle.std.proofs.lemmas.List.Folds.{list_all_more}
-use Rattle.vsl_tags.specs.Tags.{begin_tag, link_tag, timestamp_tag, end_tag}
 use Rattle.vsl_record.specs.declared.record_type.Record.{Record}
 use Rattle.txn_rows.specs.declared.group.Group.{Group}
 use Rattle.txn_rows.specs.declared.group.GroupOptions.{GroupOptions}
 use Rattle.txn_rows.specs.Transaction.{Transaction, is_pending, is_open, newest, with_newest, with_record, longer_by}
-use Rattle.txn_rows.specs.Grouping.{State, Leaving, nothing_left, then_left, has_risen, unfinished, after_overflow, grouped, is_raw, step, steps}
+use Rattle.txn_rows.specs.Grouping.{State, Leaving, then_left, has_risen, step, steps}
 use Rattle.txn_rows.specs.inside.Told.{is_plain, is_plain_record}
-use Rattle.txn_rows.specs.Store.{Went, WentBy}
 use Rattle.txn_rows.proofs.ChangeLemmas.{newest_same, newest_is_changed, newest_twice}
 use Rattle.txn_rows.proofs.LineLemmas.{by_cases}
-use Rattle.txn_rows.proofs.ForceAllLemmas.{down_within}
-use Rattle.txn_rows.proofs.TakeLemmas.{nothing_step}
 
--- it is none of four
-record NoneOfFour (tag : ℕ) : Type 0 where
-  begins : eqb tag begin_tag ≡ false
-  links : eqb tag link_tag ≡ false
-  times : eqb tag timestamp_tag ≡ false
-  ends : eqb tag end_tag ≡ false
-
-none_of_four : (tag : ℕ) → is_plain tag ≡ true → NoneOfFour tag
-none_of_four tag plain =
-    let no_begin : Bool = not (eqb tag begin_tag) in
-    let no_link : Bool = not (eqb tag link_tag) in
-    let no_time : Bool = not (eqb tag timestamp_tag) in
-    let first = and_parts (no_begin && no_link && no_time) (not (eqb tag end_tag)) plain in
-    let second = and_parts (no_begin && no_link) no_time first.0 in
-    let third = and_parts no_begin no_link second.0 in
-    record { begins = not-true _ third.0; links = not-true _ third.1; times = not-true _ second.1; ends = not-true _ first.1 }
-
-risen_same : (time : Option ℕ) → has_risen time time ≡ false
+-- a log time has not risen to itself
+pub risen_same : (time : Option ℕ) → has_risen time time ≡ false
 risen_same None = refl
 risen_same (Some t) = le-ltb t t (omega arith)
 
 -- the state with one record more
-abbrev longer : ℕ → Record → State → State
+abbrev pub longer : ℕ → Record → State → State
 longer vxid rec state = record state { pending = with_record vxid rec state.pending }
 
-longer_length : (vxid : ℕ) (rec : Record) (state : State) → length (longer vxid rec state).pending ≡ length state.pending
+pub longer_length : (vxid : ℕ) (rec : Record) (state : State) → length (longer vxid rec state).pending ≡ length state.pending
 longer_length vxid rec state =
     let vxid_of : Transaction → ℕ = λ t. t.vxid in
     let now : List Transaction = with_record vxid rec state.pending in
     omega (arith, length-map now vxid_of, length-map state.pending vxid_of, ap length (newest_same vxid_of vxid (λ t. record t { records = t.records ++ rec ∷ [] }) (λ t. refl) state.pending))
 
-plain_step : (options : GroupOptions) (vxid : ℕ) (rec : Record) (state : State) → is_plain rec.tag ≡ true → is_open vxid state.pending ≡ true → length state.pending ≤ options.limit →
-    grouped options vxid rec state ≡ nothing_left (longer vxid rec state)
-plain_step options vxid rec state plain opened few =
-    let tags = none_of_four rec.tag plain in
-    let now : State = longer vxid rec state in
-    let within : after_overflow options.limit now ≡ nothing_left now = down_within options.limit (unfinished now) now (omega (arith, few, longer_length vxid rec state)) in
-    rw (opened, tags.begins, tags.links, tags.times, tags.ends, risen_same state.time) within
-
--- ---- records one after another that tell nothing but themselves
+-- ---- records that are added one after another
 
 -- a change that is another, or none, of the newest
 changed_as : (vxid : ℕ) (f g : Transaction → Transaction) → ((t : Transaction) → f t ≡ g t) → (pending : List Transaction) → with_newest vxid f pending ≡ with_newest vxid g pending
@@ -75,6 +47,10 @@ changed_none vxid [] = refl
 changed_none vxid (t ∷ pending) =
     ap (λ (rest : List Transaction). cond (is_pending vxid pending) (t ∷ rest) (cond (eqb t.vxid vxid) (t ∷ pending) (t ∷ pending))) (changed_none vxid pending)
     ∙ ap (λ (rest : List Transaction). cond (is_pending vxid pending) (t ∷ pending) rest) (either_way (eqb t.vxid vxid) (t ∷ pending)) ∙ either_way (is_pending vxid pending) (t ∷ pending)
+
+-- no record is added
+pub added_none : (vxid : ℕ) (pending : List Transaction) → with_newest vxid (longer_by []) pending ≡ pending
+added_none vxid pending = changed_as vxid (longer_by []) (λ t. t) (λ t. ap (λ (rs : List Record). record t { records = rs }) (append-nil t.records)) pending ∙ changed_none vxid pending
 
 -- whether a transaction is there that has not ended
 has_unended : Option Transaction → Bool
@@ -95,40 +71,20 @@ unended_still change keeps None = refl
 unended_still change keeps (Some t) = ap not (keeps t)
 
 -- with a record more it is as open as before
-open_still : (vxid : ℕ) (rec : Record) (pending : List Transaction) → is_open vxid (with_record vxid rec pending) ≡ is_open vxid pending
+pub open_still : (vxid : ℕ) (rec : Record) (pending : List Transaction) → is_open vxid (with_record vxid rec pending) ≡ is_open vxid pending
 open_still vxid rec pending =
     let change : Transaction → Transaction = λ t. record t { records = t.records ++ rec ∷ [] } in
     open_is vxid (with_record vxid rec pending) ∙ ap has_unended (newest_is_changed vxid change pending (λ t. refl)) ∙ unended_still change (λ t. refl) (newest vxid pending) ∙ sym (open_is vxid pending)
 
 -- the state with records more
-abbrev longer_run : ℕ → List Record → State → State
+abbrev pub longer_run : ℕ → List Record → State → State
 longer_run vxid run state = record state { pending = with_newest vxid (longer_by run) state.pending }
 
-run_more : (vxid : ℕ) (rec : Record) (run : List Record) (state : State) → longer_run vxid run (longer vxid rec state) ≡ longer_run vxid (rec ∷ run) state
+pub run_more : (vxid : ℕ) (rec : Record) (run : List Record) (state : State) → longer_run vxid run (longer vxid rec state) ≡ longer_run vxid (rec ∷ run) state
 run_more vxid rec run state =
     let one : Transaction → Transaction = λ t. record t { records = t.records ++ rec ∷ [] } in
     ap (λ (ts : List Transaction). record state { pending = ts })
     (newest_twice vxid one (longer_by run) state.pending (λ t. refl) ∙ changed_as vxid (λ t. longer_by run (one t)) (longer_by (rec ∷ run)) (λ t. ap (λ (rs : List Record). record t { records = rs }) (append_assoc t.records (rec ∷ []) run)) state.pending)
-
--- steps of such records are one append, while their row is open and no more are pending than the limit
-pub plain_steps : (options : GroupOptions) (vxid : ℕ) (run : List Record) (state : State) → is_raw options.grouping ≡ false → list_all is_plain_record run ≡ true → is_open vxid state.pending ≡ true → length state.pending ≤ options.limit →
-    steps options vxid run state ≡ nothing_left (longer_run vxid run state)
-plain_steps options vxid [] state grouped plain opened few =
-    ap (λ (ts : List Transaction). nothing_left (record state { pending = ts }))
-    (sym (changed_as vxid (longer_by []) (λ t. t) (λ t. ap (λ (rs : List Record). record t { records = rs }) (append-nil t.records)) state.pending ∙ changed_none vxid state.pending))
-plain_steps options vxid (rec ∷ run) state grouped plain opened few =
-    let tests = and_parts (is_plain rec.tag) (list_all is_plain_record run) plain in
-    let now : State = longer vxid rec state in
-    let one : step options vxid rec state ≡ nothing_left now = rw grouped (plain_step options vxid rec state tests.0 opened few) in
-    ap (λ (first : Leaving). then_left first (steps options vxid run)) one
-    ∙ plain_steps options vxid run now grouped tests.1 (open_still vxid rec state.pending ∙ opened) (omega (arith, few, longer_length vxid rec state))
-    ∙ ap nothing_left (run_more vxid rec run state)
-
--- a store takes them, and nothing leaves
-pub run_went : {S L : Type 0} (holds : S → Type 0) (state_of : S → State) (hand : Group → L) (options : GroupOptions) (vxid : ℕ) (run : List Record) (store now : S) (out : List L) → is_raw options.grouping ≡ false → list_all is_plain_record run ≡ true → is_open vxid (state_of store).pending ≡ true → length (state_of store).pending ≤ options.limit →
-    Went holds state_of (longer_run vxid run (state_of store)) now → WentBy holds state_of hand options.grouping (steps options vxid run (state_of store)) now out out
-run_went holds state_of hand options vxid run store now out grouped plain opened few went =
-    nothing_step holds state_of hand options.grouping now out (steps options vxid run (state_of store)) went.kept (plain_steps options vxid run (state_of store) grouped plain opened few ∙ ap nothing_left (sym went.told))
 
 -- so many records tell nothing but themselves, and by its tag the next
 pub plain_more : (records : List Record) (i tag : ℕ) → i < length records → ((rec : Record) → tag ≡ (get_or records i rec).tag) → is_plain tag ≡ true → list_all is_plain_record (take i records) ≡ true → list_all is_plain_record (take (i + 1) records) ≡ true

@@ -14,7 +14,7 @@ use Rattle.txn_rows.specs.declared.group.Cause.{Cause}
 use Rattle.txn_rows.specs.Claim.{claim_of}
 use Rattle.txn_rows.specs.Transaction.{Transaction, empty_transaction, newest, with_newest, with_record, with_kind, oldest, with_oldest, claimed_kind, ended, forced}
 use Rattle.txn_rows.specs.Links.{with_parent, can_join, children, root_of, tree_of, others, group_of}
-use Rattle.txn_rows.specs.Grouping.{State, Leaving, nothing_left, first_known, timed, raised, with_transaction, with_all_told, left_by, ended_one, forced_one, after_end, after_timeouts, TakenUnit, steps, unit_step, flush}
+use Rattle.txn_rows.specs.Grouping.{State, Leaving, nothing_left, first_known, timed, raised, with_transaction, with_all_told, left_by, ended_one, forced_one, after_end, after_timeouts, TakenUnit, step, steps, unit_step, flush}
 use Rattle.txn_rows.specs.Store.{Went, WentBy, IsOrdered, test_of}
 use Rattle.txn_rows.specs.Times.{TimesRise, NoneKnown, RiseTo, times_of, IsTimed}
 use Rattle.txn_rows.proofs.LineLemmas.{either}
@@ -91,7 +91,7 @@ times_raised (Some time) (Some old) pending h =
     (λ e. later_taken old old pending (omega arith) h)
 
 -- changes of one that keep its time
-newest_timed : (vxid : ℕ) (change : Transaction → Transaction) → ((t : Transaction) → (change t).time ≡ t.time) → (state : State) → IsTimed state → IsTimed (record state { pending = with_newest vxid change state.pending })
+pub newest_timed : (vxid : ℕ) (change : Transaction → Transaction) → ((t : Transaction) → (change t).time ≡ t.time) → (state : State) → IsTimed state → IsTimed (record state { pending = with_newest vxid change state.pending })
 newest_timed vxid change keeps state h = subst (RiseTo state.time) (sym (newest_same (λ t. t.time) vxid change keeps state.pending)) h
 
 oldest_timed : (test : Transaction → Bool) (change : Transaction → Transaction) → ((t : Transaction) → (change t).time ≡ t.time) → (state : State) → IsTimed state → IsTimed (record state { pending = with_oldest test change state.pending })
@@ -158,7 +158,10 @@ timed_over : (options : GroupOptions) → HoldsOver options TimedOn
 timed_over options = holds_over options TimedOn timed_on (λ vxid rec state raw h. h)
     (λ vxid rec state h. end_timed vxid rec (with_all_told options.grouping vxid rec state) (told_timed options.grouping vxid rec state h))
 
--- records one after another, and a flush
+-- a record, records one after another, and a flush
+pub step_timed : (options : GroupOptions) (vxid : ℕ) (rec : Record) (state : State) → IsTimed state → IsTimed (step options vxid rec state).state
+step_timed options vxid rec state = (timed_over options).one vxid rec state
+
 pub steps_timed : (options : GroupOptions) (vxid : ℕ) (records : List Record) (state : State) → IsTimed state → IsTimed (steps options vxid records state).state
 steps_timed options vxid records state = steps_hold options TimedOn (timed_over options) vxid records state
 
@@ -178,6 +181,10 @@ time_known told (Some old) pending known h = known_stay (raised told (Some old))
 
 -- what a store names: what is so of it while no call failed, the state that it keeps, and what it hands out for a group
 module _ {S L : Type 0} (holds : S → Type 0) (state_of : S → State) (hand : Group → L) where
+  -- in a store whose state stayed
+  pub still_ordered : {store now : S} → IsOrdered holds state_of store → Went holds state_of (state_of store) now → IsOrdered holds state_of now
+  still_ordered o went = record { kept = went.kept; times = subst IsTimed (sym went.told) o.times }
+
   -- times rise in a store that was told a record
   pub added_ordered : (vxid : ℕ) (rec : Record) (state : State) {b a : S} → IsTimed state → Went holds state_of (with_transaction vxid state) b → Went holds state_of (record (state_of b) { pending = with_kind vxid rec (with_record vxid rec (state_of b).pending) }) a →
       IsOrdered holds state_of a

@@ -1,7 +1,9 @@
 -- The times of pending transactions, which rise in the order in which they began (this project's choice).
-use Rattle.std.specs.Prelude.{◌≡◌, ℕ, ◌≤◌, List, [], ◌∷◌, map, ⊤, Option, Some, None}
+use Rattle.std.specs.Prelude.{◌≡◌, ℕ, ◌≤◌, true, false, List, [], ◌∷◌, map, ⊤, Option, Some, None}
+use Rattle.std.specs.List.{list_any}
+use Rattle.std.specs.Option.{is_some}
 use Rattle.txn_rows.specs.Transaction.{Transaction}
-use Rattle.txn_rows.specs.Grouping.{State}
+use Rattle.txn_rows.specs.Grouping.{State, is_behind, is_late}
 
 -- each time is known, and they rise, from one on and up to another
 abbrev pub TimesRise : ℕ → ℕ → List (Option ℕ) → Type 0
@@ -25,3 +27,9 @@ times_of pending = map (λ t. t.time) pending
 -- the times of the pending transactions rise up to the log time
 abbrev pub IsTimed : State → Type 0
 IsTimed state = RiseTo state.time (times_of state.pending)
+
+-- a log time is known, and up to another neither a transaction that is pending would be late nor one that begins
+pub record NoneLateUpTo (seconds last : ℕ) (state : State) : Type 0 where
+  pub known : is_some state.time ≡ true
+  pub none : (now : ℕ) → now ≤ last → list_any (is_late seconds (Some now)) state.pending ≡ false
+  pub begins : (now : ℕ) → now ≤ last → is_behind seconds state.time (Some now) ≡ false

@@ -14,6 +14,7 @@
 #![tactic(auto)]
 
 mod claim;
+mod first_field;
 mod force;
 mod forcing;
 mod group;
@@ -24,6 +25,7 @@ mod path;
 mod pending;
 mod raw;
 mod rows;
+mod run;
 mod steps;
 mod store;
 mod table;
@@ -48,4 +50,4 @@ pub use steps::take_unit;
 pub use store::Store;
 pub use table::Table;
 pub use time::read_time;
-pub use which::Which;
+pub use which::{Which, last_in_time};

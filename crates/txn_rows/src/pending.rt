@@ -170,6 +170,10 @@ impl Store for Pending {
         self.time = now;
     }
 
+    fn last_in_time(&mut self, seconds: u32) -> Option<u128> {
+        None
+    }
+
     fn end_row(
         &mut self,
         grouping: Grouping,

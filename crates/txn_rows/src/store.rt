@@ -8,7 +8,7 @@ ghost use Rattle.txn_rows.specs.Links.{with_link};
 ghost use Rattle.txn_rows.specs.Grouping.{State, with_transaction, with_other, with_time, ended_one, forced_one, raw_group, unfinished};
 ghost use Rattle.txn_rows.specs.Store.{Went, WentBy, test_of};
 ghost use Rattle.txn_rows.specs.Claim.{own_claim};
-ghost use Rattle.txn_rows.specs.Times.{IsTimed};
+ghost use Rattle.txn_rows.specs.Times.{IsTimed, NoneLateUpTo};
 
 use crate::claim::Claim;
 use crate::group::{Cause, Grouping};
@@ -126,8 +126,18 @@ pub trait Store: Drop {
 
     /// A time that was told may raise the log time.
     fn raise(&mut self, told: Option<u128>)
-        ensures { (key : Key) → holds key self.old → IsTimed (state self.old) →
-            Went (holds key) state (with_time told (state self.old)) self.new };
+        ensures went { (key : Key) → holds key self.old → IsTimed (state self.old) →
+            Went (holds key) state (with_time told (state self.old)) self.new }
+        ensures newest { (v at : ℕ) → newest_at self.old v at → newest_at self.new v at };
+
+    /// A log time up to which no transaction is late, neither one that is pending nor one that begins, where one can be
+    /// told.
+    fn last_in_time(&mut self, seconds: u32) -> Option<u128>
+        ensures late { (key : Key) → holds key self.old → IsTimed (state self.old) →
+            IfSome result (λ last. NoneLateUpTo seconds last (state self.old)) }
+        ensures went { (key : Key) → holds key self.old →
+            Went (holds key) state (state self.old) self.new }
+        ensures newest { (v at : ℕ) → newest_at self.old v at → newest_at self.new v at };
 
     /// The newest transaction of a VXID ends, and may complete a group.
     fn end_row(

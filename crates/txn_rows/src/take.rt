@@ -1,17 +1,16 @@
 //! Taking one record of a transaction.
 
-ghost use Rattle.std.specs.Prelude.{◌≡◌, ◌<◌, ◌≤◌, true, false, if◌then◌else◌, length, take, IfOk, IfSome, OnOk, OnErr};
-ghost use Rattle.std.specs.List.{list_all};
+ghost use Rattle.std.specs.Prelude.{◌≡◌, ◌<◌, ◌≤◌, if◌then◌else◌, length, take, IfOk, IfSome, OnOk, OnErr};
 ghost use Rattle.vsl_record.specs.declared.record_type.Record.{Record};
-ghost use Rattle.txn_rows.specs.Transaction.{is_open};
-ghost use Rattle.txn_rows.specs.Grouping.{gives_parent, with_parent_named, with_child_named, with_log_time, with_claim, with_all_told, after_end, after_timeouts, has_risen, grouped, is_raw, step, steps};
+ghost use Rattle.txn_rows.specs.Grouping.{gives_parent, with_parent_named, with_child_named, with_log_time, with_claim, with_all_told, after_end, after_timeouts, has_risen, grouped, step, steps};
 ghost use Rattle.txn_rows.specs.Store.{Went, WentBy, AddsPart, IsOrdered};
 ghost use Rattle.txn_rows.specs.Claim.{own_claim};
-ghost use Rattle.txn_rows.specs.inside.Told.{Tells, is_plain, is_plain_record};
+ghost use Rattle.txn_rows.specs.inside.Told.{Tells};
 
 use crate::claim::{Claim, read_claim};
 use crate::forcing::{force_all, keep_within};
 use crate::group::{Cause, GroupOptions, Grouping, Kind, Reason};
+use crate::run::{open_place, run_of, take_run};
 use crate::store::Store;
 use crate::time::time_told;
 use crate::which::Which;
@@ -227,60 +226,6 @@ fn take_telling<S: Store>(
     keep_within(store, options.grouping, options.limit, out)
 }
 
-/// Whether a record of this tag tells nothing but itself: it is no Begin, Link, Timestamp or End.
-fn is_plain(tag: Tag) -> bool
-    ensures { result ≡ is_plain tag }
-{
-    tag != Tag::BEGIN && tag != Tag::LINK && tag != Tag::TIMESTAMP && tag != Tag::END
-}
-
-/// How many records, from the first on, tell nothing but themselves. In raw grouping none does: each is a group.
-fn plain_run(grouping: Grouping, records: &RecordsView<'_>) -> usize
-    ensures inside { result ≤ length records.now }
-    ensures plain { list_all is_plain_record (take result records.now) ≡ true }
-    ensures grouped { 0 < result → is_raw grouping ≡ false }
-{
-    if grouping == Grouping::Raw {
-        return 0;
-    }
-    for i in 0..records.len() {
-        if !is_plain(records.tag(i)) {
-            return i;
-        }
-    }
-    records.len()
-}
-
-/// The place of the newest transaction of a VXID. It is searched where it isn't known.
-fn place_of<S: Store>(store: &S, vxid: Vxid, known: Option<usize>) -> Option<usize>
-    requires { IfSome known (λ at. S.newest_at store.now vxid at) }
-    ensures { IfSome result (λ at. S.newest_at store.now vxid at) }
-{
-    match known {
-        Some(at) => Some(at),
-        None => store.newest(vxid),
-    }
-}
-
-/// The place of the newest transaction of a VXID, where it has not ended and no more than the limit are pending.
-fn open_place<S: Store>(store: &S, limit: u32, vxid: Vxid, known: Option<usize>) -> Option<usize>
-    requires { IfSome known (λ at. S.newest_at store.now vxid at) }
-    ensures newest { IfSome result (λ at. S.newest_at store.now vxid at) }
-    ensures open { (key : S.Key) → S.holds key store.now →
-        IfSome result (λ _. is_open vxid (S.state store.now).pending ≡ true) }
-    ensures few { (key : S.Key) → S.holds key store.now →
-        IfSome result (λ _. length (S.state store.now).pending ≤ limit) }
-{
-    if store.rows() > limit as usize {
-        return None;
-    }
-    let at = place_of(store, vxid, known)?;
-    if !store.is_open(at, vxid) {
-        return None;
-    }
-    Some(at)
-}
-
 /// Takes one record, and adds the groups that it completes.
 fn take_one<S: Store>(
     options: GroupOptions,
@@ -304,7 +249,7 @@ fn take_one<S: Store>(
 }
 
 /// Takes some records of one VXID, from the first on, and adds the groups that they complete: where it is open,
-/// all that tell nothing but themselves at once, and else one. It answers how many. It is told and tells the place of
+/// all that disturb nothing at once, and else one. It answers how many. It is told and tells the place of
 /// the newest transaction of the VXID, where that is known: most records go where the one before went. Room for all of them
 /// is made where they begin a unit, and so never for more than the units have.
 pub(crate) fn take_some<S: Store>(
@@ -328,11 +273,11 @@ pub(crate) fn take_some<S: Store>(
         OnErr result (AddsPart (S.hand key) options.grouping
         (steps options vxid records.now (S.state store.old)) out.old.items out.new.items) }
 {
-    let count = plain_run(options.grouping, records);
+    let (count, time) = run_of(options, store, records);
     if count > 0 {
         if let Some(at) = open_place(store, options.limit, vxid, known) {
             let (run, _) = records.split_at(count);
-            store.add_run(at, vxid, &run)?;
+            take_run(store, at, vxid, &run, time)?;
             return Ok((count, Some(at)));
         }
     }

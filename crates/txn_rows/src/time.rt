@@ -5,7 +5,8 @@ ghost use Rattle.vsl_decimal.specs.Decimal.{decimal_of};
 ghost use Rattle.txn_rows.specs.Claim.{named};
 ghost use Rattle.txn_rows.specs.Time.{time_of, at_least_zero};
 
-use vsl_decimal::{Decimal, field, read_decimal};
+use crate::first_field::first_field;
+use vsl_decimal::{Decimal, read_decimal};
 
 /// Reads the payload of a Timestamp, `label: absolute`, as `Start: 1736940645.123456 0.000000 0.000000`: the
 /// absolute time, in seconds. Further fields are ignored. Where the first field does not end with a colon, or
@@ -15,11 +16,12 @@ use vsl_decimal::{Decimal, field, read_decimal};
 pub fn read_time(payload: &[u8]) -> Option<Decimal>
     ensures { option_map (λ time. time.scaled) result ≡ option_map pos (time_of payload.now) }
 {
-    let label = field(payload, 1)?;
+    let (label, behind) = first_field(payload)?;
     if !label.ends_with(b":") {
         return None;
     }
-    let time = read_decimal(field(payload, 2)?)?;
+    let (text, _) = first_field(behind)?;
+    let time = read_decimal(text)?;
     if time.scaled < 0 {
         return None;
     }

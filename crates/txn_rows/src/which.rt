@@ -1,6 +1,6 @@
 //! Which transactions are force-completed.
 
-ghost use Rattle.std.specs.Prelude.{◌≡◌};
+ghost use Rattle.std.specs.Prelude.{◌≡◌, ◌≤◌, ℕ, false, Some};
 ghost use Rattle.txn_rows.specs.Transaction.{Transaction};
 ghost use Rattle.txn_rows.specs.Grouping.{is_behind};
 ghost use Rattle.txn_rows.specs.Store.{test_of};
@@ -25,6 +25,13 @@ fn is_behind(seconds: u32, time: Option<u128>, now: Option<u128>) -> bool
         (Some(time), Some(now)) => time < now && now - time > seconds as u128 * SECOND,
         _ => false,
     }
+}
+
+/// The last log time that lies no more than so many seconds behind a time, or the last that there is.
+pub fn last_in_time(seconds: u32, time: u128) -> u128
+    ensures { (now : ℕ) → now ≤ result → is_behind seconds (Some time) (Some now) ≡ false }
+{
+    time.saturating_add(seconds as u128 * SECOND)
 }
 
 impl Which {

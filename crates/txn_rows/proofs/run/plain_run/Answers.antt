@@ -1,6 +1,6 @@
 use Rattle.std.proofs.Common.{sym, ◌∙◌, arith}
 use Rattle.txn_rows.proofs.PlainLemmas.{plain_more}
-use Rattle.txn_rows.proofs.take.plain_run.Goals as goal
+use Rattle.txn_rows.proofs.run.plain_run.Goals as goal
 
 -- the record at the index has a tag that tells nothing but itself
 pub loop-i-preserved : goal.loop-i-preserved
