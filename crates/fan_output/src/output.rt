@@ -1,0 +1,107 @@
+//! An output of a run: several texts, with the messages of overruns and of what they cost.
+
+ghost use Rattle.std.specs.Prelude.{◌≡◌};
+
+use crate::fan::{FanEnd, FanEnding, FanOutput, has_live};
+use crate::printing::{print_each, print_heads, tell};
+use crate::texts::Texts;
+use log_model::NoMemory;
+use one_run::Output;
+use ring_layout::Item;
+use vio::World;
+
+impl<T: Texts> FanOutput<T> {
+    /// How it ends so.
+    fn ending(&self, how: FanEnd) -> FanEnding
+        ensures how { result.how ≡ how }
+        ensures unwritten { result.unwritten ≡ self.now.unwritten }
+    {
+        FanEnding {
+            how,
+            unwritten: self.unwritten,
+        }
+    }
+}
+
+impl<T: Texts> Output for FanOutput<T> {
+    ghost use Rattle.std.specs.Prelude.{[], ◌∷◌};
+    ghost use Rattle.vio.specs.declared.world.TheConstants.{ERRORS};
+    ghost use Rattle.fan_output.specs.Fan.{FanEnded, FanShort, handles, outlets_of, several};
+    ghost use Rattle.fan_output.specs.Laws.{CanFan, HasPrinted, IsNew, printed_stays, ready_stays};
+
+    type Ending = FanEnding;
+
+    ghost printed = { λ start now calls done.
+        HasPrinted T.text T.filled T.holds start now calls done };
+
+    ghost ended = { λ start ending calls done last all.
+        FanEnded (outlets_of (T.text start.texts) (T.filled start.texts) start.sinks.items) ending
+        calls done last all };
+
+    ghost starved = { λ start calls met all.
+        FanShort (outlets_of (T.text start.texts) (T.filled start.texts) start.sinks.items) calls
+        met all };
+
+    ghost is_new = { λ o. IsNew T.text T.filled T.holds o };
+
+    ghost writes = { λ o. ERRORS ∷ handles o.sinks.items };
+
+    ghost alone = { λ o. several (handles o.sinks.items) };
+
+    ghost is_ready = { λ o world. CanFan T.count o world };
+
+    fn begin<W: World>(&mut self, world: &mut W) -> Result<Option<FanEnding>, NoMemory> {
+        print_heads(
+            world,
+            &mut self.texts,
+            &self.sinks,
+            &mut self.live,
+            &mut self.unwritten,
+        )?;
+        if has_live(&self.live) {
+            return Ok(None);
+        }
+        Ok(Some(self.ending(FanEnd::Idle)))
+    }
+
+    fn item<W: World>(
+        &mut self,
+        world: &mut W,
+        item: &Item,
+    ) -> Result<Option<FanEnding>, NoMemory> {
+        if !tell(self.alloc, world, item)? {
+            return Ok(Some(self.ending(FanEnd::Unreported)));
+        }
+        self.texts.item(item)?;
+        print_each(
+            world,
+            &mut self.texts,
+            &self.sinks,
+            &mut self.live,
+            &mut self.unwritten,
+            false,
+        )?;
+        if has_live(&self.live) {
+            return Ok(None);
+        }
+        Ok(Some(self.ending(FanEnd::Idle)))
+    }
+
+    fn end<W: World>(&mut self, world: &mut W) -> Result<FanEnding, NoMemory> {
+        self.texts.end()?;
+        print_each(
+            world,
+            &mut self.texts,
+            &self.sinks,
+            &mut self.live,
+            &mut self.unwritten,
+            true,
+        )?;
+        Ok(self.ending(FanEnd::Whole))
+    }
+
+    ghost stays = { λ start now calls more done reads.
+        printed_stays T.text T.filled T.holds start now calls more done reads };
+
+    ghost ready_still = { λ o reads more s t. ready_stays T.count o reads more s t };
+}
