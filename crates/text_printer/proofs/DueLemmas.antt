@@ -17,7 +17,7 @@ use Rattle.vsl_dispatch.proofs.GroupLemmas.{kept_none, kept_filled, kept_open, k
 use Rattle.ring_layout.specs.declared.item.Item.{Item}
 use Rattle.ring_layout.specs.declared.item.Item.TheVariants as items
 use Rattle.text_printer.specs.Printer.{Plan, IsOutput, due, has_all}
-use Rattle.text_printer.specs.Ends.{taken_of}
+use Rattle.text_printer.specs.Taken.{taken_of}
 
 -- items more are grouped behind the others
 pub taken_append : (xs ys : List Item) → taken_of (xs ++ ys) ≡ taken_of xs ++ taken_of ys

@@ -1,5 +1,5 @@
 pub mod DueLemmas
-pub mod EndLemmas
+mod AloneLemmas
 mod NextLemmas
 mod OutputLemmas
 pub mod WriteLemmas

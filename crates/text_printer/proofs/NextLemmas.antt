@@ -9,10 +9,11 @@ use Rattle.vio.specs.World.{Seen}
 use Rattle.vio.specs.Writes.{WroteOn}
 use Rattle.vio.proofs.WholeLemmas.{Wrote-none}
 use Rattle.vsl_record.specs.Unit.{LogUnit}
+use Rattle.vsl_record.specs.declared.record_type.Record.{Record}
 use Rattle.txn_rows.specs.declared.group.Group.{Group}
 use Rattle.txn_rows.specs.declared.group.Grouping.{Grouping}
 use Rattle.txn_rows.specs.declared.group.Grouping.TheVariants.{Raw}
-use Rattle.txn_rows.specs.Grouping.{Taken, TakenUnit, flush, unit_step, no_state, nothing_left, passes_over, reported, steps, taken_step, taken_steps}
+use Rattle.txn_rows.specs.Grouping.{Taken, TakenUnit, flush, unit_step, no_state, nothing_left, passes_over, raw_group, reported, steps, taken_step, taken_steps}
 use Rattle.txn_rows.specs.Grouping as taken_items
 use Rattle.txn_rows.specs.TableState.{TableState}
 use Rattle.txn_rows.proofs.GroupingLemmas.{steps_append}
@@ -36,7 +37,7 @@ use Rattle.text_printer.specs.inside.Next.{Advanced, Completed, Gave, StandsOr, 
 use Rattle.text_printer.proofs.DueLemmas.{due_prefix, due_flag, tested_more, tested_end}
 
 -- a query that holds always holds for each group
-always_holds : (query : Query) → query.always ≡ true → (groups : List Group) → held_groups query groups ≡ groups
+pub always_holds : (query : Query) → query.always ≡ true → (groups : List Group) → held_groups query groups ≡ groups
 always_holds query always [] = refl
 always_holds query always (group ∷ groups) = rw always (ap (λ (gs : List Group). group ∷ gs) (always_holds query always groups))
 
@@ -87,6 +88,18 @@ module _ {C : Type 0} (keep : C → Option ℕ) (output : C → List Group → B
       rw (take_more all i one within, sym is) (first_append (take i all) (one ∷ [])) in
       rw more (gave_then (first_held (take i all)) (first_held (one ∷ [])) false old middle new first next)
 
+  -- a record by itself more was given, where the query holds for it
+  pub gave_record : (query : Query) (vxid : ℕ) (records : List Record) (i : ℕ) (rec : Record) (old middle new : Entry C) → i < length records → rec ≡ get_or records i rec
+      → Gave keep output represents (held_groups query (map (raw_group vxid) (take i records))) false old middle → Gave keep output represents (held_groups query (raw_group vxid rec ∷ [])) false middle new
+      → Gave keep output represents (held_groups query (map (raw_group vxid) (take (i + 1) records))) false old new
+  gave_record query vxid records i rec old middle new within is first next =
+      let more : held_groups query (map (raw_group vxid) (take (i + 1) records)) ≡ held_groups query (map (raw_group vxid) (take i records)) ++ held_groups query (raw_group vxid rec ∷ []) =
+      ap (λ (rs : List Record). held_groups query (map (raw_group vxid) rs)) (take_more records i rec within ∙ ap (λ (r : Record). take i records ++ r ∷ []) (sym is))
+      ∙ ap (held_groups query) (map-append (raw_group vxid) (take i records) (rec ∷ []))
+      ∙ filter-append (is_held query) (map (raw_group vxid) (take i records)) (raw_group vxid rec ∷ []) in
+      subst (λ (gs : List Group). Gave keep output represents gs false old new) (sym more)
+      (gave_then (held_groups query (map (raw_group vxid) (take i records))) (held_groups query (raw_group vxid rec ∷ [])) false old middle new first next)
+
   -- ---- what comes next, in a table
 
   -- the table took it, and the groups that it completed are left
@@ -108,18 +121,19 @@ module _ {C : Type 0} (keep : C → Option ℕ) (output : C → List Group → B
       → Completed keep output represents query next old.table new.table entry entry left
   completed_flush query next old new left entry is only stepped = completed_all query next old new left entry entry only (rw is stepped) (record { each = λ most writes before taken stands. rw append-nil stands })
 
-  -- the records of a unit were taken, each as a group by itself
-  pub completed_raw : (query : Query) (next : Next) (u : LogUnit) (table : TableState) (old new : Entry C) → item_of next ≡ TakenUnit u → (table.options.grouping ≡ Raw) × (query.always ≡ true) → Gave keep output represents (raw_groups u) false old new
-      → Completed keep output represents query next table table old new []
+  -- the records of a unit for which the query holds were given, each as a group by itself
+  pub completed_raw : (query : Query) (next : Next) (u : LogUnit) (table : TableState) (old new : Entry C) → item_of next ≡ TakenUnit u → table.options.grouping ≡ Raw
+      → Gave keep output represents (held_groups query (raw_groups u)) false old new → Completed keep output represents query next table table old new []
   completed_raw query next u table old new told raw gave =
       let run = steps table.options u.vxid u.records table.state in
-      let is : unit_step table.options u table.state ≡ run = ap (λ (g : Grouping). cond (passes_over g u.vxid) (nothing_left table.state) run) raw.0 in
-      let left = raw_groups_left table.options raw.0 u.vxid u.records table.state in record {
+      let is : unit_step table.options u table.state ≡ run = ap (λ (g : Grouping). cond (passes_over g u.vxid) (nothing_left table.state) run) raw in
+      let left = raw_groups_left table.options raw u.vxid u.records table.state in
+      let groups : reported table.options.grouping run.groups ≡ raw_groups u = rw (sym raw) at left.1 in record {
         options = refl;
         state = rw (told, is) (sym left.0);
         sound = λ sound. sound;
-        given = raw_groups u;
-        groups = rw (told, is, always_holds query raw.1, append-nil) (rw (sym raw.0) at left.1);
+        given = held_groups query (raw_groups u);
+        groups = rw (told, is, append-nil) (ap (held_groups query) groups);
         gave = gave;
       }
 

@@ -1,5 +1,6 @@
 -- What an output with a printer comes to, write by write.
-use Rattle.std.proofs.Common.{◌≡◌, ◌≢◌, ℕ, Bool, true, false, List, [], ◌∷◌, ◌++◌, Option, refl, sym, ap, ◌∙◌}
+use Rattle.std.proofs.Common.{◌≢◌, ℕ, Bool, true, false, List, [], ◌∷◌, ◌++◌, Option, refl, sym, ap, subst, ◌∙◌}
+use Rattle.log_model.specs.Prefix.{IsPrefix}
 use Rattle.vio.specs.declared.world.TheConstants.{ERRORS}
 use Rattle.vio.specs.World.{Seen, Wrote}
 use Rattle.vio.specs.Writes.{WroteOn}
@@ -8,15 +9,20 @@ use Rattle.txn_rows.specs.declared.group.Group.{Group}
 use Rattle.txn_rows.specs.Grouping.{Taken}
 use Rattle.ring_layout.specs.declared.item.Item.{Item}
 use Rattle.one_run.proofs.RunLemmas.{made_so}
-use Rattle.text_printer.specs.declared.output.TextEnding.TheVariants as endings
+use Rattle.fan_output.specs.declared.ending.TextEnding.TheVariants as endings
 use Rattle.text_printer.specs.declared.output.TextOutput.{TextOutput}
 use Rattle.text_printer.specs.declared.printer.PrintFault.TheVariants.{WriteFault, NoMemory}
-use Rattle.text_printer.specs.Messages.{message_of}
-use Rattle.text_printer.specs.Printer.{Plan, PrinterState, Represents, HasPrintCause, IsLeft, due, printer_state}
-use Rattle.text_printer.specs.Ends.{TextEnded, TextShort, taken_of}
+use Rattle.fan_output.specs.Messages.{message_of}
+use Rattle.text_printer.specs.Printer.{Plan, PrinterState, IsOutput, Represents, HasPrintCause, IsLeft, due, printer_state}
+use Rattle.fan_output.specs.Ends.{Grows, TextEnded, TextShort}
+use Rattle.text_printer.specs.Taken.{taken_of}
 use Rattle.text_printer.specs.Output.{CanPrint, IsNew, TextPrinted, due_of, output_due, output_plan}
-use Rattle.text_printer.proofs.DueLemmas.{due_none, taken_append}
+use Rattle.text_printer.proofs.DueLemmas.{due_none, due_prefix, taken_append}
 use Rattle.text_printer.proofs.WriteLemmas.{Makes, Told, end_said, head_short, head_unwritten, head_written, item_said}
+
+-- what is due under a plan grows
+pub due_grows : (head : List ℕ) (p : Plan) → IsOutput p.writes → Grows (due_of head p)
+due_grows head p is met more all = subst (λ (list : List Taken). IsPrefix (due p (taken_of met) false) (due p list all)) (sym (taken_append met more)) (due_prefix p is (taken_of met) (taken_of more) all)
 
 module _ {C : Type 0} (keep : C → Option ℕ) (output : C → List Group → Bool → List ℕ) (represents : C → List Group → Bool → List ℕ → Type 0) where
   pub sink_apart : {p : Plan} {q : PrinterState C} {list : List Taken} {s : Seen} → CanPrint keep output represents q s → Represents keep output represents p q list → p.sink ≢ ERRORS

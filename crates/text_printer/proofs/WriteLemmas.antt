@@ -1,5 +1,5 @@
 -- What an output comes to, write by write, whatever text is due.
-use Rattle.std.proofs.Common.{◌≡◌, ◌≢◌, ◌⊎◌, ℕ, Bool, true, false, List, [], ◌∷◌, ◌++◌, codes, refl, sym, ap, subst, ◌∙◌, append_assoc, inl, inr}
+use Rattle.std.proofs.Common.{◌≡◌, ◌≢◌, ℕ, Bool, true, false, List, [], ◌∷◌, ◌++◌, codes, refl, sym, ap, subst, ◌∙◌, append_assoc, inl, inr}
 use Rattle.std.proofs.lemmas.List.{append-nil, flat_map_more}
 use Rattle.log_model.specs.Faults.{HasNewFault}
 use Rattle.log_model.specs.Prefix.{IsProperPrefix}
@@ -9,28 +9,18 @@ use Rattle.vio.specs.World.{Seen, Writing, Wrote}
 use Rattle.vio.specs.Touches.{IsOneOf}
 use Rattle.vio.specs.Writes.{WroteOn}
 use Rattle.vio.specs.Calls.{Mark, Went, Failed, Call, Write, Marks, fails, written_by}
-use Rattle.vio.proofs.CallLemmas.{did_write, written_append, written_here, written_other}
+use Rattle.vio.proofs.CallLemmas.{did_write}
 use Rattle.ring_layout.specs.declared.item.Item.{Item}
 use Rattle.one_run.specs.Run.{Made}
 use Rattle.one_run.proofs.RunLemmas.{made_so, made_wrote}
-use Rattle.text_printer.specs.declared.output.TextEnding.TheVariants as endings
+use Rattle.fan_output.specs.declared.ending.TextEnding.TheVariants as endings
 use Rattle.text_printer.specs.declared.printer.PrintFault.TheVariants.{WriteFault, NoMemory}
-use Rattle.text_printer.specs.Messages.{message_of, messages_of}
+use Rattle.fan_output.specs.Messages.{message_of, messages_of}
 use Rattle.text_printer.specs.Printer.{HasPrintCause, IsLeft}
-use Rattle.text_printer.specs.Ends.{Due, Grows, InOrder, TextEnded, TextShort, TextWritten, whole}
-use Rattle.text_printer.specs.Laws.{order_still}
-
--- ---- what one write adds
-
-added_here : (h : ℕ) (bytes : List ℕ) (mark : Mark) (calls : List Call) (first : List ℕ) → written_by h calls ≡ first → written_by h (calls ++ Write h bytes mark ∷ []) ≡ first ++ bytes
-added_here h bytes mark calls first is = written_append h calls (Write h bytes mark ∷ []) ∙ ap (λ (x : List ℕ). x ++ written_by h (Write h bytes mark ∷ [])) is ∙ ap (λ (x : List ℕ). first ++ x) (written_here h bytes mark)
-
-added_other : (k h : ℕ) (bytes : List ℕ) (mark : Mark) (calls : List Call) (first : List ℕ) → k ≢ h → written_by h calls ≡ first → written_by h (calls ++ Write k bytes mark ∷ []) ≡ first
-added_other k h bytes mark calls first other is = written_append h calls (Write k bytes mark ∷ []) ∙ ap (λ (x : List ℕ). written_by h calls ++ x) (written_other k h bytes mark other) ∙ append-nil (written_by h calls) ∙ is
-
-last_call : (calls : List Call) (call : Call) → IsOneOf call (calls ++ call ∷ [])
-last_call [] call = inl refl
-last_call (c ∷ calls) call = inr (last_call calls call)
+use Rattle.fan_output.specs.Ends.{Due, Grows, InOrder, TextEnded, TextShort, TextWritten, whole}
+use Rattle.fan_output.specs.Laws.{order_still}
+use Rattle.fan_output.proofs.EndLemmas.{last_or, no_item}
+use Rattle.fan_output.proofs.PlaceLemmas.{added_here, added_other, last_call}
 
 -- ---- what calls come to, write by write
 
@@ -66,17 +56,6 @@ module _ {go : Bool} {s t u : Seen} (sink : ℕ) (d : Due) (text told : List ℕ
       (record { sunk = added_other ERRORS sink added mark all text (λ e. apart (sym e)) so.sunk; said = added_here ERRORS added mark all told so.said; order = order_still sink d met all (Write ERRORS added mark ∷ []) so.order }, last_call all (Write ERRORS added mark)))
 
 -- ---- order
-
-no_item : (earlier : List Item) (x : Item) (later : List Item) → [] ≡ earlier ++ x ∷ later → ⊥
-no_item [] x later e = absurd cc
-no_item (y ∷ earlier) x later e = absurd cc
-
--- an item of a list is the last, or one of the others
-last_or : (done : List Item) (item : Item) (earlier : List Item) (x : Item) (later : List Item) → done ++ item ∷ [] ≡ earlier ++ x ∷ later → ((done ≡ earlier) × (item ≡ x)) ⊎ ((rest : List Item) × (done ≡ earlier ++ x ∷ rest))
-last_or [] item [] x later e = inl (refl, cc)
-last_or [] item (y ∷ earlier) x later e = absurd (no_item earlier x later cc)
-last_or (d ∷ done) item [] x later e = inr (done, cc)
-last_or (d ∷ done) item (y ∷ earlier) x later e = elim (last_or done item earlier x later cc) [ inl last ↦ inl (cc, last.1) | inr other ↦ inr (other.0, cc) ]
 
 -- the message of an item more was written
 order_more : (sink : ℕ) (d : Due) (done : List Item) (item : Item) (calls : List Call) → Holds sink d (whole d done false) (messages_of done ++ message_of item) done calls → Holds sink d (whole d done false) (messages_of (done ++ item ∷ [])) (done ++ item ∷ []) calls

@@ -1,7 +1,6 @@
-pub mod Ends
 pub mod Held
 pub mod Laws
-pub mod Messages
 pub mod Output
 pub mod Printer
+pub mod Taken
 pub mod inside

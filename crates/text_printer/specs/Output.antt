@@ -8,7 +8,8 @@ use Rattle.txn_rows.specs.Grouping.{Taken}
 use Rattle.ring_layout.specs.declared.item.Item.{Item}
 use Rattle.text_printer.specs.declared.output.TextOutput.{TextOutput}
 use Rattle.text_printer.specs.Printer.{Plan, PrinterState, Represents, due, has_all, plan_of, printer_state}
-use Rattle.text_printer.specs.Ends.{Due, TextWritten, taken_of}
+use Rattle.fan_output.specs.Ends.{Due, TextWritten}
+use Rattle.text_printer.specs.Taken.{taken_of}
 
 -- what is due under the plan of a printer, behind a text
 abbrev pub due_of : List ℕ → Plan → Due

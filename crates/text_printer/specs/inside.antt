@@ -1,2 +1,4 @@
 -- What private steps say of one another; no public contract cites these definitions.
+pub mod Alone
+pub mod Asked
 pub mod Next

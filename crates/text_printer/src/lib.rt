@@ -4,20 +4,18 @@
 //! consumer until that has as many as it keeps, and writes what the consumer hands out to a sink, after each item. A `TextOutput`
 //! is the output of a run over a printer: it writes a text before all items, an overrun's message to standard error before the
 //! text that the overrun completes, and how many units it cost, once the reader goes on. No list of groups is kept, and nothing
-//! but the sink and standard error is written. The sink, the makers of messages, and what is said of any text that is due are
-//! here for other outputs too.
+//! but the sink and standard error is written.
 //!
-//! Start with `specs/Ends.antt`, and for the text that is due with `specs/Printer.antt`. Source: vsl-query(7), "Grouping" and
-//! "Query Expressions"; the rest is this project's choice.
+//! Start with `specs/Ends.antt` of `fan_output`, and for the text that is due with `specs/Printer.antt`. Source: vsl-query(7),
+//! "Grouping" and "Query Expressions"; the rest is this project's choice.
 #![tactic(auto)]
 
-mod messages;
+mod alone;
 mod next;
 mod output;
 mod printer;
 mod sink;
 
-pub use messages::{missed_text, overrun_text, tell_both};
-pub use output::{TextEnding, TextOutput, report};
+pub use output::TextOutput;
 pub use printer::{PrintFault, Printer};
 pub use sink::Sink;

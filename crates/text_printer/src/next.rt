@@ -2,18 +2,21 @@
 
 ghost use Rattle.std.specs.Prelude.{◌≡◌, [], ◌∷◌, false, true, if◌then◌else◌, Ok, IfOk, OnOk};
 ghost use Rattle.txn_rows.specs.declared.group.Grouping.TheVariants.{Raw};
+ghost use Rattle.txn_rows.specs.Grouping.{raw_group};
 ghost use Rattle.txn_groups.specs.Groups.{groups_state};
 ghost use Rattle.vsl_dispatch.specs.Groups.{raw_groups};
+ghost use Rattle.text_printer.specs.Held.{held_groups};
+ghost use Rattle.text_printer.specs.inside.Asked.{alone_query};
 ghost use Rattle.text_printer.specs.inside.Next.{Completed, Gave, first_held, is_end};
 
+use crate::alone::AskedAlone;
 use query_eval::Chosen;
-use query_parser::Query;
 use std::alloc::Global;
 use txn_groups::Groups;
 use txn_rows::Grouping;
 use vio::NoMemory;
 use vsl_dispatch::{Consumer, Entry};
-use vsl_record::Unit;
+use vsl_record::{RecordView, Unit, Vxid};
 
 /// What a printer is told of next.
 #[derive(Drop)]
@@ -38,27 +41,78 @@ impl Next<'_> {
     }
 }
 
-/// Offers an entry the records of a unit, each as a group by itself, where they are so grouped and the query holds for all;
-/// whether it took them.
-fn offer<C: Consumer>(
-    groups: &Groups<'_>,
-    query: &Query,
+/// Gives an entry a record as a group by itself, where the query holds for it.
+fn give_record<C: Consumer>(
+    asked: &mut AskedAlone<'_>,
+    entry: &mut Entry<C>,
+    vxid: Vxid,
+    rec: &RecordView<'_>,
+) -> Result<(), NoMemory>
+    ensures gave { OnOk result (Gave C.keep C.output C.represents
+        (held_groups (alone_query asked.old) (raw_group vxid rec.now ∷ [])) false entry.old entry.new) }
+    ensures same { alone_query asked.new ≡ alone_query asked.old }
+{
+    match asked.group_of(vxid, rec)? {
+        Some(group) => entry.give(&group),
+        None => Ok(()),
+    }
+}
+
+/// Gives an entry the records of a unit for which the query holds, each as a group by itself.
+fn give_records<C: Consumer>(
+    asked: &mut AskedAlone<'_>,
     entry: &mut Entry<C>,
     unit: &Unit,
-) -> Result<bool, NoMemory>
-    ensures raw { result ≡ Ok true → ((groups_state groups.now).table.options.grouping ≡ Raw) ×
-        (query.now.always ≡ true) }
+) -> Result<(), NoMemory>
+    ensures gave { OnOk result (Gave C.keep C.output C.represents
+        (held_groups (alone_query asked.old) (raw_groups unit.now)) false entry.old entry.new) }
+    ensures same { alone_query asked.new ≡ alone_query asked.old }
+{
+    let records = unit.records();
+    for i in 0..records.len() {
+        give_record(asked, entry, unit.vxid(), &records.get(i))?;
+    }
+    Ok(())
+}
+
+/// Offers an entry the records of a unit, each as a group by itself, where the query holds for all; whether it took them.
+fn offer<C: Consumer>(always: bool, entry: &mut Entry<C>, unit: &Unit) -> Result<bool, NoMemory>
+    ensures always { result ≡ Ok true → always ≡ true }
     ensures gave { IfOk result
         (λ took. Gave C.keep C.output C.represents
         (if took then raw_groups unit.now else []) false entry.old entry.new) }
 {
-    if !query.always {
-        return Ok(false);
+    if always {
+        entry.records(unit)
+    } else {
+        Ok(false)
     }
-    match groups.grouping() {
-        Grouping::Raw => entry.records(unit),
-        _ => Ok(false),
+}
+
+/// Gives an entry the records of a unit, each as a group by itself, where they are so grouped and the query holds for
+/// them; whether they are.
+fn take_alone<C: Consumer>(
+    grouping: Grouping,
+    asked: &mut AskedAlone<'_>,
+    entry: &mut Entry<C>,
+    unit: &Unit,
+) -> Result<bool, NoMemory>
+    ensures raw { result ≡ Ok true → grouping ≡ Raw }
+    ensures gave { IfOk result
+        (λ took. Gave C.keep C.output C.represents
+        (if took then held_groups (alone_query asked.old) (raw_groups unit.now) else [])
+        false entry.old entry.new) }
+    ensures same { alone_query asked.new ≡ alone_query asked.old }
+{
+    match grouping {
+        Grouping::Raw => {}
+        _ => return Ok(false),
     }
+    if offer(asked.always(), entry, unit)? {
+        return Ok(true);
+    }
+    give_records(asked, entry, unit)?;
+    Ok(true)
 }
 
 /// Has what comes next grouped; the groups that it completed, but for those that an entry has already. The groups are asked the
@@ -66,21 +120,22 @@ fn offer<C: Consumer>(
 pub(crate) fn complete<C: Consumer>(
     alloc: Global,
     groups: &mut Groups<'_>,
-    query: &Query,
+    asked: &mut AskedAlone<'_>,
     entry: &mut Entry<C>,
     next: Next<'_>,
 ) -> Result<Vec<Chosen>, NoMemory>
-    requires asked { (groups_state groups.old).queries ≡ query.now ∷ [] }
+    requires asked { (groups_state groups.old).queries ≡ alone_query asked.old ∷ [] }
     ensures completed { IfOk result
-        (λ left. Completed C.keep C.output C.represents query.now next.entry
+        (λ left. Completed C.keep C.output C.represents (alone_query asked.old) next.entry
         (groups_state groups.old).table
         (groups_state groups.new).table entry.old entry.new left.items) }
-    ensures asked { (groups_state groups.new).queries ≡ query.now ∷ [] }
+    ensures asked { (groups_state groups.new).queries ≡ alone_query asked.old ∷ [] }
+    ensures same { alone_query asked.new ≡ alone_query asked.old }
 {
     let mut left = Vec::new(alloc);
     match next {
         Next::Unit(unit) => {
-            if offer(groups, query, entry, unit)? {
+            if take_alone(groups.grouping(), asked, entry, unit)? {
                 return Ok(left);
             }
             groups.step(unit, &mut left)?;

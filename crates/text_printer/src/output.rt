@@ -1,59 +1,12 @@
 //! An output of a run: a printer, with a text before all items, and the messages of overruns and of what they cost.
 
-ghost use Rattle.std.specs.Prelude.{◌≡◌, [], codes, OnOk, OnErr, IsErrOf};
-ghost use Rattle.log_model.specs.Faults.{HasNewFault};
-ghost use Rattle.log_model.specs.Prefix.{IsProperPrefix};
-ghost use Rattle.vio.specs.World.{Writing, Wrote};
-ghost use Rattle.vio.specs.Writes.{WroteOn};
-ghost use Rattle.text_printer.specs.Messages.{message_of};
-
-use crate::messages::{missed_text, overrun_text};
 use crate::printer::{PrintFault, Printer};
-use log_model::Text;
+use fan_output::{TextEnding, report};
 use one_run::Output;
 use ring_layout::Item;
 use std::alloc::Global;
-use vio::{ERRORS, NoMemory, World, WorldFault, write_all};
+use vio::{NoMemory, World, WorldFault};
 use vsl_dispatch::{Consumer, Go};
-
-/// How a run ends with an output of text.
-#[derive(Debug, Drop)]
-pub enum TextEnding {
-    /// With all that the source has.
-    Whole,
-    /// With the item that completes the last group that is kept.
-    Kept,
-    /// A write to the sink of this name failed.
-    Unwritten(Text),
-    /// The message of an overrun, or of how many units it cost, couldn't be written.
-    Unreported,
-}
-
-/// Writes the message of an item, if it has one, to standard error.
-pub fn report<W: World>(alloc: Global, world: &mut W, item: &Item) -> Result<(), WorldFault>
-    ensures ok { OnOk result (Wrote ERRORS (message_of item.now) (W.seen world.old)
-        (W.seen world.new)) }
-    ensures err { OnErr result
-        (WroteOn ERRORS [] (λ text. IsProperPrefix text (message_of item.now)) (W.seen world.old)
-        (W.seen world.new)) }
-    ensures cause { IsErrOf result WorldFault.Failed → HasNewFault ((W.seen world.old).faults Writing (codes "stderr")) ((W.seen world.new).faults Writing (codes "stderr")) }
-{
-    match item {
-        Item::Unit(_) => Ok(()),
-        Item::Overrun { at, seen } => {
-            let Ok(text) = overrun_text(alloc, *at, *seen) else {
-                return Err(WorldFault::NoMemory);
-            };
-            write_all(world, ERRORS, &text)
-        }
-        Item::Missed { units } => {
-            let Ok(text) = missed_text(alloc, *units) else {
-                return Err(WorldFault::NoMemory);
-            };
-            write_all(world, ERRORS, &text)
-        }
-    }
-}
 
 /// A printer, with a text that stands before all items, and the messages of overruns and of what they cost.
 #[derive(Drop)]
@@ -67,7 +20,7 @@ impl<'q, C: Consumer> Output for TextOutput<'q, C> {
     ghost use Rattle.std.specs.Prelude.{[], ◌∷◌};
     ghost use Rattle.vio.specs.declared.world.TheConstants.{ERRORS};
     ghost use Rattle.text_printer.specs.Printer.{printer_state};
-    ghost use Rattle.text_printer.specs.Ends.{TextEnded, TextShort};
+    ghost use Rattle.fan_output.specs.Ends.{TextEnded, TextShort};
     ghost use Rattle.text_printer.specs.Output.{CanPrint, IsNew, TextPrinted, output_due, output_plan};
     ghost use Rattle.text_printer.specs.Laws.{printed_stays, ready_stays};
 

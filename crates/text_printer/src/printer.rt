@@ -7,8 +7,10 @@ ghost use Rattle.vio.specs.Writes.{WroteOn};
 ghost use Rattle.txn_rows.specs.Grouping.{Missed, Taken, TakenUnit, no_state};
 ghost use Rattle.txn_groups.specs.Groups.{groups_state};
 ghost use Rattle.vsl_dispatch.specs.Entries.{is_live};
+ghost use Rattle.text_printer.specs.inside.Asked.{alone_query};
 ghost use Rattle.vsl_dispatch.specs.declared.entry.Entry.TheVariants.{Live};
 
+use crate::alone::AskedAlone;
 use crate::next::{Next, complete, give_all};
 use crate::sink::Sink;
 use log_model::Text;
@@ -42,14 +44,16 @@ pub struct Printer<'q, C> {
     alloc: Global,
     query: &'q Query,
     groups: Groups<'q>,
+    alone: AskedAlone<'q>,
     entry: Entry<C>,
     sink: Sink,
     ghost asked: { (groups_state groups).queries ≡ query.now ∷ [] },
+    ghost asked_alone: { alone_query alone ≡ query.now },
 }
 
 impl<'q, C: Consumer> Printer<'q, C> {
     ghost use Rattle.text_printer.specs.Printer.{Plan, printer_state, Represents, IsSameSink, HasPrintCause, IsLeft, due, has_all, is_done};
-    ghost use Rattle.text_printer.specs.Ends.{taken_of};
+    ghost use Rattle.text_printer.specs.Taken.{taken_of};
     ghost use Rattle.text_printer.specs.inside.Next.{Advanced, due_with, is_end, item_of};
 
     /// A printer that was given nothing, and its consumer. It writes to the handle `sink`, whose name is `name`.
@@ -75,6 +79,7 @@ impl<'q, C: Consumer> Printer<'q, C> {
             alloc,
             query,
             groups: Groups::new(alloc, options, from_ref(query))?,
+            alone: AskedAlone::new(alloc, query)?,
             entry: Entry::Live(consumer),
             sink: Sink {
                 alloc,
@@ -96,7 +101,7 @@ impl<'q, C: Consumer> Printer<'q, C> {
         let left = complete(
             self.alloc,
             &mut self.groups,
-            self.query,
+            &mut self.alone,
             &mut self.entry,
             next,
         )?;

@@ -1,5 +1,5 @@
 -- What a job writes of groups (varnishlog(1), varnishtop(1)).
-use Rattle.std.specs.Prelude.{Bool, ℕ, true, false, ◌&&◌, not, is_some, if◌then◌else◌, List, [], map}
+use Rattle.std.specs.Prelude.{Bool, ℕ, ◌&&◌, if◌then◌else◌, List, [], map}
 use Rattle.std.specs.List.{flat_map}
 use Rattle.vsl_file.specs.File.{file_header, log_bytes}
 use Rattle.txn_rows.specs.declared.group.Group.{Group}
@@ -12,7 +12,7 @@ use Rattle.ncsa_format.specs.Line.{access_text}
 use Rattle.tool_words.specs.declared.job.Job.{Job}
 use Rattle.tool_words.specs.declared.job.Tool.{Tool}
 use Rattle.tool_words.specs.declared.job.Tool.TheVariants as tools
-use Rattle.job_steps.specs.Jobs.{showing_of, format_text}
+use Rattle.job_steps.specs.Jobs.{showing_of, format_text, writes_log}
 use Rattle.tool_consumers.specs.declared.layout.Layout.{Layout}
 use Rattle.tool_consumers.specs.declared.layout.Look.{Look}
 use Rattle.tool_consumers.specs.declared.layout.Layout.TheVariants.{Lines, Units}
@@ -28,18 +28,7 @@ written Units verbose groups = log_bytes (flat_map file_units groups)
 
 -- what groups look like: what of them is shown, as it is written
 abbrev pub laid_out : Look → List Group → List ℕ
-laid_out look groups = written look.layout look.verbose (map (shown look.selection) groups)
-
--- whether a tool can write a log file
-abbrev pub writes_units : Tool → Bool
-writes_units tools.Log = true
-writes_units tools.Ncsa = false
-writes_units tools.Top = false
-writes_units tools.Stat = false
-
--- whether a job writes a log file: varnishlog does so with -w, unless -A asks for lines
-abbrev pub writes_log : Job → Bool
-writes_log job = writes_units job.tool && is_some job.write && not job.text
+laid_out look groups = written look.layout look.verbose (map (shown look.viewer) groups)
 
 -- how a job writes groups
 abbrev pub layout_of : Job → Layout
@@ -47,7 +36,7 @@ layout_of job = if writes_log job then Units else Lines
 
 -- what groups look like in what a job writes
 abbrev pub look_of : Job → Look
-look_of job = record { layout = layout_of job; verbose = job.verbose; selection = showing_of job }
+look_of job = record { layout = layout_of job; verbose = job.verbose; viewer = showing_of job }
 
 -- what varnishlog writes of groups as lines: those of what is shown of each
 abbrev pub log_lines : Job → List Group → List ℕ

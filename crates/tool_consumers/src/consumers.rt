@@ -7,11 +7,12 @@ ghost use Rattle.ncsa_format.specs.Access.{IsAccessLog};
 ghost use Rattle.ncsa_format.specs.Access as access;
 ghost use Rattle.job_steps.specs.Jobs.{HasFormat, is_counting, showing_of};
 ghost use Rattle.tool_consumers.specs.Consumers.{IsJobConsumer, consumer_keep, consumer_output, consumer_represents};
-ghost use Rattle.tool_consumers.specs.Output.{head_text, laid_out, layout_of, look_of, output_of, writes_log, writes_units};
+ghost use Rattle.tool_consumers.specs.Output.{head_text, laid_out, layout_of, look_of, output_of};
 ghost use Rattle.tool_consumers.specs.inside.Consumer.{IsLog};
 
 use crate::layout::{Layout, Look};
 use crate::log_consumer::LogConsumer;
+use job_steps::writes_log;
 use ncsa_format::{Format, NcsaConsumer};
 use std::alloc::Global;
 use tool_words::{Job, Tool};
@@ -20,25 +21,8 @@ use vio::NoMemory;
 use vsl_dispatch::{Consumer, Go};
 use vsl_file::put_header;
 use vsl_record::Unit;
-use vsl_select::Selection;
+use vsl_select::{Selection, Viewer};
 use vsl_top::TopConsumer;
-
-/// Whether a tool can write a log file.
-fn writes_units(tool: Tool) -> bool
-    ensures { result ≡ writes_units tool }
-{
-    match tool {
-        Tool::Log => true,
-        Tool::Ncsa | Tool::Top | Tool::Stat => false,
-    }
-}
-
-/// Whether a job writes a log file.
-fn writes_log(job: &Job) -> bool
-    ensures { result ≡ writes_log job.now }
-{
-    writes_units(job.tool) && job.write.is_some() && !job.text
-}
 
 /// How a job writes groups.
 fn layout_of(job: &Job) -> Layout
@@ -52,15 +36,15 @@ fn layout_of(job: &Job) -> Layout
 }
 
 /// What groups look like in what a job writes, of which this is shown.
-fn look_of(job: &Job, selection: Selection) -> Look
-    requires { selection ≡ showing_of job.now }
-    ensures { result ≡ look_of job.now }
+fn look_of<'s>(alloc: Global, job: &Job, selection: &'s Selection) -> Result<Look<'s>, NoMemory>
+    requires { selection.now ≡ showing_of job.now }
+    ensures { IfOk result (λ look. look ≡ look_of job.now) }
 {
-    Look {
+    Ok(Look {
         layout: layout_of(job),
         verbose: job.verbose,
-        selection,
-    }
+        viewer: Viewer::new(alloc, selection)?,
+    })
 }
 
 /// What a job writes before any group: the header of a log file that was empty.
@@ -75,9 +59,13 @@ pub fn head_of(alloc: Global, job: &Job, empty: bool) -> Result<Vec<u8>, NoMemor
 }
 
 /// The consumer of a job of varnishtop, which received nothing.
-fn top_consumer(alloc: Global, job: &Job, selection: Selection) -> Result<TopConsumer, NoMemory>
+fn top_consumer<'s>(
+    alloc: Global,
+    job: &Job,
+    selection: &'s Selection,
+) -> Result<TopConsumer<'s>, NoMemory>
     requires tool { job.now.tool ≡ Tool.Top }
-    requires selection { selection ≡ showing_of job.now }
+    requires selection { selection.now ≡ showing_of job.now }
     ensures keeps { IfOk result (λ c. keep_of c ≡ job.now.keep) }
     ensures writes { IfOk result (λ c. counting.output_of c ≡ output_of job.now) }
     ensures new { IfOk result (λ c. IsTop c [] false []) }
@@ -86,14 +74,20 @@ fn top_consumer(alloc: Global, job: &Job, selection: Selection) -> Result<TopCon
 }
 
 /// The consumer of a job of varnishlog, which received nothing.
-fn log_consumer(alloc: Global, job: &Job, selection: Selection) -> LogConsumer
+fn log_consumer<'s>(
+    alloc: Global,
+    job: &Job,
+    selection: &'s Selection,
+) -> Result<LogConsumer<'s>, NoMemory>
     requires tool { job.now.tool ≡ Tool.Log }
-    requires selection { selection ≡ showing_of job.now }
-    ensures keeps { result.received.keep ≡ job.now.keep }
-    ensures writes { (λ groups ended. laid_out result.look groups) ≡ output_of job.now }
-    ensures new { IsLog result [] false [] }
+    requires selection { selection.now ≡ showing_of job.now }
+    ensures keeps { IfOk result (λ c. c.received.keep ≡ job.now.keep) }
+    ensures writes { IfOk result
+        (λ c. (λ groups ended. laid_out c.look groups) ≡ output_of job.now) }
+    ensures new { IfOk result (λ c. IsLog c [] false []) }
 {
-    LogConsumer::new(alloc, look_of(job, selection), job.keep)
+    let look = look_of(alloc, job, selection)?;
+    Ok(LogConsumer::new(alloc, look, job.keep))
 }
 
 /// The consumer of a job of varnishncsa, which received nothing.
@@ -110,16 +104,16 @@ fn ncsa_consumer(alloc: Global, job: &Job, format: Option<Format>) -> Result<Ncs
 
 /// The consumer of a tool.
 #[derive(Drop)]
-pub enum ToolConsumer {
+pub enum ToolConsumer<'s> {
     /// Of varnishlog.
-    Log(LogConsumer),
+    Log(LogConsumer<'s>),
     /// Of varnishncsa.
     Ncsa(NcsaConsumer),
     /// Of varnishtop.
-    Top(TopConsumer),
+    Top(TopConsumer<'s>),
 }
 
-impl Consumer for ToolConsumer {
+impl<'s> Consumer for ToolConsumer<'s> {
     ghost use Rattle.tool_consumers.specs.Consumers.{consumer_keep, consumer_output, consumer_represents};
 
     ghost keep = { consumer_keep };
@@ -162,14 +156,14 @@ impl Consumer for ToolConsumer {
 }
 
 /// The consumer of a job's tool, which received nothing.
-pub fn consumer_of(
+pub fn consumer_of<'s>(
     alloc: Global,
     job: &Job,
-    selection: Selection,
+    selection: &'s Selection,
     format: Option<Format>,
-) -> Result<ToolConsumer, NoMemory>
+) -> Result<ToolConsumer<'s>, NoMemory>
     requires reads { is_counting job.now.tool ≡ false }
-    requires selection { selection ≡ showing_of job.now }
+    requires selection { selection.now ≡ showing_of job.now }
     requires format { HasFormat job.now format }
     ensures { IfOk result (λ c.
         IsJobConsumer consumer_keep consumer_output consumer_represents job.now c) }
@@ -177,7 +171,7 @@ pub fn consumer_of(
     match job.tool {
         Tool::Ncsa => Ok(ToolConsumer::Ncsa(ncsa_consumer(alloc, job, format)?)),
         Tool::Top => Ok(ToolConsumer::Top(top_consumer(alloc, job, selection)?)),
-        Tool::Log => Ok(ToolConsumer::Log(log_consumer(alloc, job, selection))),
+        Tool::Log => Ok(ToolConsumer::Log(log_consumer(alloc, job, selection)?)),
         Tool::Stat => unreachable!(),
     }
 }

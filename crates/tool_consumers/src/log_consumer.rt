@@ -15,9 +15,9 @@ use vsl_record::Unit;
 ///
 /// Source: varnishlog(1), `-A`, `-v`, `-w` and `-k`.
 #[derive(Drop)]
-pub struct LogConsumer {
+pub struct LogConsumer<'s> {
     alloc: Global,
-    pub look: Look,
+    pub look: Look<'s>,
     pub received: Received,
     pub text: Vec<u8>,
     /// The most bytes that were taken at once, or fewer: for as many there is room with the first group after that.
@@ -37,10 +37,10 @@ fn make_room(text: &mut Vec<u8>, usual: usize) -> Result<(), NoMemory>
     Ok(())
 }
 
-impl LogConsumer {
+impl<'s> LogConsumer<'s> {
     /// A consumer that received nothing.
-    pub fn new(alloc: Global, look: Look, keep: Option<u32>) -> LogConsumer
-        ensures look { result.look ≡ look }
+    pub fn new(alloc: Global, look: Look<'s>, keep: Option<u32>) -> LogConsumer<'s>
+        ensures look { result.look ≡ look.entry }
         ensures keep { result.received.keep ≡ keep }
         ensures new { IsLog result [] false [] }
     {
@@ -54,7 +54,7 @@ impl LogConsumer {
     }
 }
 
-impl Consumer for LogConsumer {
+impl<'s> Consumer for LogConsumer<'s> {
     ghost use Rattle.tool_consumers.specs.Output.{laid_out};
     ghost use Rattle.tool_consumers.specs.inside.Consumer.{IsLog};
 
@@ -66,20 +66,17 @@ impl Consumer for LogConsumer {
 
     fn group(&mut self, group: &Group) -> Result<Go, NoMemory> {
         make_room(&mut self.text, self.usual)?;
-        put_group(&mut self.text, &self.look, group)?;
+        put_group(&mut self.text, &mut self.look, group)?;
         self.received.add_one()
     }
 
     fn records(&mut self, unit: &Unit) -> Result<bool, NoMemory> {
-        let keeps_all = self.received.keep.is_none();
-        match (keeps_all, self.look.selection.shows_everything()) {
-            (true, true) => {
-                make_room(&mut self.text, self.usual)?;
-                put_raw(&mut self.text, self.look.layout, unit)?;
-                Ok(true)
-            }
-            _ => Ok(false),
+        if self.received.keep.is_some() {
+            return Ok(false);
         }
+        make_room(&mut self.text, self.usual)?;
+        put_raw(&mut self.text, &mut self.look, unit)?;
+        Ok(true)
     }
 
     fn end(&mut self) -> Result<(), NoMemory> {

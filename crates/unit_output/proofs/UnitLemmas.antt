@@ -15,13 +15,13 @@ use Rattle.ring_layout.specs.declared.item.Item.{Item}
 use Rattle.ring_layout.specs.declared.item.Item.TheVariants as items
 use Rattle.one_run.proofs.RunLemmas.{made_so}
 use Rattle.run_sources.specs.Sources.{unit_items}
-use Rattle.text_printer.specs.declared.output.TextEnding.TheVariants as endings
+use Rattle.fan_output.specs.declared.ending.TextEnding.TheVariants as endings
 use Rattle.text_printer.specs.declared.printer.PrintFault.TheVariants.{WriteFault, NoMemory}
 use Rattle.text_printer.specs.declared.sink.Sink.{Sink}
-use Rattle.text_printer.specs.Ends.{Grows, InOrder, TextEnded, TextShort, whole}
-use Rattle.text_printer.specs.Messages.{message_of}
+use Rattle.fan_output.specs.Ends.{Grows, InOrder, TextEnded, TextShort, whole}
+use Rattle.fan_output.specs.Messages.{message_of}
 use Rattle.text_printer.specs.Printer.{HasPrintCause, IsLeft}
-use Rattle.text_printer.proofs.EndLemmas.{short_prefix, written_short}
+use Rattle.fan_output.proofs.EndLemmas.{short_prefix, written_short}
 use Rattle.text_printer.proofs.WriteLemmas.{Makes, Told, head_short, head_unwritten, head_written, item_said, put, short, unreported, unsaid, unwritten}
 use Rattle.unit_output.specs.declared.output.UnitOutput.{UnitOutput}
 use Rattle.unit_output.specs.Output.{CanWrite, UnitsPrinted}

@@ -6,7 +6,7 @@ use Rattle.vio.specs.World.{Seen, Writing}
 use Rattle.vio.specs.Calls.{Call, Did, AreOn}
 use Rattle.vio.proofs.CallLemmas.{on_names}
 use Rattle.ring_layout.specs.declared.item.Item.{Item}
-use Rattle.text_printer.specs.Laws.{written_stays}
+use Rattle.fan_output.specs.Laws.{written_stays}
 use Rattle.unit_output.specs.declared.output.UnitOutput.{UnitOutput}
 use Rattle.unit_output.specs.Output.{CanWrite, UnitsPrinted}
 use Rattle.unit_output.specs.Units.{units_due}

@@ -4,7 +4,7 @@ use Rattle.vio.specs.declared.world.TheConstants.{ERRORS}
 use Rattle.vio.specs.World.{Seen, Writing}
 use Rattle.vio.specs.Calls.{Call}
 use Rattle.ring_layout.specs.declared.item.Item.{Item}
-use Rattle.text_printer.specs.Ends.{TextWritten}
+use Rattle.fan_output.specs.Ends.{TextWritten}
 use Rattle.unit_output.specs.declared.output.UnitOutput.{UnitOutput}
 use Rattle.unit_output.specs.Units.{units_due}
 

@@ -5,7 +5,7 @@ use Rattle.vsl_record.specs.Unit.{Log}
 use Rattle.ring_layout.specs.declared.item.Item.{Item}
 use Rattle.ring_layout.specs.declared.item.Item.TheVariants as items
 use Rattle.vsl_file.specs.File.{file_header, log_bytes, unit_bytes}
-use Rattle.text_printer.specs.Ends.{Due}
+use Rattle.fan_output.specs.Ends.{Due}
 
 -- a log file of these units
 abbrev pub converted : Log → List ℕ

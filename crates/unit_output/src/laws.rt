@@ -3,7 +3,7 @@
 ghost use Rattle.std.specs.Prelude.{◌≡◌, ℕ, Bool, List};
 ghost use Rattle.vsl_record.specs.Unit.{Log};
 ghost use Rattle.run_sources.specs.Sources.{unit_items};
-ghost use Rattle.text_printer.specs.Ends.{whole};
+ghost use Rattle.fan_output.specs.Ends.{whole};
 ghost use Rattle.unit_output.specs.Units.{converted, units_due};
 
 /// What is due of a log is a log file of its units.

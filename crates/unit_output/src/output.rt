@@ -4,11 +4,12 @@ ghost use Rattle.std.specs.Prelude.{◌≡◌, OnOk};
 ghost use Rattle.vsl_file.specs.File.{file_header};
 ghost use Rattle.unit_output.specs.Units.{item_bytes};
 
+use fan_output::{TextEnding, report};
 use log_model::{NoMemory, Text};
 use one_run::Output;
 use ring_layout::Item;
 use std::alloc::Global;
-use text_printer::{PrintFault, Sink, TextEnding, report};
+use text_printer::{PrintFault, Sink};
 use vio::{World, WorldFault};
 use vsl_file::{put_header, put_unit};
 
@@ -63,7 +64,7 @@ impl UnitOutput {
 impl Output for UnitOutput {
     ghost use Rattle.std.specs.Prelude.{[], ◌∷◌};
     ghost use Rattle.vio.specs.declared.world.TheConstants.{ERRORS};
-    ghost use Rattle.text_printer.specs.Ends.{TextEnded, TextShort};
+    ghost use Rattle.fan_output.specs.Ends.{TextEnded, TextShort};
     ghost use Rattle.unit_output.specs.Units.{units_due};
     ghost use Rattle.unit_output.specs.Output.{CanWrite, UnitsPrinted};
     ghost use Rattle.unit_output.specs.Laws.{printed_stays, ready_stays};

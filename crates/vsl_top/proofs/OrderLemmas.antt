@@ -16,11 +16,12 @@ use Rattle.std.proofs.lemmas.List.Sums.{sum_by-cons}
 use Rattle.std.proofs.lemmas.Map.Text.{is_eq-slice_cmp}
 use Rattle.std.proofs.lemmas.Option.{get_or_from_slice_get, slice_get_within}
 use Rattle.vsl_tags.specs.Tags.{IsTag, tag_name}
+use Rattle.vsl_tags.proofs.RankLemmas.{ranked_as_named}
 use Rattle.vsl_top.specs.Report.{Key, Line, is_same, count_of, distinct, line_order, put_in, in_order, lines_of}
 use Rattle.vsl_top.specs.Counting.{some_count}
 use Rattle.vsl_top.specs.declared.line.Line.{Line as LineParts}
 use Rattle.vsl_top.specs.inside.Keys.{same_key, same_equiv}
-use Rattle.vsl_top.specs.inside.Lines.{AreLinesOf, IsNamed, entry_line, line_in}
+use Rattle.vsl_top.specs.inside.Lines.{AreLinesOf, IsRanked, entry_line, line_in}
 use Rattle.vsl_top.proofs.CountLemmas.{by_cases}
 
 abbrev pub lt : Line → Line → Bool
@@ -221,24 +222,24 @@ at_counted n (suc m) = refl
 -- ---- the table
 
 abbrev pub parts_order : LineParts → LineParts → Ordering
-parts_order a b = ordering_then (nat_cmp b.count.0 a.count.0) (ordering_then (slice_cmp nat_cmp a.name.now b.name.now) (slice_cmp nat_cmp a.text.now b.text.now))
+parts_order a b = ordering_then (nat_cmp b.count.0 a.count.0) (ordering_then (nat_cmp a.rank b.rank) (slice_cmp nat_cmp a.text.now b.text.now))
 
-named_order : (a b : LineParts) → IsNamed a → IsNamed b → parts_order a b ≡ line_order (line_in a) (line_in b)
-named_order a b left right = rw (left.name, right.name) refl
+ranked_order : (a b : LineParts) → IsRanked a → IsRanked b → parts_order a b ≡ line_order (line_in a) (line_in b)
+ranked_order a b left right = rw (left.rank, right.rank, ranked_as_named a.tag b.tag left.tag right.tag) refl
 
-sorted_lines : (parts : List LineParts) → All IsNamed parts → IsSortedBy (λ a b. is_lt (parts_order a b)) parts → IsSortedBy lt (map line_in parts)
-sorted_lines [] named sorted k d low within = absurd (omega (arith, within))
-sorted_lines (p ∷ parts) named sorted k d low within =
+sorted_lines : (parts : List LineParts) → All IsRanked parts → IsSortedBy (λ a b. is_lt (parts_order a b)) parts → IsSortedBy lt (map line_in parts)
+sorted_lines [] ranked sorted k d low within = absurd (omega (arith, within))
+sorted_lines (p ∷ parts) ranked sorted k d low within =
     let fits : k + 1 < length (p ∷ parts) = rw (length-map (p ∷ parts) line_in) at within in
     rw (get_or-map line_in (p ∷ parts) (k + 1) p d fits, get_or-map line_in (p ∷ parts) k p d (omega (arith, fits)))
-    (sym (ap is_lt (named_order _ _ (named (k + 1) p fits) (named k p (omega (arith, fits))))) ∙ sorted k p low fits)
+    (sym (ap is_lt (ranked_order _ _ (ranked (k + 1) p fits) (ranked k p (omega (arith, fits))))) ∙ sorted k p low fits)
 
 pub report_lines : (differ : (m n : ℕ) → IsTag m → IsTag n → str_to_ascii_lowercase (tag_name m) ≡ str_to_ascii_lowercase (tag_name n) → m ≡ n)
     (entries : List (Key × ℕ)) (keys : List Key) (parts sorted : List LineParts) → IsDistinct is_same (keys_of entries) → ((key : Key) → lookup (is_same key) entries ≡ some_count (count_of key keys))
     → AreLinesOf entries (length entries) parts → IsPermutation parts sorted → IsSortedBy (λ a b. is_lt (parts_order a b)) sorted → map line_in sorted ≡ lines_of keys
 report_lines differ entries keys parts sorted unique counted lines permutation up =
-    let named = All-permutation IsNamed parts sorted permutation lines.named in
-    let tags = each_at (λ l. IsTag l.key.tag) (map line_in sorted) (All-map (λ (l : Line). IsTag l.key.tag) line_in sorted (λ k d within. (named k d within).tag)) in
+    let ranked = All-permutation IsRanked parts sorted permutation lines.ranked in
+    let tags = each_at (λ l. IsTag l.key.tag) (map line_in sorted) (All-map (λ (l : Line). IsTag l.key.tag) line_in sorted (λ k d within. (ranked k d within).tag)) in
     let same : (x : Line) → times x (map line_in sorted) ≡ times x (lines_of keys) = λ x.
     times_permutation x _ _ (IsPermutation-map line_in parts sorted permutation)
     ∙ ap (times x) (lines.each ∙ take_all (length entries) (map entry_line entries) (omega (arith, length-map entries entry_line)))
@@ -247,14 +248,14 @@ report_lines differ entries keys parts sorted unique counted lines permutation u
     ∙ ap (λ (b : Bool). cond b 1 0) (at_counted x.count (count_of x.key keys) ∙ ap (λ (b : Bool). b && (x.count == count_of x.key keys)) (sym (any_counted (is_same x.key) keys)))
     ∙ sym (times_distinct x (λ key. count_of key keys) keys)
     ∙ sym (times_in_order x _) in
-    same_lines differ (map line_in sorted) (lines_of keys) (rises_from _ (sorted_far lt order _ (sorted_lines sorted named up))) (rises_in_order (map (λ key. record { count = count_of key keys; key = key }) (distinct keys))) tags
+    same_lines differ (map line_in sorted) (lines_of keys) (rises_from _ (sorted_far lt order _ (sorted_lines sorted ranked up))) (rises_in_order (map (λ key. record { count = count_of key keys; key = key }) (distinct keys))) tags
     (each_from_times (λ l. IsTag l.key.tag) (lines_of keys) (λ x some. among (λ l. IsTag l.key.tag) x (map line_in sorted) tags (rw (same x) some))) same
 
 -- one line more
 pub lines_more : (entries : List (Key × ℕ)) (i : ℕ) (parts : List LineParts) (line : LineParts) (now : List LineParts) → AreLinesOf entries i parts
-    → slice_get (map entry_line entries) i ≡ Some (line_in line) → IsNamed line → now ≡ parts ++ line ∷ [] → AreLinesOf entries (i + 1) now
-lines_more entries i parts line now so_far at named is = rw is (record {
+    → slice_get (map entry_line entries) i ≡ Some (line_in line) → IsRanked line → now ≡ parts ++ line ∷ [] → AreLinesOf entries (i + 1) now
+lines_more entries i parts line now so_far at ranked is = rw is (record {
   each = map-append line_in parts (line ∷ []) ∙ ap (λ (lines : List Line). lines ++ line_in line ∷ []) so_far.each
       ∙ sym (take_more (map entry_line entries) i (line_in line) (slice_get_within _ _ _ at) ∙ ap (λ (l : Line). take i (map entry_line entries) ++ l ∷ []) (get_or_from_slice_get _ i _ (line_in line) at));
-  named = All-push IsNamed parts line so_far.named named;
+  ranked = All-push IsRanked parts line so_far.ranked ranked;
 })

@@ -23,10 +23,10 @@ keep_of c = c.received.keep
 
 -- what it writes of groups, ended or not
 abbrev pub output_of : TopConsumer → List Group → Bool → List ℕ
-output_of c = top_output c.selection c.first_field
+output_of c = top_output c.viewer c.first_field
 
 -- it received these groups, ended or not, and of what it writes these bytes were taken
 pub record IsTop (c : TopConsumer) (groups : List Group) (ended : Bool) (taken : List ℕ) : Type 0 where
   pub received : HasReceived c.received (length groups)
-  pub counted : AreCounted (keys_of c.selection c.first_field groups) c.counts
-  pub text : taken ++ c.text.items ≡ top_output c.selection c.first_field groups ended
+  pub counted : AreCounted (keys_of c.viewer c.first_field groups) c.counts
+  pub text : taken ++ c.text.items ≡ top_output c.viewer c.first_field groups ended

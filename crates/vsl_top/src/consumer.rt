@@ -13,37 +13,37 @@ use std::mem::replace;
 use txn_rows::Group;
 use vsl_dispatch::{Consumer, Go, Received};
 use vsl_record::Unit;
-use vsl_select::Selection;
+use vsl_select::{Selection, Viewer};
 
 /// Counts the shown records of groups, by tag and text, and writes a report once they have ended.
 ///
 /// Source: varnishtop(1), `-1`, `-f` and `-k`.
 #[derive(Drop)]
-pub struct TopConsumer {
+pub struct TopConsumer<'s> {
     alloc: Global,
-    selection: Selection,
+    viewer: Viewer<'s>,
     first_field: bool,
     received: Received,
     counts: Counts,
     text: Vec<u8>,
 }
 
-impl TopConsumer {
+impl<'s> TopConsumer<'s> {
     /// A consumer that received nothing. With `first_field`, a record's text is the first field of its payload, and empty where
     /// there is none; else it is the payload.
     pub fn new(
         alloc: Global,
-        selection: Selection,
+        selection: &'s Selection,
         first_field: bool,
         keep: Option<u32>,
-    ) -> Result<TopConsumer, NoMemory>
+    ) -> Result<TopConsumer<'s>, NoMemory>
         ensures keep { IfOk result (λ c. keep_of c ≡ keep) }
-        ensures output { IfOk result (λ c. output_of c ≡ top_output selection first_field) }
+        ensures output { IfOk result (λ c. output_of c ≡ top_output selection.now first_field) }
         ensures new { IfOk result (λ c. IsTop c [] false []) }
     {
         Ok(TopConsumer {
             alloc,
-            selection,
+            viewer: Viewer::new(alloc, selection)?,
             first_field,
             received: Received::new(keep),
             counts: Counts::new(alloc)?,
@@ -72,7 +72,7 @@ impl TopConsumer {
     }
 }
 
-impl Consumer for TopConsumer {
+impl<'s> Consumer for TopConsumer<'s> {
     ghost keep = { keep_of };
 
     ghost output = { output_of };
@@ -81,7 +81,7 @@ impl Consumer for TopConsumer {
 
     fn group(&mut self, group: &Group) -> Result<Go, NoMemory> {
         self.counts
-            .add_group(&self.selection, self.first_field, group)?;
+            .add_group(&mut self.viewer, self.first_field, group)?;
         self.received.add_one()
     }
 
@@ -89,10 +89,12 @@ impl Consumer for TopConsumer {
         if self.received.keep.is_some() {
             return Ok(false);
         }
-        if !self.selection.shows_everything() {
-            return Ok(false);
+        if self.viewer.selection().shows_everything() {
+            self.counts.add_records(self.first_field, &unit.records())?;
+            return Ok(true);
         }
-        self.counts.add_records(self.first_field, &unit.records())?;
+        self.counts
+            .add_alone(&mut self.viewer, self.first_field, &unit.records())?;
         Ok(true)
     }
 

@@ -5,32 +5,39 @@ ghost use Rattle.indexmap.specs.IndexMap.{get, index_map_len};
 ghost use Rattle.vsl_top.specs.Report as report;
 ghost use Rattle.vsl_top.specs.Report.{is_same, key_of, lines_of};
 ghost use Rattle.vsl_top.specs.Counting.{AreCounted};
-ghost use Rattle.vsl_top.specs.inside.Lines.{AreLinesOf, IsNamed, entry_line, line_in};
+ghost use Rattle.vsl_top.specs.inside.Lines.{AreLinesOf, IsRanked, entry_line, line_in};
 ghost use Rattle.vsl_top.specs.inside.Keys.{member_keys, shown_keys};
 
+use crate::hashing::{Seed, Told};
 use crate::key::{Key, KeyParts};
 use crate::line::Line;
 use indexmap::IndexMap;
 use log_model::NoMemory;
 use std::alloc::Global;
+use std::mem::replace;
 use txn_rows::{Group, Member};
 use vsl_decimal::field;
 use vsl_record::{RecordView, RecordsView};
-use vsl_select::Selection;
+use vsl_select::Viewer;
 use vsl_tags::{Tag, names_differ};
 
 /// For how many keys there is room at first.
 const FIRST_KEYS: usize = 64;
 
+/// So many keys are hashed as anyone can tell, and more by a seed that follows from what the log told until then.
+const UNSEEDED_KEYS: usize = 1024;
+
 /// How often each key was counted, in the order in which the keys were first seen.
 #[derive(Drop)]
 pub(crate) struct Counts {
     alloc: Global,
-    map: IndexMap<Key, u64>,
+    map: IndexMap<Key, u64, Seed>,
+    told: Told,
+    seeded: bool,
 }
 
 /// The text of a record's key: with `first_field` the first field of the payload, and else the payload.
-fn text_of<'a>(first_field: bool, rec: &RecordView<'a>) -> &'a [u8]
+pub(crate) fn text_of<'a>(first_field: bool, rec: &RecordView<'a>) -> &'a [u8]
     ensures { result.now ≡ (key_of first_field rec.now).text }
 {
     let payload = rec.payload();
@@ -46,8 +53,55 @@ impl Counts {
     pub(crate) fn new(alloc: Global) -> Result<Counts, NoMemory>
         ensures { IfOk result (λ counts. AreCounted [] counts) }
     {
-        let map = IndexMap::with_capacity(alloc, FIRST_KEYS)?;
-        Ok(Counts { alloc, map })
+        let told = Told::new();
+        let map = IndexMap::with_capacity_and_hasher(alloc, FIRST_KEYS, Seed::of(&told))?;
+        Ok(Counts {
+            alloc,
+            map,
+            told,
+            seeded: false,
+        })
+    }
+
+    /// Takes in what the log tells beside the keys, until they have a seed: the second of some records, as the time of a
+    /// transaction, or the only one.
+    fn tell(&mut self, records: &RecordsView<'_>)
+        ensures { (keys : List report.Key) → AreCounted keys self.old → AreCounted keys self.new }
+    {
+        if self.seeded {
+            return;
+        }
+        if records.is_empty() {
+            return;
+        }
+        let place = if records.len() == 1 { 0 } else { 1 };
+        self.told.take(records.get(place).payload());
+    }
+
+    /// Hashes the keys by what the log told so far.
+    fn hash_anew(&mut self) -> Result<(), NoMemory>
+        ensures { OnOk result (self.new.map.entries ≡ self.old.map.entries) }
+    {
+        let room = self.map.len().saturating_mul(2);
+        let seed = Seed::of(&self.told);
+        let map = IndexMap::with_capacity_and_hasher(self.alloc, room, seed)?;
+        let old = replace(&mut self.map, map);
+        self.map.extend(old)?;
+        self.seeded = true;
+        Ok(())
+    }
+
+    /// Gives the keys a seed, once they are no longer few.
+    fn seed(&mut self) -> Result<(), NoMemory>
+        ensures { OnOk result (self.new.map.entries ≡ self.old.map.entries) }
+    {
+        if self.seeded {
+            return Ok(());
+        }
+        if self.map.len() < UNSEEDED_KEYS {
+            return Ok(());
+        }
+        self.hash_anew()
     }
 
     /// Counts a key that was not counted before, of which it keeps a copy.
@@ -56,6 +110,7 @@ impl Counts {
         ensures { OnOk result ((keys : List report.Key) → AreCounted keys self.old →
             AreCounted (keys ++ record { tag = tag; text = text.now } ∷ []) self.new) }
     {
+        self.seed()?;
         let key = Key::new(self.alloc, tag, text)?;
         self.map.insert(key, 1)?;
         Ok(())
@@ -87,6 +142,7 @@ impl Counts {
         ensures { OnOk result ((keys : List report.Key) → AreCounted keys self.old →
             AreCounted (keys ++ map (key_of first_field) records.now) self.new) }
     {
+        self.tell(records);
         for i in 0..records.len() {
             let rec = records.get(i);
             self.add(rec.tag(), text_of(first_field, &rec))?;
@@ -97,14 +153,15 @@ impl Counts {
     /// Counts a record of a shown transaction, where it is shown.
     fn add_shown(
         &mut self,
-        selection: &Selection,
+        viewer: &mut Viewer<'_>,
         first_field: bool,
         rec: &RecordView<'_>,
     ) -> Result<(), NoMemory>
-        ensures { OnOk result ((keys : List report.Key) → AreCounted keys self.old →
-            AreCounted (keys ++ shown_keys selection.now first_field (rec.now ∷ [])) self.new) }
+        ensures counted { OnOk result ((keys : List report.Key) → AreCounted keys self.old →
+            AreCounted (keys ++ shown_keys viewer.old first_field (rec.now ∷ [])) self.new) }
+        ensures same { viewer.new ≡ viewer.old }
     {
-        if selection.shows(rec)? {
+        if viewer.shows(rec)? {
             self.add(rec.tag(), text_of(first_field, rec))
         } else {
             Ok(())
@@ -114,15 +171,16 @@ impl Counts {
     /// Counts the shown records among those of a shown transaction.
     fn add_all_shown(
         &mut self,
-        selection: &Selection,
+        viewer: &mut Viewer<'_>,
         first_field: bool,
         records: &RecordsView<'_>,
     ) -> Result<(), NoMemory>
-        ensures { OnOk result ((keys : List report.Key) → AreCounted keys self.old →
-            AreCounted (keys ++ shown_keys selection.now first_field records.now) self.new) }
+        ensures counted { OnOk result ((keys : List report.Key) → AreCounted keys self.old →
+            AreCounted (keys ++ shown_keys viewer.old first_field records.now) self.new) }
+        ensures same { viewer.new ≡ viewer.old }
     {
         for i in 0..records.len() {
-            self.add_shown(selection, first_field, &records.get(i))?;
+            self.add_shown(viewer, first_field, &records.get(i))?;
         }
         Ok(())
     }
@@ -130,15 +188,16 @@ impl Counts {
     /// Counts the shown records of a transaction, where it is shown.
     fn add_member(
         &mut self,
-        selection: &Selection,
+        viewer: &mut Viewer<'_>,
         first_field: bool,
         member: &Member,
     ) -> Result<(), NoMemory>
-        ensures { OnOk result ((keys : List report.Key) → AreCounted keys self.old →
-            AreCounted (keys ++ member_keys selection.now first_field (member.now ∷ [])) self.new) }
+        ensures counted { OnOk result ((keys : List report.Key) → AreCounted keys self.old →
+            AreCounted (keys ++ member_keys viewer.old first_field (member.now ∷ [])) self.new) }
+        ensures same { viewer.new ≡ viewer.old }
     {
-        if selection.shows_member(member) {
-            self.add_all_shown(selection, first_field, &member.records.view())
+        if viewer.selection().shows_member(member) {
+            self.add_all_shown(viewer, first_field, &member.records.view())
         } else {
             Ok(())
         }
@@ -147,15 +206,17 @@ impl Counts {
     /// Counts the shown records of a group.
     pub(crate) fn add_group(
         &mut self,
-        selection: &Selection,
+        viewer: &mut Viewer<'_>,
         first_field: bool,
         group: &Group,
     ) -> Result<(), NoMemory>
-        ensures { OnOk result ((keys : List report.Key) → AreCounted keys self.old →
-            AreCounted (keys ++ member_keys selection.now first_field group.now.members) self.new) }
+        ensures counted { OnOk result ((keys : List report.Key) → AreCounted keys self.old →
+            AreCounted (keys ++ member_keys viewer.old first_field group.now.members) self.new) }
+        ensures same { viewer.new ≡ viewer.old }
     {
         for member in group.members.as_slice() {
-            self.add_member(selection, first_field, member)?;
+            self.tell(&member.records.view());
+            self.add_member(viewer, first_field, member)?;
         }
         Ok(())
     }
@@ -164,7 +225,7 @@ impl Counts {
     fn line_at(&self, i: usize) -> Line<'_>
         requires { i < index_map_len self.now.map }
         ensures line { slice_get (map entry_line self.now.map.entries) i ≡ Some (line_in result) }
-        ensures named { IsNamed result }
+        ensures ranked { IsRanked result }
     {
         let Some((key, count)) = self.map.get_index(i) else {
             unreachable!()

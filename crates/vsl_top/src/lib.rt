@@ -6,8 +6,10 @@
 //! Start with `specs/Report.antt`. Source: varnishtop(1).
 #![tactic(auto)]
 
+mod alone;
 mod consumer;
 mod counts;
+mod hashing;
 mod key;
 mod laws;
 mod line;

@@ -5,23 +5,24 @@ ghost use Rattle.std.specs.Prelude.{◌≡◌, map};
 ghost use Rattle.std.specs.List.{flat_map};
 ghost use Rattle.log_model.specs.Adding.{Puts};
 ghost use Rattle.vsl_top.specs.Report.{line_text};
-ghost use Rattle.vsl_top.specs.inside.Lines.{IsNamed, line_in};
+ghost use Rattle.vsl_top.specs.inside.Lines.{IsRanked, line_in};
 
 use crate::key::Key;
 use log_model::NoMemory;
 use std::cmp::Reverse;
 use vsl_select::{put_right, tag_line};
-use vsl_tags::{Tag, name_of};
+use vsl_tags::{Tag, rank_of};
 
 /// The columns of a count.
 const COUNT_COLUMNS: usize = 10;
 
-/// A key with its count. The first is the one with the highest count, then by the tag's name, then by the text.
+/// A key with its count. The first is the one with the highest count, then the one whose tag's name has the lowest rank, then by
+/// the text.
 #[derive(Clone, Copy)]
 #[derive_where(PartialEq, Eq, PartialOrd, Ord)]
 pub(crate) struct Line<'a> {
     count: Reverse<u64>,
-    name: &'a str,
+    rank: u8,
     text: &'a [u8],
     #[derive_where(skip(EqHashOrd))]
     tag: Tag,
@@ -31,12 +32,12 @@ impl<'a> Line<'a> {
     /// The line of a key with this count.
     pub(crate) fn new(key: &'a Key, count: u64) -> Line<'a>
         ensures line { line_in result ≡ record { count = count; key = key.now } }
-        ensures named { IsNamed result }
+        ensures ranked { IsRanked result }
     {
         let parts = key.parts();
         Line {
             count: Reverse(count),
-            name: name_of(parts.tag),
+            rank: rank_of(parts.tag),
             text: parts.text,
             tag: parts.tag,
         }

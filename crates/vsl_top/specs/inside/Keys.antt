@@ -9,7 +9,7 @@ use Rattle.std.specs.List.{filter, flat_map}
 use Rattle.vsl_record.specs.declared.record_type.Record.{Record}
 use Rattle.txn_rows.specs.declared.group.Member.{Member}
 use Rattle.vsl_select.specs.Showing.{Showing}
-use Rattle.vsl_select.specs.Shown.{is_shown_record, shown_members}
+use Rattle.vsl_select.specs.Shown.{is_shown_alone, is_shown_record, shown_members}
 use Rattle.vsl_top.specs.Report.{Key, is_same, key_of}
 use Rattle.vsl_top.specs.declared.key.KeyParts.{KeyParts}
 
@@ -20,6 +20,10 @@ key_in parts = record { tag = parts.tag; text = parts.text.now }
 -- the keys of the shown records among those of a shown transaction
 abbrev pub shown_keys : Showing → Bool → List Record → List Key
 shown_keys showing first_field records = map (key_of first_field) (filter (is_shown_record showing) records)
+
+-- the keys of those of some records that are shown by themselves
+abbrev pub alone_keys : Showing → Bool → List Record → List Key
+alone_keys showing first_field records = map (key_of first_field) (filter (is_shown_alone showing) records)
 
 -- the keys of the shown records of the shown transactions
 abbrev pub member_keys : Showing → Bool → List Member → List Key

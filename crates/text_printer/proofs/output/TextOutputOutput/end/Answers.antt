@@ -2,8 +2,8 @@ use Rattle.std.proofs.Common.{List, [], true, false, refl, ap, ◌∙◌}
 use Rattle.std.proofs.lemmas.List.{append-nil}
 use Rattle.ring_layout.specs.declared.item.Item.{Item}
 use Rattle.one_run.proofs.RunLemmas.{made_so}
-use Rattle.text_printer.specs.Ends.{whole}
-use Rattle.text_printer.specs.Messages.{messages_of}
+use Rattle.fan_output.specs.Ends.{whole}
+use Rattle.fan_output.specs.Messages.{messages_of}
 use Rattle.text_printer.specs.Output.{output_due}
 use Rattle.text_printer.proofs.OutputLemmas.{end_told}
 use Rattle.text_printer.proofs.WriteLemmas.{put, short, unwritten}

@@ -1,10 +1,10 @@
 use Rattle.std.proofs.Common.{[], ◌∷◌, ◌++◌, Err, false, true, refl, sym, ap, ◌∙◌, rules}
 use Rattle.one_run.proofs.RunLemmas.{made_so}
-use Rattle.text_printer.specs.Ends.{taken_of}
+use Rattle.text_printer.specs.Taken.{taken_of}
 use Rattle.text_printer.specs.Output.{output_plan}
 use Rattle.text_printer.specs.Printer.{is_done}
 use Rattle.text_printer.proofs.DueLemmas.{taken_append}
-use Rattle.text_printer.proofs.EndLemmas.{due_grows}
+use Rattle.text_printer.proofs.OutputLemmas.{due_grows}
 use Rattle.text_printer.proofs.OutputLemmas.{sink_apart, item_told}
 use Rattle.text_printer.proofs.WriteLemmas.{unreported, unsaid, put, unwritten, short}
 use Rattle.text_printer.proofs.output.TextOutputOutput.item.Goals as goal

@@ -9,4 +9,4 @@ loop-i-preserved c = one_more (map (key_of c.args.first_field)) (map-append (key
     (λ keys so_far. rw (c.tag.ensures, c.text_of.ensures) at (c.in_ok-add.ensures.counted keys so_far))
 
 pub returns : goal.returns
-returns c = all_of (map (key_of c.args.first_field)) c.args.records.now c.args.records.now _ _ _ (rw c.len-i-end.ensures at c.loop-i-test.false) refl c.loop-i.invariant
+returns c = λ keys so_far. all_of (map (key_of c.args.first_field)) c.args.records.now c.args.records.now _ _ _ (rw c.len-i-end.ensures at c.loop-i-test.false) refl c.loop-i.invariant keys (c.tell.ensures keys so_far)
