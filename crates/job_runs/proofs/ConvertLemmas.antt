@@ -12,9 +12,9 @@ use Rattle.run_sources.specs.declared.file_items.FileItems.{FileItems}
 use Rattle.run_sources.specs.declared.file_items.FileStop.{FileStop}
 use Rattle.run_sources.specs.Sources.{FileBegins, FileCame, FileGave, FileStopped}
 use Rattle.run_sources.proofs.FileLemmas.{file_came}
-use Rattle.text_printer.specs.declared.output.TextEnding.{TextEnding}
-use Rattle.text_printer.specs.Ends.{TextEnded, TextShort}
-use Rattle.text_printer.proofs.EndLemmas.{written_short}
+use Rattle.fan_output.specs.declared.ending.TextEnding.{TextEnding}
+use Rattle.fan_output.specs.Ends.{TextEnded, TextShort}
+use Rattle.fan_output.proofs.EndLemmas.{written_short}
 use Rattle.unit_output.specs.declared.output.UnitOutput.{UnitOutput}
 use Rattle.unit_output.specs.Output.{CanWrite, UnitsPrinted}
 use Rattle.unit_output.specs.Units.{units_due}

@@ -18,9 +18,9 @@ use Rattle.run_sources.specs.declared.file_items.FileStop.TheVariants as stops
 use Rattle.run_sources.specs.Sources.{FileStopped}
 use Rattle.run_sources.specs.Told.{TellsLog}
 use Rattle.run_sources.proofs.ToldLemmas.{stopped_ends}
-use Rattle.text_printer.specs.declared.output.TextEnding.{TextEnding}
-use Rattle.text_printer.specs.declared.output.TextEnding.TheVariants as endings
-use Rattle.text_printer.specs.Ends.{Due, TextWritten, TextEnded, EndCause}
+use Rattle.fan_output.specs.declared.ending.TextEnding.{TextEnding}
+use Rattle.fan_output.specs.declared.ending.TextEnding.TheVariants as endings
+use Rattle.fan_output.specs.Ends.{Due, TextWritten, TextEnded, EndCause}
 use Rattle.job_steps.specs.declared.fault.ToolFault.{ToolFault}
 use Rattle.job_steps.specs.Jobs.{file_of, is_counting}
 use Rattle.job_steps.specs.Steps.{Found, logs_of}

@@ -16,13 +16,14 @@ use Rattle.one_run.specs.declared.pass.RunEnd.TheVariants as ends
 use Rattle.one_run.specs.Counts.{IsMet}
 use Rattle.one_run.specs.Run as runs
 use Rattle.run_sources.specs.declared.file_items.FileStop.{FileStop}
-use Rattle.text_printer.specs.declared.output.TextEnding.{TextEnding}
+use Rattle.fan_output.specs.declared.ending.TextEnding.{TextEnding}
 use Rattle.text_printer.specs.declared.output.TextOutput.{TextOutput}
 use Rattle.text_printer.specs.Printer.{Plan, PrinterState, printer_state}
-use Rattle.text_printer.specs.Ends.{Due, TextWritten, TextEnded, TextShort, taken_of}
+use Rattle.fan_output.specs.Ends.{Due, TextWritten, TextEnded, TextShort}
+use Rattle.text_printer.specs.Taken.{taken_of}
 use Rattle.text_printer.specs.Output.{CanPrint, TextPrinted, due_of, output_due, output_plan}
 use Rattle.text_printer.specs.Laws.{new_ready}
-use Rattle.text_printer.proofs.EndLemmas.{written_short}
+use Rattle.fan_output.proofs.EndLemmas.{written_short}
 use Rattle.job_steps.specs.declared.fault.ToolFault.{ToolFault}
 use Rattle.job_steps.specs.Jobs.{options_of, write_of}
 use Rattle.job_steps.specs.Queries.{Ask, HoldsAsAsked}

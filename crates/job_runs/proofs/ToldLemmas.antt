@@ -26,9 +26,10 @@ use Rattle.run_sources.specs.declared.file_items.FileStop.{FileStop}
 use Rattle.run_sources.specs.Sources.{unit_items}
 use Rattle.run_sources.specs.Told.{AreOf, TellsLog}
 use Rattle.run_sources.proofs.ToldLemmas.{begun_are, whole_are}
-use Rattle.text_printer.specs.Messages.{messages_of}
-use Rattle.text_printer.specs.declared.output.TextEnding.{TextEnding}
-use Rattle.text_printer.specs.Ends.{Grows, TextEnded, TextWritten, taken_of, whole}
+use Rattle.fan_output.specs.Messages.{messages_of}
+use Rattle.fan_output.specs.declared.ending.TextEnding.{TextEnding}
+use Rattle.fan_output.specs.Ends.{Grows, TextEnded, TextWritten, whole}
+use Rattle.text_printer.specs.Taken.{taken_of}
 use Rattle.text_printer.proofs.DueLemmas.{filled_on, taken_append, text_filled, text_prefix}
 use Rattle.job_steps.specs.declared.fault.ToolFault.{ToolFault}
 use Rattle.job_steps.specs.Jobs.{is_on_threads, options_of, units_of, with_made}

@@ -18,11 +18,11 @@ use Rattle.run_sources.specs.declared.file_items.FileStop.TheVariants as stops
 use Rattle.run_sources.specs.Sources.{FileCame, FileStopped, unit_items}
 use Rattle.run_sources.specs.Told.{AreOf, TellsLog, named_ending}
 use Rattle.run_sources.proofs.ToldLemmas.{first_are, stopped_are, stopped_ends}
-use Rattle.text_printer.specs.Messages.{messages_of}
-use Rattle.text_printer.specs.declared.output.TextEnding.{TextEnding}
-use Rattle.text_printer.specs.declared.output.TextEnding.TheVariants as endings
-use Rattle.text_printer.specs.Ends.{Due, Grows, TextEnded, TextShort, TextWritten, whole}
-use Rattle.text_printer.proofs.EndLemmas.{ended_short, short_prefix, written_short}
+use Rattle.fan_output.specs.Messages.{messages_of}
+use Rattle.fan_output.specs.declared.ending.TextEnding.{TextEnding}
+use Rattle.fan_output.specs.declared.ending.TextEnding.TheVariants as endings
+use Rattle.fan_output.specs.Ends.{Due, Grows, TextEnded, TextShort, TextWritten, whole}
+use Rattle.fan_output.proofs.EndLemmas.{ended_short, short_prefix, written_short}
 use Rattle.job_steps.specs.declared.fault.ToolFault.{ToolFault}
 use Rattle.job_steps.specs.declared.fault.ToolFault.TheVariants.{ReadFault, NotALog, Damaged, TooLarge}
 use Rattle.job_runs.specs.Rows.{RanFor, log_answer, output_answer, stop_answer}

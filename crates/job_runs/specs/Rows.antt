@@ -15,9 +15,10 @@ use Rattle.one_run.specs.Run.{Ran}
 use Rattle.run_sources.specs.declared.file_items.FileStop.{FileStop}
 use Rattle.run_sources.specs.declared.file_items.FileStop.TheVariants as stops
 use Rattle.vsl_file.specs.File.{most_bytes}
-use Rattle.text_printer.specs.declared.output.TextEnding.{TextEnding}
-use Rattle.text_printer.specs.declared.output.TextEnding.TheVariants as endings
-use Rattle.text_printer.specs.Ends.{Due, TextWritten, TextEnded, TextShort, taken_of}
+use Rattle.fan_output.specs.declared.ending.TextEnding.{TextEnding}
+use Rattle.fan_output.specs.declared.ending.TextEnding.TheVariants as endings
+use Rattle.fan_output.specs.Ends.{Due, TextWritten, TextEnded, TextShort}
+use Rattle.text_printer.specs.Taken.{taken_of}
 use Rattle.job_steps.specs.declared.fault.ToolFault.{ToolFault}
 use Rattle.job_steps.specs.declared.fault.ToolFault.TheVariants.{ReadFault, WriteFault, NotALog, Damaged, TooLarge}
 use Rattle.job_steps.specs.Jobs.{is_counting, options_of, file_of, write_of}

@@ -5,7 +5,7 @@ use Rattle.vio.specs.Calls.{Call, AreOn, last_failed}
 use Rattle.ring_layout.specs.declared.item.Item.{Item}
 use Rattle.traffic_feed.specs.declared.listing.Listing.{Listing}
 use Rattle.tool_words.specs.declared.job.Job.{Job}
-use Rattle.text_printer.specs.Ends.{Due, TextShort}
+use Rattle.fan_output.specs.Ends.{Due, TextShort}
 use Rattle.job_runs.specs.Counters.{CountsPart}
 
 -- a run is so, and none of its calls failed but perhaps the last

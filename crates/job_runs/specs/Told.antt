@@ -13,8 +13,8 @@ use Rattle.ring_layout.specs.Items.{items_of}
 use Rattle.log_ring.specs.Closed.{ClosedState}
 use Rattle.traffic_feed.specs.declared.listing.Listing.{Listing}
 use Rattle.tool_words.specs.declared.job.Job.{Job}
-use Rattle.text_printer.specs.Messages.{messages_of}
-use Rattle.text_printer.specs.Ends.{Due, TextShort, whole}
+use Rattle.fan_output.specs.Messages.{messages_of}
+use Rattle.fan_output.specs.Ends.{Due, TextShort, whole}
 use Rattle.job_steps.specs.declared.fault.ToolFault.{ToolFault}
 use Rattle.job_steps.specs.Jobs.{is_on_threads, units_of, with_made}
 use Rattle.job_steps.specs.Queries.{Ask}

@@ -13,7 +13,7 @@ ghost use Rattle.tool_words.specs.declared.job.Job.{Job};
 ghost use Rattle.run_sources.specs.declared.file_items.FileStop.{FileStop};
 ghost use Rattle.run_sources.specs.Sources.{FileCame, FileStopped, unit_items};
 ghost use Rattle.run_sources.specs.Told.{TellsLog, named_ending};
-ghost use Rattle.text_printer.specs.Ends.{whole};
+ghost use Rattle.fan_output.specs.Ends.{whole};
 ghost use Rattle.job_steps.specs.declared.fault.ToolFault.{ToolFault};
 ghost use Rattle.job_steps.specs.Jobs.{file_of, is_on_threads};
 ghost use Rattle.job_steps.specs.Queries.{Ask};

@@ -6,11 +6,12 @@ ghost use Rattle.tool_consumers.specs.Consumers.{IsJobConsumer};
 ghost use Rattle.job_runs.specs.Rows.{output_answer};
 ghost use Rattle.job_runs.specs.inside.Outputs.{IsJobOutput};
 
+use fan_output::TextEnding;
 use job_steps::{ToolFault, options_of, written_name};
 use log_model::Text;
 use query_parser::Query;
 use std::alloc::Global;
-use text_printer::{Printer, TextEnding, TextOutput};
+use text_printer::{Printer, TextOutput};
 use tool_consumers::head_of;
 use tool_words::Job;
 use vio::{Created, NoMemory};

@@ -13,12 +13,13 @@ use Rattle.tool_words.specs.declared.job.Job.{Job}
 use Rattle.job_steps.specs.declared.fault.ToolFault.{ToolFault}
 use Rattle.job_steps.specs.declared.steps.Begun.{Begun}
 use Rattle.job_steps.specs.declared.steps.Counting.{Counting}
-use Rattle.job_steps.specs.Jobs.{HasFormat, file_of, format_text, job_format_fault, write_of}
-use Rattle.job_steps.specs.Steps.{Step, TakeFormat, OpenLog, MakeSink, Found, FoundNone, FoundListing, FoundSink, Passes, Stops, queries_from, feed_steps, input_steps, group_steps, counter_steps, opens_of, creates, creates_of}
+use Rattle.job_steps.specs.Jobs.{HasFormat, file_of, format_text, job_format_fault}
+use Rattle.job_steps.specs.Steps.{Step, TakeFormat, OpenLog, MakeSink, Found, FoundNone, FoundListing, FoundSink, Passes, Stops, queries_from, feed_steps, input_steps, group_steps, counter_steps, opens_of, creates, creates_of, sink_step}
+use Rattle.job_steps.specs.Took.{EndedBy}
 use Rattle.job_steps.specs.Begun.{HasInput, IsBegun, IsCounting}
 use Rattle.job_steps.specs.inside.Tasks.{QueriesAsk}
 use Rattle.job_steps.proofs.ObjectLemmas.{halted_one}
-use Rattle.job_steps.proofs.TookLemmas.{Both, none_passed, then_passed, then_halted}
+use Rattle.job_steps.proofs.TookLemmas.{Both, called_so, ended_by, none_passed, then_ended, then_passed, then_halted}
 use Rattle.job_steps.proofs.QueryLemmas.{queries_create}
 use Rattle.job_steps.proofs.FeedStepLemmas.{feeds_create}
 
@@ -31,7 +32,7 @@ abbrev pub format : Job → List Step
 format job = TakeFormat job.tool (format_text job) ∷ []
 
 abbrev pub sink : Job → List Step
-sink job = MakeSink job.append (write_of job) ∷ []
+sink job = sink_step job ∷ []
 
 -- none of the first creates a file
 
@@ -52,11 +53,14 @@ read_create job = both_create (queries job ++ format job) (input_steps job) (for
 -- ---- a part ends the job
 
 abbrev pub EndsGroups : Job → Halt ToolFault → Seen → Seen → Type 0
-EndsGroups job halt before now = Called (Halted Passes Stops (opens_of (group_steps job)) (group_steps job) halt) before now
+EndsGroups job halt before now = Called (EndedBy (group_steps job) halt) before now
+
+ended_so : (steps : List Step) (halt : Halt ToolFault) (s t : Seen) → Called (Halted Passes Stops (opens_of steps) steps halt) s t → Called (EndedBy steps halt) s t
+ended_so steps halt s t p = called_so (ended_by steps halt) p
 
 pub query_ends : (job : Job) (halt : Halt ToolFault) (r s : Seen) → Called (Halted Passes Stops (opens_of (queries job)) (queries job) halt) r s → EndsGroups job halt r s
-query_ends job halt r s p = then_halted (λ us. us ≡ []) [] (queries job) (format job ++ (input_steps job ++ sink job)) (group_steps job) (opens_of (queries job)) halt r r s
-    (append_assoc (queries job ++ format job) (input_steps job) (sink job) ∙ append_assoc (queries job) (format job) (input_steps job ++ sink job)) refl refl (none_passed r) p
+query_ends job halt r s p = ended_so (group_steps job) halt r s (then_halted (λ us. us ≡ []) [] (queries job) (format job ++ (input_steps job ++ sink job)) (group_steps job) (opens_of (queries job)) halt r r s
+    (append_assoc (queries job ++ format job) (input_steps job) (sink job) ∙ append_assoc (queries job) (format job) (input_steps job ++ sink job)) refl refl (none_passed r) p)
 
 -- how the format of a job is refused
 format_halted : (A : Type 0) (job : Job) (halt : Halt ToolFault) (s : Seen) → IfFault {A = A} (Err halt) (λ fault. job_format_fault job ≡ Some fault) → Called (Halted Passes Stops [] (format job) halt) s s
@@ -64,14 +68,14 @@ format_halted A job (Fault fault) s p = record { calls = []; did = refl; is = ha
 format_halted A job NoMemory s p = record { calls = []; did = refl; is = (tt, omega arith) }
 
 pub format_ends : (A : Type 0) (job : Job) (IsQueried : List Found → Type 0) (halt : Halt ToolFault) (r s : Seen) → Called (PassedSo Passes Stops IsQueried (queries job)) r s → IfFault {A = A} (Err halt) (λ fault. job_format_fault job ≡ Some fault) → EndsGroups job halt r s
-format_ends A job IsQueried halt r s queried p = then_halted IsQueried (queries job) (format job) (input_steps job ++ sink job) (group_steps job) [] halt r s s
-    (append_assoc (queries job ++ format job) (input_steps job) (sink job)) (queries_create job.caseless 0 job.queries) refl queried (format_halted A job halt s p)
+format_ends A job IsQueried halt r s queried p = ended_so (group_steps job) halt r s (then_halted IsQueried (queries job) (format job) (input_steps job ++ sink job) (group_steps job) [] halt r s s
+    (append_assoc (queries job ++ format job) (input_steps job) (sink job)) (queries_create job.caseless 0 job.queries) refl queried (format_halted A job halt s p))
 
 pub input_ends : (job : Job) (IsFormed : List Found → Type 0) (halt : Halt ToolFault) (r s t : Seen) → Called (PassedSo Passes Stops IsFormed (queries job ++ format job)) r s → Called (Halted Passes Stops (opens_of (input_steps job)) (input_steps job) halt) s t → EndsGroups job halt r t
-input_ends job IsFormed halt r s t formed p = then_halted IsFormed (queries job ++ format job) (input_steps job) (sink job) (group_steps job) (opens_of (input_steps job)) halt r s t refl (formatted_create job) refl formed p
+input_ends job IsFormed halt r s t formed p = ended_so (group_steps job) halt r t (then_halted IsFormed (queries job ++ format job) (input_steps job) (sink job) (group_steps job) (opens_of (input_steps job)) halt r s t refl (formatted_create job) refl formed p)
 
-pub sink_ends : (job : Job) (IsRead : List Found → Type 0) (halt : Halt ToolFault) (r s t : Seen) → Called (PassedSo Passes Stops IsRead (queries job ++ format job ++ input_steps job)) r s → Called (Halted Passes Stops [] (sink job) halt) s t → EndsGroups job halt r t
-sink_ends job IsRead halt r s t passed p = then_halted IsRead (queries job ++ format job ++ input_steps job) (sink job) [] (group_steps job) [] halt r s t (sym (append-nil (group_steps job))) (read_create job) refl passed p
+pub sink_ends : (job : Job) (IsRead : List Found → Type 0) (halt : Halt ToolFault) (r s t : Seen) → Called (PassedSo Passes Stops IsRead (queries job ++ format job ++ input_steps job)) r s → Called (EndedBy (sink job) halt) s t → EndsGroups job halt r t
+sink_ends job IsRead halt r s t passed p = then_ended IsRead (queries job ++ format job ++ input_steps job) (sink job) halt r s t (read_create job) passed p
 
 -- ---- all parts pass
 

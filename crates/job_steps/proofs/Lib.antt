@@ -2,6 +2,7 @@ pub mod StepFacts
 mod WordLemmas
 mod ObjectLemmas
 pub mod TookLemmas
+mod AppendLemmas
 mod QueryLemmas
 mod FeedStepLemmas
 mod FitLemmas

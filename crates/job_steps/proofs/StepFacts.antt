@@ -1,5 +1,5 @@
 -- What steps touch: they open and create the files that they name, each once at most, and write nothing.
-use Rattle.std.proofs.Common.{◌≡◌, ℕ, ◌+◌, ◌≤◌, Bool, true, false, if◌then◌else◌, List, [], ◌∷◌, ◌++◌, length, length-append, refl, ap, subst, ◌∙◌, inl, inr, arith, codes}
+use Rattle.std.proofs.Common.{◌≡◌, ◌⊎◌, ℕ, ◌+◌, ◌≤◌, Bool, true, false, if◌then◌else◌, List, [], ◌∷◌, ◌++◌, length, length-append, refl, ap, subst, ◌∙◌, inl, inr, arith, codes}
 use Rattle.std.specs.Bool.{MatchBool}
 use Rattle.std.specs.Str.{bytes_eq}
 use Rattle.std.proofs.lemmas.List.{append-nil}
@@ -13,11 +13,14 @@ use Rattle.vio.specs.Named.{IsReadBy, IsRefusedBy, IsLackedBy}
 use Rattle.vio.specs.Steps.{Passed, Stopped}
 use Rattle.vio.proofs.CallLemmas.{within_append, given_append, written_append, opens_written}
 use Rattle.vio.proofs.ReadLemmas.{read_opens, refused_opens, lacked_opens}
+use Rattle.vsl_file.specs.File.{file_header}
 use Rattle.feed_files.specs.declared.fault.FeedFault.{FeedFault}
 use Rattle.feed_files.specs.declared.fault.FeedFault.TheVariants as feeds
 use Rattle.feed_files.specs.Feeds.{Feed, FeedStops, most_feed_bytes}
 use Rattle.job_steps.specs.declared.fault.ToolFault.{ToolFault}
-use Rattle.job_steps.specs.Steps.{Step, RefuseWords, TakeRules, TakeQuery, TakeFormat, OpenLog, ReadFeed, MakeSink, Found, Passes, Stops, most_query_bytes, file_named, opens, creates, opens_of, creates_of}
+use Rattle.job_steps.specs.declared.fault.ToolFault.TheVariants.{NoOpen}
+use Rattle.job_steps.specs.Appends.{IsStartBy, LookStops}
+use Rattle.job_steps.specs.Steps.{Step, RefuseWords, TakeRules, TakeQuery, TakeFormat, OpenLog, ReadFeed, MakeSink, AppendLog, Found, Passes, Stops, most_query_bytes, file_named, opens, creates, opens_of, creates_of}
 
 -- calls open and create files of these names alone, give no more handles than there are names, and write nothing
 pub record StaysWithin (opened created : List (List ℕ)) (calls : List Call) : Type 0 where
@@ -73,6 +76,26 @@ made_within : (b append : Bool) (name : List ℕ) (h : ℕ) (empty : Bool) (call
 made_within true append name h empty calls p = within_none [] [] calls p.2
 made_within false append name h empty calls p = rw p (record { within = (inl refl, tt); few = omega arith; writes = λ i. refl })
 
+-- what is appended to was created, and opened where it has bytes
+appended_within : (b empty : Bool) (name : List ℕ) (h : ℕ) (calls made looked : List Call) → calls ≡ made ++ looked → MatchBool b ((h ≡ OUTPUT) × (empty ≡ true) × (made ≡ [])) (made ≡ Create true name h empty ∷ [])
+    → MatchBool empty (looked ≡ []) (IsStartBy name file_header looked) → StaysWithin (if b then [] else name ∷ []) (if b then [] else name ∷ []) calls
+appended_within true true name h calls made looked are is_made none = within_none [] [] calls (are ∙ (λ i. is_made.2 i ++ none i))
+appended_within true false name h calls made looked are is_made start = let no : false ≡ true = is_made.1 in absurd cc
+appended_within false true name h calls made looked are is_made none = rw (are, is_made, none) (record { within = (inl refl, tt); few = omega arith; writes = λ i. refl })
+appended_within false false name h calls made looked are is_made start = rw (are, is_made, start.2) (record { within = (inl refl, (inl refl, (inl refl, tt))); few = omega arith; writes = λ i. refl })
+
+-- so it was where it was refused
+looked_within : (name : List ℕ) (h : ℕ) (fault : ToolFault) (calls looked : List Call) → calls ≡ Create true name h false ∷ looked → LookStops name fault looked → StaysWithin (name ∷ []) (name ∷ []) calls
+looked_within name h fault calls looked are (inl p) = rw (are, p.0) (record { within = (inl refl, (tt, tt)); few = omega arith; writes = λ i. refl })
+looked_within name h fault calls looked are (inr (inl p)) = rw (are, p.2) (record { within = (inl refl, (inl refl, (inl refl, tt))); few = omega arith; writes = λ i. refl })
+looked_within name h fault calls looked are (inr (inr p)) = rw (are, p.1.2) (record { within = (inl refl, (inl refl, (inl refl, tt))); few = omega arith; writes = λ i. refl })
+
+append_within : (b : Bool) (name : List ℕ) (fault : ToolFault) (calls : List Call) → b ≡ false → ((calls ≡ Refuse Creating name ∷ []) × (fault ≡ NoOpen name)) ⊎ ((h : ℕ) × (looked : List Call) × (calls ≡ Create true name h false ∷ looked) × LookStops name fault looked)
+    → StaysWithin (if b then [] else name ∷ []) (if b then [] else name ∷ []) calls
+append_within true name fault calls file p = absurd cc
+append_within false name fault calls file (inl p) = refuse_within (name ∷ []) (name ∷ []) Creating name calls p.0
+append_within false name fault calls file (inr p) = looked_within name p.0 fault calls p.1 p.2 p.3
+
 -- a step that passed stays within its names
 pub passes_within : (step : Step) (found : Found) (calls : List Call) → Passes step found calls → StaysWithin (opens step) (creates step) calls
 passes_within (RefuseWords why) found calls p = absurd p
@@ -82,6 +105,7 @@ passes_within (TakeFormat tool text) found calls p = within_none [] [] calls p.1
 passes_within (OpenLog name) found calls p = opened_within (bytes_eq name (codes "-")) name p.0 calls p.2
 passes_within (ReadFeed reclen seg feed) found calls p = within_opens (feed.name ∷ []) calls (read_opens most_feed_bytes feed.name p.2.bytes calls p.2.read)
 passes_within (MakeSink append name) found calls p = made_within (bytes_eq name (codes "-")) append name p.0 p.1 calls p.3
+passes_within (AppendLog name) found calls p = let q = p.3 in appended_within (bytes_eq name (codes "-")) p.1 name p.0 calls q.0 q.1 q.2 q.3 q.4
 
 feed_opens : (feed : Feed) (why : FeedFault) (calls : List Call) → FeedStops feed why calls → OnlyOpen (feed.name ∷ []) calls
 feed_opens feed (feeds.NoOpen name) calls p = refused_opens most_feed_bytes feed.name named.NoOpen calls p.1
@@ -99,6 +123,7 @@ stops_within (TakeFormat tool text) fault calls p = within_none [] [] calls p.0
 stops_within (OpenLog name) fault calls p = refuse_within (file_named name) [] Opening name calls p.1
 stops_within (ReadFeed reclen seg feed) fault calls p = within_opens (feed.name ∷ []) calls (feed_opens feed p.0 calls p.1)
 stops_within (MakeSink append name) fault calls p = refuse_within [] (file_named name) Creating name calls p.1
+stops_within (AppendLog name) fault calls p = append_within (bytes_eq name (codes "-")) name fault calls p.0 p.1
 
 -- ---- several steps
 

@@ -1,15 +1,19 @@
 -- Steps of a job, some behind others.
-use Rattle.std.proofs.Common.{◌≡◌, ℕ, true, List, [], ◌++◌, length, Result, Ok, Err, refl, sym, ap, subst, ◌∙◌, arith}
+use Rattle.std.proofs.Common.{◌≡◌, ℕ, true, false, List, [], ◌∷◌, ◌++◌, length, Result, Ok, Err, refl, sym, ap, subst, ◌∙◌, append_assoc, inl, inr, arith}
 use Rattle.std.specs.Result.{IsErrAnd}
 use Rattle.std.proofs.lemmas.Grind.{flat_map-append}
 use Rattle.log_model.specs.declared.fault.Halt.{Halt}
+use Rattle.log_model.specs.declared.fault.Halt.TheVariants.{Fault, NoMemory}
 use Rattle.vio.specs.World.{Seen}
-use Rattle.vio.specs.Calls.{Call, Called, AreWithin, OnlyOpen, none_failed}
+use Rattle.vio.specs.Touches.{IsOneOf}
+use Rattle.vio.specs.Calls.{Call, Called, Create, Lack, AreWithin, OnlyOpen, none_failed}
 use Rattle.vio.specs.Steps.{Passed, PassedSo, Halted}
-use Rattle.vio.proofs.CallLemmas.{did_then, none_failed_then, opens_more}
+use Rattle.vio.proofs.CallLemmas.{did_then, none_failed_then, opens_more, opens_then}
 use Rattle.vio.proofs.StepLemmas.{passed_then, halted_before, halted_behind}
+use Rattle.vio.proofs.TouchLemmas.{one_of_right}
 use Rattle.job_steps.specs.declared.fault.ToolFault.{ToolFault}
 use Rattle.job_steps.specs.Steps.{Step, Found, Passes, Stops, opens, opens_of, creates_of}
+use Rattle.job_steps.specs.Took.{EndedBy, appends, appends_of}
 use Rattle.job_steps.proofs.StepFacts.{passed_within}
 
 -- calls that are so are so in another way
@@ -49,6 +53,34 @@ then_halted IsFirst xs ys zs all opened halt r s t e none names p q = record {
 pub then_short : (IsFirst : List Found → Type 0) (xs zs all : List Step) (r s : Seen) → all ≡ xs ++ zs → creates_of xs ≡ [] → Called (PassedSo Passes Stops IsFirst xs) r s → Called (OnlyOpen (opens_of all)) r s
 then_short IsFirst xs zs all r s e none p = called_so (λ calls so. subst (λ (opened : List (List ℕ)). OnlyOpen opened calls) (sym (flat_map-append opens xs zs) ∙ ap opens_of (sym e))
     (opens_more (opens_of xs) (opens_of zs) calls (opens_alone xs so.found calls none so.passed))) p
+
+-- ---- log files that are appended to among them
+
+-- steps that didn't pass, where none was looked at
+pub ended_by : (steps : List Step) (halt : Halt ToolFault) (calls : List Call) → Halted Passes Stops (opens_of steps) steps halt calls → EndedBy steps halt calls
+ended_by steps (Fault fault) calls p = p
+ended_by steps NoMemory calls p = inl p
+
+-- steps passed that create nothing, and those behind them didn't
+ended_behind : (xs ys : List Step) (halt : Halt ToolFault) (us : List Found) (a b : List Call) → creates_of xs ≡ [] → Passed Passes Stops xs us a → none_failed a ≡ true → EndedBy ys halt b → EndedBy (xs ++ ys) halt (a ++ b)
+ended_behind xs ys (Fault fault) us a b none p fail ended = halted_behind Passes Stops (opens_of xs) (opens_of ys) xs ys us a b (Fault fault) p fail (opens_alone xs us a none p) ended
+ended_behind xs ys NoMemory us a b none p fail (inl only) =
+    inl (subst (λ (opened : List (List ℕ)). OnlyOpen opened (a ++ b)) (sym (flat_map-append opens xs ys)) (opens_then (opens_of xs) (opens_of ys) a b (opens_alone xs us a none p) only))
+ended_behind xs ys NoMemory us a b none p fail (inr look) = inr (record {
+  first = a ++ look.first;
+  name = look.name;
+  handle = look.handle;
+  opens = subst (λ (opened : List (List ℕ)). OnlyOpen opened (a ++ look.first)) (sym (flat_map-append opens xs ys)) (opens_then (opens_of xs) (opens_of ys) a look.first (opens_alone xs us a none p) look.opens);
+  appends = subst (λ (names : List (List ℕ)). IsOneOf look.name names) (sym (flat_map-append appends xs ys)) (one_of_right look.name (appends_of xs) (appends_of ys) look.appends);
+  are = ap (λ (calls : List Call). a ++ calls) look.are ∙ sym (append_assoc a look.first (Create true look.name look.handle false ∷ Lack ∷ []));
+})
+
+pub then_ended : (IsFirst : List Found → Type 0) (xs ys : List Step) (halt : Halt ToolFault) (r s t : Seen) → creates_of xs ≡ [] → Called (PassedSo Passes Stops IsFirst xs) r s → Called (EndedBy ys halt) s t → Called (EndedBy (xs ++ ys) halt) r t
+then_ended IsFirst xs ys halt r s t none p q = record {
+  calls = p.calls ++ q.calls;
+  did = did_then p.calls q.calls r s t p.did q.did;
+  is = ended_behind xs ys halt p.is.found p.calls q.calls none p.is.passed p.is.fail q.is;
+}
 
 -- ---- steps pass
 

@@ -1,5 +1,5 @@
 -- What a job reads, shows and writes (this project's choice).
-use Rattle.std.specs.Prelude.{◌≡◌, ℕ, ◌&&◌, Bool, true, false, List, [], ◌++◌, ◌∷◌, map, unwrap_or, codes, Option, Some, None, option_map}
+use Rattle.std.specs.Prelude.{◌≡◌, ℕ, ◌&&◌, not, Bool, true, false, is_some, List, [], ◌++◌, ◌∷◌, map, unwrap_or, codes, Option, Some, None, option_map}
 use Rattle.txn_rows.specs.declared.group.GroupOptions.{GroupOptions}
 use Rattle.vsl_record.specs.Unit.{Log}
 use Rattle.vsl_select.specs.Showing.{Showing}
@@ -39,6 +39,21 @@ file_of job = unwrap_or job.file []
 -- the name of what a job writes: that of a file, or `-`
 abbrev pub write_of : Job → List ℕ
 write_of job = unwrap_or job.write (codes "-")
+
+-- whether a tool can write a log file
+abbrev pub writes_units : Tool → Bool
+writes_units tools.Log = true
+writes_units tools.Ncsa = false
+writes_units tools.Top = false
+writes_units tools.Stat = false
+
+-- whether a job writes a log file: varnishlog does so with -w, unless -A asks for lines
+abbrev pub writes_log : Job → Bool
+writes_log job = writes_units job.tool && is_some job.write && not job.text
+
+-- whether it goes on with one that may be there
+abbrev pub appends_log : Job → Bool
+appends_log job = writes_log job && job.append
 
 -- ---- the format of a job
 

@@ -1,6 +1,8 @@
 pub mod Queries
 pub mod Jobs
+pub mod Appends
 pub mod Steps
+pub mod Took
 pub mod Good
 pub mod Begun
 pub mod Fits

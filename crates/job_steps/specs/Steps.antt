@@ -33,7 +33,8 @@ use Rattle.tool_words.specs.declared.job.QueryText.{QueryText}
 use Rattle.tool_words.specs.declared.job.Tool.{Tool}
 use Rattle.job_steps.specs.declared.fault.ToolFault.{ToolFault}
 use Rattle.job_steps.specs.declared.fault.ToolFault.TheVariants.{Usage, BadPattern, BadQuery, BadListing, NoOpen, ReadFault, TooLarge}
-use Rattle.job_steps.specs.Jobs.{is_counting, file_of, write_of, format_text, text_fault}
+use Rattle.job_steps.specs.Appends.{AppendStops, IsAppendedBy}
+use Rattle.job_steps.specs.Jobs.{appends_log, is_counting, file_of, write_of, format_text, text_fault}
 
 -- a step of a job
 pub data Step : Type 0 where
@@ -51,6 +52,8 @@ pub data Step : Type 0 where
   ReadFeed : ℕ → ℕ → Feed → Step
   -- what is written is created, which keeps its bytes or not; or standard output for `-`
   MakeSink : Bool → List ℕ → Step
+  -- the same of a log file that keeps its bytes: where it has some, it is looked at
+  AppendLog : List ℕ → Step
 
 -- what a step finds
 pub data Found : Type 0 where
@@ -79,11 +82,15 @@ feed_steps job = map (ReadFeed job.reclen job.seg) (feeds_from 0 job.feeds)
 abbrev pub input_steps : Job → List Step
 input_steps job = if is_some job.file then OpenLog (file_of job) ∷ [] else feed_steps job
 
+-- what a job writes
+abbrev pub sink_step : Job → Step
+sink_step job = if appends_log job then AppendLog (write_of job) else MakeSink job.append (write_of job)
+
 -- what a job does that prints groups. What can be told without a log comes first, and the file to be written last: a
 -- query, a format, a log or a feed at fault leaves that file as it was
 abbrev pub group_steps : Job → List Step
 group_steps job = queries_from job.caseless 0 job.queries ++ (TakeFormat job.tool (format_text job) ∷ []) ++
-    input_steps job ++ MakeSink job.append (write_of job) ∷ []
+    input_steps job ++ sink_step job ∷ []
 
 -- what a job does that prints counters. For names alone no feed is needed; those that are given are read all the same,
 -- so that a command line has its faults, whatever is printed
@@ -136,6 +143,8 @@ Passes (ReadFeed reclen seg feed) found calls = (listing : Listing) × (found �
     FeedPasses reclen seg feed listing calls
 Passes (MakeSink append name) found calls = (h : ℕ) × (empty : Bool) × (found ≡ FoundSink h empty) ×
     IsMadeBy append name h empty calls
+Passes (AppendLog name) found calls = (h : ℕ) × (empty : Bool) × (found ≡ FoundSink h empty) ×
+    IsAppendedBy name h empty calls
 
 -- ---- how a step stops a job
 
@@ -186,6 +195,7 @@ Stops (TakeFormat tool text) fault calls = (calls ≡ []) × (text_fault tool te
 Stops (OpenLog name) fault calls = (bytes_eq name (codes "-") ≡ false) × (calls ≡ Refuse Opening name ∷ []) × (fault ≡ NoOpen name)
 Stops (ReadFeed reclen seg feed) fault calls = (why : FeedFault) × FeedStops feed why calls × (fault ≡ feed_answer why)
 Stops (MakeSink append name) fault calls = (bytes_eq name (codes "-") ≡ false) × (calls ≡ Refuse Creating name ∷ []) × (fault ≡ NoOpen name)
+Stops (AppendLog name) fault calls = AppendStops name fault calls
 
 -- ---- what steps found
 
@@ -240,11 +250,13 @@ abbrev pub opens : Step → List (List ℕ)
 opens (TakeQuery caseless n query) = if query.file then query.text ∷ [] else []
 opens (OpenLog name) = file_named name
 opens (ReadFeed reclen seg feed) = feed.name ∷ []
+opens (AppendLog name) = file_named name
 opens step = []
 
 -- the names under which a step creates files
 abbrev pub creates : Step → List (List ℕ)
 creates (MakeSink append name) = file_named name
+creates (AppendLog name) = file_named name
 creates step = []
 
 -- the standard streams that are read for what a step opens
@@ -255,6 +267,7 @@ reads step = []
 -- the standard streams that are written for what a step creates
 abbrev pub writes : Step → List ℕ
 writes (MakeSink append name) = stream_named OUTPUT name
+writes (AppendLog name) = stream_named OUTPUT name
 writes step = []
 
 -- the names under which steps open files

@@ -70,4 +70,9 @@ pub enum ToolFault {
         /// How many bytes are read of it.
         limit: u64,
     },
+    /// A log file that is to be appended to has bytes, and isn't of the version in which log files are written.
+    OldLog {
+        /// The file's name.
+        name: Text,
+    },
 }

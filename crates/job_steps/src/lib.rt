@@ -24,5 +24,5 @@ pub use steps::{
 };
 pub use words::{
     file_name, is_counting, is_fed, is_on_threads, options_of, read_command, read_selection,
-    written_name,
+    writes_log, written_name,
 };

@@ -9,14 +9,15 @@ ghost use Rattle.vio.specs.Calls.{Called};
 ghost use Rattle.vio.specs.Steps.{TookSteps};
 ghost use Rattle.tool_words.specs.Sound.{IsSound};
 ghost use Rattle.job_steps.specs.Steps.{Passes, Stops, counter_steps, group_steps, input_steps, names_steps, opens_of};
+ghost use Rattle.job_steps.specs.Took.{TookAll};
 ghost use Rattle.job_steps.specs.Begun.{HasInput, IsBegun, IsCounting, IsOpened};
 
 use crate::fault::ToolFault;
 use crate::feeds::take_feeds;
 use crate::formats::read_format;
-use crate::objects::{make_sink, open_log};
+use crate::objects::{make_out, make_sink, open_log};
 use crate::queries::take_queries;
-use crate::words::{file_name, written_name};
+use crate::words::file_name;
 use log_model::Halt;
 use ncsa_format::Format;
 use query_parser::Query;
@@ -80,8 +81,7 @@ pub fn take_group_steps<W: World>(
     world: &mut W,
 ) -> Result<Begun, Halt<ToolFault>>
     requires sound { IsSound job.now }
-    ensures took { Called (TookSteps Passes Stops (IsBegun job.now) (opens_of (group_steps job.now))
-        (group_steps job.now) result)
+    ensures took { Called (TookAll (IsBegun job.now) (group_steps job.now) result)
         (W.seen world.old) (W.seen world.new) }
     ensures fit { IfOk result (λ begun. HasFitInput job.now begun.input) }
     ensures named { IfOk result
@@ -91,7 +91,7 @@ pub fn take_group_steps<W: World>(
     let query = take_queries(alloc, job, world)?;
     let format = read_format(alloc, job)?;
     let input = take_input(alloc, job, world)?;
-    let sink = make_sink(alloc, written_name(job), job.append, world)?;
+    let sink = make_out(alloc, job, world)?;
     Ok(Begun {
         query,
         format,

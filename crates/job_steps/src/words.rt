@@ -8,7 +8,7 @@ ghost use Rattle.tool_words.specs.declared.fault.UsageFault.{UsageFault};
 ghost use Rattle.tool_words.specs.Command.{IsSoundCommand, command_of};
 ghost use Rattle.tool_words.specs.Job.{is_fed};
 ghost use Rattle.job_steps.specs.Begun.{IsShown};
-ghost use Rattle.job_steps.specs.Jobs.{file_of, is_counting, is_on_threads, is_threads, options_of, write_of};
+ghost use Rattle.job_steps.specs.Jobs.{appends_log, file_of, is_counting, is_on_threads, is_threads, options_of, write_of, writes_log, writes_units};
 ghost use Rattle.job_steps.specs.Steps.{Passes, Stops, word_steps};
 ghost use Rattle.job_steps.specs.inside.Tasks.{IsRuleHalt};
 
@@ -82,6 +82,30 @@ pub fn written_name(job: &Job) -> &str
         Some(name) => name.as_str(),
         None => "-",
     }
+}
+
+/// Whether a tool can write a log file.
+fn writes_units(tool: Tool) -> bool
+    ensures { result ≡ writes_units tool }
+{
+    match tool {
+        Tool::Log => true,
+        Tool::Ncsa | Tool::Top | Tool::Stat => false,
+    }
+}
+
+/// Whether a job writes a log file.
+pub fn writes_log(job: &Job) -> bool
+    ensures { result ≡ writes_log job.now }
+{
+    writes_units(job.tool) && job.write.is_some() && !job.text
+}
+
+/// Whether a job goes on with a log file that may be there.
+pub fn appends_log(job: &Job) -> bool
+    ensures { result ≡ appends_log job.now }
+{
+    writes_log(job) && job.append
 }
 
 /// Copies of a job's rules.

@@ -22,12 +22,10 @@ pub returns-in_err-sink-clause-took : goal.returns-in_err-sink-clause-took
 returns-in_err-sink-clause-took g c =
     let formed = format_passed c.args.job.now _ _ _ c.in_ok-format.ensures.read.1 c.in_ok-query.ensures.took in
     let read = then_passed _ _ _ _ _ _ _ formed c.in_ok-input.ensures.took in
-    let halted = rw c.written_name.ensures at c.in_err-sink.ensures.took in
-    rw (err_from c.from_residual-in_err-sink.result c.in_err-sink.field-0.0 c.from_residual-in_err-sink.ensures.1) (sink_ends c.args.job.now _ c.in_err-sink.field-0.0 _ _ _ read halted)
+    rw (err_from c.from_residual-in_err-sink.result c.in_err-sink.field-0.0 c.from_residual-in_err-sink.ensures.1) (sink_ends c.args.job.now _ c.in_err-sink.field-0.0 _ _ _ read c.in_err-sink.ensures.took)
 
 pub returns-clause-took : goal.returns-clause-took
 returns-clause-took g c =
     let formed = format_passed c.args.job.now _ _ _ c.in_ok-format.ensures.read.1 c.in_ok-query.ensures.took in
     let read = then_passed _ _ _ _ _ _ _ formed c.in_ok-input.ensures.took in
-    let made = rw c.written_name.ensures at c.in_ok-sink.ensures.took in
-    passed_so (λ us so. is_begun c.args.job.now _ us c.in_ok-format.ensures.read.0 so) (then_passed _ _ _ _ _ _ _ read made)
+    passed_so (λ us so. is_begun c.args.job.now _ us c.in_ok-format.ensures.read.0 so) (then_passed _ _ _ _ _ _ _ read c.in_ok-sink.ensures.took)
