@@ -89,7 +89,7 @@ module _ (converts : ConvertsTold) (names : Names) (units : Log) (ending : FileE
           empty = empty;
           text = written_by sink ran.last;
           is_out = out_by false names.output sink empty (h ∷ []) (written_by sink ran.last) (ran.last ++ q.said) s mid parts.0 t touches named
-              (on_append (h ∷ []) (ERRORS ∷ sink ∷ []) ran.last q.said r.4.on (says_on (h ∷ []) (sink ∷ []) message q.said q.says)) (did_then ran.last q.said parts.0 q.at t parts.2 q.told) silent (bytes_eq names.output (codes "-")) p.1 made apart_calls.2;
+              (on_append (h ∷ []) (ERRORS ∷ sink ∷ []) ran.last q.said r.4.on (says_on (h ∷ []) (sink ∷ []) message q.said q.says)) (did_then ran.last q.said parts.0 q.at t parts.2 q.told) silent (bytes_eq names.output (codes "-")) p.1 [] [] parts.0 made apart_calls.2 tt refl;
           part = wrote.part;
           done = wrote.done;
           stops = wrote.stops;

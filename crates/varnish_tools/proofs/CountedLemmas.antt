@@ -9,7 +9,7 @@ use Rattle.vio.specs.declared.fault.NamedFault.{NamedFault}
 use Rattle.vio.specs.declared.fault.NamedFault.TheVariants as named
 use Rattle.vio.specs.World.{Seen, CallKind, HasStreams, NoCountFalls, Opening, Creating, Reading, Writing}
 use Rattle.vio.specs.Touches.{IsOneOf}
-use Rattle.vio.specs.Calls.{Call, Did, Open, Refuse, Take, Write}
+use Rattle.vio.specs.Calls.{Call, Create, Did, Open, Refuse, Take, Write}
 use Rattle.vio.specs.Calls as calling
 use Rattle.vio.specs.Named.{IsRefusedBy}
 use Rattle.vio.specs.Steps.{Passed, Stopped}
@@ -38,16 +38,17 @@ use Rattle.one_run.specs.declared.pass.RunEnd.TheVariants as ends
 use Rattle.one_run.specs.Run.{Ran}
 use Rattle.run_sources.specs.declared.file_items.FileStop.{FileStop}
 use Rattle.run_sources.specs.declared.file_items.FileStop.TheVariants as stops
-use Rattle.text_printer.specs.declared.output.TextEnding.{TextEnding}
-use Rattle.text_printer.specs.declared.output.TextEnding.TheVariants as endings
-use Rattle.text_printer.specs.Ends.{Due, TextEnded, TextWritten}
+use Rattle.fan_output.specs.declared.ending.TextEnding.{TextEnding}
+use Rattle.fan_output.specs.declared.ending.TextEnding.TheVariants as endings
+use Rattle.fan_output.specs.Ends.{Due, TextEnded, TextWritten}
 use Rattle.ring_layout.specs.declared.item.Item.{Item}
 use Rattle.run_sources.specs.Sources.{FileCame}
 use Rattle.unit_output.specs.Units.{units_due}
 use Rattle.job_steps.specs.declared.fault.ToolFault.{ToolFault}
-use Rattle.job_steps.specs.declared.fault.ToolFault.TheVariants.{BadFormat, NoOpen, ReadFault, WriteFault, NotALog, Damaged, TooLarge}
+use Rattle.job_steps.specs.declared.fault.ToolFault.TheVariants.{BadFormat, NoOpen, ReadFault, WriteFault, NotALog, Damaged, TooLarge, OldLog}
+use Rattle.job_steps.specs.Appends.{AppendStops, LookStops}
 use Rattle.job_steps.specs.Jobs.{file_of, is_counting, text_fault}
-use Rattle.job_steps.specs.Steps.{Step, RefuseWords, TakeRules, TakeQuery, TakeFormat, OpenLog, ReadFeed, MakeSink, Found, FoundLog, FoundSink, IsRuleAnswer, Passes, Stops, feed_answer, feed_steps, listings_of, logs_of, most_query_bytes, named_answer, names_steps, steps_of}
+use Rattle.job_steps.specs.Steps.{Step, RefuseWords, TakeRules, TakeQuery, TakeFormat, OpenLog, ReadFeed, MakeSink, AppendLog, Found, FoundLog, FoundSink, IsRuleAnswer, Passes, Stops, feed_answer, feed_steps, listings_of, logs_of, most_query_bytes, named_answer, names_steps, steps_of}
 use Rattle.job_runs.specs.declared.record.RunRecord.{RunRecord}
 use Rattle.job_runs.specs.declared.record.RunRecord.TheVariants.{Nothing}
 use Rattle.job_runs.specs.Counters.{PrintsCounters, WritesText}
@@ -118,6 +119,21 @@ format_counted tools.Ncsa text fault s t is = bad_counted _ fault s t is
 format_counted tools.Top text fault s t is = absurd cc
 format_counted tools.Stat text fault s t is = absurd cc
 
+-- a log file that was looked at
+look_counted : (name : List ℕ) (h : ℕ) (fault : ToolFault) (calls looked : List Call) (s t : Seen) → calls ≡ Create true name h false ∷ looked → LookStops name fault looked → Did calls s t → IsCounted fault s t
+look_counted name h fault calls looked s t are (inl p) did =
+    let all = are ∙ ap (λ (cs : List Call). Create true name h false ∷ cs) p.0 in
+    counted_as fault (NoOpen name) s t p.1 (inl (did_fail Opening name (Refuse Opening name) (Create true name h false ∷ Refuse Opening name ∷ []) s t (inr (inl refl)) (refl, refl) (subst (λ (cs : List Call). Did cs s t) all did)))
+look_counted name h fault calls looked s t are (inr (inl p)) did =
+    let all = are ∙ ap (λ (cs : List Call). Create true name h false ∷ cs) p.2 in
+    counted_as fault (ReadFault name) s t p.3 (did_fail Reading name (Take p.0 p.1 (calling.Failed name)) (Create true name h false ∷ Open name p.0 ∷ Take p.0 p.1 (calling.Failed name) ∷ []) s t (inr (inr (inl refl))) (refl, refl)
+    (subst (λ (cs : List Call). Did cs s t) all did))
+look_counted name h fault calls looked s t are (inr (inr p)) did = counted_as fault (OldLog name) s t p.3 tt
+
+append_counted : (name : List ℕ) (fault : ToolFault) (calls : List Call) (s t : Seen) → AppendStops name fault calls → Did calls s t → IsCounted fault s t
+append_counted name fault calls s t (file, inl p) did = counted_as fault (NoOpen name) s t p.1 (inr (refuse_counted Creating name calls s t p.0 did))
+append_counted name fault calls s t (file, inr p) did = look_counted name p.0 fault calls p.1 s t p.2 p.3 did
+
 -- a step that stopped
 stops_counted : (step : Step) (fault : ToolFault) (calls : List Call) (s t : Seen) → Stops step fault calls → Did calls s t → IsCounted fault s t
 stops_counted (RefuseWords why) fault calls s t p did = counted_as fault _ s t p.1 tt
@@ -128,6 +144,7 @@ stops_counted (TakeFormat tool text) fault calls s t p did = format_counted tool
 stops_counted (OpenLog name) fault calls s t p did = counted_as fault (NoOpen name) s t p.2 (inl (refuse_counted Opening name calls s t p.1 did))
 stops_counted (ReadFeed reclen seg feed) fault calls s t p did = counted_as fault _ s t p.2 (feed_counted feed p.0 calls s t p.1 did)
 stops_counted (MakeSink append name) fault calls s t p did = counted_as fault (NoOpen name) s t p.2 (inr (refuse_counted Creating name calls s t p.1 did))
+stops_counted (AppendLog name) fault calls s t p did = append_counted name fault calls s t p did
 
 -- ---- the handle of a log
 
@@ -161,7 +178,7 @@ log_named false true job found calls h s t groups is streams passed did one =
     let same : h ≡ log.2.0 = only_one h log.2.0 (subst (λ (hs : List ℕ). IsOneOf h hs) so.logs_are one) in
     let input = named_later INPUT (codes "-") g.first s g.mid g.did (record { given = streams.input_given; named = streams.input }) in
     let opened = opened_named (bytes_eq (file_of job) (codes "-")) (file_of job) log.2.0 g.own g.mid g.at refl log.2.2 input g.did_own in
-    subst (λ (i : ℕ). IsNamed i (file_of job) t) (sym same) (named_later log.2.0 (file_of job) g.made g.at t g.did_made opened)
+    subst (λ (i : ℕ). IsNamed i (file_of job) t) (sym same) (named_later log.2.0 (file_of job) g.last g.at t g.did_last opened)
 log_named false false job found calls h s t groups is streams passed did one =
     let g = group_parts job found calls s t groups passed did in
     let fed = feeds_found job.reclen job.seg _ g.inputs g.own (subst (λ (b : Bool). Passed Passes Stops (if b then OpenLog (file_of job) ∷ [] else feed_steps job) g.inputs g.own) is g.passed_own) in

@@ -9,10 +9,11 @@ use Rattle.vio.specs.declared.world.TheConstants.{INPUT, OUTPUT}
 use Rattle.vio.specs.Touches.{IsOneOf}
 use Rattle.vio.specs.Calls.{Call, Open, Create, opened_in, created_in}
 use Rattle.vio.specs.Steps.{Passed}
+use Rattle.vio.specs.Streams.{IsMadeBy}
 use Rattle.vio.proofs.CallLemmas.{handles_opened, handles_created}
 use Rattle.vio.proofs.TouchLemmas.{one_of_left, one_of_right, one_of_either}
 use Rattle.traffic_feed.specs.declared.listing.Listing.{Listing}
-use Rattle.job_steps.specs.Steps.{Step, RefuseWords, TakeRules, TakeQuery, TakeFormat, OpenLog, ReadFeed, MakeSink, Found, FoundNone, FoundText, FoundLog, FoundListing, FoundSink, Passes, Stops, text_in, listing_in, log_in, sink_in, texts_of, listings_of, logs_of, sinks_of, reads, writes, reads_of, writes_of}
+use Rattle.job_steps.specs.Steps.{Step, RefuseWords, TakeRules, TakeQuery, TakeFormat, OpenLog, ReadFeed, MakeSink, AppendLog, Found, FoundNone, FoundText, FoundLog, FoundListing, FoundSink, Passes, Stops, text_in, listing_in, log_in, sink_in, texts_of, listings_of, logs_of, sinks_of, reads, writes, reads_of, stream_named, writes_of}
 
 -- one of the first of two lists, or of the second, is one of both
 pub one_of_both : (h : ℕ) (xs ys : List ℕ) → IsOneOf h xs ⊎ IsOneOf h ys → IsOneOf h (xs ++ ys)
@@ -55,6 +56,12 @@ made_sink : (b append : Bool) (name : List ℕ) (k h : ℕ) (empty : Bool) (call
 made_sink true append name k h empty calls p is = inr (subst (λ (i : ℕ). IsOneOf h (i ∷ [])) p.0 is)
 made_sink false append name k h empty calls p is = inl (rw p is)
 
+appended_sink : (name : List ℕ) (k h : ℕ) (empty : Bool) (calls made looked : List Call) → calls ≡ made ++ looked → IsMadeBy true name k empty made → IsOneOf h (k ∷ []) → IsOneOf h (handles_created calls) ⊎ IsOneOf h (stream_named OUTPUT name)
+appended_sink name k h empty calls made looked are is_made is = elim (made_sink (bytes_eq name (codes "-")) true name k h empty made is_made is) [
+  | inl new ↦ inl (subst (λ (cs : List Call). IsOneOf h (handles_created cs)) (sym are) (subst (λ (hs : List ℕ). IsOneOf h hs) (sym (flat_map-append created_in made looked)) (one_of_left h (handles_created made) (handles_created looked) new)))
+  | inr stream ↦ inr stream
+]
+
 finds_handle : (step : Step) (u : Found) (calls : List Call) (h : ℕ) → Passes step u calls → FindsHandle step u calls h
 finds_handle (RefuseWords why) u calls h p = absurd p
 finds_handle (TakeRules caseless texts) u calls h p = rw p.0 (record { log = λ is. absurd is; sink = λ is. absurd is })
@@ -63,6 +70,7 @@ finds_handle (TakeFormat tool text) u calls h p = rw p.0 (record { log = λ is. 
 finds_handle (OpenLog name) u calls h p = rw p.1 (record { log = λ is. opened_log (bytes_eq name (codes "-")) name p.0 h calls p.2 is; sink = λ is. absurd is })
 finds_handle (ReadFeed reclen seg feed) u calls h p = rw p.1 (record { log = λ is. absurd is; sink = λ is. absurd is })
 finds_handle (MakeSink append name) u calls h p = rw p.2 (record { log = λ is. absurd is; sink = λ is. made_sink (bytes_eq name (codes "-")) append name p.0 h p.1 calls p.3 is })
+finds_handle (AppendLog name) u calls h p = let q = p.3 in rw p.2 (record { log = λ is. absurd is; sink = λ is. appended_sink name p.0 h p.1 calls q.0 q.1 q.2 q.3 is })
 
 -- the handle of a log that was found is that of a file that the steps opened, or standard input
 pub found_log : (steps : List Step) (found : List Found) (calls : List Call) (h : ℕ) → Passed Passes Stops steps found calls → IsOneOf h (logs_of found) → IsOneOf h (handles_opened calls) ⊎ IsOneOf h (reads_of steps)

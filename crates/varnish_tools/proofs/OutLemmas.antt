@@ -1,12 +1,14 @@
 -- What a job writes: it is made behind calls that keep the files, and isn't standard error.
 use Rattle.std.specs.Bool.{MatchBool}
-use Rattle.std.proofs.Common.{◌≡◌, ◌≢◌, ℕ, ◌<◌, Bool, true, false, if◌then◌else◌, List, [], ◌∷◌, ◌++◌, Option, option_map, Some, None, refl, sym, ap, subst, ◌∙◌, arith}
+use Rattle.std.proofs.Common.{◌≡◌, ◌≢◌, ℕ, ◌<◌, ◌==◌, Bool, true, false, List, [], ◌∷◌, ◌++◌, length, Some, refl, sym, ap, subst, ◌∙◌, arith}
 use Rattle.vio.specs.declared.world.TheConstants.{ERRORS, OUTPUT}
 use Rattle.vio.specs.World.{FileCreated, Seen, Writing, begins_with}
 use Rattle.vio.specs.Touches.{Touches}
-use Rattle.vio.specs.Calls.{AreOn, Call, Create, Did, written_by}
+use Rattle.vio.specs.Calls.{AreOn, AreWithin, Call, Create, Did, written_by}
 use Rattle.vio.proofs.CallLaws.{did_given, did_hold}
 use Rattle.vio.proofs.CallLemmas.{on_names}
+use Rattle.vio.proofs.TouchLemmas.{did_touch}
+use Rattle.job_steps.proofs.GoodLemmas.{begins_kept}
 use Rattle.varnish_tools.specs.Told.{IsFileSink}
 
 -- the handle of what is written isn't that of standard error
@@ -14,26 +16,37 @@ pub sink_apart : (b append : Bool) (name : List ℕ) (h : ℕ) (empty : Bool) (c
 sink_apart true append name h empty calls s t made did e = let no : OUTPUT ≡ ERRORS = sym made.0 ∙ e in cc
 sink_apart false append name h empty calls s t made did e = let no : 2 < 2 = subst (λ (i : ℕ). 2 < i) e (subst (λ (cs : List Call). Did cs s t) made did).1.no_stream in omega (arith, no)
 
--- what a file has when writing to it begins is what it had before calls that keep it
-begins_still : (lacks append : Bool) (held kept : Option (List ℕ)) (first : List ℕ) → ((bytes : List ℕ) → held ≡ Some bytes → kept ≡ Some bytes) → (if lacks then Some [] else (if append then held else option_map (λ bytes. []) held)) ≡ Some first
-    → (if lacks then Some [] else (if append then kept else option_map (λ bytes. []) kept)) ≡ Some first
-begins_still true append held kept first keeps p = p
-begins_still false true held kept first keeps p = keeps first p
-begins_still false false (Some x) kept first keeps p = ap (λ (o : Option (List ℕ)). option_map (λ bytes. []) o) (keeps x refl) ∙ p
-begins_still false false None kept first keeps p = absurd cc
-
-begins_kept : (append : Bool) (name first : List ℕ) (s t : Seen) → t.lacks name ≡ s.lacks name → ((bytes : List ℕ) → s.held name ≡ Some bytes → t.held name ≡ Some bytes) → begins_with append name s ≡ Some first → begins_with append name t ≡ Some first
-begins_kept append name first s t lacks keeps p =
-    subst (λ (l : Bool). (if l then Some [] else (if append then t.held name else option_map (λ bytes. []) (t.held name))) ≡ Some first) (sym lacks) (begins_still (s.lacks name) append (s.held name) (t.held name) first keeps p)
-
 fresh_before : (b c : Bool) → (b ≡ true → c ≡ true) → c ≡ false → b ≡ false
 fresh_before true c stays none = let given = stays refl in cc
 fresh_before false c stays none = refl
 
+-- a file was created, and is so behind calls that only open files and read them
+record IsMade (append : Bool) (name : List ℕ) (h : ℕ) (empty : Bool) (before now : Seen) : Type 0 where
+  fresh : before.given h ≡ false
+  given : now.given h ≡ true
+  no_stream : 2 < h
+  is_named : now.names Writing h name ≡ true
+  emptied : append ≡ false → empty ≡ true
+  is_empty : (first : List ℕ) → begins_with append name before ≡ Some first → empty ≡ (length first == 0)
+  held : (first : List ℕ) → begins_with append name before ≡ Some first → now.held name ≡ Some first
+
+made_still : (append : Bool) (name : List ℕ) (h : ℕ) (empty : Bool) (opened : List (List ℕ)) (looked : List Call) (s t u : Seen) → FileCreated append name h empty s t → AreWithin [] [] opened [] looked → Did looked t u → IsMade append name h empty s u
+made_still append name h empty opened looked s t u made opens did =
+    let touches = did_touch [] [] opened [] looked t u opens did in
+    record {
+      fresh = made.fresh;
+      given = touches.given h made.given;
+      no_stream = made.no_stream;
+      is_named = touches.names Writing h name made.given ∙ made.is_named;
+      emptied = made.emptied;
+      is_empty = made.is_empty;
+      held = λ first told. touches.held name first (made.held first told) (λ none. none) (λ k none. absurd none);
+    }
+
 -- what was made behind calls that keep the files, and what was written to it behind that
 module _ (append : Bool) (name : List ℕ) (h : ℕ) (empty : Bool) (reads : List ℕ) (text : List ℕ) (calls : List Call) (r s t now : Seen) (touches : Touches [] [] [] r s) (errors : t.names Writing ERRORS name ≡ r.names Writing ERRORS name)
     (on : AreOn reads (ERRORS ∷ h ∷ []) calls) (did : Did calls t now) (are : written_by h calls ≡ text) where
-  file_sink : FileCreated append name h empty s t → IsFileSink append name h empty text r now
+  file_sink : IsMade append name h empty s t → IsFileSink append name h empty text r now
   file_sink made =
       let kept : (first : List ℕ) → begins_with append name r ≡ Some first → begins_with append name s ≡ Some first =
       λ first. begins_kept append name first r s (touches.lacks name (λ none. none)) (λ bytes told. touches.held name bytes told (λ none. none) (λ k none. absurd none)) in
@@ -46,7 +59,9 @@ module _ (append : Bool) (name : List ℕ) (h : ℕ) (empty : Bool) (reads : Lis
         holds = λ first told apart. did_hold reads h name calls t now on made.no_stream made.is_named (errors ∙ apart) did first (made.held first (kept first told)) ∙ ap (λ (xs : List ℕ). Some (first ++ xs)) are;
       }
 
-  pub out_by : (b : Bool) (own : List Call) → MatchBool b ((h ≡ OUTPUT) × (empty ≡ true) × (own ≡ [])) (own ≡ Create append name h empty ∷ []) → Did own s t → MatchBool b ((h ≡ OUTPUT) × (empty ≡ true)) (IsFileSink append name h empty text r now)
-  out_by true own made does = (made.0, made.1)
-  out_by false own made does =
-      let one = subst (λ (cs : List Call). Did cs s t) made does in file_sink (subst (λ (u : Seen). FileCreated append name h empty s u) (sym one.2) one.1)
+  pub out_by : (b : Bool) (own looked : List Call) (opened : List (List ℕ)) (mid : Seen) → MatchBool b ((h ≡ OUTPUT) × (empty ≡ true) × (own ≡ [])) (own ≡ Create append name h empty ∷ []) → Did own s mid → AreWithin [] [] opened [] looked → Did looked mid t
+      → MatchBool b ((h ≡ OUTPUT) × (empty ≡ true)) (IsFileSink append name h empty text r now)
+  out_by true own looked opened mid made does opens looks = (made.0, made.1)
+  out_by false own looked opened mid made does opens looks =
+      let one = subst (λ (cs : List Call). Did cs s mid) made does in
+      file_sink (made_still append name h empty opened looked s mid t (subst (λ (u : Seen). FileCreated append name h empty s u) (sym one.2) one.1) opens looks)

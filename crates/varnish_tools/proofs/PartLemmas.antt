@@ -1,10 +1,11 @@
 -- The steps of a job that passed, by parts, and what each part found.
-use Rattle.std.proofs.Common.{◌≡◌, ℕ, ◌+◌, Bool, true, false, if◌then◌else◌, List, [], ◌∷◌, ◌++◌, map, Some, Ok, refl, sym, ap, subst, ◌∙◌, append_assoc, codes}
+use Rattle.std.specs.Bool.{MatchBool}
+use Rattle.std.proofs.Common.{◌≡◌, ℕ, ◌+◌, ◌&&◌, Bool, true, false, if◌then◌else◌, List, [], ◌∷◌, ◌++◌, map, Some, Ok, refl, sym, ap, subst, ◌∙◌, append_assoc, inl, codes}
 use Rattle.std.proofs.lemmas.List.{append-nil}
 use Rattle.vio.specs.declared.world.TheConstants.{OUTPUT}
 use Rattle.vio.specs.World.{Seen}
 use Rattle.vio.specs.Touches.{Touches}
-use Rattle.vio.specs.Calls.{Call, Did}
+use Rattle.vio.specs.Calls.{AreWithin, Call, Did}
 use Rattle.vio.specs.Steps.{Passed}
 use Rattle.vio.specs.Streams.{IsMadeBy}
 use Rattle.vio.proofs.CallLaws.{did_keep}
@@ -16,8 +17,10 @@ use Rattle.feed_files.specs.Feeds.{Feed, FeedPasses, FeedStops, feeds_from}
 use Rattle.tool_words.specs.declared.command.Command.TheVariants.{ForTool}
 use Rattle.tool_words.specs.declared.job.Job.{Job}
 use Rattle.tool_words.specs.declared.job.QueryText.{QueryText}
-use Rattle.job_steps.specs.Jobs.{format_text, is_counting, write_of}
-use Rattle.job_steps.specs.Steps.{Step, TakeQuery, TakeFormat, ReadFeed, MakeSink, Found, FoundNone, FoundText, FoundListing, FoundSink, Passes, Stops, counter_steps, feed_steps, group_steps, input_steps, logs_of, opens_of, queries_from, steps_of, word_steps}
+use Rattle.vsl_file.specs.File.{file_header}
+use Rattle.job_steps.specs.Appends.{IsStartBy}
+use Rattle.job_steps.specs.Jobs.{appends_log, format_text, is_counting, write_of, writes_log}
+use Rattle.job_steps.specs.Steps.{Step, TakeQuery, TakeFormat, ReadFeed, MakeSink, AppendLog, Found, FoundNone, FoundText, FoundListing, FoundSink, Passes, Stops, counter_steps, feed_steps, group_steps, input_steps, logs_of, opens_of, queries_from, sink_step, steps_of, word_steps}
 use Rattle.job_steps.proofs.BegunLemmas.{read_create}
 use Rattle.job_steps.proofs.GoodLemmas.{text_kept, text_told}
 use Rattle.job_steps.proofs.TookLemmas.{opens_alone}
@@ -111,6 +114,33 @@ early_found job (u ∷ us) calls s t p did =
     let us_are : us ≡ map FoundText q.0 ++ FoundNone ∷ [] = a.found_are ∙ (λ i. q.1 i ++ last i) in
     (q.0, (λ i. p.3.0 i ∷ us_are i), q.2)
 
+-- what a job writes was made under this name, and then perhaps looked at
+pub record MadeParts (append : Bool) (name : List ℕ) (sink : ℕ) (empty : Bool) (s t : Seen) : Type 0 where
+  pub own : List Call
+  pub is_made : IsMadeBy append name sink empty own
+  pub mid : Seen
+  pub did_own : Did own s mid
+  pub looked : List Call
+  pub opens : AreWithin [] [] (name ∷ []) [] looked
+  pub did_looked : Did looked mid t
+
+looked_opens : (empty : Bool) (name : List ℕ) (looked : List Call) → MatchBool empty (looked ≡ []) (IsStartBy name file_header looked) → AreWithin [] [] (name ∷ []) [] looked
+looked_opens true name looked p = rw p tt
+looked_opens false name looked p = rw p.2 (inl refl, (inl refl, tt))
+
+and_later : (a b : Bool) → (a && b) ≡ true → b ≡ true
+and_later true b p = p
+and_later false b p = absurd cc
+
+made_parts : (b : Bool) (job : Job) (u : Found) (calls : List Call) (s t : Seen) → appends_log job ≡ b → Passes (if b then AppendLog (write_of job) else MakeSink job.append (write_of job)) u calls → Did calls s t
+    → (h : ℕ) × (empty : Bool) × (u ≡ FoundSink h empty) × MadeParts job.append (write_of job) h empty s t
+made_parts true job u calls s t appends p did =
+    let q = p.3 in
+    let parts = did_apart q.0 q.1 s t (subst (λ (cs : List Call). Did cs s t) q.2 did) in
+    let is_made = subst (λ (append : Bool). IsMadeBy append (write_of job) p.0 p.1 q.0) (sym (and_later (writes_log job) job.append appends)) q.3 in
+    (p.0, p.1, p.2, record { own = q.0; is_made = is_made; mid = parts.0; did_own = parts.1; looked = q.1; opens = looked_opens p.1 (write_of job) q.1 q.4; did_looked = parts.2 })
+made_parts false job u calls s t appends p did = (p.0, p.1, p.2, record { own = calls; is_made = p.3; mid = t; did_own = did; looked = []; opens = tt; did_looked = refl })
+
 -- they passed, by parts: the texts of its queries, what its input found, and what it writes, with the calls of each
 pub record GroupParts (job : Job) (found : List Found) (s t : Seen) : Type 0 where
   pub texts : List (List ℕ)
@@ -129,28 +159,30 @@ pub record GroupParts (job : Job) (found : List Found) (s t : Seen) : Type 0 whe
   pub passed_own : Passed Passes Stops (input_steps job) inputs own
   pub did_own : Did own mid at
   pub touches : Touches [] [] [] s at
-  pub made : List Call
-  pub is_made : IsMadeBy job.append (write_of job) sink empty made
-  pub did_made : Did made at t
+  pub last : List Call
+  pub passed_last : Passed Passes Stops (sink_step job ∷ []) (FoundSink sink empty ∷ []) last
+  pub did_last : Did last at t
+  pub out : MadeParts job.append (write_of job) sink empty at t
 
 pub group_parts : (job : Job) (found : List Found) (calls : List Call) (s t : Seen) → is_counting job.tool ≡ false → Passed Passes Stops (steps_of (Ok (ForTool job))) found calls → Did calls s t → GroupParts job found s t
 group_parts job found calls s t groups passed did =
     let reading = early job ++ input_steps job in
     let whole : Passed Passes Stops (word_steps job ++ group_steps job) found calls = subst (λ (b : Bool). Passed Passes Stops (word_steps job ++ (if b then counter_steps job else group_steps job)) found calls) groups passed in
-    let a = passed_apart reading (MakeSink job.append (write_of job) ∷ []) found calls whole in
+    let a = passed_apart reading (sink_step job ∷ []) found calls whole in
     let b = passed_apart (early job) (input_steps job) a.found_first a.first a.passed_first in
-    let one = passed_alone (MakeSink job.append (write_of job)) a.found_last a.last a.passed_last in
+    let one = passed_alone (sink_step job) a.found_last a.last a.passed_last in
     let later = did_apart a.first a.last s t (subst (λ (cs : List Call). Did cs s t) a.are did) in
     let parts = did_apart b.first b.last s later.0 (subst (λ (cs : List Call). Did cs s later.0) b.are later.1) in
     let q = early_found job b.found_first b.first s parts.0 b.passed_first parts.1 in
     let read : a.found_first ≡ found_behind (map FoundText q.0 ++ FoundNone ∷ []) ++ b.found_last = b.found_are ∙ ap (λ (us : List Found). us ++ b.found_last) q.1 in
-    let last : a.found_last ≡ FoundSink one.2.0 one.2.1 ∷ [] = one.1 ∙ ap (λ (u : Found). u ∷ []) one.2.2 in
+    let made = made_parts (appends_log job) job one.0 a.last later.0 t refl one.2 later.2 in
+    let last : a.found_last ≡ FoundSink made.0 made.1 ∷ [] = one.1 ∙ ap (λ (u : Found). u ∷ []) made.2 in
     record {
       texts = q.0;
       are_texts = q.2;
       inputs = b.found_last;
-      sink = one.2.0;
-      empty = one.2.1;
+      sink = made.0;
+      empty = made.1;
       are = a.found_are ∙ (λ i. read i ++ last i);
       before = b.found_first;
       first = b.first;
@@ -162,9 +194,10 @@ group_parts job found calls s t groups passed did =
       passed_own = b.passed_last;
       did_own = parts.2;
       touches = did_touch [] [] (opens_of reading) [] a.first s later.0 (opens_alone reading a.found_first a.first (read_create job) a.passed_first).0 later.1;
-      made = a.last;
-      is_made = one.2.3;
-      did_made = later.2;
+      last = a.last;
+      passed_last = subst (λ (us : List Found). Passed Passes Stops (sink_step job ∷ []) us a.last) last a.passed_last;
+      did_last = later.2;
+      out = made.3;
     }
 
 -- ---- the steps of counters

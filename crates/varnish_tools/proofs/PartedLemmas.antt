@@ -5,7 +5,8 @@ use Rattle.txn_rows.specs.declared.group.Group.{Group}
 use Rattle.txn_rows.specs.Grouping.{Taken, TakenUnit, all_taken, groups_of}
 use Rattle.tool_words.specs.declared.job.Job.{Job}
 use Rattle.run_sources.specs.Sources.{unit_items}
-use Rattle.text_printer.specs.Ends.{taken_of, whole}
+use Rattle.fan_output.specs.Ends.{whole}
+use Rattle.text_printer.specs.Taken.{taken_of}
 use Rattle.job_steps.specs.Jobs.{options_of}
 use Rattle.job_steps.specs.Queries.{Ask, chosen}
 use Rattle.tool_consumers.specs.Output.{head_text, output_of}

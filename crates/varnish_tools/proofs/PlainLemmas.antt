@@ -12,7 +12,7 @@ use Rattle.txn_rows.specs.Grouping.{all_taken, groups_of}
 use Rattle.vsl_select.specs.Shown.{shown}
 use Rattle.one_command.specs.Promise.{Says}
 use Rattle.run_sources.specs.Sources.{unit_items}
-use Rattle.text_printer.specs.Ends.{whole}
+use Rattle.fan_output.specs.Ends.{whole}
 use Rattle.tool_words.specs.declared.command.Command.{Command}
 use Rattle.tool_words.specs.declared.command.Command.TheVariants.{ForTool}
 use Rattle.tool_words.specs.declared.fault.UsageFault.{UsageFault}
@@ -21,17 +21,17 @@ use Rattle.tool_words.specs.declared.job.Tool.{Tool}
 use Rattle.tool_words.specs.declared.job.Tool.TheVariants as tools
 use Rattle.tool_words.proofs.CommandLemmas.{asks_tool}
 use Rattle.job_steps.specs.declared.fault.ToolFault.{ToolFault}
-use Rattle.job_steps.specs.Jobs.{file_of, options_of, showing_of}
+use Rattle.job_steps.specs.Jobs.{file_of, options_of, showing_of, writes_log, writes_units}
 use Rattle.job_steps.specs.Queries.{Ask}
 use Rattle.tool_consumers.specs.declared.layout.Layout.TheVariants.{Lines, Units}
-use Rattle.tool_consumers.specs.Output.{head_text, output_of, tool_output, writes_log, writes_units, written}
+use Rattle.tool_consumers.specs.Output.{head_text, output_of, tool_output, written}
 use Rattle.job_runs.specs.Rows.{job_due}
 use Rattle.varnish_tools.specs.declared.outcome.Outcome.{Outcome}
 use Rattle.varnish_tools.specs.Faults.{fault_message, status_of}
 use Rattle.varnish_tools.specs.Theorem.{IsFaithful, NamesLog, Prints, PrintsBy, PrintsPlain, WorksOff, printed_groups}
 use Rattle.varnish_tools.specs.Told.{IsFileSink, IsOut, PrintsLog, TellsInput}
 use Rattle.varnish_tools.proofs.PartedLemmas.{due_is}
-use Rattle.varnish_tools.proofs.ToldLemmas.{TellsWrites, errors_silent, log_printed}
+use Rattle.varnish_tools.proofs.ToldLemmas.{TellsStops, TellsWrites, errors_silent, log_printed}
 
 -- ---- a job without OUT
 
@@ -87,19 +87,20 @@ plain_told words job units s p = record {
   file = (p.most, (p.version, p.file));
 }
 
-module _ (writes_told : TellsWrites) (words : List (List ℕ)) (outcome : Outcome) (s t : Seen) (streams : HasStreams s) (p : IsFaithful words outcome s t) where
+module _ (writes_told : TellsWrites) (stops_told : TellsStops) (words : List (List ℕ)) (outcome : Outcome) (s t : Seen) (streams : HasStreams s) (p : IsFaithful words outcome s t) where
   silent : (job : Job) (units : Log) → NamesLog words job units s → outcome.fault ≡ None → Gains (s.written ERRORS) (t.written ERRORS) []
   silent job units q none =
       let stated = subst (λ (r : Result Command UsageFault). WorksOff (Says (fault_message words outcome.fault)) r outcome.fault outcome.run s t) (asks_tool words job q.states) p.works in
-      errors_silent writes_told job units Whole q.groups (ap (λ (f : Option (List ℕ)). is_some f) q.is_log) outcome.run s t streams (plain_told words job units s q)
+      errors_silent writes_told stops_told job units Whole q.groups (ap (λ (f : Option (List ℕ)). is_some f) q.is_log) outcome.run s t streams (plain_told words job units s q)
       (subst (λ (f : Option ToolFault). WorksOff (Says (fault_message words f)) (Ok (ForTool job)) f outcome.run s t) none stated)
 
   -- what was printed of the log that words name
   pub prints_plain : PrintsPlain words outcome s t
   prints_plain job units q none =
-      elim (log_printed writes_told words outcome job units Whole s t q.states (ap (λ (f : Option (List ℕ)). is_some f) q.is_log) q.groups streams (plain_told words job units s q) p) [
+      elim (log_printed writes_told stops_told words outcome job units Whole s t q.states (ap (λ (f : Option (List ℕ)). is_some f) q.is_log) q.groups streams (plain_told words job units s q) p) [
         | inl stopped ↦ let no : false ≡ true = subst (λ (f : Option ToolFault). is_some f ≡ true) none stopped.0 in absurd cc
-        | inr items ↦
+        | inr log ↦
+            let items = log.prints in
             let text = items.done none ∙ due_plain job items.ask items.empty units q.no_out in
             let out = subst (λ (h : ℕ). Gains (s.written h) (t.written h) items.text) (out_is job items.sink items.empty items.text s t q.no_out items.is_out) items.gains in (
               items.ask,

@@ -67,12 +67,12 @@ run_gains command message fault recorded h s t apart q ran =
     subst (λ (text : List ℕ). Gains (s.written h) (t.written h) text) last gained
 
 -- what such a run wrote of items is what OUT gained
-pub items_printed : (job : Job) (message : List ℕ) (fault : Option ToolFault) (recorded : RunRecord) (s t : Seen) (every : List Item) (ended : Bool) (logs : List ℕ) (listings : List Listing) → HasStreams s → (q : WorksOff (Says message) (Ok (ForTool job)) fault recorded s t)
+unfoldable pub items_printed : (job : Job) (message : List ℕ) (fault : Option ToolFault) (recorded : RunRecord) (s t : Seen) (every : List Item) (ended : Bool) (logs : List ℕ) (listings : List Listing) → HasStreams s → (q : WorksOff (Says message) (Ok (ForTool job)) fault recorded s t)
     → (ran : RanOn Passes Stops (StatedRan (Ok (ForTool job))) alone_of Nothing (steps_of (Ok (ForTool job))) q.at fault recorded q.work) → (mid : Seen) → Did ran.first s mid → Did ran.last mid q.at → (out : GroupParts job ran.found s mid) → FoundSo ran.found out.texts logs listings out.sink out.empty
     → (g : RanOver job ran.found logs listings out.sink out.empty q.at fault recorded ran.last) → WritesOf out.sink (job_due job g.ask out.empty) fault every ended ran.last → PrintsItems job fault every ended s t
 items_printed job message fault recorded s t every ended logs listings streams q ran mid did_first did_last out so g wrote =
     let sink = out.sink in
-    let apart = sink_apart (bytes_eq (write_of job) (codes "-")) job.append (write_of job) sink out.empty out.made out.at mid out.is_made out.did_made in
+    let apart = sink_apart (bytes_eq (write_of job) (codes "-")) job.append (write_of job) sink out.empty out.out.own out.at out.out.mid out.out.is_made out.out.did_own in
     let within = passed_within (steps_of (Ok (ForTool job))) ran.found ran.first ran.passed in
     let touches = did_touch [] [] (opens_of (steps_of (Ok (ForTool job)))) (creates_of (steps_of (Ok (ForTool job)))) ran.first s mid within.within did_first in
     let silent : written_by sink (ran.last ++ q.said) ≡ written_by sink ran.last = written_append sink ran.last q.said ∙ ap (λ (xs : List ℕ). written_by sink ran.last ++ xs) (said_other sink message q.said apart q.says) ∙ append-nil (written_by sink ran.last) in
@@ -85,8 +85,9 @@ items_printed job message fault recorded s t every ended logs listings streams q
       asked = subst (λ (texts : List (List ℕ)). AreAsked job.caseless None texts g.ask) so.texts_are g.asked.asked;
       text = written_by sink ran.last;
       is_out = out_by job.append (write_of job) sink out.empty logs (written_by sink ran.last) (ran.last ++ q.said) s out.at mid t out.touches (touches.names Writing ERRORS (write_of job) streams.error_given)
-          (on_append logs (ERRORS ∷ sink ∷ []) ran.last q.said g.over.on (says_on logs (sink ∷ []) message q.said q.says)) (did_then ran.last q.said mid q.at t did_last q.told) silent (bytes_eq (write_of job) (codes "-")) out.made out.is_made out.did_made;
+          (on_append logs (ERRORS ∷ sink ∷ []) ran.last q.said g.over.on (says_on logs (sink ∷ []) message q.said q.says)) (did_then ran.last q.said mid q.at t did_last q.told) silent (bytes_eq (write_of job) (codes "-")) out.out.own out.out.looked (write_of job ∷ []) out.out.mid out.out.is_made out.out.did_own out.out.opens out.out.did_looked;
       part = wrote.part;
       done = wrote.done;
+      ends = wrote.ends;
       gains = run_gains (ForTool job) message fault recorded sink s t apart q ran;
     }

@@ -11,7 +11,7 @@ use Rattle.vio.specs.Calls.{AreWithin, Call, Create, Did, Does, Failed, FailedEa
 use Rattle.vio.proofs.CallLemmas.{did_counts}
 use Rattle.vio.proofs.TouchLemmas.{one_of_either, only_one, touch_own}
 use Rattle.tool_words.specs.Command.{command_of}
-use Rattle.job_steps.specs.Steps.{Step, OpenLog, MakeSink, creates_of, opens_of, reads, reads_of, writes, writes_of}
+use Rattle.job_steps.specs.Steps.{Step, OpenLog, MakeSink, AppendLog, creates_of, opens_of, reads, reads_of, writes, writes_of}
 use Rattle.varnish_tools.specs.declared.outcome.Outcome.{Outcome}
 use Rattle.varnish_tools.specs.Theorem.{IsFaithful, asked_of}
 use Rattle.varnish_tools.proofs.TouchLemmas.{works_touch}
@@ -83,6 +83,7 @@ reads_input step h is = absurd is
 
 writes_output : (step : Step) (h : ℕ) → IsOneOf h (writes step) → h ≡ OUTPUT
 writes_output (MakeSink append name) h is = stream_is (bytes_eq name (codes "-")) OUTPUT h is
+writes_output (AppendLog name) h is = stream_is (bytes_eq name (codes "-")) OUTPUT h is
 writes_output step h is = absurd is
 
 -- the streams that steps name, and standard error, have names

@@ -11,15 +11,16 @@ use Rattle.vio.specs.Calls.{Call, Did, Open, Went, SomeFailed, none_failed, writ
 use Rattle.vio.specs.Steps.{Passed, Stopped}
 use Rattle.vio.proofs.CallLaws.{did_gain, did_keep}
 use Rattle.vio.proofs.CallLemmas.{did_apart, did_then, none_or_some, on_append, some_behind, written_append, written_here}
-use Rattle.vio.proofs.StepLemmas.{passed_one}
 use Rattle.vio.proofs.TouchLemmas.{did_touch, only_one}
 use Rattle.vsl_record.specs.Unit.{Log}
 use Rattle.vsl_file.specs.File.{FileEnding, IsFile, Whole, is_whole}
 use Rattle.one_command.specs.Promise.{Says, Works}
 use Rattle.one_command.proofs.PromiseLemmas.{promised_gain, said_other}
 use Rattle.run_sources.specs.Sources.{FileCame, FileStopped, unit_items}
-use Rattle.run_sources.specs.Told.{TellsLog}
-use Rattle.text_printer.specs.Messages.{messages_of}
+use Rattle.run_sources.specs.declared.file_items.FileStop.{FileStop}
+use Rattle.run_sources.specs.Told.{TellsLog, named_ending}
+use Rattle.fan_output.specs.Ends.{whole}
+use Rattle.fan_output.specs.Messages.{messages_of}
 use Rattle.tool_words.specs.declared.command.Command.{Command}
 use Rattle.tool_words.specs.declared.command.Command.TheVariants.{ForTool}
 use Rattle.tool_words.specs.declared.fault.UsageFault.{UsageFault}
@@ -28,9 +29,9 @@ use Rattle.tool_words.specs.Job.{job_of}
 use Rattle.tool_words.proofs.CommandLemmas.{asks_tool}
 use Rattle.job_steps.specs.declared.fault.ToolFault.{ToolFault}
 use Rattle.job_steps.specs.Good.{AreGoodSteps}
-use Rattle.job_steps.specs.Jobs.{file_of, is_counting, write_of}
+use Rattle.job_steps.specs.Jobs.{file_of, is_counting}
 use Rattle.job_steps.specs.Queries.{Ask, AreAsked}
-use Rattle.job_steps.specs.Steps.{Step, OpenLog, MakeSink, Found, FoundSink, Passes, Stops, creates_of, feed_steps, listings_of, logs_of, opens_of, steps_of}
+use Rattle.job_steps.specs.Steps.{Step, OpenLog, Found, FoundSink, Passes, Stops, creates_of, feed_steps, listings_of, logs_of, opens_of, sink_step, steps_of}
 use Rattle.job_steps.proofs.BegunLemmas.{formatted_create}
 use Rattle.job_steps.proofs.StepFacts.{passed_within}
 use Rattle.job_steps.proofs.TookLemmas.{opens_alone}
@@ -39,7 +40,7 @@ use Rattle.job_runs.specs.declared.record.RunRecord.TheVariants.{Nothing}
 use Rattle.job_runs.specs.Good.{HasCause, StoppedByLog}
 use Rattle.job_runs.specs.Sources.{CameOf, RecordsCount, RecordsOf, StopsOf}
 use Rattle.job_runs.specs.Counters.{PrintsCounters}
-use Rattle.job_runs.specs.Rows.{JobRan, PrintsGroups, RanFor, end_answer, job_due}
+use Rattle.job_runs.specs.Rows.{JobRan, PrintsGroups, RanFor, end_answer, job_due, stop_answer}
 use Rattle.job_runs.specs.Told.{WritesOf}
 use Rattle.varnish_tools.specs.declared.outcome.Outcome.{Outcome}
 use Rattle.varnish_tools.specs.Faults.{fault_message}
@@ -84,12 +85,11 @@ log_found job units ending found calls s t groups file streams tells passed did 
     let opens = opens_alone (early job) g.before g.first (formatted_create job) g.passed in
     let opened = opened_told (bytes_eq (file_of job) (codes "-")) (file_of job) tells.bytes one.2.0 units ending g.own s g.mid g.at tells.told one.2.2 tells.file streams
     (kept_told (early job) g.before g.first INPUT units ending s g.mid g.passed g.did) (did_keep (opens_of (early job)) g.first s g.mid (file_of job) tells.bytes opens g.did) g.did_own in
-    let made = passed_one Passes Stops (MakeSink job.append (write_of job)) (FoundSink g.sink g.empty) g.made (g.sink, g.empty, refl, g.is_made) in
     record {
       parts = g;
       h = one.2.0;
       so = found_file g.texts g.inputs found one.2.0 g.sink g.empty g.are (one.1 ∙ ap (λ (u : Found). u ∷ []) one.2.1);
-      tells = kept_told (MakeSink job.append (write_of job) ∷ []) (FoundSink g.sink g.empty ∷ []) g.made one.2.0 units ending g.at t made g.did_made opened;
+      tells = kept_told (sink_step job ∷ []) (FoundSink g.sink g.empty ∷ []) g.last one.2.0 units ending g.at t g.passed_last g.did_last opened;
     }
 
 -- ---- what a run over a told log comes to
@@ -115,8 +115,15 @@ abbrev pub TellsWrites : Type 0
 TellsWrites = (job : Job) (ask : Ask) (h : ℕ) (others : List ℕ) (sink : ℕ) (empty : Bool) (units : Log) (ending : FileEnding) (fault : Option ToolFault) (recorded : RunRecord) (calls : List Call) (before now : Seen) → TellsLog h units ending before → Did calls before now
     → RanFor (h ∷ others) (FileCame h) (λ why cs met. FileStopped h why cs met now) (RecordsCount recorded) sink (job_due job ask empty) (end_answer job) fault calls → WritesOf sink (job_due job ask empty) fault (unit_items units) (is_whole ending) calls
 
-module _ (writes_told : TellsWrites) (job : Job) (units : Log) (ending : FileEnding) (groups : is_counting job.tool ≡ false) (file : is_some job.file ≡ true) where
+-- and that where it was stopped in a way that names an ending, the file ends so, and all of that was written
+abbrev pub TellsStops : Type 0
+TellsStops = (job : Job) (ask : Ask) (h : ℕ) (others : List ℕ) (sink : ℕ) (empty : Bool) (units : Log) (ending : FileEnding) (fault : Option ToolFault) (recorded : RunRecord) (calls : List Call) (before now : Seen) (why : FileStop) (named : FileEnding) → TellsLog h units ending before → Did calls before now
+    → RanFor (h ∷ others) (FileCame h) (λ why cs met. FileStopped h why cs met now) (RecordsCount recorded) sink (job_due job ask empty) (end_answer job) fault calls → fault ≡ Some (stop_answer (file_of job) why) → named_ending why ≡ Some named
+    → (ending ≡ named) × (written_by sink calls ≡ whole (job_due job ask empty) (unit_items units) (is_whole ending))
+
+module _ (writes_told : TellsWrites) (stops_told : TellsStops) (job : Job) (units : Log) (ending : FileEnding) (groups : is_counting job.tool ≡ false) (file : is_some job.file ≡ true) where
   work_prints : (message : List ℕ) (fault : Option ToolFault) (recorded : RunRecord) (s t : Seen) → HasStreams s → TellsInput job units ending s → WorksOff (Says message) (Ok (ForTool job)) fault recorded s t → WasStopped fault recorded ⊎ PrintsLog job fault units ending s t
+  unfolding items_printed
   work_prints message fault recorded s t streams tells q = elim q.works [
     | inl early ↦ inl (ap (λ (o : Option ToolFault). is_some o) early.is, early.none)
     | inr ran ↦
@@ -124,8 +131,11 @@ module _ (writes_told : TellsWrites) (job : Job) (units : Log) (ending : FileEnd
         let of = log_found job units ending ran.found ran.first s parts.0 groups file streams tells ran.passed parts.1 in
         let out = of.parts in
         let g = ran_over job ran.found out.texts (of.h ∷ []) [] out.sink out.empty q.at fault recorded ran.last groups of.so ran.ran in
-        inr (items_printed job message fault recorded s t (unit_items units) (is_whole ending) (of.h ∷ []) [] streams q ran parts.0 parts.1 parts.2 out of.so g
-        (writes_told job g.ask of.h [] out.sink out.empty units ending fault recorded ran.last parts.0 q.at of.tells parts.2 g.over))
+        inr (record {
+          prints = items_printed job message fault recorded s t (unit_items units) (is_whole ending) (of.h ∷ []) [] streams q ran parts.0 parts.1 parts.2 out of.so g
+              (writes_told job g.ask of.h [] out.sink out.empty units ending fault recorded ran.last parts.0 q.at of.tells parts.2 g.over);
+          stops = λ why named. stops_told job g.ask of.h [] out.sink out.empty units ending fault recorded ran.last parts.0 q.at why named of.tells parts.2 g.over;
+        })
   ]
 
   -- and where there is no message standard error gained nothing, if there is no fault
@@ -146,10 +156,10 @@ module _ (writes_told : TellsWrites) (job : Job) (units : Log) (ending : FileEnd
   ]
 
 -- what was written of a log that was told
-pub log_printed : TellsWrites → (words : List (List ℕ)) (outcome : Outcome) (job : Job) (units : Log) (ending : FileEnding) (before now : Seen) → job_of words ≡ Ok job → is_some job.file ≡ true → is_counting job.tool ≡ false → HasStreams before → TellsInput job units ending before
+pub log_printed : TellsWrites → TellsStops → (words : List (List ℕ)) (outcome : Outcome) (job : Job) (units : Log) (ending : FileEnding) (before now : Seen) → job_of words ≡ Ok job → is_some job.file ≡ true → is_counting job.tool ≡ false → HasStreams before → TellsInput job units ending before
     → IsFaithful words outcome before now → WasStopped outcome.fault outcome.run ⊎ PrintsLog job outcome.fault units ending before now
-log_printed writes_told words outcome job units ending before now states file groups streams tells p =
-    work_prints writes_told job units ending groups file (fault_message words outcome.fault) outcome.fault outcome.run before now streams tells
+log_printed writes_told stops_told words outcome job units ending before now states file groups streams tells p =
+    work_prints writes_told stops_told job units ending groups file (fault_message words outcome.fault) outcome.fault outcome.run before now streams tells
     (subst (λ (stated : Result Command UsageFault). WorksOff (Says (fault_message words outcome.fault)) stated outcome.fault outcome.run before now) (asks_tool words job states) p.works)
 
 -- ---- a fault has a call that failed

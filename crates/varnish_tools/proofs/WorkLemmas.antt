@@ -4,7 +4,7 @@ use Rattle.log_model.specs.declared.fault.Halt.{Halt}
 use Rattle.log_model.specs.declared.fault.Halt.TheVariants.{Fault, NoMemory}
 use Rattle.log_model.specs.Halts.{IfFault}
 use Rattle.vio.specs.World.{Seen}
-use Rattle.vio.specs.Calls.{Call, Called, OnlyOpen, last_failed}
+use Rattle.vio.specs.Calls.{Call, Called, last_failed}
 use Rattle.vio.specs.Steps.{Passed, PassedSo, Halted}
 use Rattle.vio.proofs.CallLemmas.{did_then, last_failed_then}
 use Rattle.vio.proofs.StepLemmas.{passed_then, stopped_one}
@@ -28,7 +28,8 @@ use Rattle.job_steps.specs.Begun.{HasInput, IsBegun, IsCounting, IsOpened, IsSho
 use Rattle.job_steps.specs.Jobs.{is_counting}
 use Rattle.job_steps.specs.Queries.{Ask, AreAsked, HoldsAsAsked}
 use Rattle.job_steps.specs.Steps.{Step, RefuseWords, Found, FoundListing, FoundNone, Passes, Stops, counter_steps, group_steps, job_steps, names_steps, word_steps, opens_of}
-use Rattle.job_steps.proofs.TookLemmas.{called_so}
+use Rattle.job_steps.specs.Took.{EndedBy, LacksSteps}
+use Rattle.job_steps.proofs.TookLemmas.{called_so, ended_by}
 use Rattle.job_runs.specs.declared.record.Ran.{Ran}
 use Rattle.job_runs.specs.declared.record.RunRecord.{RunRecord}
 use Rattle.job_runs.specs.declared.record.RunRecord.TheVariants.{Nothing}
@@ -46,7 +47,7 @@ use Rattle.varnish_tools.proofs.TouchLemmas.{asked_good}
 -- the words ended the work
 pub words_end : (stated : Result Command UsageFault) (halt : Halt ToolFault) (s : Seen) → IfFault {A = Ran} (Err halt) (λ fault. (why : UsageFault) × (stated ≡ Err why) × (fault ≡ Usage why)) → Called (IsWorked stated s (Err halt)) s s
 words_end stated (Fault fault) s p = rw (p.1, p.2) (record { calls = []; did = refl; is = inl (record { by = Usage p.0; is = refl; none = refl; stopped = stopped_one Passes Stops (RefuseWords p.0) (Usage p.0) [] (refl, refl); fail = refl }) })
-words_end stated NoMemory s p = record { calls = []; did = refl; is = inl (tt, omega arith) }
+words_end stated NoMemory s p = record { calls = []; did = refl; is = inl (inl (tt, omega arith)) }
 
 -- what work comes to is said of the words that ask for the command
 pub of_words : (stated : Result Command UsageFault) (command : Command) (r : Result Ran (Halt ToolFault)) (s t : Seen) → stated ≡ Ok command → Called (IsWorked (Ok command) t r) s t → Called (IsWorked stated t r) s t
@@ -57,7 +58,7 @@ of_words stated command r s t asks p = subst (λ (st : Result Command UsageFault
 -- they ended the work
 pub rules_end : (job : Job) (halt : Halt ToolFault) (s : Seen) → Halted Passes Stops [] (word_steps job) halt [] → Called (IsWorked (Ok (ForTool job)) s (Err halt)) s s
 rules_end job (Fault fault) s p = record { calls = []; did = refl; is = early_first Passes Stops (StatedRan (Ok (ForTool job))) alone_of Nothing (word_steps job) (job_steps job) s fault [] p.0 refl }
-rules_end job NoMemory s p = record { calls = []; did = refl; is = inl (tt, omega arith) }
+rules_end job NoMemory s p = record { calls = []; did = refl; is = inl (inl (tt, omega arith)) }
 
 -- they are good
 abbrev pub PassedRules : Job → Showing → Type 0
@@ -71,12 +72,16 @@ module _ (job : Job) (selection : Showing) (rules : PassedRules job selection) w
   asked = asked_good job passed_rules.3.2
 
   -- a step of the job ended the work
-  steps_end : (halt : Halt ToolFault) (s t : Seen) → Called (Halted Passes Stops (opens_of (job_steps job)) (job_steps job) halt) s t → Called (IsWorked (Ok (ForTool job)) t (Err halt)) s t
+  steps_end : (halt : Halt ToolFault) (s t : Seen) → Called (EndedBy (job_steps job) halt) s t → Called (IsWorked (Ok (ForTool job)) t (Err halt)) s t
   steps_end (Fault fault) s t p = called_so (λ calls q. early_behind Passes Stops (StatedRan (Ok (ForTool job))) alone_of Nothing (word_steps job) (job_steps job) t fault (FoundNone ∷ []) [] calls passed_rules q.0 q.1) p
-  steps_end NoMemory s t p = called_so (λ calls q. inl (subst (λ (steps : List Step). OnlyOpen (opens_of steps) calls) (sym asked) q)) p
+  steps_end NoMemory s t p = called_so (λ calls q. inl (subst (λ (steps : List Step). LacksSteps steps calls) (sym asked) q)) p
 
-  pub job_end : (steps : List Step) (halt : Halt ToolFault) (s t : Seen) → steps ≡ job_steps job → Called (Halted Passes Stops (opens_of steps) steps halt) s t → Called (IsWorked (Ok (ForTool job)) t (Err halt)) s t
-  job_end steps halt s t are p = steps_end halt s t (subst (λ (xs : List Step). Called (Halted Passes Stops (opens_of xs) xs halt) s t) are p)
+  pub job_end : (steps : List Step) (halt : Halt ToolFault) (s t : Seen) → steps ≡ job_steps job → Called (EndedBy steps halt) s t → Called (IsWorked (Ok (ForTool job)) t (Err halt)) s t
+  job_end steps halt s t are p = steps_end halt s t (subst (λ (xs : List Step). Called (EndedBy xs halt) s t) are p)
+
+  -- where none of the steps looks at what is appended to
+  pub counters_end : (steps : List Step) (halt : Halt ToolFault) (s t : Seen) → steps ≡ job_steps job → Called (Halted Passes Stops (opens_of steps) steps halt) s t → Called (IsWorked (Ok (ForTool job)) t (Err halt)) s t
+  counters_end steps halt s t are p = job_end steps halt s t are (called_so (ended_by steps halt) p)
 
   -- the steps of the job passed
   passed_all : (IsSo : List Found → Type 0) (steps : List Step) (calls : List Call) → steps ≡ job_steps job → (p : PassedSo Passes Stops IsSo steps calls) → Passed Passes Stops (word_steps job ++ job_steps job) (found_behind p.found) calls
@@ -184,7 +189,7 @@ module _ (job : Job) (counting : Counting) (us : List Found) (counts : is_counti
 -- a step ended the work
 pub convert_end : (names : Names) (halt : Halt ToolFault) (s t : Seen) → Called (Halted Passes Stops (opens_of (names_steps names)) (names_steps names) halt) s t → Called (IsWorked (Ok (ForConvert names)) t (Err halt)) s t
 convert_end names (Fault fault) s t p = called_so (λ calls q. inl (record { by = fault; is = refl; none = refl; stopped = q.0; fail = q.1 })) p
-convert_end names NoMemory s t p = called_so (λ calls q. inl q) p
+convert_end names NoMemory s t p = called_so (λ calls q. inl (inl q)) p
 
 module _ (names : Names) (opened : Opened) (s t u : Seen) (p : Called (PassedSo Passes Stops (IsOpened opened) (names_steps names)) s t) where
   -- the steps passed, and then it ran

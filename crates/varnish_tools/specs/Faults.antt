@@ -5,9 +5,9 @@ use Rattle.tool_words.specs.declared.fault.UsageFault.TheVariants.{UnknownTool, 
 use Rattle.query_parser.specs.declared.fault.QueryFault.{QueryFault}
 use Rattle.query_parser.specs.declared.fault.QueryFault.TheVariants.{Syntax, UnknownTag, Number, Pattern, Deep, NoMemory}
 use Rattle.one_command.specs.Messages.{numbered}
-use Rattle.text_printer.specs.Messages.{told}
+use Rattle.fan_output.specs.Messages.{told}
 use Rattle.job_steps.specs.declared.fault.ToolFault.{ToolFault}
-use Rattle.job_steps.specs.declared.fault.ToolFault.TheVariants.{Usage, BadPattern, BadQuery, BadFormat, BadListing, NoOpen, ReadFault, WriteFault, NotALog, Damaged, TooLarge}
+use Rattle.job_steps.specs.declared.fault.ToolFault.TheVariants.{Usage, BadPattern, BadQuery, BadFormat, BadListing, NoOpen, ReadFault, WriteFault, NotALog, Damaged, TooLarge, OldLog}
 
 -- the word at a place, counted from 0
 abbrev pub word_at : List (List ℕ) → ℕ → List ℕ
@@ -47,13 +47,15 @@ message words (BadListing feed line) = told (numbered (codes "feed ") feed (code
 message words (NotALog name at) = told (name ++ numbered (codes ": not a log at ") at [])
 message words (Damaged name at) = told (name ++ numbered (codes ": damaged at ") at [])
 message words (TooLarge name limit) = told (name ++ numbered (codes ": larger than ") limit (codes " bytes"))
+message words (OldLog name) = told (name ++ codes ": cannot append")
 
 -- the message where there is a fault
 abbrev pub fault_message : List (List ℕ) → Option ToolFault → List ℕ
 fault_message words None = []
 fault_message words (Some fault) = message words fault
 
--- the status of a run: 0 without a fault, 2 where the words, a pattern, the text of a query or a format was refused, else 1
+-- the status of a run: 0 without a fault; 2 where the words, the pattern of a rule, the text of a query, of `-q` or of a file, or a format was refused; else 1, where a call failed or a
+-- log or feed isn't one. Want of memory is no fault of a run, and `vtools` answers it with 3
 abbrev pub status_of : Option ToolFault → ℕ
 status_of None = 0
 status_of (Some (Usage fault)) = 2
@@ -67,3 +69,4 @@ status_of (Some (WriteFault name)) = 1
 status_of (Some (NotALog name at)) = 1
 status_of (Some (Damaged name at)) = 1
 status_of (Some (TooLarge name limit)) = 1
+status_of (Some (OldLog name)) = 1

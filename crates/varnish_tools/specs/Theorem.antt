@@ -2,7 +2,7 @@
 use Rattle.std.specs.Prelude.{◌≡◌, ◌≢◌, ◌⊎◌, ℕ, ◌≤◌, true, false, List, [], ◌∷◌, ◌++◌, length, Option, None, Some, Result, Ok, Err, codes}
 use Rattle.vio.specs.declared.world.TheConstants.{ERRORS, OUTPUT}
 use Rattle.vio.specs.World.{Gains, Seen}
-use Rattle.vio.specs.Calls.{Call, Called, AreWithin, OnlyOpen, count_given, none_failed}
+use Rattle.vio.specs.Calls.{Call, Called, AreWithin, count_given, none_failed}
 use Rattle.vio.specs.Steps.{Passed}
 use Rattle.one_command.specs.Promise.{Promised, Says, SaysPart}
 use Rattle.vsl_words.specs.declared.version.Version.{Version}
@@ -22,6 +22,7 @@ use Rattle.job_steps.specs.declared.fault.ToolFault.{ToolFault}
 use Rattle.job_steps.specs.Jobs.{is_counting, options_of}
 use Rattle.job_steps.specs.Queries.{Ask, AreAsked, chosen}
 use Rattle.job_steps.specs.Steps.{Step, Found, Passes, Stops, steps_of, reads_of, writes_of, opens_of, creates_of}
+use Rattle.job_steps.specs.Took.{LacksSteps}
 use Rattle.tool_consumers.specs.Output.{access_lines, log_lines, top_report}
 use Rattle.job_runs.specs.declared.record.RunRecord.{RunRecord}
 use Rattle.job_runs.specs.declared.record.RunRecord.TheVariants.{Nothing}
@@ -109,7 +110,8 @@ WorksOff IsSaid stated fault recorded before now = Promised Passes Stops (Stated
 
 -- ---- an outcome
 
--- the main theorem, where the call answers an outcome: the work was done and its fault's message said, and the status is that of the fault
+-- the main theorem, where the call answers an outcome: what it did in the world is the work, of which no call failed but perhaps the last, and behind it one write of the fault's message to
+-- standard error, or of not all of it where that failed; without a fault nothing more. The status is that of the fault
 pub record IsFaithful (words : List (List ℕ)) (outcome : Outcome) (before now : Seen) : Type 0 where
   pub status : outcome.status ≡ status_of outcome.fault
   pub works : WorksOff (Says (fault_message words outcome.fault))
@@ -122,9 +124,9 @@ abbrev pub asked_of : Result Command UsageFault → List Step
 asked_of (Err why) = []
 asked_of (Ok command) = world_steps command
 
--- there was no memory for a step: files of the names of the steps were opened and read, no more than these are, and nothing was written or created
+-- there was no memory for a step of these
 abbrev pub LacksStep : Result Command UsageFault → List Call → Type 0
-LacksStep stated calls = OnlyOpen (opens_of (asked_of stated)) calls
+LacksStep stated calls = LacksSteps (asked_of stated) calls
 
 -- the steps passed, none of their calls failed, and there was no memory for the run
 pub record LacksRun (stated : Result Command UsageFault) (calls : List Call) : Type 0 where

@@ -1,5 +1,5 @@
 -- Where the world tells what the log or the feeds of a job hold: what the main theorem comes to (this project's choice).
-use Rattle.std.specs.Prelude.{◌≡◌, ℕ, ◌==◌, Bool, true, false, is_some, List, [], ◌∷◌, ◌++◌, length, Option, Some, None, codes}
+use Rattle.std.specs.Prelude.{◌≡◌, ◌⊎◌, ℕ, ◌==◌, Bool, true, false, is_some, List, [], ◌∷◌, ◌++◌, length, Option, Some, None, codes}
 use Rattle.std.specs.Bool.{MatchBool}
 use Rattle.std.specs.Str.{bytes_eq}
 use Rattle.log_model.specs.Interleaving.{IsInterleaving}
@@ -22,7 +22,7 @@ use Rattle.run_sources.specs.declared.file_items.FileStop.{FileStop}
 use Rattle.run_sources.specs.Sources.{unit_items}
 use Rattle.run_sources.specs.Told.{named_ending}
 use Rattle.unit_output.specs.Units.{converted}
-use Rattle.text_printer.specs.Ends.{whole}
+use Rattle.fan_output.specs.Ends.{whole}
 use Rattle.job_steps.specs.declared.fault.ToolFault.{ToolFault}
 use Rattle.job_steps.specs.Jobs.{file_of, units_of, with_made, write_of}
 use Rattle.job_steps.specs.Queries.{Ask, AreAsked, chosen}
@@ -31,7 +31,7 @@ use Rattle.vsl_dispatch.specs.Groups.{kept}
 use Rattle.job_runs.specs.declared.record.RunRecord.{RunRecord}
 use Rattle.job_runs.specs.declared.record.RunRecord.TheVariants.{Closed, Nothing}
 use Rattle.job_runs.specs.Counters.{ArePut, counters_text}
-use Rattle.job_runs.specs.Rows.{job_due, stop_answer}
+use Rattle.job_runs.specs.Rows.{fills, job_due, stop_answer}
 use Rattle.job_runs.specs.Sources.{AreFed}
 use Rattle.varnish_tools.specs.Texts.{AreTexts}
 
@@ -68,7 +68,8 @@ IsOut job h empty text before now = IsOutNamed job.append (write_of job) h empty
 abbrev pub WasStopped : Option ToolFault → RunRecord → Type 0
 WasStopped fault recorded = (is_some fault ≡ true) × (recorded ≡ Nothing)
 
--- what was written of items, which are all or not, for what the queries ask: a part of what is due of them, and without a fault all of it
+-- what was written of items, which are all or not, for what the queries ask: a part of what is due of them; and without a fault all of it, since they are all, or complete as many groups
+-- as are kept
 pub record PrintsItems (job : Job) (fault : Option ToolFault) (every : List Item) (ended : Bool) (before now : Seen) : Type 0 where
   pub ask : Ask
   pub sink : ℕ
@@ -80,19 +81,23 @@ pub record PrintsItems (job : Job) (fault : Option ToolFault) (every : List Item
   pub is_out : IsOut job sink empty text before now
   pub part : IsPrefix text (whole (job_due job ask empty) every ended)
   pub done : fault ≡ None → text ≡ whole (job_due job ask empty) every ended
+  pub ends : fault ≡ None → (ended ≡ true) ⊎ (fills job ask every ≡ true)
   pub gains : Gains (before.written sink) (now.written sink) text
 
--- what was written of a log of these units that ends so
-abbrev pub PrintsLog : Job → Option ToolFault → Log → FileEnding → Seen → Seen → Type 0
-PrintsLog job fault units ending before now = PrintsItems job fault (unit_items units) (is_whole ending) before now
+-- what was written of a log of these units that ends so; and where the fault says how the log ends, it ends so, and all that is due of its units was written
+pub record PrintsLog (job : Job) (fault : Option ToolFault) (units : Log) (ending : FileEnding) (before now : Seen) : Type 0 where
+  pub prints : PrintsItems job fault (unit_items units) (is_whole ending) before now
+  pub stops : (why : FileStop) (named : FileEnding) → fault ≡ Some (stop_answer (file_of job) why) →
+      named_ending why ≡ Some named → (ending ≡ named) ×
+      (prints.text ≡ whole (job_due job prints.ask prints.empty) (unit_items units) (is_whole ending))
 
 -- what was written of listings that are fed in the order that a job states: of all that a reader meets of them
 abbrev pub PrintsFeeds : Job → Option ToolFault → List Listing → Seen → Seen → Type 0
 PrintsFeeds job fault listings before now = (log : Log) × (history : List (HistoryItem LogUnit)) ×
     AreFed job listings log history × PrintsItems job fault (items_of history) true before now
 
--- what was written of listings that threads put: of all that the one reader of the ring took, which is recorded; that goes up to the log's tail where it had ended, and then
--- what it took and what it missed add up
+-- what was written of listings that threads put: the closed ring is recorded, its log is an interleaving of the listings, and this is of all that its only reader took; that goes up to the
+-- log's tail where it had ended, and then what it took and what it missed add up
 pub record PrintsRing (job : Job) (fault : Option ToolFault) (recorded : RunRecord) (listings : List Listing) (before now : Seen) : Type 0 where
   pub ring : ClosedState
   pub is : recorded ≡ Closed ring

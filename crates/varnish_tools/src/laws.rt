@@ -18,7 +18,7 @@ ghost use Rattle.tool_words.specs.Job.{job_of};
 ghost use Rattle.job_steps.specs.declared.fault.ToolFault.TheVariants.{NoOpen, ReadFault, WriteFault};
 ghost use Rattle.job_steps.specs.Good.{AreGoodSteps};
 ghost use Rattle.run_sources.specs.Sources.{unit_items};
-ghost use Rattle.text_printer.specs.Ends.{whole};
+ghost use Rattle.fan_output.specs.Ends.{whole};
 ghost use Rattle.job_steps.specs.Jobs.{is_counting, is_on_threads, options_of};
 ghost use Rattle.job_steps.specs.Queries.{Ask};
 ghost use Rattle.job_steps.specs.Steps.{steps_of};
@@ -44,8 +44,8 @@ pub fn plain_logs_are_printed()
     told_logs_are_written();
 }
 
-/// Where the world told what the log of a job holds, OUT gained a part of what is due of that log, and without a fault all of it; or
-/// a step stopped the job.
+/// Where the world told what the log of a job holds, OUT gained a part of what is due of that log: all of it without a fault, for
+/// which the log is whole, or completes as many groups as are kept, and where the fault says how it ends; or a step stopped the job.
 pub fn told_logs_are_printed()
     ensures { (words : List (List ℕ)) (outcome : Outcome) (job : Job) (units : Log)
         (ending : FileEnding) (before now : Seen) →

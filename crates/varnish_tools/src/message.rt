@@ -3,15 +3,15 @@
 ghost use Rattle.std.specs.Prelude.{◌≡◌, ◌++◌, map, IfOk};
 ghost use Rattle.std.specs.String.{string_bytes};
 ghost use Rattle.one_command.specs.Messages.{numbered};
-ghost use Rattle.text_printer.specs.Messages.{told};
+ghost use Rattle.fan_output.specs.Messages.{told};
 ghost use Rattle.varnish_tools.specs.Faults.{message, query_message, status_of, usage_message, word_at};
 
+use fan_output::tell_both;
 use job_steps::ToolFault;
 use log_model::Text;
 use one_command::numbered;
 use query_parser::QueryFault;
 use std::alloc::{AllocError, Global};
-use text_printer::tell_both;
 use tool_words::UsageFault;
 
 /// A line of two texts, after the program's name.
@@ -117,6 +117,7 @@ pub fn message_of(alloc: Global, words: &[String], fault: &ToolFault) -> Result<
         ToolFault::TooLarge { name, limit } => {
             tell_number(alloc, name, ": larger than ", *limit, " bytes")
         }
+        ToolFault::OldLog { name } => tell(alloc, name.as_str(), ": cannot append"),
     }
 }
 
@@ -137,5 +138,6 @@ pub fn status_of(fault: &Option<ToolFault>) -> u8
         Some(ToolFault::NotALog { .. }) => 1,
         Some(ToolFault::Damaged { .. }) => 1,
         Some(ToolFault::TooLarge { .. }) => 1,
+        Some(ToolFault::OldLog { .. }) => 1,
     }
 }

@@ -54,7 +54,7 @@ fn work_alone<W: World>(alloc: Global, job: &Job, world: &mut W) -> Result<Ran, 
         input,
         sink,
     } = take_group_steps(alloc, job, world)?;
-    let consumer = consumer_of(alloc, job, selection, format)?;
+    let consumer = consumer_of(alloc, job, &selection, format)?;
     match input {
         Input::Log(handle) => Ok(print_log(alloc, job, consumer, &query, handle, sink, world)?),
         Input::Feeds(listings) => {
@@ -88,7 +88,7 @@ fn work_on_threads<R: Threads + Wait + Sync, W: World, G: Gate>(
         input,
         sink,
     } = take_group_steps(alloc, job, world)?;
-    let consumer = consumer_of(alloc, job, selection, format)?;
+    let consumer = consumer_of(alloc, job, &selection, format)?;
     match input {
         Input::Log(handle) => Ok(print_log(alloc, job, consumer, &query, handle, sink, world)?),
         Input::Feeds(listings) => {

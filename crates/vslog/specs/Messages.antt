@@ -98,8 +98,8 @@ counts_text copied =
     ++ counted_line copied.counts.other_forms (codes " lines that are no raw lines were left out")
     ++ counted_line copied.left (codes " bytes at the end, inside a part, were left out")
 
--- what is said where a job ended so. So counts are told when varnishlog is stopped, and not where a signal ends this
--- program, too
+-- what is said where a job ended so: why the work stopped; or, unless that is to be quiet, what was left out or cut, a line a kind of which there is some. So counts are told when
+-- varnishlog is stopped, and not where a signal ends this program, too. Of words that were refused `usage_message` is said
 abbrev pub text_due : Job → Ended → List ℕ
 text_due job (Refused fault) = []
 text_due job (Stopped fault) = fault_message job fault

@@ -3,7 +3,7 @@ use Rattle.log_model.specs.declared.fault.Halt.TheVariants.{NoMemory}
 use Rattle.job_steps.specs.Steps.{counter_steps, group_steps}
 use Rattle.job_steps.proofs.TookLemmas.{err_from}
 use Rattle.varnish_tools.proofs.FoundLemmas.{found_behind}
-use Rattle.varnish_tools.proofs.WorkLemmas.{counter_job, counters_ran, counters_short, feeds_ran, feeds_short, group_job, job_end, job_ran, job_short, log_ran, log_short, none_short, rules_end}
+use Rattle.varnish_tools.proofs.WorkLemmas.{counter_job, counters_end, counters_ran, counters_short, feeds_ran, feeds_short, group_job, job_end, job_ran, job_short, log_ran, log_short, none_short, rules_end}
 use Rattle.varnish_tools.proofs.tools.work_alone.Goals as goal
 
 pub returns-in_err-selection : goal.returns-in_err-selection
@@ -15,7 +15,7 @@ pub returns-in_err-counting : goal.returns-in_err-counting
 returns-in_err-counting g c =
     let counts = rw c.is_counting.ensures at c.if-is_counting.true in
     rw (err_from c.from_residual-in_err-counting.result c.in_err-counting.field-0.0 c.from_residual-in_err-counting.ensures.1)
-    (job_end c.args.job.now _ c.in_ok-selection.ensures.took (counter_steps c.args.job.now) c.in_err-counting.field-0.0 _ _ (counter_job c.args.job.now counts) c.in_err-counting.ensures.took)
+    (counters_end c.args.job.now _ c.in_ok-selection.ensures.took (counter_steps c.args.job.now) c.in_err-counting.field-0.0 _ _ (counter_job c.args.job.now counts) c.in_err-counting.ensures.took)
 
 pub returns-in_err-print_counters : goal.returns-in_err-print_counters
 returns-in_err-print_counters g c =
