@@ -3,9 +3,9 @@
 use crate::comparing::same;
 use crate::runs::{count_calls, expect_faults};
 use crate::tables::{
-    ASKED, FAULTS, FEEDS, Input, LATE_READER, LOG, MADE, MORE_UNITS, ONE_ON_A_THREAD, OPEN,
-    OVERRUN, OVERRUN_IN_TURNS, PING, RAW, RAW_UNITS, STREAM, TOOLS, TRANSACTION_UNITS,
-    TRANSACTIONS, TURNS, TWO_ON_THREADS, Tool,
+    ASKED, CONVERTED, FAULTS, FEEDS, Input, LATE_READER, LOG, MADE, MORE_UNITS, NAMED,
+    ONE_ON_A_THREAD, OPEN, OVERRUN, OVERRUN_IN_TURNS, PING, RAW, RAW_UNITS, STREAM, TOOLS,
+    TRANSACTION_UNITS, TRANSACTIONS, TURNS, TWO_ON_THREADS, Tool,
 };
 use std::alloc::Global;
 use std::process::Abort;
@@ -39,6 +39,13 @@ fn each_failing_call_ends_a_run_over_standard_input(rt: HostRuntime) {
 #[test]
 fn each_failing_call_ends_a_run_over_a_log_that_queries_ask(rt: HostRuntime) {
     expect_all(&rt, rt.alloc(), &ASKED);
+}
+
+#[test]
+fn each_failing_call_ends_a_log_file_that_is_written_anew(rt: HostRuntime) {
+    for input in &NAMED {
+        expect_faults(&rt, rt.alloc(), input, &CONVERTED);
+    }
 }
 
 #[test]
@@ -102,8 +109,8 @@ const COUNTS: [(Input, Tool, usize); 7] = [
     (OPEN, TRANSACTIONS, 95),
     // an open, a creation, 3 writes for the header, 11 reads and one at the end, and 8 writes
     (PING, RAW_UNITS, 25),
-    // the same without a header
-    (PING, MORE_UNITS, 22),
+    // the same without a header, but with an open and 3 reads of the one that is there
+    (PING, MORE_UNITS, 26),
     // an open, a creation, 3 writes for the header, 27 reads and one at the end, 15 writes for the second unit and 23 for
     // the flush
     (OPEN, TRANSACTION_UNITS, 71),

@@ -319,7 +319,7 @@ fn has_begun(row: &Row<'_>, calls: &[Call], at: usize) -> bool {
         let is_of_run = match call.deed {
             Deed::Open => false,
             Deed::Create => false,
-            Deed::Read => row.input.is_log && call.object != "q",
+            Deed::Read => row.input.is_log && call.object == row.input.log,
             Deed::Write => call.object == row.tool.sink || place == at && at < row.work,
         };
         if is_of_run {
@@ -333,11 +333,10 @@ fn has_begun(row: &Row<'_>, calls: &[Call], at: usize) -> bool {
 fn expect_taken(rt: &impl Abort, row: &Row<'_>, left: &Left, at: usize, what: &str) {
     let calls = left.calls.get(..at.saturating_add(1)).unwrap_or(&[]);
     let took = took_of(&left.outcome.run);
-    if !has_begun(row, calls, at) {
+    if !row.tool.records || !has_begun(row, calls, at) {
         same(rt, took, Took::Nothing, what);
     } else if row.input.is_log {
-        let log = row.input.behind.last().copied().unwrap_or("");
-        let read = moved_of(calls, Deed::Read, log);
+        let read = moved_of(calls, Deed::Read, row.input.log);
         let ends = row.input.ends.iter();
         let units = ends.filter(|end| **end <= read).count();
         same(rt, took, Took::Counted(units as u64, 1), what);

@@ -17,6 +17,8 @@ pub struct Tool {
     pub kept: Kept,
     /// Whether it prints groups, and so reads logs, and may be overrun.
     pub groups: bool,
+    /// Whether it records what it took.
+    pub records: bool,
 }
 
 pub const RAW: Tool = Tool {
@@ -26,6 +28,7 @@ pub const RAW: Tool = Tool {
     there: b"",
     kept: Kept::FeedLines,
     groups: true,
+    records: true,
 };
 
 pub const TRANSACTIONS: Tool = Tool {
@@ -55,6 +58,17 @@ pub const MORE_UNITS: Tool = Tool {
     words: &["varnishlog", "-g", "raw", "-a", "-w", "out"],
     there: PING_BYTES,
     ..RAW_UNITS
+};
+
+/// The command that writes a log file anew, which names it behind the log.
+pub const CONVERTED: Tool = Tool {
+    name: "a log file anew",
+    words: &["convert"],
+    sink: "out",
+    there: b"",
+    kept: Kept::Units,
+    groups: true,
+    records: false,
 };
 
 /// All tools, in all forms of what they write.
@@ -154,8 +168,10 @@ pub struct Input {
     /// Words before those of the tool, and behind them.
     pub before: &'static [&'static str],
     pub behind: &'static [&'static str],
-    /// Whether it is a log, which some tools don't read. The last word names it.
+    /// Whether it is a log, which some tools don't read.
     pub is_log: bool,
+    /// The name of the log.
+    pub log: &'static str,
     /// Where the units of the log end.
     pub ends: &'static [usize],
     /// The most bytes that a call moves.
@@ -173,6 +189,7 @@ pub const LOG: Input = Input {
     before: &[],
     behind: &["-r", "f"],
     is_log: true,
+    log: "f",
     ends: &[52, 120],
     piece: 40,
     order: Order::Same,
@@ -198,6 +215,7 @@ pub const STREAM: Input = Input {
     name: "standard input",
     files: &[("-", Content::Bytes(&REQUEST_WITH_FETCH))],
     behind: &["-r", "-"],
+    log: "-",
     ..LOG
 };
 
@@ -215,22 +233,26 @@ pub const ASKED: Input = Input {
 const CUT_REQUEST: &[u8] =
     b"VSLOG-2\n\x0b\x00\x00\xfe\x0d\x00\x00\x2a\x03\x00\x00\x00\x00\x00\x00\x80bereq 2 fetch\x00\x00\x00\x00\x00\x00\x2c\x03\x00\x00\x00\x00\x00\x00\x80\x11\x00\x00\xfe\x0b\x00\x00\x2a\x02\x00\x00\x00\x00\x00\x00\x40req 1 rxreq\x00\x0d\x00\x00\x2b\x02\x00\x00\x00\x00\x00\x00\x40bereq 3 fetch\x00\x00\x00\x00\x00\x00\x2c\x02\x00\x00\x00\x00\x00\x00";
 
+const CUT: Input = Input {
+    name: "a cut log",
+    files: &[("f", Content::Bytes(CUT_REQUEST))],
+    ends: &[52],
+    ending: Ending::Damaged(52),
+    ..LOG
+};
+
+const NO_LOG: Input = Input {
+    name: "a file that is no log",
+    files: &[("f", Content::Bytes(b"VSLO"))],
+    ends: &[],
+    ending: Ending::NotALog(4),
+    ..LOG
+};
+
 /// What ends with a fault where no call fails, whose message may fail.
 pub const FAULTS: [Input; 5] = [
-    Input {
-        name: "a cut log",
-        files: &[("f", Content::Bytes(CUT_REQUEST))],
-        ends: &[52],
-        ending: Ending::Damaged(52),
-        ..LOG
-    },
-    Input {
-        name: "a file that is no log",
-        files: &[("f", Content::Bytes(b"VSLO"))],
-        ends: &[],
-        ending: Ending::NotALog(4),
-        ..LOG
-    },
+    CUT,
+    NO_LOG,
     Input {
         name: "a missing log",
         files: &[],
@@ -255,6 +277,26 @@ pub const FAULTS: [Input; 5] = [
     },
 ];
 
+/// The same logs for `convert`, which has no options.
+pub const NAMED: [Input; 4] = [
+    Input {
+        behind: &["f", "out"],
+        ..LOG
+    },
+    Input {
+        behind: &["-", "out"],
+        ..STREAM
+    },
+    Input {
+        behind: &["f", "out"],
+        ..CUT
+    },
+    Input {
+        behind: &["f", "out"],
+        ..NO_LOG
+    },
+];
+
 /// The listing of the request and its fetch.
 const FIRST_FEED: &[u8] =
     b"         3 Begin          b bereq 2 fetch\n         3 End            b \n         2 Begin          c req 1 rxreq\n         2 Link           c bereq 3 fetch\n         2 End            c \n";
@@ -273,6 +315,7 @@ pub const FEEDS: Input = Input {
     before: &["--ring", "64", "--feed", "a", "--feed", "b", "--feed-first"],
     behind: &[],
     is_log: false,
+    log: "",
     ends: &[],
     piece: 120,
     order: Order::Same,

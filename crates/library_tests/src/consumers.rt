@@ -8,7 +8,8 @@ use query_eval::{Chosen, Truths};
 use std::alloc::Global;
 use std::process::Abort;
 use txn_rows::{Group, Kind, Members};
-use vsl_dispatch::{Consumer, Dispatch, Go, Received};
+use vsl_dispatch::{Consumer, Dispatcher, Go, Received};
+use vsl_select::Selection;
 use vsl_tags::named::{BEGIN, END};
 use vsl_top::TopConsumer;
 
@@ -22,9 +23,14 @@ fn group_of(rt: &impl Abort, alloc: Global, payload: &[u8]) -> Group {
     Group { members }
 }
 
-/// A consumer that counts all records of so many groups.
-fn top(rt: &impl Abort, alloc: Global, keep: Option<u32>) -> TopConsumer {
-    TopConsumer::new(alloc, all_shown(rt, alloc), false, keep).expect(rt, "memory")
+/// A consumer that counts all records of so many groups, of which this is shown.
+fn top<'s>(
+    rt: &impl Abort,
+    alloc: Global,
+    shown: &'s Selection,
+    keep: Option<u32>,
+) -> TopConsumer<'s> {
+    TopConsumer::new(alloc, shown, false, keep).expect(rt, "memory")
 }
 
 /// A group with a Begin of this payload, and whether each of two queries holds for it.
@@ -42,7 +48,7 @@ fn chosen(rt: &impl Abort, alloc: Global, payload: &[u8], first: bool, second: b
 fn give(
     rt: &impl Abort,
     alloc: Global,
-    dispatch: &mut Dispatch,
+    dispatch: &mut Dispatcher<TopConsumer<'_>>,
     payload: &[u8],
     first: bool,
     second: bool,
@@ -54,7 +60,12 @@ fn give(
     dispatch.give(&given).expect(rt, "memory");
 }
 
-fn expect_text(rt: &impl Abort, dispatch: &mut Dispatch, place: usize, want: &[u8])
+fn expect_text(
+    rt: &impl Abort,
+    dispatch: &mut Dispatcher<TopConsumer<'_>>,
+    place: usize,
+    want: &[u8],
+)
     requires two { length (entries_of dispatch.old) ≡ 2 }
     requires place { place < 2 }
     ensures two { length (entries_of dispatch.new) ≡ 2 }
@@ -72,10 +83,11 @@ const BOTH: &[u8] =
 #[test]
 fn one_that_is_done_leaves_the_other_going(rt: HostRuntime) {
     let alloc = rt.alloc();
-    let one: Box<dyn Consumer> = Box::new(alloc, top(&rt, alloc, Some(1))).expect(&rt, "memory");
-    let all: Box<dyn Consumer> = Box::new(alloc, top(&rt, alloc, None)).expect(&rt, "memory");
+    let shown = all_shown(&rt, alloc);
+    let one = top(&rt, alloc, &shown, Some(1));
+    let all = top(&rt, alloc, &shown, None);
     let both = Vec::from_array(alloc, [one, all]).expect(&rt, "memory");
-    let mut dispatch = Dispatch::new(alloc, both).expect(&rt, "memory");
+    let mut dispatch = Dispatcher::new(alloc, both).expect(&rt, "memory");
     same(&rt, dispatch.live(), 2);
     give(&rt, alloc, &mut dispatch, b"req 1 rxreq", true, true);
     same(&rt, dispatch.live(), 1);
@@ -93,10 +105,11 @@ fn one_that_is_done_leaves_the_other_going(rt: HostRuntime) {
 #[test]
 fn each_receives_what_its_query_holds_for(rt: HostRuntime) {
     let alloc = rt.alloc();
-    let first: Box<dyn Consumer> = Box::new(alloc, top(&rt, alloc, None)).expect(&rt, "memory");
-    let second: Box<dyn Consumer> = Box::new(alloc, top(&rt, alloc, Some(2))).expect(&rt, "memory");
+    let shown = all_shown(&rt, alloc);
+    let first = top(&rt, alloc, &shown, None);
+    let second = top(&rt, alloc, &shown, Some(2));
     let both = Vec::from_array(alloc, [first, second]).expect(&rt, "memory");
-    let mut dispatch = Dispatch::new(alloc, both).expect(&rt, "memory");
+    let mut dispatch = Dispatcher::new(alloc, both).expect(&rt, "memory");
     give(&rt, alloc, &mut dispatch, b"a", true, false);
     give(&rt, alloc, &mut dispatch, b"b", false, true);
     give(&rt, alloc, &mut dispatch, b"b", true, true);
@@ -117,7 +130,8 @@ fn expect_taken(
     report: &[u8],
 ) {
     let unit = unit_of(rt, alloc, 0, &[(END, b"")]);
-    let mut consumer = top(rt, alloc, keep);
+    let shown = all_shown(rt, alloc);
+    let mut consumer = top(rt, alloc, &shown, keep);
     same(rt, consumer.records(&unit), Ok(at_once));
     same(rt, consumer.group(&group_of(rt, alloc, b"a")), Ok(went));
     let mut text = Vec::new(alloc);

@@ -5,7 +5,7 @@ use std::alloc::Global;
 use std::process::Abort;
 use txn_rows::{Claim, Group, GroupOptions, Grouping, Kind, Members, Reason, Table, read_claim};
 use vsl_record::Vxid;
-use vsl_select::{group_text, raw_line};
+use vsl_select::{Viewer, group_text, raw_line};
 use vsl_tags::named::{BEGIN, END};
 
 /// A payload, and the kind, the VXID and the reason that it tells.
@@ -37,9 +37,10 @@ const BEFORE: &[u8] = b"before\n";
 /// Adds the text of groups to another text, and compares it.
 fn expect_text(rt: &impl Abort, alloc: Global, groups: &[Group], verbose: bool, want: &[u8]) {
     let selection = all_shown(rt, alloc);
+    let mut viewer = Viewer::new(alloc, &selection).expect(rt, "memory");
     let mut text = Vec::from_slice(alloc, BEFORE).expect(rt, "memory");
     for group in groups {
-        group_text(group, &selection, verbose, &mut text).expect(rt, "memory");
+        group_text(group, &mut viewer, verbose, &mut text).expect(rt, "memory");
     }
     same(rt, text.as_slice().strip_prefix(BEFORE), Some(want));
 }
@@ -144,7 +145,8 @@ fn a_raw_line_is_added_and_all_is_shown(rt: HostRuntime) {
     same(&rt, raw_line(2, &begin.view(), &mut out), Ok(()));
     same(&rt, out.as_slice().strip_prefix(BEFORE), Some(LINE));
     let selection = all_shown(&rt, alloc);
-    same(&rt, selection.shows(&begin.view()), Ok(true));
+    let mut viewer = Viewer::new(alloc, &selection).expect(&rt, "memory");
+    same(&rt, viewer.shows(&begin.view()), Ok(true));
     let member = member_of(&rt, alloc, &(5, Kind::Session, 1, &[]));
     same(&rt, selection.shows_member(&member), true);
 }

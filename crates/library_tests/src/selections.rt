@@ -4,7 +4,7 @@ use crate::support::{no_sides, record_of, same};
 use log_model::Text;
 use std::alloc::Global;
 use std::process::Abort;
-use vsl_select::{RuleText, SelectFault, Selection};
+use vsl_select::{RuleText, SelectFault, Selection, Viewer};
 use vsl_tags::TagSet;
 use vsl_tags::named::{BEGIN, END};
 
@@ -45,9 +45,10 @@ const RECORDS: [(u8, &[u8], bool); 3] = [
 fn a_rule_with_a_pattern_shows_what_matches(rt: HostRuntime) {
     let alloc = rt.alloc();
     let shown = selection(&rt, alloc, true, "Begin:^req").expect(&rt, "a selection");
+    let mut viewer = Viewer::new(alloc, &shown).expect(&rt, "memory");
     for (tag, payload, is_shown) in RECORDS {
         let rec = record_of(&rt, alloc, tag, payload);
-        same(&rt, shown.shows(&rec.view()), Ok(is_shown));
+        same(&rt, viewer.shows(&rec.view()), Ok(is_shown));
     }
 }
 
