@@ -16,9 +16,9 @@ FIRST_SECOND, STEP = 1796000000, 0.001  # when they begin, and how long behind o
 PARTS = 5  # units of a request that is made
 
 
-def real_units():
-    """The units of the real log."""
-    return REAL.read_bytes()[len(vslog.HEADER) :]
+def real_units(version=vslog.TWO):
+    """The units of the real log, in the words of a version."""
+    return b"".join(vslog.unit(*unit, version) for unit in vslog.read_units(REAL.read_bytes()))
 
 
 def repeat(path, header, records, copies):
