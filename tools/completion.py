@@ -107,7 +107,7 @@ def formatters():
 def words():
     """The words of each kind, each with what it is."""
     counters = table_rows(COUNTERS, "static COUNTERS: [(&str, &str)", r'^    \("([\w.]+)", "([^"]*)"\),$')
-    tags = table_rows(TAGS, "static COLUMNS: [&str", r'^    "(\w+) *",$')
+    tags = table_rows(TAGS, "static ROWS: [(&str, u8)", r'^    \("(\w+) *", \d+\),$')
     comparisons = re.findall(r'^        b"(\S+)" => Operator::', COMPARISONS.read_text(), re.M)
     return {
         "tool": {name: command.does for name, command in options.all_commands().items()},

@@ -261,7 +261,7 @@ def version():
 def messages():
     """Each text of a message has a row in FORMATS with words that bring it, and of vslog with its cause."""
     faults = found(r"^(?:usage_message|query_message|message) (.*)", read("crates/varnish_tools/specs/Faults.antt"))
-    faults += found(r"^overrun_message (.*)", read("crates/text_printer/specs/Messages.antt"))
+    faults += found(r"^overrun_message (.*)", read("crates/fan_output/specs/Messages.antt"))
     texts = {text.lstrip(": ") for line in faults for text in re.findall(r'codes "([^"]*)"', line)} - {""}
     texts |= set(found(r'eprintln!\(rt; "\{program\}: ([^{"]*[^{"])', read("crates/system_world/src/answers.rt")))
     all_codes = found(r'codes "([^"]*)"', read("crates/vslog/specs/Messages.antt"))

@@ -213,8 +213,18 @@ def written(edges):
     full = "vtools: /dev/full: write failed\n"
     edges.run("a full file", "varnishlog -g raw -w /dev/full -r one.log", 1, full)
     edges.run("a full file for access lines", f"varnishncsa -w /dev/full -r {LOG}", 1, full)
+    edges.run("a full file that is appended to", "varnishlog -a -g raw -w /dev/full -r one.log", 1, full)
+    edges.run("a device that is appended to", "varnishlog -a -g raw -w /dev/null -r one.log")
     edges.run("a full file and nothing to write", "varnishlog -A -g raw -w /dev/full -r header.log")
     edges.run("a folder that is to be written", "varnishlog -w . -r one.log", 1, "vtools: .: cannot open\n")
+
+
+def appended(edges):
+    """A pipe that is appended to has no bytes, so it isn't looked at, and gets a header."""
+    what, pipe = "a pipe that is appended to", os.open(edges.folder / "pipe", os.O_RDONLY | os.O_NONBLOCK)
+    edges.run(what, "varnishlog -a -g raw -w pipe -r one.log")
+    same_text(what, HEADER + b"".join(unit(*each) for each in read_units(ONE.read_bytes())), os.read(pipe, 65536))
+    os.close(pipe)
 
 
 def left_alone(edges):
@@ -513,7 +523,7 @@ def cut_short(edges):
             edges.count += 1
 
 
-CHECKS = [outputs, errors, no_streams, pipes, large, written, left_alone, wide, keys, memory, cut, overruns,
+CHECKS = [outputs, errors, no_streams, pipes, large, written, appended, left_alone, wide, keys, memory, cut, overruns,
           feed_errors, feed_outputs, no_streams_for_feeds, feed_pipes, large_feeds, feed_memory, feeds_written,
           cut_short]
 

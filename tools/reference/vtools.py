@@ -175,7 +175,10 @@ class Run:
             raise Refused(f"vtools: {name}: cannot open", 1)
         if name in self.files and self.files[name] is None:
             raise Refused(f"vtools: {name}: cannot open", 1)
-        return Sink(name, self.room.file, self.files.get(name, b"") if "a" in job.flags else b"")
+        has = self.files.get(name, b"") if "a" in job.flags else b""
+        if has and job.tool == "varnishlog" and "A" not in job.flags and not has.startswith(HEADER):
+            raise Refused(f"vtools: {name}: cannot append", 1)
+        return Sink(name, self.room.file, has)
 
     def groups(self, job, queries, items, output, sink):
         """Takes item by item, up to the last group that is kept, and writes what is due."""
