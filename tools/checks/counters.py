@@ -24,7 +24,8 @@ MADE = [
     *[(100, 7, ring, RECLEN) for ring in (64, 65, 66, 71, 75, 87, 88, 89, 100, 128, 1024, 1048576)],
     *[(100, 7, ring, reclen) for ring in (64, 65, 80) for reclen in (16, 17, 40, 41, 42, 4000)],
 ]
-LAST_SEED, QUICK_LAST_SEED = 60, 9  # of the turns of two feeds
+# Of the turns of two feeds; quickly a few, with 17, one of four in which the ring wraps once more.
+SEEDS, QUICK_SEEDS = [None, *range(61)], [None, *range(6), 17]
 LAST_READ_SEED = 12  # of the turns of a reader and requests that are made up
 READ = 45, 7  # how many requests, and their seed
 GLOBS = ["*", "**", "", "MAIN.*", "*miss*", "*_*_*", "*s*s*s*", "M*.*e*q", "MAIN.?", "main.*", "cache_hit", "*" * 10000]
@@ -64,7 +65,7 @@ def of_made_requests(program, folder):
     return runs
 
 
-def of_two_feeds(program, folder, last_seed):
+def of_two_feeds(program, folder, seeds):
     """Counters of two feeds in turns of many seeds, and of these with requests that are made up."""
     write_tree(folder, listings())
     feeds = [schedules.read_listing(listing, RECLEN, SMALL_RING) for listing in listings().values()]
@@ -72,7 +73,7 @@ def of_two_feeds(program, folder, last_seed):
     words = ["--ring", str(SMALL_RING), *(word for name in NAMES for word in ("--feed", name))]
     with_requests = ["--gen", f"{READ[0]},{READ[1]}", *words]
     runs, wraps = 0, set()
-    for seed in [None, *range(last_seed + 1)]:
+    for seed in seeds:
         for before, given in ((words, feeds), (with_requests, [*feeds, requests])):
             values = counters.replayed_values(given, SMALL_RING, seed)
             wraps.add((len(given), values["shm_cycles"]))
@@ -118,9 +119,9 @@ def of_globs(program, folder):
 
 def check(program, quick):
     """Checks all counters, and quickly those of the real log in fewer rings and lengths, and of feeds in fewer turns."""
-    all_of, few_of = (REAL_RINGS, REAL_RECLENS, LAST_SEED), (QUICK_RINGS, QUICK_RECLENS, QUICK_LAST_SEED)
-    rings, reclens, last_seed = few_of if quick else all_of
+    all_of, few_of = (REAL_RINGS, REAL_RECLENS, SEEDS), (QUICK_RINGS, QUICK_RECLENS, QUICK_SEEDS)
+    rings, reclens, seeds = few_of if quick else all_of
     with temporary_folder() as folder:
         runs = sum(of(program, folder) for of in (of_globs, of_readers, of_made_requests))
-        runs += of_two_feeds(program, folder, last_seed) + of_real_traffic(program, folder, rings, reclens)
+        runs += of_two_feeds(program, folder, seeds) + of_real_traffic(program, folder, rings, reclens)
         return f"{runs} command lines"
