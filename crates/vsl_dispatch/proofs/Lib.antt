@@ -1,3 +1,2 @@
 pub mod GroupLemmas
 pub mod StandsLemmas
-mod EntryLemmas

@@ -2,7 +2,7 @@
 
 ghost use Rattle.std.specs.Prelude.{◌≡◌, ◌≢◌, ◌<◌, ℕ, Bool, true, false, List, [], ◌∷◌, ◌++◌, map, length, slice_get, Some, IfOk, OnOk, OnErr, IsErr};
 ghost use Rattle.txn_rows.specs.declared.group.Group.{Group};
-ghost use Rattle.vsl_dispatch.specs.Entries.{Handed, GivenBefore, Finished, FinishedBefore, TextTaken, count_live, entries_of, has_failed};
+ghost use Rattle.vsl_dispatch.specs.Entries.{Handed, GivenBefore, Finished, FinishedBefore, TextTaken, count_live, entries_of, has_failed, new_entry};
 
 use crate::consumer::Consumer;
 use crate::entry::Entry;
@@ -14,7 +14,6 @@ use std::alloc::Global;
 /// answers that.
 #[derive(Drop)]
 pub struct Dispatcher<C> {
-    alloc: Global,
     pub entries: Vec<Entry<C>>,
     failed: bool,
 }
@@ -62,25 +61,24 @@ fn finish_each<C: Consumer>(entries: &mut Vec<Entry<C>>) -> Result<(), NoMemory>
 impl<C: Consumer> Dispatcher<C> {
     /// Consumers that received nothing from this dispatcher.
     pub fn new(alloc: Global, consumers: Vec<C>) -> Result<Dispatcher<C>, NoMemory>
-        ensures entries { IfOk result (λ d. entries_of d ≡ map Entry.Live consumers.items) }
+        ensures entries { IfOk result (λ d. entries_of d ≡ map new_entry consumers.items) }
         ensures sound { IfOk result (λ d. has_failed d ≡ false) }
     {
         let mut entries = Vec::with_capacity(alloc, consumers.len())?;
         for consumer in consumers {
-            if entries.push(Entry::Live(consumer)).is_err() {
+            if entries.push(Entry::new(consumer)).is_err() {
                 return Err(NoMemory);
             }
         }
         Ok(Dispatcher {
-            alloc,
             entries,
             failed: false,
         })
     }
 
-    /// Gives a group to each consumer whose query holds for it, in order. One that is done is ended and let go, and its text
-    /// kept; the others go on. Where there is no memory for one, those before it have received the group, and those behind it
-    /// haven't.
+    /// Gives a group to each consumer that takes groups and whose query holds for it, in order. One that is done is ended, and
+    /// takes no more; the others go on. Where there is no memory for one, those before it have received the group, and those
+    /// behind it haven't.
     pub fn give(&mut self, chosen: &Chosen) -> Result<(), NoMemory>
         requires each { length chosen.now.holds ≡ length (entries_of self.old) }
         ensures length { length (entries_of self.new) ≡ length (entries_of self.old) }
@@ -107,7 +105,7 @@ impl<C: Consumer> Dispatcher<C> {
         Ok(())
     }
 
-    /// What the consumer at this place wrote since its text was last taken, also where it is gone. It takes no memory.
+    /// What the consumer at this place wrote since its text was last taken, also where it takes no groups. It takes no memory.
     pub fn text(&mut self, place: usize) -> Vec<u8>
         requires { place < length (entries_of self.old) }
         ensures length { length (entries_of self.new) ≡ length (entries_of self.old) }
@@ -118,19 +116,32 @@ impl<C: Consumer> Dispatcher<C> {
         ensures others { (i : ℕ) → i ≢ place →
             slice_get (entries_of self.new) i ≡ slice_get (entries_of self.old) i }
     {
-        self.entries[place].text(self.alloc)
+        self.entries[place].text()
     }
 
-    /// How many consumers aren't gone.
-    #[tactic(auto, using(crate::proofs::EntryLemmas::live_counted))]
+    /// Gives the consumer at this place no more groups; what it wrote stays to be taken. It takes no memory.
+    pub fn stop(&mut self, place: usize)
+        requires { place < length (entries_of self.old) }
+        ensures length { length (entries_of self.new) ≡ length (entries_of self.old) }
+        ensures same { has_failed self.new ≡ has_failed self.old }
+        ensures stopped { (old new : Entry C) → slice_get (entries_of self.old) place ≡ Some old →
+            slice_get (entries_of self.new) place ≡ Some new →
+            (new.consumer ≡ old.consumer) × (new.live ≡ false) }
+        ensures others { (i : ℕ) → i ≢ place →
+            slice_get (entries_of self.new) i ≡ slice_get (entries_of self.old) i }
+    {
+        self.entries[place].stop();
+    }
+
+    /// How many consumers take groups.
     pub fn live(&self) -> usize
         ensures { result ≡ count_live (entries_of self.now) }
     {
         self.entries.iter().filter(|entry| entry.is_live()).count()
     }
 
-    /// No group will follow: ends each consumer that isn't gone, in order, and lets it go. Where there is no memory for one,
-    /// those before it are ended, and those behind it aren't.
+    /// No group will follow: ends each consumer that takes groups, in order. Where there is no memory for one, those before it
+    /// are ended, and those behind it aren't.
     pub fn finish(&mut self) -> Result<(), NoMemory>
         ensures length { length (entries_of self.new) ≡ length (entries_of self.old) }
         ensures finished { OnOk result ((i : ℕ) (old new : Entry C) →

@@ -1,90 +1,94 @@
-//! A place for one consumer: it takes groups, or it is gone and left its text.
+//! A place for one consumer, which takes groups, or was ended and is still there for its text.
 
-ghost use Rattle.std.specs.Prelude.{◌≡◌, ℕ, true, false, List, ◌++◌, IfOk, OnOk};
-ghost use Rattle.txn_rows.specs.declared.group.Group.{Group};
-ghost use Rattle.vsl_dispatch.specs.Entries.{Finished, Handed, OfferedTo, TextTaken, is_live};
+ghost use Rattle.std.specs.Prelude.{◌≡◌, false, true, IfOk, OnOk};
+ghost use Rattle.vsl_dispatch.specs.Entries.{Finished, Handed, IsSame, OfferedTo, TextTaken, new_entry};
 
 use crate::consumer::{Consumer, Go};
 use log_model::NoMemory;
-use std::alloc::Global;
-use std::mem::replace;
 use txn_rows::Group;
 use vsl_record::Unit;
 
-/// A place for a consumer.
+/// A place for a consumer, which takes groups, or was ended and is still there for its text.
 #[derive(Drop)]
-pub enum Entry<C> {
-    /// A consumer that takes groups.
-    Live(C),
-    /// What one left that was done or ended, as far as it wasn't taken yet.
-    Gone(Vec<u8>),
-}
-
-/// Ends a consumer, and takes what it still has to hand out.
-fn end_consumer<C: Consumer>(consumer: &mut C) -> Result<Vec<u8>, NoMemory>
-    ensures { IfOk result (λ text. (groups : List Group) (taken : List ℕ) →
-        C.represents consumer.old groups false taken →
-        taken ++ text.items ≡ C.output consumer.old groups true) }
-{
-    consumer.end()?;
-    Ok(consumer.take_text())
+pub struct Entry<C> {
+    pub consumer: C,
+    /// Whether it takes groups.
+    pub live: bool,
 }
 
 impl<C: Consumer> Entry<C> {
-    /// Whether the consumer isn't gone.
-    pub fn is_live(&self) -> bool
-        ensures { result ≡ is_live self.now }
+    /// The place of a consumer that takes groups.
+    pub fn new(consumer: C) -> Entry<C>
+        ensures { result ≡ new_entry consumer }
     {
-        match self {
-            Entry::Live(_) => true,
-            Entry::Gone(_) => false,
+        Entry {
+            consumer,
+            live: true,
         }
     }
 
-    /// Gives a group to the consumer, if it isn't gone. One that is done is ended and let go, and its text kept.
-    pub fn give(&mut self, group: &Group) -> Result<(), NoMemory>
-        ensures { OnOk result (Handed C.keep C.output C.represents group.now true self.old self.new) }
+    /// Whether the consumer takes groups.
+    pub fn is_live(&self) -> bool
+        ensures { result ≡ self.now.live }
     {
-        let Entry::Live(consumer) = self else {
+        self.live
+    }
+
+    /// Gives a group to the consumer, if it takes groups. With the last that it keeps it is ended, and takes no more.
+    pub fn give(&mut self, group: &Group) -> Result<(), NoMemory>
+        ensures same { IsSame C.keep C.output self.old.consumer self.new.consumer }
+        ensures handed { OnOk result
+            (Handed C.keep C.output C.represents group.now true self.old self.new) }
+    {
+        if !self.live {
             return Ok(());
-        };
-        if let Go::Done = consumer.group(group)? {
-            let text = end_consumer(consumer)?;
-            *self = Entry::Gone(text);
+        }
+        if let Go::Done = self.consumer.group(group)? {
+            self.consumer.end()?;
+            self.live = false;
         }
         Ok(())
     }
 
-    /// Offers the records of a unit, each as a group by itself, to the consumer; whether it took them.
+    /// Offers the records of a unit, each as a group by itself, to the consumer, if it takes groups; whether it took them.
     pub fn records(&mut self, unit: &Unit) -> Result<bool, NoMemory>
-        ensures { IfOk result (λ took.
+        ensures same { IsSame C.keep C.output self.old.consumer self.new.consumer }
+        ensures offered { IfOk result (λ took.
             OfferedTo C.keep C.output C.represents unit.now took self.old self.new) }
     {
-        match self {
-            Entry::Live(consumer) => consumer.records(unit),
-            Entry::Gone(_) => Ok(false),
+        if !self.live {
+            return Ok(false);
         }
+        self.consumer.records(unit)
     }
 
-    /// No group will follow: ends the consumer, if it isn't gone, and lets it go.
+    /// No group will follow: ends the consumer, if it takes groups.
     pub fn finish(&mut self) -> Result<(), NoMemory>
-        ensures { OnOk result (Finished C.keep C.output C.represents self.old self.new) }
+        ensures same { IsSame C.keep C.output self.old.consumer self.new.consumer }
+        ensures finished { OnOk result
+            (Finished C.keep C.output C.represents self.old self.new) }
     {
-        let Entry::Live(consumer) = self else {
+        if !self.live {
             return Ok(());
-        };
-        let text = end_consumer(consumer)?;
-        *self = Entry::Gone(text);
+        }
+        self.consumer.end()?;
+        self.live = false;
         Ok(())
     }
 
-    /// What the consumer wrote since its text was last taken, also where it is gone. It takes no memory.
-    pub fn text(&mut self, alloc: Global) -> Vec<u8>
-        ensures { TextTaken C.keep C.output C.represents result.items self.old self.new }
+    /// What the consumer wrote since its text was last taken, also where it takes no groups. It takes no memory.
+    pub fn text(&mut self) -> Vec<u8>
+        ensures same { IsSame C.keep C.output self.old.consumer self.new.consumer }
+        ensures taken { TextTaken C.keep C.output C.represents result.items self.old self.new }
     {
-        match self {
-            Entry::Live(consumer) => consumer.take_text(),
-            Entry::Gone(text) => replace(text, Vec::new(alloc)),
-        }
+        self.consumer.take_text()
+    }
+
+    /// Gives it no more groups; its text stays to be taken. It takes no memory.
+    pub fn stop(&mut self)
+        ensures consumer { self.new.consumer ≡ self.old.consumer }
+        ensures stopped { self.new.live ≡ false }
+    {
+        self.live = false;
     }
 }
