@@ -142,11 +142,12 @@ gone_more sink d calls done item g = record {
   last = g.last;
   rest = g.rest ++ item ∷ [];
   here = g.here;
+  one = g.one;
   parts = ap (λ (x : List Item). x ++ item ∷ []) g.parts ∙ append_assoc (g.done ++ g.last) g.rest (item ∷ []);
   whole = λ e. let so = g.whole e in absurd cc;
   grows = g.grows;
   ends = g.ends;
-  cut = g.cut;
+  final = g.final;
 }
 
 gone_end : (sink : ℕ) (d : Due) (calls : List Call) (done : List Item) → Gone sink d calls done false → Gone sink d calls done true
@@ -160,11 +161,12 @@ gone_end sink d calls done g = record {
   last = g.last;
   rest = g.rest;
   here = g.here;
+  one = g.one;
   parts = g.parts;
   whole = λ e. let so = g.whole e in absurd cc;
   grows = g.grows;
   ends = g.ends;
-  cut = g.cut;
+  final = g.final;
 }
 
 message_away : (sink : ℕ) (bytes : List ℕ) (mark : Mark) → sink ≢ ERRORS → IsAway sink (Write ERRORS bytes mark ∷ [])
@@ -202,6 +204,7 @@ module _ (text : ℕ → List Item → Bool → List ℕ) (filled : ℕ → List
           let sunk = still s.handle calls W away ∙ p.1.wrote.text in
           let said = added_here ERRORS (message_of item) Went calls (messages_of done) p.1.wrote.told ∙ flat_map_more message_of [] done item in (
             record {
+              one = omega arith;
               end = λ e. absurd cc;
               fewer = p.1.wrote.fewer;
               sunk = sunk;
@@ -226,6 +229,7 @@ module _ (text : ℕ → List Item → Bool → List ℕ) (filled : ℕ → List
       wait : (b : Bool) → Stands (holds i) s.handle d b calls done false → Waits (next i) s.handle d b calls done [] true
       wait true p = (
         record {
+          one = omega arith;
           end = λ e. refl;
           fewer = p.1.wrote.fewer;
           sunk = p.1.wrote.text;
@@ -296,6 +300,7 @@ module _ (text : ℕ → List Item → Bool → List ℕ) (filled : ℕ → List
               last = item ∷ [];
               rest = [];
               here = false;
+              one = omega arith;
               parts = sym (append-nil (done ++ item ∷ []));
               whole = λ e. absurd cc;
               grows = grows i done false (text i done false) p.1.held;
@@ -305,7 +310,7 @@ module _ (text : ℕ → List Item → Bool → List ℕ) (filled : ℕ → List
                 order = order_still s.handle d done calls W p.1.wrote.order;
                 cause = (part, last_call calls (Write ERRORS part (Failed (codes "stderr"))));
               };
-              cut = clean_still s.handle calls W (away i s at) ∙ p.1.clean;
+              final = clean_still s.handle calls W (away i s at) ∙ p.1.clean;
             };
             own_done = refl;
             own_last = refl;

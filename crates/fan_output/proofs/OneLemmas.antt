@@ -20,7 +20,7 @@ use Rattle.fan_output.specs.declared.fan.FanOutput.{FanOutput}
 use Rattle.fan_output.specs.declared.sink.Sink.{Sink}
 use Rattle.fan_output.specs.Messages.{messages_of}
 use Rattle.fan_output.specs.Ends.{Due, FailedWrite, TextEnded, TextShort, TextWritten, whole}
-use Rattle.fan_output.specs.Fan.{AreApart, AreNamed, EndedAlone, EndsAll, FanEnded, FanPrinted, FanShort, GoneNow, IsAway, IsFan, Outlet, is_cut}
+use Rattle.fan_output.specs.Fan.{AreApart, AreNamed, EndedAlone, EndsAll, FailsLast, FanEnded, FanPrinted, FanShort, GoneNow, IsAway, IsFan, Outlet}
 use Rattle.fan_output.specs.Unwritten.{blame_of, blamed_in, fails_at, first_of, first_unwritten}
 use Rattle.fan_output.specs.Laws.{CanFan, IsNew, clean_still, order_still}
 use Rattle.fan_output.proofs.PlaceLemmas.{still}
@@ -124,8 +124,8 @@ module _ (sink : ℕ) (d : Due) (reads : List ℕ) (first more : List Call) (on 
     unblamed : fails_at sink first ≡ false → first_unwritten (first ++ more) ≡ None
     unblamed clean = quiet_blames reads sink (first ++ more) on quiet (clean_still sink first more away ∙ clean)
 
-    told_end : (ending : TextEnding) → fails_at sink first ≡ is_cut ending → TextEnded sink d ending first done last all → EndedAlone sink d (first ++ more) done last all
-    told_end endings.Whole cut p = let so = p.ends in record {
+    told_end : (ending : TextEnding) → FailsLast sink d.name ending first → TextEnded sink d ending first done last all → EndedAlone sink d (first ++ more) done last all
+    told_end endings.Whole final p = let so = p.ends in record {
       ending = endings.Whole;
       ends = record {
         fewer = p.fewer;
@@ -133,14 +133,14 @@ module _ (sink : ℕ) (d : Due) (reads : List ℕ) (first more : List Call) (on 
         order = order_still sink d (done ++ last) first more p.order;
         cause = tt;
       };
-      blame = unblamed cut;
+      blame = unblamed final;
     }
-    told_end endings.Kept cut p = let so = p.ends in record {
+    told_end endings.Kept final p = let so = p.ends in record {
       ending = endings.Kept;
       ends = record { fewer = p.fewer; ends = (so.0, so.1, still sink first more away ∙ so.2, told); order = order_still sink d (done ++ last) first more p.order; cause = tt };
-      blame = unblamed cut;
+      blame = unblamed final;
     }
-    told_end (endings.Unwritten name) cut p = let so = p.ends in let one = one_of_left (Write sink p.cause.0 (Failed d.name)) first more p.cause.1 in record {
+    told_end (endings.Unwritten name) final p = let so = p.ends in let one = one_of_left (Write sink p.cause.0 (Failed d.name)) first more p.cause.1 in record {
       ending = endings.Unwritten name;
       ends = record {
         fewer = p.fewer;
@@ -150,7 +150,7 @@ module _ (sink : ℕ) (d : Due) (reads : List ℕ) (first more : List Call) (on 
       };
       blame = only_blame (Write sink p.cause.0 (Failed d.name)) (first ++ more) one refl fail ∙ ap Some (sym so.0);
     }
-    told_end endings.Unreported cut p =
+    told_end endings.Unreported final p =
         let wrong = one_fails_at ERRORS p.cause.0 (codes "stderr") (first ++ more) (one_of_left (Write ERRORS p.cause.0 (Failed (codes "stderr"))) first more p.cause.1) in absurd cc
 
   -- the last message couldn't be written
@@ -189,7 +189,7 @@ module _ (o : Outlet) where
 
     own_told : written_by ERRORS calls ≡ messages_of (done ++ last) → fails_at ERRORS calls ≡ false → EndedAlone o.sink o.due calls done last all
     own_told told quiet = whole_end (told_end o.sink o.due reads now.gone.first now.gone.more on_parts fail_parts now.gone.away done last all
-        (subst (λ (x : List Call). written_by ERRORS x ≡ messages_of (done ++ last)) now.gone.are told) (subst (λ (x : List Call). fails_at ERRORS x ≡ false) now.gone.are quiet) now.gone.ending now.gone.cut own)
+        (subst (λ (x : List Call). written_by ERRORS x ≡ messages_of (done ++ last)) now.gone.are told) (subst (λ (x : List Call). fails_at ERRORS x ≡ false) now.gone.are quiet) now.gone.ending now.gone.final own)
 
     own_untold : all ≡ false → FailedWrite ERRORS (codes "stderr") calls → IsPrefix (messages_of done) (written_by ERRORS calls) → IsProperPrefix (written_by ERRORS calls) (messages_of (done ++ last)) → EndedAlone o.sink o.due calls done last all
     own_untold goes cause least most = whole_end (untold_end o.sink o.due reads now.gone.first now.gone.more on_parts fail_parts now.gone.away done last all goes

@@ -1,6 +1,5 @@
 -- What one write makes of one output, and that it changes nothing of the others.
-use Rattle.std.proofs.Common.{◌≡◌, ◌≢◌, ℕ, ◌==◌, ◌&&◌, ◌||◌, Bool, true, false, List, [], ◌∷◌, ◌++◌, Option, Some, None, refl, sym, ap, subst, ◌∙◌, append_assoc, inl, inr, not, Ok, Err}
-use Rattle.std.proofs.lemmas.Bool.{eq-eqb}
+use Rattle.std.proofs.Common.{◌≡◌, ◌≢◌, ℕ, ◌==◌, ◌&&◌, ◌||◌, Bool, true, false, List, [], ◌∷◌, ◌++◌, Option, Some, None, refl, sym, ap, subst, ◌∙◌, append_assoc, arith, inl, inr, not, Ok, Err}
 use Rattle.std.proofs.lemmas.List.{append-nil}
 use Rattle.std.proofs.lemmas.List.Folds.{list_any-append}
 use Rattle.log_model.specs.Prefix.{IsPrefix, IsProperPrefix}
@@ -18,7 +17,7 @@ use Rattle.fan_output.specs.declared.ending.TextEnding.TheVariants as endings
 use Rattle.fan_output.specs.declared.sink.Sink.{Sink}
 use Rattle.fan_output.specs.Messages.{messages_of}
 use Rattle.fan_output.specs.Ends.{Due, Grows, InOrder, TextEnded, TextShort, TextWritten, whole}
-use Rattle.fan_output.specs.Fan.{Blames, Gone, GoneNow, IsAway, is_cut}
+use Rattle.fan_output.specs.Fan.{Blames, FailsLast, Gone, GoneNow, IsAway}
 use Rattle.fan_output.specs.Unwritten.{fails_at, first_of, is_unwritten}
 use Rattle.fan_output.specs.inside.Steps.{BlamesAt, Fresh, Half, HeadWaits, Puts, Waits, Wrote}
 use Rattle.fan_output.specs.Laws.{blames_still, clean_still, first_append, gone_still, gone_now_still, order_still}
@@ -48,13 +47,6 @@ and_false false = refl
 pub went_clean : (h : ℕ) (calls : List Call) (k : ℕ) (bytes : List ℕ) → fails_at h calls ≡ false → fails_at h (calls ++ Write k bytes Went ∷ []) ≡ false
 went_clean h calls k bytes clean = more_fails h calls k bytes Went ∙ ap (λ (b : Bool). b || (((k == h) && false) || false)) clean ∙ and_false (k == h)
 
-or_here : (a : Bool) → (a || true) ≡ true
-or_here true = refl
-or_here false = refl
-
-failed_cut : (h : ℕ) (calls : List Call) (bytes name : List ℕ) → fails_at h (calls ++ Write h bytes (Failed name) ∷ []) ≡ true
-failed_cut h calls bytes name = more_fails h calls h bytes (Failed name) ∙ ap (λ (b : Bool). fails_at h calls || ((b && true) || false)) (eq-eqb h h refl) ∙ or_here (fails_at h calls)
-
 -- ---- what an output comes to with a write to its sink
 
 module _ (sink : ℕ) (d : Due) (apart : sink ≢ ERRORS) (calls : List Call) (done last : List Item) (all : Bool) (half : Half sink d calls done last all) where
@@ -69,8 +61,8 @@ module _ (sink : ℕ) (d : Due) (apart : sink ≢ ERRORS) (calls : List Call) (d
     order = order_still sink d (done ++ last) calls (Write sink part mark ∷ []) half.order
 
     -- it ended with it
-    ended : Grows d → (ending : TextEnding) → fails_at sink (calls ++ Write sink part mark ∷ []) ≡ is_cut ending → TextEnded sink d ending (calls ++ Write sink part mark ∷ []) done last all → GoneNow sink d (calls ++ Write sink part mark ∷ []) done last all
-    ended grows ending cut ends = record {
+    ended : Grows d → (ending : TextEnding) → FailsLast sink d.name ending (calls ++ Write sink part mark ∷ []) → TextEnded sink d ending (calls ++ Write sink part mark ∷ []) done last all → GoneNow sink d (calls ++ Write sink part mark ∷ []) done last all
+    ended grows ending final ends = record {
       gone = record {
         first = calls ++ Write sink part mark ∷ [];
         more = [];
@@ -81,11 +73,12 @@ module _ (sink : ℕ) (d : Due) (apart : sink ≢ ERRORS) (calls : List Call) (d
         last = last;
         rest = [];
         here = all;
+        one = half.one;
         parts = sym (append-nil (done ++ last));
         whole = λ e. (refl, e);
         grows = grows;
         ends = ends;
-        cut = cut;
+        final = final;
       };
       own_done = refl;
       own_last = refl;
@@ -114,7 +107,7 @@ module _ (sink : ℕ) (d : Due) (apart : sink ≢ ERRORS) (calls : List Call) (d
     pub put_failed : Grows d → (part : List ℕ) → IsProperPrefix part text → GoneNow sink d (calls ++ Write sink part (Failed d.name) ∷ []) done last all
     put_failed grows part proper =
         let failed = Failed d.name in
-        ended part failed grows (endings.Unwritten d.name) (failed_cut sink calls part d.name) (record {
+        ended part failed grows (endings.Unwritten d.name) (calls, part, refl, half.clean) (record {
           fewer = half.fewer;
           ends = (refl, said part failed, inr (rw (sunk part failed) (prefix_append (whole d done false) part), rw (sunk part failed, append_assoc d.head (d.text done false) part) (proper_after d.head (rw is at (proper_after (d.text done false) proper)))));
           order = order part failed;
@@ -150,6 +143,7 @@ still k calls more away = written_append k calls more ∙ ap (λ (x : List ℕ).
 module _ (sink : ℕ) (d : Due) (calls more : List Call) (away : IsAway sink more) (quiet : IsAway ERRORS more) where
   pub half_still : (done last : List Item) (all : Bool) → Half sink d calls done last all → Half sink d (calls ++ more) done last all
   half_still done last all half = record {
+    one = half.one;
     fewer = half.fewer;
     end = half.end;
     sunk = still sink calls more away ∙ half.sunk;
@@ -389,6 +383,7 @@ module _ (place : ℕ) (k : Sink) (holds : List Item → Bool → List ℕ → T
           last = [];
           rest = [];
           here = false;
+          one = omega arith;
           parts = refl;
           whole = λ e. absurd cc;
           grows = grows [] false [] w.held;
@@ -398,7 +393,7 @@ module _ (place : ℕ) (k : Sink) (holds : List Item → Bool → List ℕ → T
             order = λ earlier x later e. absurd (no_item earlier x later e);
             cause = (p.is.0, last_call calls (Write k.handle p.is.0 (Failed d.name)));
           };
-          cut = failed_cut k.handle calls p.is.0 d.name;
+          final = (calls, p.is.0, refl, w.clean);
         };
         own_done = refl;
         own_last = refl;

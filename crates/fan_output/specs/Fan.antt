@@ -1,10 +1,10 @@
 -- What several outputs of one pass have printed, and how they end: each as one that is alone, and where a write to one fails the others go on (this project's choice).
-use Rattle.std.specs.Prelude.{◌≡◌, ◌≢◌, ℕ, suc, Bool, true, false, List, [], ◌∷◌, ◌++◌, codes, map, length, replicate, slice_get, Option, Some, None}
+use Rattle.std.specs.Prelude.{◌≡◌, ◌≢◌, ℕ, suc, ◌≤◌, Bool, true, false, List, [], ◌∷◌, ◌++◌, codes, map, length, replicate, slice_get, Option, Some, None}
 use Rattle.std.specs.List.{list_any}
 use Rattle.log_model.specs.Prefix.{IsPrefix, IsProperPrefix}
 use Rattle.vio.specs.declared.world.TheConstants.{ERRORS}
 use Rattle.vio.specs.World.{Seen, Writing}
-use Rattle.vio.specs.Calls.{Call, Write, written_by}
+use Rattle.vio.specs.Calls.{Failed, Call, Write, written_by}
 use Rattle.ring_layout.specs.declared.item.Item.{Item}
 use Rattle.fan_output.specs.declared.ending.TextEnding.{TextEnding}
 use Rattle.fan_output.specs.declared.ending.TextEnding.TheVariants as endings
@@ -25,13 +25,14 @@ IsAway sink [] = Prim.Unit {0}
 IsAway sink (Write h bytes mark ∷ calls) = (h ≢ sink) × IsAway sink calls
 IsAway sink (call ∷ calls) = IsAway sink calls
 
--- whether an output ended with a write to its sink that failed
-abbrev pub is_cut : TextEnding → Bool
-is_cut (endings.Unwritten name) = true
-is_cut ending = false
+-- which writes to its sink failed, of an output that ended: the last of its calls and no other, which was counted under the sink's name, where it ended with that; else none
+abbrev pub FailsLast : ℕ → List ℕ → TextEnding → List Call → Type 0
+FailsLast sink name (endings.Unwritten other) calls =
+    (before : List Call) × (part : List ℕ) × (calls ≡ before ++ Write sink part (Failed name) ∷ []) × (fails_at sink before ≡ false)
+FailsLast sink name ending calls = fails_at sink calls ≡ false
 
--- an output ended: by the first of the calls, at the first of the items, as an output ends that is alone; with a write to its sink that failed exactly where one did; and nothing was
--- written to its sink behind
+-- an output ended: by the first of the calls, at the first of the items, as an output ends that is alone, with at most one item that wasn't printed whole before; where a write to its sink
+-- failed that was the last of these calls, and no other write to it did; and nothing was written to its sink behind
 pub record Gone (sink : ℕ) (d : Due) (calls : List Call) (met : List Item) (all : Bool) : Type 0 where
   pub first : List Call
   pub more : List Call
@@ -42,11 +43,12 @@ pub record Gone (sink : ℕ) (d : Due) (calls : List Call) (met : List Item) (al
   pub last : List Item
   pub rest : List Item
   pub here : Bool
+  pub one : length last ≤ 1
   pub parts : met ≡ (done ++ last) ++ rest
   pub whole : here ≡ true → (rest ≡ []) × (all ≡ true)
   pub grows : Grows d
   pub ends : TextEnded sink d ending first done last here
-  pub cut : fails_at sink first ≡ is_cut ending
+  pub final : FailsLast sink d.name ending first
 
 -- it ended at these, the last of all items
 pub record GoneNow (sink : ℕ) (d : Due) (calls : List Call) (done last : List Item) (all : Bool) : Type 0 where

@@ -88,11 +88,12 @@ gone_still sink d calls more met all away g = record {
   last = g.last;
   rest = g.rest;
   here = g.here;
+  one = g.one;
   parts = g.parts;
   whole = g.whole;
   grows = g.grows;
   ends = g.ends;
-  cut = g.cut;
+  final = g.final;
 }
 
 -- and so where it ended with the last of all items

@@ -12,7 +12,8 @@ is_unwritten h call = false
 abbrev pub fails_at : ℕ → List Call → Bool
 fails_at h calls = list_any (is_unwritten h) calls
 
--- the name under which a call that is marked so was counted, if it was under one
+-- the name under which a call that is marked so was counted, if it was under one. A write that was counted under each name of its handle (`FailedEach`) is one that failed, for `fails_at`
+-- too, but has no one name to tell. Outputs make none: `FailsLast` says of each sink that no write failed, or one alone, which was counted under the sink's name
 abbrev pub blame_of : Mark → Option (List ℕ)
 blame_of (Failed name) = Some name
 blame_of mark = None

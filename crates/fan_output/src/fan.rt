@@ -1,6 +1,6 @@
 //! Several texts with their sinks.
 
-ghost use Rattle.std.specs.Prelude.{◌≡◌, Bool, true, IfOk, replicate};
+ghost use Rattle.std.specs.Prelude.{◌≡◌, Bool, true, [], ◌∷◌, IfOk, replicate};
 ghost use Rattle.std.specs.List.{list_any};
 ghost use Rattle.fan_output.specs.Fan.{IsFan};
 
@@ -72,5 +72,16 @@ impl<T: Texts> FanOutput<T> {
             live,
             unwritten: None,
         })
+    }
+
+    /// A text to one sink, which wasn't written.
+    pub fn of_one(alloc: Global, texts: T, sink: Sink) -> Result<FanOutput<T>, AllocError>
+        ensures fan { IfOk result (λ o. IsFan o) }
+        ensures texts { IfOk result (λ o. o.texts ≡ texts) }
+        ensures sinks { IfOk result (λ o. o.sinks.items ≡ sink ∷ []) }
+    {
+        let mut sinks = Vec::new(alloc);
+        sinks.push(sink)?;
+        FanOutput::new(alloc, texts, sinks)
     }
 }

@@ -111,6 +111,7 @@ fn print_place<W: World, T: Texts>(
     if put(world, sink.handle, &text)? {
         return Ok(!last);
     }
+    // The part that was written stays, and no more of the text is.
     texts.stop(place);
     *unwritten = first_of(*unwritten, place);
     Ok(false)
@@ -200,6 +201,7 @@ fn print_head<W: World, T: Texts>(
     if put(world, sink.handle, &sink.head)? {
         return Ok(true);
     }
+    // No text follows a head that wasn't written whole.
     texts.stop(place);
     *unwritten = first_of(*unwritten, place);
     Ok(false)

@@ -1,5 +1,5 @@
 -- What one write comes to, and what the writes at each sink come to, one after the other (this project's choice).
-use Rattle.std.specs.Prelude.{◌≡◌, ℕ, Bool, true, false, List, [], ◌∷◌, ◌++◌, slice_get, Option, Some, None, Result, Ok, Err}
+use Rattle.std.specs.Prelude.{◌≡◌, ℕ, ◌≤◌, Bool, true, false, List, [], ◌∷◌, ◌++◌, length, slice_get, Option, Some, None, Result, Ok, Err}
 use Rattle.log_model.specs.declared.fault.NoMemory.{NoMemory}
 use Rattle.log_model.specs.Prefix.{IsPrefix, IsProperPrefix}
 use Rattle.vio.specs.declared.world.TheConstants.{ERRORS}
@@ -21,6 +21,7 @@ Puts h name text (Err e) calls = (part : List ℕ) × IsPrefix part text × (cal
 
 -- what was due before the last item, or before the end, was written, and the message of that item
 pub record Half (sink : ℕ) (d : Due) (calls : List Call) (done last : List Item) (all : Bool) : Type 0 where
+  pub one : length last ≤ 1
   pub end : all ≡ true → last ≡ []
   pub fewer : d.filled done ≡ false
   pub sunk : written_by sink calls ≡ whole d done false
