@@ -14,17 +14,7 @@ use Rattle.txn_rows.proofs.GroupingLemmas.{steps_append}
 use Rattle.query_eval.specs.Meaning.{is_held}
 use Rattle.vsl_dispatch.specs.Groups.{kept, is_filled}
 use Rattle.vsl_dispatch.proofs.GroupLemmas.{kept_none, kept_filled, kept_open, kept_goes_on, filled_more}
-use Rattle.ring_layout.specs.declared.item.Item.{Item}
-use Rattle.ring_layout.specs.declared.item.Item.TheVariants as items
 use Rattle.text_printer.specs.Printer.{Plan, IsOutput, due, has_all}
-use Rattle.text_printer.specs.Taken.{taken_of}
-
--- items more are grouped behind the others
-pub taken_append : (xs ys : List Item) → taken_of (xs ++ ys) ≡ taken_of xs ++ taken_of ys
-taken_append [] ys = refl
-taken_append (items.Unit u ∷ xs) ys = ap (λ (list : List Taken). TakenUnit u ∷ list) (taken_append xs ys)
-taken_append (items.Overrun at seen ∷ xs) ys = ap (λ (list : List Taken). Missed ∷ list) (taken_append xs ys)
-taken_append (items.Missed units ∷ xs) ys = taken_append xs ys
 
 -- ---- groups that pass a test
 
@@ -98,9 +88,6 @@ text_filled writes keep test options xs ys ended filled =
 
 pub due_prefix : (p : Plan) → IsOutput p.writes → (xs ys : List Taken) (ended : Bool) → IsPrefix (due p xs false) (due p (xs ++ ys) ended)
 due_prefix p is = text_prefix p.writes is p.keep (is_held p.query) p.options
-
-pub due_flag : (p : Plan) → IsOutput p.writes → (taken : List Taken) (ended : Bool) → IsPrefix (due p taken false) (due p taken ended)
-due_flag p is taken ended = subst (λ (xs : List Taken). IsPrefix (due p taken false) (due p xs ended)) (append-nil taken) (due_prefix p is taken [] ended)
 
 -- nothing taken, no text
 pub due_none : (p : Plan) → IsOutput p.writes → (ended : Bool) → due p [] ended ≡ []

@@ -1,5 +1,3 @@
 pub mod DueLemmas
 mod AloneLemmas
 mod NextLemmas
-mod OutputLemmas
-pub mod WriteLemmas

@@ -4,10 +4,6 @@ use Rattle.std.proofs.lemmas.List.{append-nil, map-append, take_more}
 use Rattle.std.proofs.lemmas.List.Elements.{filter-append}
 use Rattle.std.specs.List.{filter}
 use Rattle.log_model.specs.Prefix.{IsPrefix}
-use Rattle.log_model.proofs.PrefixLemmas.{prefix_after, proper_after}
-use Rattle.vio.specs.World.{Seen}
-use Rattle.vio.specs.Writes.{WroteOn}
-use Rattle.vio.proofs.WholeLemmas.{Wrote-none}
 use Rattle.vsl_record.specs.Unit.{LogUnit}
 use Rattle.vsl_record.specs.declared.record_type.Record.{Record}
 use Rattle.txn_rows.specs.declared.group.Group.{Group}
@@ -23,18 +19,15 @@ use Rattle.query_eval.specs.Meaning.{is_held}
 use Rattle.query_eval.specs.declared.chosen.Chosen.{Chosen}
 use Rattle.txn_groups.specs.Groups.{GroupsState, GroupsStepped, chosen}
 use Rattle.vsl_dispatch.specs.Groups.{raw_groups, kept, is_filled}
-use Rattle.vsl_dispatch.specs.Entries.{Stands, TextTaken, is_live}
+use Rattle.vsl_dispatch.specs.Entries.{Finished, Handed, IsSame, OfferedTo, Stands, TextTaken}
 use Rattle.vsl_dispatch.specs.declared.entry.Entry.{Entry}
-use Rattle.vsl_dispatch.specs.declared.entry.Entry.TheVariants.{Live, Gone}
-use Rattle.vsl_dispatch.proofs.StandsLemmas.{stands_text, ended_text}
+use Rattle.vsl_dispatch.proofs.StandsLemmas.{ended_finished, stands_handed, stands_offered, stands_text}
 use Rattle.text_printer.specs.declared.next.Next.{Next}
 use Rattle.text_printer.specs.declared.next.Next.TheVariants.{Unit, Missed, End}
-use Rattle.text_printer.specs.declared.printer.PrintFault.{PrintFault}
-use Rattle.text_printer.specs.declared.printer.PrintFault.TheVariants.{WriteFault, NoMemory}
 use Rattle.text_printer.specs.Held.{held_groups}
-use Rattle.text_printer.specs.Printer.{Plan, PrinterState, IsOutput, IsSameSink, IsLeft, Represents, asked_groups, due}
-use Rattle.text_printer.specs.inside.Next.{Advanced, Completed, Gave, StandsOr, due_with, first_held, first_holds, is_end, item_of}
-use Rattle.text_printer.proofs.DueLemmas.{due_prefix, due_flag, tested_more, tested_end}
+use Rattle.text_printer.specs.Printer.{Plan, PrinterState, Represents, asked_groups, due, has_all, plan_of}
+use Rattle.text_printer.specs.inside.Next.{Completed, Gave, first_held, first_holds, is_end, item_of, taken_with}
+use Rattle.text_printer.proofs.DueLemmas.{tested_more, tested_end}
 
 -- a query that holds always holds for each group
 pub always_holds : (query : Query) → query.always ≡ true → (groups : List Group) → held_groups query groups ≡ groups
@@ -56,28 +49,35 @@ first_is query (group ∷ groups) = first_more (is_held query group) (chosen (qu
 first_append : (xs ys : List Chosen) → first_held (xs ++ ys) ≡ first_held xs ++ first_held ys
 first_append xs ys = rw (filter-append, map-append) refl
 
--- ---- what is due
-
--- what is due with what comes next, by the groups
-due_is : (plan : Plan) (taken : List Taken) (next : Next) → let all = asked_groups plan (taken ++ item_of next ∷ []) false in due_with plan taken next ≡ plan.writes (kept plan.keep all) (is_end next || is_filled plan.keep all)
-due_is plan taken (Unit u) = refl
-due_is plan taken Missed = refl
-due_is plan taken End = ap (λ (gs : List Group). plan.writes (kept plan.keep gs) true) (tested_end (is_held plan.query) plan.options taken)
-
--- what was due is a prefix of it
-due_on : (plan : Plan) → IsOutput plan.writes → (taken : List Taken) (next : Next) → IsPrefix (due plan taken false) (due_with plan taken next)
-due_on plan is taken (Unit u) = due_prefix plan is taken (TakenUnit u.now ∷ []) false
-due_on plan is taken Missed = due_prefix plan is taken (taken_items.Missed ∷ []) false
-due_on plan is taken End = due_flag plan is taken true
-
 module _ {C : Type 0} (keep : C → Option ℕ) (output : C → List Group → Bool → List ℕ) (represents : C → List Group → Bool → List ℕ → Type 0) where
   -- ---- groups that are given
+
+  -- none was given
+  pub gave_none : (entry : Entry C) → Gave keep output represents [] false entry entry
+  gave_none entry = record { each = λ before taken stands. subst (λ (all : List Group). Stands keep output represents false entry all taken) (sym (append-nil before)) stands }
+
+  -- one was given
+  pub gave_handed : (group : Group) (old new : Entry C) → IsSame keep output old.consumer new.consumer → Handed keep output represents group true old new → Gave keep output represents (group ∷ []) false old new
+  gave_handed group old new same handed = record { each = λ before taken stands. stands_handed keep output represents group true old new before taken same handed stands }
+
+  -- the records of a unit were offered
+  pub gave_offered : (u : LogUnit) (took : Bool) (old new : Entry C) → IsSame keep output old.consumer new.consumer → OfferedTo keep output represents u took old new → Gave keep output represents (cond took (raw_groups u) []) false old new
+  gave_offered u true old new same offered = record { each = λ before taken stands. stands_offered keep output represents u true old new before taken same offered stands }
+  gave_offered u false old new same offered = record {
+    each = λ before taken stands. subst (λ (all : List Group). Stands keep output represents false new all taken) (sym (append-nil before)) (stands_offered keep output represents u false old new before taken same offered stands);
+  }
+
+  -- it was ended
+  pub gave_end : (old new : Entry C) → IsSame keep output old.consumer new.consumer → Finished keep output represents old new → Gave keep output represents [] true old new
+  gave_end old new same finished = record {
+    each = λ before taken stands. subst (λ (all : List Group). Stands keep output represents true new all taken) (sym (append-nil before)) (ended_finished keep output represents old new before taken same finished stands);
+  }
 
   -- groups were given, and more
   gave_then : (gs hs : List Group) (ended : Bool) (old middle new : Entry C) → Gave keep output represents gs false old middle → Gave keep output represents hs ended middle new → Gave keep output represents (gs ++ hs) ended old new
   gave_then gs hs ended old middle new first next = record {
-    each = λ most writes before taken stands. subst (λ (all : List Group). StandsOr keep output represents ended most writes new all taken) (append_assoc before gs hs)
-        (next.each most writes (before ++ gs) taken (first.each most writes before taken stands));
+    each = λ before taken stands. subst (λ (all : List Group). Stands keep output represents ended new all taken) (append_assoc before gs hs)
+        (next.each (before ++ gs) taken (first.each before taken stands));
   }
 
   -- a group more was given, where the first query holds for it
@@ -100,6 +100,10 @@ module _ {C : Type 0} (keep : C → Option ℕ) (output : C → List Group → B
       subst (λ (gs : List Group). Gave keep output represents gs false old new) (sym more)
       (gave_then (held_groups query (map (raw_group vxid) (take i records))) (held_groups query (raw_group vxid rec ∷ [])) false old middle new first next)
 
+  -- groups were given, and it was ended
+  pub gave_finished : (gs : List Group) (old middle new : Entry C) → Gave keep output represents gs false old middle → IsSame keep output middle.consumer new.consumer → Finished keep output represents middle new → Gave keep output represents gs true old new
+  gave_finished gs old middle new first same finished = subst (λ (all : List Group). Gave keep output represents all true old new) (append-nil gs) (gave_then gs [] true old middle new first (gave_end middle new same finished))
+
   -- ---- what comes next, in a table
 
   -- the table took it, and the groups that it completed are left
@@ -119,7 +123,7 @@ module _ {C : Type 0} (keep : C → Option ℕ) (output : C → List Group → B
   -- the same where it completes all that is pending
   pub completed_flush : (query : Query) (next : Next) (old new : GroupsState) (left : List Chosen) (entry : Entry C) → item_of next ≡ taken_items.Missed → old.queries ≡ query ∷ [] → GroupsStepped (flush old.table.state) old new [] left
       → Completed keep output represents query next old.table new.table entry entry left
-  completed_flush query next old new left entry is only stepped = completed_all query next old new left entry entry only (rw is stepped) (record { each = λ most writes before taken stands. rw append-nil stands })
+  completed_flush query next old new left entry is only stepped = completed_all query next old new left entry entry only (rw is stepped) (gave_none entry)
 
   -- the records of a unit for which the query holds were given, each as a group by itself
   pub completed_raw : (query : Query) (next : Next) (u : LogUnit) (table : TableState) (old new : Entry C) → item_of next ≡ TakenUnit u → table.options.grouping ≡ Raw
@@ -137,59 +141,59 @@ module _ {C : Type 0} (keep : C → Option ℕ) (output : C → List Group → B
         gave = gave;
       }
 
-  -- ---- the text that is handed out
+  -- ---- a printer
 
-  -- after a text was taken of an entry, what was taken is the whole text of its groups, and it is gone where it has all that are kept, or they have ended
-  text_out : (ended : Bool) (most : Option ℕ) (writes : List Group → Bool → List ℕ) (text : List ℕ) (old new : Entry C) (groups : List Group) (taken : List ℕ)
-      → TextTaken keep output represents text old new → StandsOr keep output represents ended most writes old groups taken
-      → (taken ++ text ≡ writes (kept most groups) (ended || is_filled most groups)) × ((ended || is_filled most groups) ≡ not (is_live new))
-      × (is_live new ≡ true → (c : C) × (new ≡ Live c) × Stands keep output represents most writes (Live c) groups (writes (kept most groups) (is_filled most groups)))
-  text_out false most writes text old (Live c) groups taken took stands =
-      let now = stands_text keep output represents most writes text old (Live c) groups taken took stands in
-      (now.1, now.0.2, λ live. (c, refl, subst (λ (x : List ℕ). Stands keep output represents most writes (Live c) groups x) now.1 now.0))
-  text_out false most writes text old (Gone bytes) groups taken took stands =
-      let now = stands_text keep output represents most writes text old (Gone bytes) groups taken took stands in (now.1, now.0.0, λ live. absurd (cc live))
-  text_out true most writes text old (Live c) groups taken took stands = absurd (ended_text keep output represents most writes text old (Live c) groups taken took stands).0
-  text_out true most writes text old (Gone bytes) groups taken took stands =
-      ((ended_text keep output represents most writes text old (Gone bytes) groups taken took stands).1, refl, λ live. absurd (cc live))
+  -- what was taken with it is one item more, or the end
+  with_item : (taken : List Taken) (next : Next) → is_end next ≡ false → taken_with taken next ≡ taken ++ item_of next ∷ []
+  with_item taken (Unit u) open_ = refl
+  with_item taken Missed open_ = refl
+  with_item taken End open_ = absurd cc
 
-  -- what comes next was taken, its groups were given, and the text was taken
-  pub advanced : (plan : Plan) (next : Next) (taken : List Taken) (p q : PrinterState C) (middle given : Entry C) (left : List Chosen) (text : List ℕ) → Represents keep output represents plan p taken → q.query ≡ p.query → IsSameSink p q
-      → Completed keep output represents p.query next p.table q.table p.entry middle left → Gave keep output represents (first_held left) (is_end next) middle given → TextTaken keep output represents text given q.entry
-      → Advanced keep output represents plan next q taken text
-  advanced plan next taken p q middle given left text old query same step gave took =
+  -- the groups that are asked for of it
+  asked_with : (plan : Plan) (taken : List Taken) (next : Next) → asked_groups plan (taken_with taken next) (is_end next) ≡ asked_groups plan (taken ++ item_of next ∷ []) false
+  asked_with plan taken (Unit u) = refl
+  asked_with plan taken Missed = refl
+  asked_with plan taken End = tested_end (is_held plan.query) plan.options taken
+
+  -- the plan stays, where the options, the query and what the consumer names do
+  pub same_plan : (p q : PrinterState C) (middle : Entry C) → q.table.options ≡ p.table.options → q.query ≡ p.query → IsSame keep output p.entry.consumer middle.consumer → IsSame keep output middle.consumer q.entry.consumer → plan_of keep output q ≡ plan_of keep output p
+  same_plan p q middle options query first next = λ i. record { options = options i; query = query i; keep = (next.keeps ∙ first.keeps) i; writes = (next.writes ∙ first.writes) i }
+
+  -- what comes next was taken, and its groups were given
+  pub advanced : (next : Next) (taken : List Taken) (bytes : List ℕ) (p q : PrinterState C) (middle : Entry C) (left : List Chosen) → plan_of keep output q ≡ plan_of keep output p → Represents keep output represents p taken false bytes
+      → Completed keep output represents p.query next p.table q.table p.entry middle left → Gave keep output represents (first_held left) (is_end next) middle q.entry
+      → Represents keep output represents q (taken_with taken next) (is_end next) bytes
+  advanced next taken bytes p q middle left same old step gave =
+      let plan = plan_of keep output p in
       let all = asked_groups plan (taken ++ item_of next ∷ []) false in
-      let whole : asked_groups plan taken false ++ (step.given ++ first_held left) ≡ all = rw (sym step.groups, old.query, old.options, old.state) (sym (tested_more (is_held plan.query) plan.options taken (item_of next))) in
-      let stands = (gave_then step.given (first_held left) (is_end next) p.entry middle given step.gave gave).each plan.keep plan.writes (asked_groups plan taken false) (due plan taken false) (rw old.live old.stands) in
-      let out = text_out (is_end next) plan.keep plan.writes text given q.entry all (due plan taken false) took (rw whole at stands) in record {
-        text_due = due_is plan taken next ∙ sym out.0;
-        done = out.1;
-        goes_on = λ live. let only = out.2 live in record {
-          options = step.options ∙ old.options;
-          query = query ∙ old.query;
-          sink = same.sink ∙ old.sink;
-          name = same.name ∙ old.name;
-          is_output = old.is_output;
-          state = step.state ∙ rw (old.options, old.state) (sym (steps_append plan.options taken (item_of next ∷ []) no_state).0);
-          sound = step.sound old.sound;
-          consumer = only.0;
-          live = only.1;
-          stands = only.2;
-        };
+      let whole : asked_groups plan taken false ++ (step.given ++ first_held left) ≡ all = rw (sym step.groups, old.state refl) (sym (tested_more (is_held plan.query) plan.options taken (item_of next))) in
+      let stands = (gave_then step.given (first_held left) (is_end next) p.entry middle q.entry step.gave gave).each (asked_groups plan taken false) bytes old.stands in record {
+        grows = subst (λ (x : Plan). (list more : List Taken) (ended : Bool) → IsPrefix (due x list false) (due x (list ++ more) ended)) (sym same) old.grows;
+        state = λ open_. step.state ∙ rw (old.state refl, step.options, with_item taken next open_) (sym (steps_append p.table.options taken (item_of next ∷ []) no_state).0);
+        sound = λ open_. step.sound (old.sound refl);
+        stands = subst (λ (x : List Group). Stands keep output represents (is_end next) q.entry x bytes) (whole ∙ sym (asked_with plan taken next) ∙ ap (λ (x : Plan). asked_groups x (taken_with taken next) (is_end next)) (sym same)) stands;
       }
 
-  -- ---- writes
+  -- what was taken of its text is what is due
+  due_out : (p : PrinterState C) (taken : List Taken) (ended : Bool) → output p.entry.consumer (kept (keep p.entry.consumer) (asked_groups (plan_of keep output p) taken ended)) (ended || is_filled (keep p.entry.consumer) (asked_groups (plan_of keep output p) taken ended))
+      ≡ due (plan_of keep output p) taken ended
+  due_out p taken false = refl
+  due_out p taken true = refl
 
-  -- nothing was written
-  pub none_left : (plan : Plan) (p : PrinterState C) (next : Next) (taken : List Taken) (s : Seen) → Represents keep output represents plan p taken
-      → WroteOn plan.sink (due plan taken false) (IsLeft NoMemory (due_with plan taken next)) s s
-  none_left plan p next taken s old = record { added = []; is = rw (append-nil (due plan taken false)) (due_on plan old.is_output taken next); wrote = Wrote-none plan.sink s }
+  -- a text was taken of its consumer
+  pub text_out : (p q : PrinterState C) (text : List ℕ) (taken : List Taken) (ended : Bool) (bytes : List ℕ) → q.table ≡ p.table → plan_of keep output q ≡ plan_of keep output p → TextTaken keep output represents text p.entry q.entry → Represents keep output represents p taken ended bytes
+      → Represents keep output represents q taken ended (bytes ++ text) × (bytes ++ text ≡ due (plan_of keep output p) taken ended)
+  text_out p q text taken ended bytes table same took old =
+      let now = stands_text keep output represents text ended p.entry q.entry (asked_groups (plan_of keep output p) taken ended) bytes took old.stands in (
+        record {
+          grows = subst (λ (x : Plan). (list more : List Taken) (all : Bool) → IsPrefix (due x list false) (due x (list ++ more) all)) (sym same) old.grows;
+          state = λ open_. rw table (old.state open_);
+          sound = λ open_. rw table (old.sound open_);
+          stands = subst (λ (x : Plan). Stands keep output represents ended q.entry (asked_groups x taken ended) (bytes ++ text)) (sym same) now.0;
+        },
+        now.1 ∙ due_out p taken ended,
+      )
 
-  -- of the text that was handed out so much was written
-  pub some_left : (f : PrintFault) (plan : Plan) (q : PrinterState C) (next : Next) (taken : List Taken) (text : List ℕ) (h : ℕ) (s t : Seen) → h ≡ plan.sink → Advanced keep output represents plan next q taken text
-      → WroteOn h [] (IsLeft f text) s t → WroteOn plan.sink (due plan taken false) (IsLeft f (due_with plan taken next)) s t
-  some_left f plan q next taken text h s t sink now part = record { added = part.added; is = rw now.text_due (behind f part.is); wrote = rw sink at part.wrote }
-    where
-      behind : (f : PrintFault) → IsLeft f text part.added → IsLeft f (due plan taken false ++ text) (due plan taken false ++ part.added)
-      behind (WriteFault name) is = proper_after (due plan taken false) is
-      behind NoMemory is = prefix_after (due plan taken false) is
+  -- whether it has as many groups as are kept
+  pub filled_is : (p : PrinterState C) (taken : List Taken) (bytes : List ℕ) (b : Bool) → b ≡ p.entry.live → Represents keep output represents p taken false bytes → not b ≡ has_all (plan_of keep output p) taken
+  filled_is p taken bytes b is old = ap not is ∙ sym old.stands.live

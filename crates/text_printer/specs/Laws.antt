@@ -1,41 +1,26 @@
--- What an output printed stays printed where others are read.
-use Rattle.std.proofs.Common.{◌≡◌, ◌≢◌, ℕ, Bool, true, List, [], ◌++◌, Option, ◌∙◌}
-use Rattle.vio.specs.declared.world.TheConstants.{ERRORS}
-use Rattle.vio.specs.World.{Seen, Writing}
-use Rattle.vio.specs.Calls.{Call, Did, AreOn}
-use Rattle.vio.proofs.CallLemmas.{on_names}
+-- The text of items goes on in that of more items (this project's choice).
+use Rattle.std.proofs.Common.{◌≡◌, ℕ, Bool, false, List, [], ◌∷◌, ◌++◌, Option, refl, sym, ap, subst}
+use Rattle.log_model.specs.Prefix.{IsPrefix}
 use Rattle.txn_rows.specs.declared.group.Group.{Group}
+use Rattle.txn_rows.specs.Grouping.{Taken, TakenUnit, Missed}
 use Rattle.ring_layout.specs.declared.item.Item.{Item}
-use Rattle.text_printer.specs.declared.output.TextOutput.{TextOutput}
-use Rattle.text_printer.specs.Printer.{Plan, PrinterState, printer_state}
-use Rattle.fan_output.specs.Laws.{written_stays}
-use Rattle.text_printer.specs.Output.{CanPrint, IsNew, TextPrinted, due_of, output_plan}
+use Rattle.ring_layout.specs.declared.item.Item.TheVariants as items
+use Rattle.text_printer.specs.declared.printer.Printer.{Printer}
+use Rattle.text_printer.specs.Printer.{HoldsAt, due, plan_of, printer_state, text_at}
+use Rattle.text_printer.specs.Taken.{taken_of}
+
+-- items more are grouped behind the others
+pub taken_append : (xs ys : List Item) → taken_of (xs ++ ys) ≡ taken_of xs ++ taken_of ys
+taken_append [] ys = refl
+taken_append (items.Unit u ∷ xs) ys = ap (λ (list : List Taken). TakenUnit u ∷ list) (taken_append xs ys)
+taken_append (items.Overrun at seen ∷ xs) ys = ap (λ (list : List Taken). Missed ∷ list) (taken_append xs ys)
+taken_append (items.Missed units ∷ xs) ys = taken_append xs ys
 
 module _ {C : Type 0} (keep : C → Option ℕ) (output : C → List Group → Bool → List ℕ) (represents : C → List Group → Bool → List ℕ → Type 0) where
-  -- what was printed stays printed where others are read
-  pub printed_stays : (head : List ℕ) (p : Plan) (now : PrinterState C) (calls more : List Call) (done : List Item)
-      (reads : List ℕ)
-      → TextPrinted keep output represents head p now calls done → AreOn reads [] more →
-      TextPrinted keep output represents head p now (calls ++ more) done
-  printed_stays head p now calls more done reads printed on =
-      record {
-        represents_done = printed.represents_done;
-        wrote = written_stays p.sink (due_of head p) calls more done reads printed.wrote on;
-      }
-
-  -- a printer may still be given an item where others are read
-  pub ready_stays : (q : PrinterState C) (reads : List ℕ) (more : List Call) (s t : Seen) →
-      CanPrint keep output represents q s → AreOn reads [] more → Did more s t → CanPrint keep output represents q t
-  ready_stays q reads more s t can on did =
-      record {
-        named = on_names reads [] more s t on did Writing q.sink q.name ∙ can.named;
-        apart = can.apart;
-        stands = can.stands;
-      }
-
-  -- a new output may be given items where its sink has its name, and is not standard error
-  pub new_ready : (o : TextOutput C) (now : Seen) → IsNew keep output represents o →
-      now.names Writing (printer_state o.printer).sink (printer_state o.printer).name ≡ true →
-      (printer_state o.printer).sink ≢ ERRORS → CanPrint keep output represents (printer_state o.printer) now
-  new_ready o now new named apart =
-      record { named = named; apart = apart; stands = (output_plan keep output o, [], new.represents_none) }
+  -- the text of items goes on in that of items and more items, ended or not
+  pub text_grows : (p : Printer C) (place : ℕ) (met : List Item) (all : Bool) (taken : List ℕ) →
+      HoldsAt keep output represents p place met all taken → (list more : List Item) (ended : Bool) →
+      IsPrefix (text_at keep output p place list false) (text_at keep output p place (list ++ more) ended)
+  text_grows p place met all taken held list more ended =
+      subst (λ (x : List Taken). IsPrefix (text_at keep output p place list false) (due (plan_of keep output (printer_state p)) x ended))
+      (sym (taken_append list more)) (held.1.grows (taken_of list) (taken_of more) ended)

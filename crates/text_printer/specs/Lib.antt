@@ -1,6 +1,5 @@
 pub mod Held
 pub mod Laws
-pub mod Output
 pub mod Printer
 pub mod Taken
 pub mod inside

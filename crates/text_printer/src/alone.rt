@@ -4,11 +4,11 @@ ghost use Rattle.std.specs.Prelude.{◌≡◌, IfOk};
 ghost use Rattle.query_eval.specs.Asker.{asker_query};
 ghost use Rattle.text_printer.specs.inside.Alone.{IsUnseen};
 
+use log_model::NoMemory;
 use query_eval::{Answer, Asker};
 use query_parser::Query;
 use std::alloc::Global;
 use txn_rows::{Group, raw_group};
-use vio::NoMemory;
 use vsl_record::{RecordView, Vxid};
 
 /// A query that records by themselves are asked, as under raw grouping. It borrows the query.

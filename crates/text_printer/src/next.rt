@@ -5,20 +5,21 @@ ghost use Rattle.txn_rows.specs.declared.group.Grouping.TheVariants.{Raw};
 ghost use Rattle.txn_rows.specs.Grouping.{raw_group};
 ghost use Rattle.txn_groups.specs.Groups.{groups_state};
 ghost use Rattle.vsl_dispatch.specs.Groups.{raw_groups};
+ghost use Rattle.vsl_dispatch.specs.Entries.{IsSame};
 ghost use Rattle.text_printer.specs.Held.{held_groups};
 ghost use Rattle.text_printer.specs.inside.Asked.{alone_query};
 ghost use Rattle.text_printer.specs.inside.Next.{Completed, Gave, first_held, is_end};
 
 use crate::alone::AskedAlone;
+use log_model::NoMemory;
 use query_eval::Chosen;
 use std::alloc::Global;
 use txn_groups::Groups;
 use txn_rows::Grouping;
-use vio::NoMemory;
 use vsl_dispatch::{Consumer, Entry};
 use vsl_record::{RecordView, Unit, Vxid};
 
-/// What a printer is told of next.
+/// What a printer takes next.
 #[derive(Drop)]
 pub(crate) enum Next<'a> {
     /// A unit of the log.
@@ -42,12 +43,14 @@ impl Next<'_> {
 }
 
 /// Gives an entry a record as a group by itself, where the query holds for it.
+#[tactic(auto, using(crate::proofs::NextLemmas::gave_handed, crate::proofs::NextLemmas::gave_none))]
 fn give_record<C: Consumer>(
     asked: &mut AskedAlone<'_>,
     entry: &mut Entry<C>,
     vxid: Vxid,
     rec: &RecordView<'_>,
 ) -> Result<(), NoMemory>
+    ensures consumer { IsSame C.keep C.output entry.old.consumer entry.new.consumer }
     ensures gave { OnOk result (Gave C.keep C.output C.represents
         (held_groups (alone_query asked.old) (raw_group vxid rec.now ∷ [])) false entry.old entry.new) }
     ensures same { alone_query asked.new ≡ alone_query asked.old }
@@ -64,6 +67,7 @@ fn give_records<C: Consumer>(
     entry: &mut Entry<C>,
     unit: &Unit,
 ) -> Result<(), NoMemory>
+    ensures consumer { IsSame C.keep C.output entry.old.consumer entry.new.consumer }
     ensures gave { OnOk result (Gave C.keep C.output C.represents
         (held_groups (alone_query asked.old) (raw_groups unit.now)) false entry.old entry.new) }
     ensures same { alone_query asked.new ≡ alone_query asked.old }
@@ -76,7 +80,9 @@ fn give_records<C: Consumer>(
 }
 
 /// Offers an entry the records of a unit, each as a group by itself, where the query holds for all; whether it took them.
+#[tactic(auto, using(crate::proofs::NextLemmas::gave_offered, crate::proofs::NextLemmas::gave_none))]
 fn offer<C: Consumer>(always: bool, entry: &mut Entry<C>, unit: &Unit) -> Result<bool, NoMemory>
+    ensures consumer { IsSame C.keep C.output entry.old.consumer entry.new.consumer }
     ensures always { result ≡ Ok true → always ≡ true }
     ensures gave { IfOk result
         (λ took. Gave C.keep C.output C.represents
@@ -97,6 +103,7 @@ fn take_alone<C: Consumer>(
     entry: &mut Entry<C>,
     unit: &Unit,
 ) -> Result<bool, NoMemory>
+    ensures consumer { IsSame C.keep C.output entry.old.consumer entry.new.consumer }
     ensures raw { result ≡ Ok true → grouping ≡ Raw }
     ensures gave { IfOk result
         (λ took. Gave C.keep C.output C.represents
@@ -125,6 +132,9 @@ pub(crate) fn complete<C: Consumer>(
     next: Next<'_>,
 ) -> Result<Vec<Chosen>, NoMemory>
     requires asked { (groups_state groups.old).queries ≡ alone_query asked.old ∷ [] }
+    ensures consumer { IsSame C.keep C.output entry.old.consumer entry.new.consumer }
+    ensures options { (groups_state groups.new).table.options ≡
+        (groups_state groups.old).table.options }
     ensures completed { IfOk result
         (λ left. Completed C.keep C.output C.represents (alone_query asked.old) next.entry
         (groups_state groups.old).table
@@ -149,8 +159,10 @@ pub(crate) fn complete<C: Consumer>(
 }
 
 /// Gives an entry a group, where the first query holds for it.
+#[tactic(auto, using(crate::proofs::NextLemmas::gave_handed, crate::proofs::NextLemmas::gave_none))]
 fn give_group<C: Consumer>(entry: &mut Entry<C>, chosen: &Chosen) -> Result<(), NoMemory>
-    ensures { OnOk result (Gave C.keep C.output C.represents
+    ensures consumer { IsSame C.keep C.output entry.old.consumer entry.new.consumer }
+    ensures gave { OnOk result (Gave C.keep C.output C.represents
         (first_held (chosen.now ∷ [])) false entry.old entry.new) }
 {
     let [true, ..] = chosen.holds.as_slice() else {
@@ -160,13 +172,14 @@ fn give_group<C: Consumer>(entry: &mut Entry<C>, chosen: &Chosen) -> Result<(), 
 }
 
 /// Gives an entry the groups for which the first query holds, and ends it where no more will follow.
-#[tactic(auto, using(crate::proofs::NextLemmas::gave_next))]
+#[tactic(auto, using(crate::proofs::NextLemmas::gave_next, crate::proofs::NextLemmas::gave_finished))]
 pub(crate) fn give_all<C: Consumer>(
     entry: &mut Entry<C>,
     all: &[Chosen],
     ended: bool,
 ) -> Result<(), NoMemory>
-    ensures { OnOk result (Gave C.keep C.output C.represents
+    ensures consumer { IsSame C.keep C.output entry.old.consumer entry.new.consumer }
+    ensures gave { OnOk result (Gave C.keep C.output C.represents
         (first_held all.now) ended entry.old entry.new) }
 {
     for chosen in all {

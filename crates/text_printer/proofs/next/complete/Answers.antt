@@ -1,4 +1,5 @@
 use Rattle.std.proofs.Common.{ap, refl, sym, Ok, ◌∙◌, inl, inr}
+use Rattle.txn_rows.specs.TableState.{TableState}
 use Rattle.txn_groups.specs.Groups.{groups_state}
 use Rattle.text_printer.specs.declared.next.Next.TheVariants.{Unit}
 use Rattle.text_printer.specs.inside.Next.{item_of}
@@ -18,6 +19,8 @@ returns-in_ok-step-in-Unit-clause-completed g c =
 pub returns-in_ok-flush-in-Missed : goal.returns-in_ok-flush-in-Missed
 returns-in_ok-flush-in-Missed g c = let stepped = rw c.new-left.ensures.items at c.in_ok-flush-in-Missed.ensures.ok in record {
   completed = completed_flush _ _ _ _ c.args.next (groups_state c.args.groups.now) (groups_state c.flush.new.self) _ _ (elim c.in-Missed.is [ inl missed ↦ ap item_of missed | inr ended ↦ ap item_of ended ]) c.requires.asked stepped;
+  consumer = record { keeps = refl; writes = refl };
+  options = ap (λ (t : TableState). t.options) stepped.table.state;
   asked = stepped.queries ∙ c.requires.asked;
   same = refl;
 }

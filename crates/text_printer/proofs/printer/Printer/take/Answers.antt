@@ -1,12 +1,16 @@
-use Rattle.std.proofs.Common.{◌∙◌}
-use Rattle.std.proofs.lemmas.Result.{err_from_is_err_and}
-use Rattle.text_printer.proofs.NextLemmas.{none_left, some_left}
+use Rattle.std.proofs.Common.{refl}
+use Rattle.std.proofs.lemmas.Result.{on_ok_weaker}
+use Rattle.txn_groups.specs.Groups.{groups_state}
+use Rattle.text_printer.specs.Printer.{PrinterState, printer_state}
+use Rattle.text_printer.proofs.NextLemmas.{advanced, same_plan}
 use Rattle.text_printer.proofs.printer.Printer.take.Goals as goal
 
-pub returns-in_default-clause-refused : goal.returns-in_default-clause-refused
-returns-in_default-clause-refused g c plan taken = none_left _ _ _ plan _ c.args.next taken _
-
-pub returns-in_err-print-clause-refused : goal.returns-in_err-print-clause-refused
-returns-in_err-print-clause-refused g c =
-    let err = err_from_is_err_and c.from_residual.result c.from_residual.ensures.1 in
-    rw (err.1, err.2) (λ plan taken old. some_left _ _ _ c.in_err-print.field-0.0 plan _ c.args.next taken _ _ _ _ (c.advance.ensures.same.sink ∙ old.sink) (c.in-Ok.ensures.advanced plan taken old) (rw c.deref.ensures.value at c.in_err-print.ensures.refused))
+pub returns-clause-takes : goal.returns-clause-takes
+returns-clause-takes g c =
+    let p = printer_state c.args.self.now in
+    let q : PrinterState g.row.C.Denot = record { table = (groups_state c.complete.new.groups).table; query = c.args.self.now.query.now; entry = c.give_all.new.entry } in
+    let middle = c.complete.new.entry in
+    let same = same_plan g.C.Consumer.keep g.C.Consumer.output g.C.Consumer.represents p q middle c.in_ok-left.ensures.options refl c.in_ok-left.ensures.consumer c.give_all.ensures.consumer in
+    on_ok_weaker c.give_all.result
+    (λ gave taken bytes old. advanced g.C.Consumer.keep g.C.Consumer.output g.C.Consumer.represents c.args.next taken bytes p q middle c.in_ok-left.left.items same old (rw c.args.self.now.asked_alone at c.in_ok-left.ensures.completed)
+    (rw (c.deref.ensures.value, c.is_end-ended.ensures) at gave)) c.give_all.ensures.gave

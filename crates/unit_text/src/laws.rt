@@ -4,7 +4,7 @@ ghost use Rattle.std.specs.Prelude.{◌≡◌, ℕ, Bool, List};
 ghost use Rattle.vsl_record.specs.Unit.{Log};
 ghost use Rattle.run_sources.specs.Sources.{unit_items};
 ghost use Rattle.fan_output.specs.Ends.{whole};
-ghost use Rattle.unit_output.specs.Units.{converted, units_due};
+ghost use Rattle.unit_text.specs.Units.{converted, units_due};
 
 /// What is due of a log is a log file of its units.
 pub fn a_converted_log_is_the_log()

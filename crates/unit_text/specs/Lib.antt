@@ -1,3 +1,3 @@
 pub mod Units
-pub mod Output
+pub mod Texts
 pub mod Laws
