@@ -1,5 +1,5 @@
 -- A log file that is appended to: it is created, and looked at where it has bytes.
-use Rattle.std.proofs.Common.{◌≡◌, ℕ, ◌+◌, ◌<◌, ◌≤◌, Bool, true, false, if◌then◌else◌, List, [], ◌∷◌, ◌++◌, length, take, take-add, drop, Ok, Err, refl, sym, ap, subst, ◌∙◌, inl, inr, arith, codes}
+use Rattle.std.proofs.Common.{◌≡◌, ℕ, ◌+◌, ◌<◌, ◌≤◌, Bool, true, false, List, [], ◌∷◌, ◌++◌, length, take, take-add, drop, Ok, Err, refl, sym, ap, subst, ◌∙◌, inl, inr, arith, codes}
 use Rattle.std.specs.Bool.{MatchBool}
 use Rattle.std.specs.Str.{bytes_eq}
 use Rattle.std.proofs.lemmas.List.{length-take-le}
@@ -11,13 +11,12 @@ use Rattle.log_model.specs.declared.text.Text.{Text}
 use Rattle.vio.specs.declared.fault.WorldFault.TheVariants as world
 use Rattle.vio.specs.declared.world.Created.{Created}
 use Rattle.vio.specs.declared.world.TheConstants.{OUTPUT}
-use Rattle.vio.specs.World.{Seen, Opening, Opened, Reading, Read, ReadSome, OnlyCounts, FaultsRose, IsAtEnd}
+use Rattle.vio.specs.World.{Seen, Opening, Opened, Reading, Read, OnlyCounts, FaultsRose, IsAtEnd}
 use Rattle.vio.specs.Calls.{Went, MetEnd, Mark, Call, Called, Create, Did, Open, Take, last_failed, none_failed}
 use Rattle.vio.specs.Calls as calling
-use Rattle.vio.specs.Touches.{IsOneOf}
 use Rattle.vio.specs.Streams.{CreatesStream, IsMadeBy}
 use Rattle.vio.proofs.CallLemmas.{did_take, did_then}
-use Rattle.vio.proofs.ReadLemmas.{called_failed, called_refused}
+use Rattle.vio.proofs.ReadLemmas.{called_refused}
 use Rattle.vio.proofs.StepLemmas.{stopped_one}
 use Rattle.vio.proofs.WholeLemmas.{FaultsRose-later, Read-counts, Read-nothing, Read-then}
 use Rattle.vsl_file.specs.File.{file_header}
@@ -26,7 +25,7 @@ use Rattle.job_steps.specs.declared.fault.ToolFault.TheVariants.{NoOpen, OldLog,
 use Rattle.job_steps.specs.Appends.{IsStart, IsStartBy, LookStops}
 use Rattle.job_steps.specs.Steps.{AppendLog, Found, FoundSink, Passes, Stops}
 use Rattle.job_steps.specs.Took.{EndedBy, TookAll}
-use Rattle.job_steps.specs.inside.Tasks.{HasRead, IsStartOf, Looked}
+use Rattle.job_steps.specs.inside.Tasks.{HasRead, IsStartOf, Looked, ReadFew}
 use Rattle.job_steps.proofs.ObjectLemmas.{took_one}
 use Rattle.job_steps.proofs.TookLemmas.{called_so}
 
@@ -52,11 +51,12 @@ module _ (handle size : ℕ) (start : List ℕ) (s t u : Seen) (has : HasRead ha
       })
 
   -- a read failed
-  pub none_read : OnlyCounts t u → FaultsRose Reading handle t u → ReadSome handle s u × FaultsRose Reading handle s u
-  none_read only rose = (
-    record { bytes = take size start; read = Read-nothing (take size start) has.read (Read-counts handle t u only) },
-    FaultsRose-later Reading handle s t u has.read.counts has.read.names rose,
-  )
+  pub none_read : size < 8 → OnlyCounts t u → FaultsRose Reading handle t u → ReadFew handle s u × FaultsRose Reading handle s u
+  none_read few only rose =
+      let long : length (take size start) ≡ size = length-take-le size start (omega (arith, has.within, has.eight)) in (
+        record { bytes = take size start; read = Read-nothing (take size start) has.read (Read-counts handle t u only); few = omega (arith, long, few) },
+        FaultsRose-later Reading handle s t u has.read.counts has.read.names rose,
+      )
 
 -- eight were read
 pub all_read : (handle size : ℕ) (start : List ℕ) (s t : Seen) → HasRead handle size start s t → 8 ≤ size → Called (IsStartOf handle (take size start)) s t
@@ -95,8 +95,12 @@ looked_old A name start header copy h s t u is_name opened p is other =
 pub looked_shut : (A : Type 0) (name : List ℕ) (copy : Text) (s t : Seen) → copy ≡ name → OnlyCounts s t → HasNewFault (s.faults Opening name) (t.faults Opening name) → Called (Looked {A = A} name (Err (Fault (NoOpen copy)))) s t
 looked_shut A name copy s t is_name only rose = called_so (λ calls are. inl (are, ap NoOpen is_name)) (called_refused only rose)
 
-pub looked_unread : (A : Type 0) (name : List ℕ) (copy : Text) (h : ℕ) (s t u : Seen) → copy ≡ name → Opened name h s t → ReadSome h t u → FaultsRose Reading h t u → Called (Looked {A = A} name (Err (Fault (ReadFault copy)))) s u
-looked_unread A name copy h s t u is_name opened some rose = called_so (λ calls p. inr (inl (p.0, p.1, p.2, ap ReadFault is_name))) (called_failed opened some rose)
+pub looked_unread : (A : Type 0) (name : List ℕ) (copy : Text) (h : ℕ) (s t u : Seen) → copy ≡ name → Opened name h s t → ReadFew h t u → FaultsRose Reading h t u → Called (Looked {A = A} name (Err (Fault (ReadFault copy)))) s u
+looked_unread A name copy h s t u is_name opened some rose = record {
+  calls = Open name h ∷ Take h some.bytes (calling.Failed name) ∷ [];
+  did = (t, opened, (u, (some.read, rose.each name opened.is_named), refl));
+  is = inr (inl (h, some.bytes, refl, ap ReadFault is_name, some.few));
+}
 
 -- ---- created and looked at
 
@@ -140,11 +144,6 @@ look_last name h fault looked (inl p) = ap (λ (cs : List Call). last_failed (Cr
 look_last name h fault looked (inr (inl p)) = ap (λ (cs : List Call). last_failed (Create true name h false ∷ cs)) p.2
 look_last name h fault looked (inr (inr p)) = ap (λ (cs : List Call). last_failed (Create true name h false ∷ cs)) p.1.2
 
--- its name is one of those that are appended to
-named_one : (b : Bool) (name : List ℕ) → b ≡ false → IsOneOf name ((if b then [] else name ∷ []) ++ [])
-named_one true name e = absurd cc
-named_one false name e = inl refl
-
 -- one that has bytes is refused by what was seen of it, or there was no memory to look at it
 pub append_ended : (A : Type 0) (name : List ℕ) (sink : Created) (halt : Halt ToolFault) (s t u : Seen) → sink.empty ≡ false → Called (CreatesStream true name (Ok sink)) s t → Called (Looked {A = A} name (Err halt)) t u → Called (EndedBy (AppendLog name ∷ []) halt) s u
 append_ended A name sink (Fault fault) s t u full p q =
@@ -160,7 +159,7 @@ append_ended A name sink NoMemory s t u full p q =
     record {
       calls = p.calls ++ q.calls;
       did = did_then p.calls q.calls s t u p.did q.did;
-      is = inr (record { first = []; name = name; handle = sink.handle; opens = (tt, omega arith); appends = named_one (bytes_eq name (codes "-")) name made.0; are = λ i. made.1 i ++ q.is i });
+      is = inr (record { earlier = []; name = name; later = []; parts = refl; file = made.0; found = []; first = []; passed = refl; fail = refl; handle = sink.handle; are = λ i. made.1 i ++ q.is i });
     }
 
 -- it isn't created

@@ -8,7 +8,7 @@ use Rattle.vio.specs.declared.world.TheConstants.{INPUT, OUTPUT}
 use Rattle.vio.specs.declared.fault.NamedFault.{NamedFault}
 use Rattle.vio.specs.declared.fault.NamedFault.TheVariants as named
 use Rattle.vio.specs.World.{CallKind, Opening, Creating}
-use Rattle.vio.specs.Calls.{Call, Open, Create, Refuse, AreWithin, OnlyOpen, count_given, written_by}
+use Rattle.vio.specs.Calls.{Call, Open, Create, Lack, Refuse, AreWithin, OnlyOpen, count_given, written_by}
 use Rattle.vio.specs.Named.{IsReadBy, IsRefusedBy, IsLackedBy}
 use Rattle.vio.specs.Steps.{Passed, Stopped}
 use Rattle.vio.proofs.CallLemmas.{within_append, given_append, written_append, opens_written}
@@ -21,6 +21,7 @@ use Rattle.job_steps.specs.declared.fault.ToolFault.{ToolFault}
 use Rattle.job_steps.specs.declared.fault.ToolFault.TheVariants.{NoOpen}
 use Rattle.job_steps.specs.Appends.{IsStartBy, LookStops}
 use Rattle.job_steps.specs.Steps.{Step, RefuseWords, TakeRules, TakeQuery, TakeFormat, OpenLog, ReadFeed, MakeSink, AppendLog, Found, Passes, Stops, most_query_bytes, file_named, opens, creates, opens_of, creates_of}
+use Rattle.job_steps.specs.Took.{LacksLook}
 
 -- calls open and create files of these names alone, give no more handles than there are names, and write nothing
 pub record StaysWithin (opened created : List (List ℕ)) (calls : List Call) : Type 0 where
@@ -141,3 +142,16 @@ stopped_within steps fault calls p =
     let last = within_wider (opens p.step) (opens_of p.later) (creates p.step) (creates_of p.later) p.last (stops_within p.step fault p.last p.stops) in
     rw (p.are, p.parts, flat_map-append opens p.earlier (p.step ∷ p.later), flat_map-append creates p.earlier (p.step ∷ p.later))
     (within_both (opens_of p.earlier) (opens p.step ++ opens_of p.later) (creates_of p.earlier) (creates p.step ++ creates_of p.later) p.first p.last (passed_within p.earlier p.found p.first p.passed) last)
+
+-- what is appended to was created, and there was no memory to look at it
+lacked_within : (b : Bool) (name : List ℕ) (h : ℕ) → b ≡ false → StaysWithin (if b then [] else name ∷ []) (if b then [] else name ∷ []) (Create true name h false ∷ Lack ∷ [])
+lacked_within true name h file = absurd cc
+lacked_within false name h file = record { within = (inl refl, (tt, tt)); few = omega arith; writes = λ i. refl }
+
+pub look_within : (steps : List Step) (calls : List Call) → LacksLook steps calls → StaysWithin (opens_of steps) (creates_of steps) calls
+look_within steps calls p =
+    let step = AppendLog p.name in
+    let own : List Call = Create true p.name p.handle false ∷ Lack ∷ [] in
+    let last = within_wider (opens step) (opens_of p.later) (creates step) (creates_of p.later) own (lacked_within (bytes_eq p.name (codes "-")) p.name p.handle p.file) in
+    rw (p.are, p.parts, flat_map-append opens p.earlier (step ∷ p.later), flat_map-append creates p.earlier (step ∷ p.later))
+    (within_both (opens_of p.earlier) (opens step ++ opens_of p.later) (creates_of p.earlier) (creates step ++ creates_of p.later) p.first own (passed_within p.earlier p.found p.first p.passed) last)

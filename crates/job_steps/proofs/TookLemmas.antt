@@ -5,15 +5,13 @@ use Rattle.std.proofs.lemmas.Grind.{flat_map-append}
 use Rattle.log_model.specs.declared.fault.Halt.{Halt}
 use Rattle.log_model.specs.declared.fault.Halt.TheVariants.{Fault, NoMemory}
 use Rattle.vio.specs.World.{Seen}
-use Rattle.vio.specs.Touches.{IsOneOf}
 use Rattle.vio.specs.Calls.{Call, Called, Create, Lack, AreWithin, OnlyOpen, none_failed}
 use Rattle.vio.specs.Steps.{Passed, PassedSo, Halted}
 use Rattle.vio.proofs.CallLemmas.{did_then, none_failed_then, opens_more, opens_then}
 use Rattle.vio.proofs.StepLemmas.{passed_then, halted_before, halted_behind}
-use Rattle.vio.proofs.TouchLemmas.{one_of_right}
 use Rattle.job_steps.specs.declared.fault.ToolFault.{ToolFault}
-use Rattle.job_steps.specs.Steps.{Step, Found, Passes, Stops, opens, opens_of, creates_of}
-use Rattle.job_steps.specs.Took.{EndedBy, appends, appends_of}
+use Rattle.job_steps.specs.Steps.{Step, AppendLog, Found, Passes, Stops, opens, opens_of, creates_of}
+use Rattle.job_steps.specs.Took.{EndedBy}
 use Rattle.job_steps.proofs.StepFacts.{passed_within}
 
 -- calls that are so are so in another way
@@ -67,11 +65,16 @@ ended_behind xs ys (Fault fault) us a b none p fail ended = halted_behind Passes
 ended_behind xs ys NoMemory us a b none p fail (inl only) =
     inl (subst (λ (opened : List (List ℕ)). OnlyOpen opened (a ++ b)) (sym (flat_map-append opens xs ys)) (opens_then (opens_of xs) (opens_of ys) a b (opens_alone xs us a none p) only))
 ended_behind xs ys NoMemory us a b none p fail (inr look) = inr (record {
-  first = a ++ look.first;
+  earlier = xs ++ look.earlier;
   name = look.name;
+  later = look.later;
+  parts = ap (λ (steps : List Step). xs ++ steps) look.parts ∙ sym (append_assoc xs look.earlier (AppendLog look.name ∷ look.later));
+  file = look.file;
+  found = us ++ look.found;
+  first = a ++ look.first;
+  passed = passed_then Passes Stops xs look.earlier us look.found a look.first p look.passed;
+  fail = none_failed_then a look.first fail look.fail;
   handle = look.handle;
-  opens = subst (λ (opened : List (List ℕ)). OnlyOpen opened (a ++ look.first)) (sym (flat_map-append opens xs ys)) (opens_then (opens_of xs) (opens_of ys) a look.first (opens_alone xs us a none p) look.opens);
-  appends = subst (λ (names : List (List ℕ)). IsOneOf look.name names) (sym (flat_map-append appends xs ys)) (one_of_right look.name (appends_of xs) (appends_of ys) look.appends);
   are = ap (λ (calls : List Call). a ++ calls) look.are ∙ sym (append_assoc a look.first (Create true look.name look.handle false ∷ Lack ∷ []));
 })
 

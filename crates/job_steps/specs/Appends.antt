@@ -27,11 +27,12 @@ abbrev pub IsAppendedBy : List ℕ → ℕ → Bool → List Call → Type 0
 IsAppendedBy name h empty calls = (made : List Call) × (looked : List Call) × (calls ≡ made ++ looked) ×
     IsMadeBy true name h empty made × MatchBool empty (looked ≡ []) (IsStartBy name file_header looked)
 
--- what was looked at can't be appended to: it can't be opened; a read of it failed; or its first bytes aren't that header
+-- what was looked at can't be appended to: it can't be opened; a read of it failed, before as many bytes came as a header has; or its first bytes aren't that header
 abbrev pub LookStops : List ℕ → ToolFault → List Call → Type 0
 LookStops name fault looked =
     ((looked ≡ Refuse Opening name ∷ []) × (fault ≡ NoOpen name))
-    ⊎ (((h : ℕ) × (bytes : List ℕ) × (looked ≡ Open name h ∷ Take h bytes (calling.Failed name) ∷ []) × (fault ≡ ReadFault name))
+    ⊎ (((h : ℕ) × (bytes : List ℕ) × (looked ≡ Open name h ∷ Take h bytes (calling.Failed name) ∷ []) ×
+    (fault ≡ ReadFault name) × (length bytes < length file_header))
     ⊎ ((start : List ℕ) × IsStartBy name start looked × (start ≢ file_header) × (fault ≡ OldLog name)))
 
 -- a file can't be appended to: it isn't created; or it is, has bytes, keeps them, and is refused by what was seen of it

@@ -1,35 +1,30 @@
 -- What the steps of a job come to, all of them (this project's choice).
-use Rattle.std.specs.Prelude.{◌≡◌, ◌⊎◌, ℕ, true, false, List, [], ◌∷◌, ◌++◌, Result, Ok, Err}
-use Rattle.std.specs.List.{flat_map}
+use Rattle.std.specs.Prelude.{◌≡◌, ◌⊎◌, ℕ, true, false, List, [], ◌∷◌, ◌++◌, Result, Ok, Err, codes}
+use Rattle.std.specs.Str.{bytes_eq}
 use Rattle.log_model.specs.declared.fault.Halt.{Halt}
 use Rattle.log_model.specs.declared.fault.Halt.TheVariants.{Fault, NoMemory}
-use Rattle.vio.specs.Touches.{IsOneOf}
-use Rattle.vio.specs.Calls.{Call, Create, Lack, OnlyOpen, last_failed}
-use Rattle.vio.specs.Steps.{PassedSo, Stopped}
+use Rattle.vio.specs.Calls.{Call, Create, Lack, OnlyOpen, last_failed, none_failed}
+use Rattle.vio.specs.Steps.{Passed, PassedSo, Stopped}
 use Rattle.job_steps.specs.declared.fault.ToolFault.{ToolFault}
-use Rattle.job_steps.specs.Steps.{Step, AppendLog, Found, Passes, Stops, file_named, opens_of}
+use Rattle.job_steps.specs.Steps.{Step, AppendLog, Found, Passes, Stops, opens_of}
 
--- the names of the log files that a step appends to
-abbrev pub appends : Step → List (List ℕ)
-appends (AppendLog name) = file_named name
-appends step = []
-
--- the names of those that steps append to
-abbrev pub appends_of : List Step → List (List ℕ)
-appends_of steps = flat_map appends steps
-
--- there was no memory to look at a log file that is appended to: it was created last, has bytes, and keeps them
-pub record LacksLook (opened appended : List (List ℕ)) (calls : List Call) : Type 0 where
-  pub first : List Call
+-- there was no memory to look at a log file that is appended to: the steps before it passed, and none of their calls failed; it was created last, has bytes, and keeps them
+pub record LacksLook (steps : List Step) (calls : List Call) : Type 0 where
+  pub earlier : List Step
   pub name : List ℕ
+  pub later : List Step
+  pub parts : steps ≡ earlier ++ AppendLog name ∷ later
+  pub file : bytes_eq name (codes "-") ≡ false
+  pub found : List Found
+  pub first : List Call
+  pub passed : Passed Passes Stops earlier found first
+  pub fail : none_failed first ≡ true
   pub handle : ℕ
-  pub opens : OnlyOpen opened first
-  pub appends : IsOneOf name appended
   pub are : calls ≡ first ++ Create true name handle false ∷ Lack ∷ []
 
 -- there was no memory for steps: files of their names were opened and read, no more than these are, and nothing was written or created; or there was none to look at what is appended to
 abbrev pub LacksSteps : List Step → List Call → Type 0
-LacksSteps steps calls = OnlyOpen (opens_of steps) calls ⊎ LacksLook (opens_of steps) (appends_of steps) calls
+LacksSteps steps calls = OnlyOpen (opens_of steps) calls ⊎ LacksLook steps calls
 
 -- steps didn't all pass: one stopped the job, and no call failed but perhaps the last; or there was no memory
 abbrev pub EndedBy : List Step → Halt ToolFault → List Call → Type 0

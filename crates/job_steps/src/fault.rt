@@ -46,7 +46,7 @@ pub enum ToolFault {
     },
     /// A write failed.
     WriteFault {
-        /// The name of what was written, or `stderr` where that was a message of an overrun.
+        /// The name of what was written, or `stderr` where that was a message of an overrun, or of what it cost.
         name: Text,
     },
     /// The input is no log file.
@@ -70,7 +70,7 @@ pub enum ToolFault {
         /// How many bytes are read of it.
         limit: u64,
     },
-    /// A log file that is to be appended to has bytes, and isn't of the version in which log files are written.
+    /// A file that has bytes was to be appended to as a log file, and doesn't begin with the header of version 2.
     OldLog {
         /// The file's name.
         name: Text,

@@ -2,14 +2,14 @@
 
 ghost use Rattle.std.specs.Prelude.{◌≡◌, ◌≢◌, ◌≤◌, true, [], ◌∷◌, take, IfOk, OnErr};
 ghost use Rattle.vio.specs.declared.world.TheConstants.{ERRORS};
-ghost use Rattle.vio.specs.World.{FaultsRose, ReadSome, Reading, Writing};
+ghost use Rattle.vio.specs.World.{FaultsRose, Reading, Writing};
 ghost use Rattle.vio.specs.Calls.{Called};
 ghost use Rattle.vio.specs.Steps.{TookSteps};
 ghost use Rattle.vsl_file.specs.File.{file_header};
 ghost use Rattle.job_steps.specs.Jobs.{write_of};
 ghost use Rattle.job_steps.specs.Steps.{AppendLog, FoundLog, FoundSink, MakeSink, OpenLog, Passes, Stops, file_named, sink_step};
 ghost use Rattle.job_steps.specs.Took.{TookAll};
-ghost use Rattle.job_steps.specs.inside.Tasks.{IsStartOf, Looked};
+ghost use Rattle.job_steps.specs.inside.Tasks.{IsStartOf, Looked, ReadFew};
 
 use crate::fault::ToolFault;
 use crate::words::{appends_log, written_name};
@@ -63,7 +63,7 @@ fn read_start<W: World>(world: &mut W, handle: u32, start: &mut [u8; 8]) -> Resu
     ensures read { IfOk result
         (λ n. Called (IsStartOf handle (take n start.new)) (W.seen world.old) (W.seen world.new)) }
     ensures within { IfOk result (λ n. n ≤ 8) }
-    ensures part { OnErr result (ReadSome handle (W.seen world.old) (W.seen world.new)) }
+    ensures part { OnErr result (ReadFew handle (W.seen world.old) (W.seen world.new)) }
     ensures rose { OnErr result (FaultsRose Reading handle (W.seen world.old) (W.seen world.new)) }
 {
     let mut size = 0;

@@ -1,5 +1,5 @@
 -- What single steps come to.
-use Rattle.std.specs.Prelude.{◌≡◌, ℕ, ◌≤◌, Bool, List, [], ◌∷◌, length, map, take, Option, Some, None, Result, Ok, Err}
+use Rattle.std.specs.Prelude.{◌≡◌, ℕ, ◌<◌, ◌≤◌, Bool, List, [], ◌∷◌, length, map, take, Option, Some, None, Result, Ok, Err}
 use Rattle.log_model.specs.declared.fault.Halt.{Halt}
 use Rattle.log_model.specs.declared.fault.Halt.TheVariants as halts
 use Rattle.vio.specs.World.{Seen, Read}
@@ -51,6 +51,12 @@ pub record HasRead (handle size : ℕ) (start : List ℕ) (before now : Seen) : 
   pub read : Read handle (take size start) before now
   pub within : size ≤ 8
   pub eight : length start ≡ 8
+
+-- fewer bytes than a header has were read from a handle
+pub record ReadFew (handle : ℕ) (before now : Seen) : Type 0 where
+  pub bytes : List ℕ
+  pub read : Read handle bytes before now
+  pub few : length bytes < length file_header
 
 -- its first bytes were read from this handle
 abbrev pub IsStartOf : ℕ → List ℕ → List Call → Type 0

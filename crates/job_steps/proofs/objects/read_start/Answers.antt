@@ -5,10 +5,10 @@ use Rattle.job_steps.proofs.AppendLemmas.{all_read, few_read, more_read, none_re
 use Rattle.job_steps.proofs.objects.read_start.Goals as goal
 
 pub returns-in_err-n-clause-part : goal.returns-in_err-n-clause-part
-returns-in_err-n-clause-part g c = OnErr-always c.from_residual.result (none_read c.args.handle c.loop-size.size c.loop-size.start _ _ _ c.loop-size.invariant c.in_err-n.ensures.same c.in_err-n.ensures.rose).0
+returns-in_err-n-clause-part g c = OnErr-always c.from_residual.result (none_read c.args.handle c.loop-size.size c.loop-size.start _ _ _ c.loop-size.invariant (omega (arith, c.loop-size-test.true)) c.in_err-n.ensures.same c.in_err-n.ensures.rose).0
 
 pub returns-in_err-n-clause-rose : goal.returns-in_err-n-clause-rose
-returns-in_err-n-clause-rose g c = OnErr-always c.from_residual.result (none_read c.args.handle c.loop-size.size c.loop-size.start _ _ _ c.loop-size.invariant c.in_err-n.ensures.same c.in_err-n.ensures.rose).1
+returns-in_err-n-clause-rose g c = OnErr-always c.from_residual.result (none_read c.args.handle c.loop-size.size c.loop-size.start _ _ _ c.loop-size.invariant (omega (arith, c.loop-size-test.true)) c.in_err-n.ensures.same c.in_err-n.ensures.rose).1
 
 pub returns-then-n-eq0-clause-read : goal.returns-then-n-eq0-clause-read
 returns-then-n-eq0-clause-read g c =
