@@ -8,6 +8,7 @@ use Rattle.vsl_record.specs.Unit.{Log}
 use Rattle.ring_layout.specs.declared.item.Item.{Item}
 use Rattle.vsl_file.specs.File.{Whole}
 use Rattle.vsl_file.specs.File as file
+use Rattle.tool_words.specs.declared.command.Names.{Names}
 use Rattle.tool_words.specs.declared.job.Job.{Job}
 use Rattle.one_run.specs.declared.met.Met.{Met}
 use Rattle.one_run.specs.declared.pass.RunEnd.{RunEnd}
@@ -15,12 +16,13 @@ use Rattle.one_run.specs.declared.pass.RunEnd.TheVariants as ends
 use Rattle.one_run.specs.Run.{Ran}
 use Rattle.run_sources.specs.declared.file_items.FileStop.{FileStop}
 use Rattle.run_sources.specs.declared.file_items.FileStop.TheVariants as stops
-use Rattle.run_sources.specs.Sources.{FileStopped}
+use Rattle.run_sources.specs.Sources.{FileCame, FileStopped}
 use Rattle.run_sources.specs.Told.{TellsLog}
 use Rattle.run_sources.proofs.ToldLemmas.{stopped_ends}
 use Rattle.fan_output.specs.declared.ending.TextEnding.{TextEnding}
 use Rattle.fan_output.specs.declared.ending.TextEnding.TheVariants as endings
 use Rattle.fan_output.specs.Ends.{Due, TextWritten, TextEnded, EndCause}
+use Rattle.unit_text.specs.Units.{units_due}
 use Rattle.job_steps.specs.declared.fault.ToolFault.{ToolFault}
 use Rattle.job_steps.specs.Jobs.{file_of, is_counting}
 use Rattle.job_steps.specs.Steps.{Found, logs_of}
@@ -28,7 +30,8 @@ use Rattle.job_runs.specs.declared.record.RunRecord.{RunRecord}
 use Rattle.job_runs.specs.Good.{HasCause, StoppedByLog}
 use Rattle.job_runs.specs.Sources.{StopsOf}
 use Rattle.job_runs.specs.Counters.{PrintsCounters, WritesText}
-use Rattle.job_runs.specs.Rows.{JobRan, PrintsGroups, end_answer, job_due, output_answer, stop_answer}
+use Rattle.job_runs.specs.Converts.{Converts}
+use Rattle.job_runs.specs.Rows.{JobRan, PrintsGroups, job_due, log_answer, output_answer, stop_answer}
 
 -- ---- a run's end
 
@@ -65,21 +68,27 @@ counters_fault : (sink : ℕ) (text : List ℕ) (fault : ToolFault) (calls : Lis
 counters_fault sink text fault calls (inl p) = let no : Some fault ≡ None = p.0 in absurd cc
 counters_fault sink text fault calls (inr p) = subst (λ (c : List Call). SomeFailed c) (sym p.1.2) (Write sink p.1.0 (Failed (codes "-")), inl refl, refl)
 
--- ---- the run of a job
+-- ---- a run
 
--- a run with a fault has a call that failed, or its log stopped it; feeds stop none
-groups_fault : (job : Job) (logs : List ℕ) (came : List Call → List Item → Bool → Type 0) (sink : ℕ) (d : Due) (fault : ToolFault) (end : RunEnd TextEnding FileStop) (met : Met) (calls : List Call) (now : Seen) → Some fault ≡ end_answer job end
-    → Ran came (StopsOf logs now) (TextWritten sink d) (TextEnded sink d) (ERRORS ∷ sink ∷ []) end met calls → HasCause logs (file_of job) fault calls now
-groups_fault job logs came sink d fault (ends.ByOutput ending) met calls now e r = inl (output_failed sink d ending fault calls e ((r.ends.5).cause))
-groups_fault job [] came sink d fault (ends.BySource why) met calls now e r = absurd r.ends.1
-groups_fault job (h ∷ others) came sink d fault (ends.BySource why) met calls now e r =
-    let same : fault ≡ stop_answer (file_of job) why = cc in
-    elim (log_stopped h (file_of job) fault why r.done calls now same r.ends.1) [ inl failed ↦ inl failed | inr log ↦ inr (h, inl refl, log) ]
+-- a run of a text that is due with a fault has a call that failed, or its log stopped it, which has this name; feeds stop none
+due_fault : (name : List ℕ) (logs : List ℕ) (came : List Call → List Item → Bool → Type 0) (sink : ℕ) (d : Due) (fault : ToolFault) (end : RunEnd TextEnding FileStop) (met : Met) (calls : List Call) (now : Seen) → Some fault ≡ log_answer name end
+    → Ran came (StopsOf logs now) (TextWritten sink d) (TextEnded sink d) (ERRORS ∷ sink ∷ []) end met calls → HasCause logs name fault calls now
+due_fault name logs came sink d fault (ends.ByOutput ending) met calls now e r = inl (output_failed sink d ending fault calls e ((r.ends.5).cause))
+due_fault name [] came sink d fault (ends.BySource why) met calls now e r = absurd r.ends.1
+due_fault name (h ∷ others) came sink d fault (ends.BySource why) met calls now e r =
+    let same : fault ≡ stop_answer name why = cc in
+    elim (log_stopped h name fault why r.done calls now same r.ends.1) [ inl failed ↦ inl failed | inr log ↦ inr (h, inl refl, log) ]
+
+-- ---- the run of a command
 
 tool_fault : (b : Bool) (job : Job) (fault : ToolFault) (recorded : RunRecord) (found : List Found) (calls : List Call) (now : Seen)
     → MatchBool b (PrintsCounters job (Some fault) recorded found calls) (PrintsGroups job now (Some fault) recorded found calls) → HasCause (logs_of found) (file_of job) fault calls now
 tool_fault true job fault recorded found calls now p = inl (counters_fault p.0 _ fault calls p.3.writes)
-tool_fault false job fault recorded found calls now p = groups_fault job (logs_of found) _ p.1 (job_due job p.0 p.2) fault p.4.end p.4.met calls now p.4.answers p.4.ran
+tool_fault false job fault recorded found calls now p = due_fault (file_of job) (logs_of found) _ p.1 (job_due job p.0 p.2) fault p.4.end p.4.met calls now p.4.answers p.4.ran
 
 pub job_fault : (job : Job) (fault : ToolFault) (recorded : RunRecord) (found : List Found) (calls : List Call) (now : Seen) → JobRan job now (Some fault) recorded found calls → HasCause (logs_of found) (file_of job) fault calls now
 job_fault job fault recorded found calls now p = tool_fault (is_counting job.tool) job fault recorded found calls now p
+
+-- of a log that is converted
+pub convert_fault : (names : Names) (h sink : ℕ) (fault : ToolFault) (recorded : RunRecord) (calls : List Call) (now : Seen) → Converts names h sink now (Some fault) recorded calls → HasCause (h ∷ []) names.input fault calls now
+convert_fault names h sink fault recorded calls now p = due_fault names.input (h ∷ []) (FileCame h) sink (units_due names.output) fault p.end p.met calls now p.answers p.ran

@@ -1,9 +1,8 @@
-mod PrinterLemmas
+mod OneLemmas
 mod SourceLemmas
 mod ReplayLemmas
 mod CounterLemmas
 pub mod RowLemmas
-mod ConvertLemmas
 mod WrittenLemmas
 mod ToldLemmas
 mod GoodLemmas

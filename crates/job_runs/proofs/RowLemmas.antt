@@ -1,9 +1,9 @@
--- A run over one source as a row: what is due is the job's, and what came is said of its source.
-use Rattle.std.proofs.Common.{◌≡◌, ◌≢◌, ◌⊎◌, ℕ, ◌≤◌, ◌||◌, Bool, true, false, List, [], ◌∷◌, ◌++◌, length, Option, sym, ap, subst, ◌∙◌, inl, inr}
+-- A run over one source as a row: what came is said of its source, and what is due is that of the only one of its outputs.
+use Rattle.std.proofs.Common.{◌≡◌, ◌≢◌, ◌⊎◌, ℕ, zero, suc, ◌≤◌, ◌||◌, Bool, true, false, List, [], ◌∷◌, ◌++◌, length, slice_get, Option, Some, None, sym, ap, subst, ◌∙◌, inl, inr}
 use Rattle.std.specs.Prelude.{filter}
 use Rattle.vio.specs.declared.world.TheConstants.{ERRORS}
-use Rattle.vio.specs.World.{Seen, Writing}
-use Rattle.vio.specs.Calls.{Call, Called, Did, AreOn, last_failed}
+use Rattle.vio.specs.World.{Seen}
+use Rattle.vio.specs.Calls.{Call, Called, AreOn, last_failed}
 use Rattle.txn_rows.specs.declared.group.Group.{Group}
 use Rattle.txn_rows.specs.Grouping.{groups_of}
 use Rattle.ring_layout.specs.declared.item.Item.{Item}
@@ -17,20 +17,24 @@ use Rattle.one_run.specs.Counts.{IsMet}
 use Rattle.one_run.specs.Run as runs
 use Rattle.run_sources.specs.declared.file_items.FileStop.{FileStop}
 use Rattle.fan_output.specs.declared.ending.TextEnding.{TextEnding}
-use Rattle.text_printer.specs.declared.output.TextOutput.{TextOutput}
-use Rattle.text_printer.specs.Printer.{Plan, PrinterState, printer_state}
-use Rattle.fan_output.specs.Ends.{Due, TextWritten, TextEnded, TextShort}
-use Rattle.text_printer.specs.Taken.{taken_of}
-use Rattle.text_printer.specs.Output.{CanPrint, TextPrinted, due_of, output_due, output_plan}
-use Rattle.text_printer.specs.Laws.{new_ready}
+use Rattle.fan_output.specs.declared.fan.FanEnding.{FanEnding}
+use Rattle.fan_output.specs.declared.fan.FanOutput.{FanOutput}
+use Rattle.fan_output.specs.Ends.{Due, TextShort}
+use Rattle.fan_output.specs.Fan.{Blames, FanEnded, FanPrinted, FanShort, FansPrinted, Outlet, Stands, handles, outlets_of, own_blame, several}
+use Rattle.fan_output.specs.Unwritten.{first_of, first_unwritten}
+use Rattle.fan_output.specs.Laws.{HasPrinted}
 use Rattle.fan_output.proofs.EndLemmas.{written_short}
+use Rattle.fan_output.proofs.OneLemmas.{one_ended, one_printed, one_short}
+use Rattle.text_printer.specs.Taken.{taken_of}
 use Rattle.job_steps.specs.declared.fault.ToolFault.{ToolFault}
 use Rattle.job_steps.specs.Jobs.{options_of, write_of}
 use Rattle.job_steps.specs.Queries.{Ask, HoldsAsAsked}
 use Rattle.tool_consumers.specs.Output.{head_text, output_of}
-use Rattle.job_runs.specs.Rows.{RanFor, job_due}
+use Rattle.job_runs.specs.Rows.{FanFor, RanFor, fan_answer, job_due, log_answer, name_at, one_answer, stop_answer, write_fault}
 use Rattle.job_runs.specs.Runs.{RanShort, RanSo}
-use Rattle.job_runs.specs.inside.Outputs.{IsJobOutput, job_plan}
+use Rattle.job_runs.specs.inside.Outputs.{IsOne, query_due}
+
+-- ---- what is due
 
 -- what is due of the groups for which a test holds
 abbrev due_where : (Group → Bool) → List ℕ → Job → Due
@@ -41,84 +45,171 @@ due_where holds head job = record {
   name = write_of job;
 }
 
--- what is due under the plan of a job is what is due of it for what the queries ask
-due_is : (job : Job) (query : Query) (ask : Ask) (handle : ℕ) (empty : Bool) (head : List ℕ) → HoldsAsAsked query ask → head ≡ head_text job empty → due_of head (job_plan job query handle) ≡ job_due job ask empty
-due_is job query ask handle empty head holds same = λ i. due_where (λ group. holds.each group i) (same i) job
+-- what is due of a job with a query is what is due of it for what the queries ask
+pub query_is : (job : Job) (query : Query) (ask : Ask) (empty : Bool) → HoldsAsAsked query ask → query_due job query empty ≡ job_due job ask empty
+query_is job query ask empty holds = λ i. due_where (λ group. holds.each group i) (head_text job empty) job
 
--- a run came to an end at a sink by these calls
-pub row_of : (reads : List ℕ) (came : List Call → List Item → Bool → Type 0) (stops : FileStop → List Call → List Item → Type 0) (records : List Item → Type 0) (sink : ℕ) (d : Due) (answer : RunEnd TextEnding FileStop → Option ToolFault) (end : RunEnd TextEnding FileStop) (met : Met) (fault : Option ToolFault) (s t : Seen)
-    (done last : List Item) (all : Bool) (calls : List Call) → Did calls s t → AreOn reads (ERRORS ∷ sink ∷ []) calls → last_failed calls ≡ true → length last ≤ 1 → IsMet met (done ++ last)
-    → runs.EndsBy came stops (TextWritten sink d) (TextEnded sink d) (ERRORS ∷ sink ∷ []) end calls done last all → fault ≡ answer end → ((list : List Item) → IsMet met list → records list) → Called (RanSo (RanFor reads came stops records sink d answer fault)) s t
-row_of reads came stops records sink d answer end met fault s t done last all calls did on fail one count by is_answer counts = record {
-  calls = calls;
-  did = did;
-  is = (record { on = on; end = end; met = met; ran = record { done = done; last = last; all = all; one = one; count = count; ends = by }; answers = is_answer; recorded = counts (done ++ last) count }, fail);
-}
+-- ---- several outputs, of which there is one
 
-module _ {C : Type 0} (keep : C → Option ℕ) (output : C → List Group → Bool → List ℕ) (represents : C → List Group → Bool → List ℕ → Type 0) where
-  -- an output of a job may be begun
-  pub can_begin : (job : Job) (query : Query) (handle : ℕ) (empty : Bool) (o : TextOutput C) (s : Seen) → IsJobOutput keep output represents job query handle empty o → s.names Writing handle (write_of job) ≡ true → handle ≢ ERRORS
-      → CanPrint keep output represents (printer_state o.printer) s
-  can_begin job query handle empty o s is named apart =
-      let sink : (printer_state o.printer).sink ≡ handle = ap (λ (p : Plan). p.sink) is.plan in
-      let name : (printer_state o.printer).name ≡ write_of job = ap (λ (p : Plan). p.name) is.plan in
-      new_ready keep output represents o s is.new (ap (λ (h : ℕ). s.names Writing h (printer_state o.printer).name) sink ∙ ap (λ (n : List ℕ). s.names Writing handle n) name ∙ named) (λ e. apart (sym sink ∙ e))
+-- what several outputs printed, whatever makes their texts
+forget : (holds : ℕ → List Item → Bool → List ℕ → Type 0) (outlets : List Outlet) (live : List Bool) (unwritten : Option ℕ) (calls : List Call) (done : List Item) → FanPrinted holds outlets live unwritten calls done → FansPrinted outlets calls done
+forget holds outlets live unwritten calls done p = (
+  live,
+  unwritten,
+  record { lives = p.lives; each = λ i o b at flag. stands_too i o b (p.each i o b at flag); some = p.some; told = p.told; quiet = p.quiet; blames = p.blames },
+)
+  where
+    stands_too : (i : ℕ) (o : Outlet) (b : Bool) → Stands (holds i) o.sink o.due b calls done false → Stands (λ met all taken. Prim.Unit {0}) o.sink o.due b calls done false
+    stands_too i o true q = (q.0, record { wrote = q.1.wrote; clean = q.1.clean; held = tt })
+    stands_too i o false q = q
 
-  -- what is due at it
-  job_dues : (job : Job) (query : Query) (ask : Ask) (handle : ℕ) (empty : Bool) (o : TextOutput C) → IsJobOutput keep output represents job query handle empty o → HoldsAsAsked query ask → output_due keep output o ≡ job_due job ask empty
-  job_dues job query ask handle empty o is holds = ap (λ (p : Plan). due_of o.head.items p) is.plan ∙ due_is job query ask handle empty o.head.items holds is.head
+-- a run with a list of one output is a run with that output
+module _ (reads : List ℕ) (came : List Call → List Item → Bool → Type 0) (stopped : FileStop → List Call → List Item → Type 0) (records : List Item → Type 0) (o : Outlet) (name : List ℕ) (fault : Option ToolFault) (calls : List Call) (fail : last_failed calls ≡ true) where
+  one_end : (end : RunEnd FanEnding FileStop) (met : Met) → AreOn reads (ERRORS ∷ o.sink ∷ []) calls → (ran : runs.Ran came stopped (FansPrinted (o ∷ [])) (FanEnded (o ∷ [])) (ERRORS ∷ o.sink ∷ []) end met calls) → fault ≡ fan_answer name end calls → records (ran.done ++ ran.last)
+      → RanFor reads came stopped records o.sink o.due (log_answer name) fault calls
+  one_end (ends.ByOutput ending) met on ran answers recorded =
+      let e = ran.ends in
+      let alone = one_ended o reads calls ran.done ran.last ran.all on fail ending e.5 in record {
+        on = on;
+        end = ends.ByOutput alone.ending;
+        met = met;
+        ran = record { done = ran.done; last = ran.last; all = ran.all; one = ran.one; count = ran.count; ends = (e.0, e.1, e.2, e.3, e.4, alone.ends) };
+        answers = answers ∙ ap write_fault alone.blame;
+        recorded = recorded;
+      }
+  one_end (ends.BySource why) met on ran answers recorded =
+      let e = ran.ends in
+      let alone = one_printed o (λ i list all taken. Prim.Unit {0}) e.2.0 e.2.1 reads calls ran.done on e.2.2 in record {
+        on = on;
+        end = ends.BySource why;
+        met = met;
+        ran = record { done = ran.done; last = ran.last; all = ran.all; one = ran.one; count = ran.count; ends = (e.0, e.1, alone.0) };
+        answers = answers ∙ ap (λ (x : Option (List ℕ)). first_of (write_fault x) (Some (stop_answer name why))) alone.1;
+        recorded = recorded;
+      }
 
-  module _ (job : Job) (query : Query) (ask : Ask) (handle : ℕ) (empty : Bool) (o : TextOutput C) (is : IsJobOutput keep output represents job query handle empty o) (holds : HoldsAsAsked query ask) where
-    -- what is so of the sink of an output, and of what is due there, is so of those of the job
-    as_job : (IsSo : ℕ → Due → Type 0) → IsSo (printer_state o.printer).sink (output_due keep output o) → IsSo handle (job_due job ask empty)
-    as_job IsSo p = subst (λ (h : ℕ). IsSo h (job_due job ask empty)) (ap (λ (q : Plan). q.sink) is.plan) (subst (λ (d : Due). IsSo (printer_state o.printer).sink d) (job_dues job query ask handle empty o is holds) p)
+  pub one_of_list : FanFor reads came stopped records (o ∷ []) name fault calls → RanFor reads came stopped records o.sink o.due (log_answer name) fault calls
+  one_of_list p = one_end p.end p.met p.on p.ran p.answers p.recorded
 
-    -- its output ended
-    pub ended_row : {F : Type 0} (gave came : List Call → List Item → Bool → Type 0) (stopped : F → List Call → List Item → Type 0) (stops : FileStop → List Call → List Item → Type 0) (reads : List ℕ) (q : PrinterState C) (ending : TextEnding) (met : Met) (fault : Option ToolFault) (records : List Item → Type 0)
-        (answer : RunEnd TextEnding FileStop → Option ToolFault) (s t : Seen) → ((calls : List Call) (list : List Item) (all : Bool) → gave calls list all → came calls list all) → fault ≡ answer (ends.ByOutput ending)
-        → ((list : List Item) → IsMet met list → records list)
-        → runs.Made false reads (ERRORS ∷ (printer_state o.printer).sink ∷ []) (runs.Ran gave stopped (TextPrinted keep output represents o.head.items (output_plan keep output o) q) (TextEnded (printer_state o.printer).sink (output_due keep output o)) (ERRORS ∷ (printer_state o.printer).sink ∷ []) (ends.ByOutput ending) met) s t
-        → Called (RanSo (RanFor reads came stops records handle (job_due job ask empty) answer fault)) s t
-    ended_row gave came stopped stops reads q ending met fault records answer s t from is_answer counts made =
-        let r = made.is in
-        let e = r.ends in
-        as_job (λ h d. Called (RanSo (RanFor reads came stops records h d answer fault)) s t)
-        (row_of reads came stops records (printer_state o.printer).sink (output_due keep output o) answer (ends.ByOutput ending) met fault s t r.done r.last r.all made.calls made.did made.on made.fail r.one r.count (e.0, e.1, e.2, e.3, from e.0 (r.done ++ r.last) r.all e.4, e.5) is_answer counts)
+-- who is blamed where there is one output
+blamed_is : (o : Outlet) (place : Option ℕ) (other : Option (List ℕ)) (calls : List Call) → Blames (o ∷ []) other place calls → first_of (name_at o.due.name place) other ≡ first_unwritten calls
+blamed_is o None other calls p = sym p
+blamed_is o (Some i) other calls p = sym (p.2 ∙ ap (λ (x : Outlet). Some x.due.name) (only i p.0 p.1))
+  where
+    only : (i : ℕ) (r : Outlet) → slice_get (o ∷ []) i ≡ Some r → r ≡ o
+    only zero r at = cc
+    only (suc i) r at = absurd cc
 
-    -- its source stopped
-    pub stopped_row : (gave came : List Call → List Item → Bool → Type 0) (stops : FileStop → List Call → List Item → Type 0) (reads : List ℕ) (q : PrinterState C) (stop : FileStop) (met : Met) (fault : Option ToolFault) (records : List Item → Type 0)
-        (answer : RunEnd TextEnding FileStop → Option ToolFault) (s t : Seen) → fault ≡ answer (ends.BySource stop)
-        → ((list : List Item) → IsMet met list → records list)
-        → runs.Made false reads (ERRORS ∷ (printer_state o.printer).sink ∷ []) (runs.Ran gave stops (TextPrinted keep output represents o.head.items (output_plan keep output o) q) (TextEnded (printer_state o.printer).sink (output_due keep output o)) (ERRORS ∷ (printer_state o.printer).sink ∷ []) (ends.BySource stop) met) s t
-        → Called (RanSo (RanFor reads came stops records handle (job_due job ask empty) answer fault)) s t
-    stopped_row gave came stops reads q stop met fault records answer s t is_answer counts made =
-        let r = made.is in
-        as_job (λ h d. Called (RanSo (RanFor reads came stops records h d answer fault)) s t)
-        (row_of reads came stops records (printer_state o.printer).sink (output_due keep output o) answer (ends.BySource stop) met fault s t r.done r.last r.all made.calls made.did made.on made.fail r.one r.count (r.ends.0, r.ends.1, (r.ends.2).wrote) is_answer counts)
+-- ---- the run of an output of one text
 
-    -- there was no memory: perhaps nothing was done
-    short_of : (gave came : List Call → List Item → Bool → Type 0) (lacking : List Call → List Item → Type 0) (reads : List ℕ) (q : PrinterState C) (calls : List Call)
-        → ((list : List Item) (all : Bool) → gave calls list all → came calls list all) → ((list : List Item) (all : Bool) → came calls list all → came calls list false) → ((list : List Item) → lacking calls list → came calls list false)
-        → AreOn reads (ERRORS ∷ (printer_state o.printer).sink ∷ []) calls
-        → (calls ≡ []) ⊎ runs.RanShort gave lacking (TextPrinted keep output represents o.head.items (output_plan keep output o) q) (TextShort (printer_state o.printer).sink (output_due keep output o)) calls
-        → RanShort reads came (printer_state o.printer).sink (output_due keep output o) calls
-    short_of gave came lacking reads q calls from late lacked on (inl none) = inl none
-    short_of gave came lacking reads q calls from late lacked on (inr p) = inr (elim p.ends [
-      | inl so ↦ (p.met, p.all, on, from p.met p.all so.0, so.1)
-      | inr so ↦ (p.met, false, on, elim so.0 [ inl given ↦ late p.met p.all (from p.met p.all given) | inr lacks ↦ lacked p.met lacks ], written_short (printer_state o.printer).sink (output_due keep output o) calls p.met (so.1).wrote)
-    ])
+module _ {T : Type 0} (text : T → ℕ → List Item → Bool → List ℕ) (filled : T → ℕ → List Item → Bool) (holds : T → ℕ → List Item → Bool → List ℕ → Type 0) (count : T → ℕ) (sink : ℕ) (d : Due) (o : FanOutput T) (is : IsOne text filled holds count sink d o) where
+  abbrev Own : Outlet
+  Own = record { sink = sink; due = d }
 
-    pub short_row : (gave came : List Call → List Item → Bool → Type 0) (lacking : List Call → List Item → Type 0) (reads : List ℕ) (q : PrinterState C) (s t : Seen)
-        → ((calls : List Call) (list : List Item) (all : Bool) → gave calls list all → came calls list all) → ((calls : List Call) (list : List Item) (all : Bool) → came calls list all → came calls list false) → ((calls : List Call) (list : List Item) → lacking calls list → came calls list false)
-        → runs.Made false reads (ERRORS ∷ (printer_state o.printer).sink ∷ []) (runs.RanShort gave lacking (TextPrinted keep output represents o.head.items (output_plan keep output o) q) (TextShort (printer_state o.printer).sink (output_due keep output o))) s t
-        → Called (RanShort reads came handle (job_due job ask empty)) s t
-    short_row gave came lacking reads q s t from late lacked made = as_job (λ h d. Called (RanShort reads came h d) s t)
-        (record { calls = made.calls; did = made.did; is = short_of gave came lacking reads q made.calls (from made.calls) (late made.calls) (lacked made.calls) made.on (inr made.is) })
+  -- what it printed, how it ended, and what it wrote where there was no memory
+  abbrev Printed : FanOutput T → List Call → List Item → Type 0
+  Printed now calls done = HasPrinted text filled holds o now calls done
 
-    -- no item was lacking
-    pub live_short_row : (began came : List Call → List Item → Bool → Type 0) (q : PrinterState C) (s t : Seen)
-        → ((calls : List Call) (list : List Item) (all : Bool) → began calls list all → came calls list all) → ((calls : List Call) (list : List Item) (all : Bool) → came calls list all → came calls list false)
-        → runs.Made false [] (ERRORS ∷ (printer_state o.printer).sink ∷ []) (λ calls. (calls ≡ []) ⊎ runs.RanShort began (λ cs met. ⊥) (TextPrinted keep output represents o.head.items (output_plan keep output o) q) (TextShort (printer_state o.printer).sink (output_due keep output o)) calls) s t
-        → Called (RanShort [] came handle (job_due job ask empty)) s t
-    live_short_row began came q s t from late made = as_job (λ h d. Called (RanShort [] came h d) s t)
-        (record { calls = made.calls; did = made.did; is = short_of began came (λ cs met. ⊥) [] q made.calls (from made.calls) (late made.calls) (λ list no. absurd no) made.on made.is })
+  abbrev Ended : FanEnding → List Call → List Item → List Item → Bool → Type 0
+  Ended ending calls done last all = FanEnded (outlets_of (text o.texts) (filled o.texts) o.sinks.items) ending calls done last all
+
+  abbrev Short : List Call → List Item → Bool → Type 0
+  Short calls met all = FanShort (outlets_of (text o.texts) (filled o.texts) o.sinks.items) calls met all
+
+  printed_one : (now : FanOutput T) (calls : List Call) (done : List Item) → Printed now calls done → FansPrinted (Own ∷ []) calls done
+  printed_one now calls done p = forget (holds now.texts) (Own ∷ []) now.live.items now.unwritten calls done (subst (λ (outlets : List Outlet). FanPrinted (holds now.texts) outlets now.live.items now.unwritten calls done) is.outlets p.prints)
+
+  -- none stops alone, since there is no other
+  abbrev Makes : List ℕ → List ℕ → (List Call → Type 0) → Seen → Seen → Type 0
+  Makes reads hs IsSo s t = runs.MadeBut (several hs) false reads (ERRORS ∷ hs) IsSo s t
+
+  as_one : (reads : List ℕ) (IsSo : List ℕ → List Call → Type 0) (s t : Seen) → Makes reads (handles o.sinks.items) (IsSo (handles o.sinks.items)) s t → runs.Made false reads (ERRORS ∷ sink ∷ []) (IsSo (sink ∷ [])) s t
+  as_one reads IsSo s t made = subst (λ (hs : List ℕ). Makes reads hs (IsSo hs) s t) is.only made
+
+  -- it ended
+  pub ended_row : {F : Type 0} (gave came : List Call → List Item → Bool → Type 0) (stopped : F → List Call → List Item → Type 0) (stops : FileStop → List Call → List Item → Type 0) (reads : List ℕ) (now : FanOutput T) (ending : FanEnding) (end : RunEnd FanEnding F) (met : Met) (fault : Option ToolFault) (records : List Item → Type 0)
+      (name : List ℕ) (s t : Seen) → end ≡ ends.ByOutput ending → ((calls : List Call) (list : List Item) (all : Bool) → gave calls list all → came calls list all) → fault ≡ one_answer d.name ending
+      → ((list : List Item) → IsMet met list → records list)
+      → Makes reads (handles o.sinks.items) (runs.Ran gave stopped (Printed now) Ended (ERRORS ∷ handles o.sinks.items) end met) s t
+      → Called (RanSo (RanFor reads came stops records sink d (log_answer name) fault)) s t
+  ended_row {F = F} gave came stopped stops reads now ending end met fault records name s t ended_so from is_answer counts makes =
+      let made = as_one reads (λ hs. runs.Ran gave stopped (Printed now) Ended (ERRORS ∷ hs) (ends.ByOutput ending) met) s t
+      (subst (λ (e : RunEnd FanEnding F). Makes reads (handles o.sinks.items) (runs.Ran gave stopped (Printed now) Ended (ERRORS ∷ handles o.sinks.items) e met) s t) ended_so makes) in
+      let r = made.is in
+      let e = r.ends in
+      let ended : FanEnded (Own ∷ []) ending made.calls r.done r.last r.all = subst (λ (outlets : List Outlet). FanEnded outlets ending made.calls r.done r.last r.all) is.outlets e.5 in record {
+        calls = made.calls;
+        did = made.did;
+        is = (
+          one_of_list reads came stops records Own name fault made.calls made.fail (record {
+            on = made.on;
+            end = ends.ByOutput ending;
+            met = met;
+            ran = record { done = r.done; last = r.last; all = r.all; one = r.one; count = r.count; ends = (e.0, e.1, e.2, e.3, from e.0 (r.done ++ r.last) r.all e.4, ended) };
+            answers = is_answer ∙ ap write_fault (blamed_is Own ending.unwritten (own_blame ending.how) made.calls ended.blames);
+            recorded = counts (r.done ++ r.last) r.count;
+          }),
+          made.fail,
+        );
+      }
+
+  -- its source stopped
+  pub stopped_row : (gave came : List Call → List Item → Bool → Type 0) (stops : FileStop → List Call → List Item → Type 0) (reads : List ℕ) (now : FanOutput T) (stop : FileStop) (end : RunEnd FanEnding FileStop) (met : Met) (fault : Option ToolFault) (records : List Item → Type 0)
+      (name : List ℕ) (s t : Seen) → end ≡ ends.BySource stop → fault ≡ log_answer name (ends.BySource stop)
+      → ((list : List Item) → IsMet met list → records list)
+      → Makes reads (handles o.sinks.items) (runs.Ran gave stops (Printed now) Ended (ERRORS ∷ handles o.sinks.items) end met) s t
+      → Called (RanSo (RanFor reads came stops records sink d (log_answer name) fault)) s t
+  stopped_row gave came stops reads now stop end met fault records name s t stopped_so is_answer counts makes =
+      let made = as_one reads (λ hs. runs.Ran gave stops (Printed now) Ended (ERRORS ∷ hs) (ends.BySource stop) met) s t
+      (subst (λ (e : RunEnd FanEnding FileStop). Makes reads (handles o.sinks.items) (runs.Ran gave stops (Printed now) Ended (ERRORS ∷ handles o.sinks.items) e met) s t) stopped_so makes) in
+      let r = made.is in
+      let e = r.ends in
+      let printed = printed_one now made.calls r.done e.2 in
+      let alone = one_printed Own (λ i list all taken. Prim.Unit {0}) printed.0 printed.1 reads made.calls r.done made.on printed.2 in record {
+        calls = made.calls;
+        did = made.did;
+        is = (
+          one_of_list reads came stops records Own name fault made.calls made.fail (record {
+            on = made.on;
+            end = ends.BySource stop;
+            met = met;
+            ran = record { done = r.done; last = r.last; all = r.all; one = r.one; count = r.count; ends = (e.0, e.1, printed) };
+            answers = is_answer ∙ sym (ap (λ (x : Option (List ℕ)). first_of (write_fault x) (Some (stop_answer name stop))) alone.1);
+            recorded = counts (r.done ++ r.last) r.count;
+          }),
+          made.fail,
+        );
+      }
+
+  -- there was no memory: perhaps nothing was done
+  short_of : (gave came : List Call → List Item → Bool → Type 0) (lacking : List Call → List Item → Type 0) (reads : List ℕ) (now : FanOutput T) (calls : List Call)
+      → ((list : List Item) (all : Bool) → gave calls list all → came calls list all) → ((list : List Item) (all : Bool) → came calls list all → came calls list false) → ((list : List Item) → lacking calls list → came calls list false)
+      → AreOn reads (ERRORS ∷ sink ∷ []) calls → (calls ≡ []) ⊎ runs.RanShort gave lacking (Printed now) Short calls → RanShort reads came sink d calls
+  short_of gave came lacking reads now calls from late lacked on (inl none) = inl none
+  short_of gave came lacking reads now calls from late lacked on (inr p) = inr (elim p.ends [
+    | inl so ↦ (p.met, p.all, on, from p.met p.all so.0, one_short Own calls p.met p.all (subst (λ (outlets : List Outlet). FanShort outlets calls p.met p.all) is.outlets so.1))
+    | inr so ↦ (
+      p.met,
+      false,
+      on,
+      elim so.0 [ inl given ↦ late p.met p.all (from p.met p.all given) | inr lacks ↦ lacked p.met lacks ],
+      written_short sink d calls p.met (let printed = printed_one now calls p.met so.1 in (one_printed Own (λ i list all taken. Prim.Unit {0}) printed.0 printed.1 reads calls p.met on printed.2).0),
+    )
+  ])
+
+  pub short_row : (gave came : List Call → List Item → Bool → Type 0) (lacking : List Call → List Item → Type 0) (reads : List ℕ) (now : FanOutput T) (s t : Seen)
+      → ((calls : List Call) (list : List Item) (all : Bool) → gave calls list all → came calls list all) → ((calls : List Call) (list : List Item) (all : Bool) → came calls list all → came calls list false) → ((calls : List Call) (list : List Item) → lacking calls list → came calls list false)
+      → Makes reads (handles o.sinks.items) (runs.RanShort gave lacking (Printed now) Short) s t
+      → Called (RanShort reads came sink d) s t
+  short_row gave came lacking reads now s t from late lacked makes =
+      let made = as_one reads (λ hs. runs.RanShort gave lacking (Printed now) Short) s t makes in
+      record { calls = made.calls; did = made.did; is = short_of gave came lacking reads now made.calls (from made.calls) (late made.calls) (lacked made.calls) made.on (inr made.is) }
+
+  -- no item was lacking
+  pub live_short_row : (began came : List Call → List Item → Bool → Type 0) (now : FanOutput T) (s t : Seen)
+      → ((calls : List Call) (list : List Item) (all : Bool) → began calls list all → came calls list all) → ((calls : List Call) (list : List Item) (all : Bool) → came calls list all → came calls list false)
+      → Makes [] (handles o.sinks.items) (λ calls. (calls ≡ []) ⊎ runs.RanShort began (λ cs met. ⊥) (Printed now) Short calls) s t
+      → Called (RanShort [] came sink d) s t
+  live_short_row began came now s t from late makes =
+      let made = as_one [] (λ hs calls. (calls ≡ []) ⊎ runs.RanShort began (λ cs met. ⊥) (Printed now) Short calls) s t makes in
+      record { calls = made.calls; did = made.did; is = short_of began came (λ cs met. ⊥) [] now made.calls (from made.calls) (late made.calls) (λ list no. absurd no) made.on made.is }

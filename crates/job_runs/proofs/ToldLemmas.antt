@@ -1,5 +1,5 @@
 -- A run whose source is known to have certain items in all.
-use Rattle.std.proofs.Common.{◌≡◌, ℕ, ◌||◌, Bool, true, false, List, [], ◌∷◌, ◌++◌, Option, refl, sym, ap, subst, ◌∙◌}
+use Rattle.std.proofs.Common.{◌≡◌, ℕ, ◌≤◌, ◌||◌, Bool, true, false, List, [], ◌∷◌, ◌++◌, length, Option, refl, sym, ap, subst, ◌∙◌}
 use Rattle.std.specs.Prelude.{filter}
 use Rattle.std.proofs.lemmas.List.{append-nil}
 use Rattle.log_model.specs.Interleaving.{IsInterleaving}
@@ -30,7 +30,8 @@ use Rattle.fan_output.specs.Messages.{messages_of}
 use Rattle.fan_output.specs.declared.ending.TextEnding.{TextEnding}
 use Rattle.fan_output.specs.Ends.{Grows, TextEnded, TextWritten, whole}
 use Rattle.text_printer.specs.Taken.{taken_of}
-use Rattle.text_printer.proofs.DueLemmas.{filled_on, taken_append, text_filled, text_prefix}
+use Rattle.text_printer.specs.Laws.{taken_append}
+use Rattle.text_printer.proofs.DueLemmas.{filled_on, text_filled, text_prefix}
 use Rattle.job_steps.specs.declared.fault.ToolFault.{ToolFault}
 use Rattle.job_steps.specs.Jobs.{is_on_threads, options_of, units_of, with_made}
 use Rattle.job_steps.specs.Queries.{Ask, is_asked}
@@ -78,16 +79,16 @@ live_are job listings met all p = record { rest = p.rest; parts = p.parts; whole
 
 module _ (job : Job) (ask : Ask) (sink : ℕ) (empty : Bool) (listings : List Listing) (recorded : RunRecord) (calls : List Call) where
   -- what an output that ended so wrote of all that its source has
-  ended_of : (ending : TextEnding) (done last : List Item) (all ended : Bool) (every : List Item) (fault : Option ToolFault) → fault ≡ output_answer ending → AreOf (done ++ last) all every ended → TextEnded sink (job_due job ask empty) ending calls done last all
+  ended_of : (ending : TextEnding) (done last : List Item) (all ended : Bool) (every : List Item) (fault : Option ToolFault) → length last ≤ 1 → fault ≡ output_answer ending → AreOf (done ++ last) all every ended → TextEnded sink (job_due job ask empty) ending calls done last all
       → WritesOf sink (job_due job ask empty) fault every ended calls
-  ended_of ending done last all ended every fault is are p = subst (λ (f : Option ToolFault). WritesOf sink (job_due job ask empty) f every ended calls) (sym is) (ended_writes (job_due job ask empty) (job_lasts job ask empty) sink every ended calls ending done last all are p)
+  ended_of ending done last all ended every fault one is are p = subst (λ (f : Option ToolFault). WritesOf sink (job_due job ask empty) f every ended calls) (sym is) (ended_writes (job_due job ask empty) (job_lasts job ask empty) sink every ended calls ending done last all one are p)
 
   -- a run that ended so
   fed_end : (end : RunEnd TextEnding FileStop) (met : Met) (fault : Option ToolFault) → runs.Ran (λ cs. FeedsCame job listings recorded) (λ why cs met. ⊥) (TextWritten sink (job_due job ask empty)) (TextEnded sink (job_due job ask empty)) (ERRORS ∷ sink ∷ []) end met calls → fault ≡ end_answer job end
       → (log : Log) × (history : List (HistoryItem LogUnit)) × AreFed job listings log history × WritesOf sink (job_due job ask empty) fault (items_of history) true calls
   fed_end (ends.ByOutput ending) met fault ran is =
       let e = ran.ends in
-      let came = e.4.came in (came.log, came.history, came.fed, ended_of ending ran.done ran.last ran.all true (items_of came.history) fault is (fed_are job listings (ran.done ++ ran.last) ran.all came) e.5)
+      let came = e.4.came in (came.log, came.history, came.fed, ended_of ending ran.done ran.last ran.all true (items_of came.history) fault ran.one is (fed_are job listings (ran.done ++ ran.last) ran.all came) e.5)
   fed_end (ends.BySource why) met fault ran is = absurd ran.ends.1
 
   -- what a run wrote of them
@@ -115,7 +116,7 @@ module _ (job : Job) (ask : Ask) (sink : ℕ) (empty : Bool) (listings : List Li
         adds_up = subst (λ (l : Log). AddUp l came.history) (sym ring.log_is) came.fed.adds_up;
         ended = ran.all;
         tail = λ all. subst (λ (l : Log). ReachesTail l came.history) (sym ring.log_is) (came.whole all).1;
-        writes = ended_of ending ran.done ran.last ran.all ran.all (items_of came.history) fault is (live_are job listings (ran.done ++ ran.last) ran.all came) e.5;
+        writes = ended_of ending ran.done ran.last ran.all ran.all (items_of came.history) fault ran.one is (live_are job listings (ran.done ++ ran.last) ran.all came) e.5;
         messages = λ none. none_told (job_due job ask empty) (job_lasts job ask empty) sink calls ending ran.done ran.last ran.all fault is e.5 none ∙ ap messages_of (sym (all_met came.history (ran.done ++ ran.last) came.rest came.parts (e.4.ring threads).0));
       }
   live_end (ends.BySource why) met fault threads ran is = absurd ran.ends.1

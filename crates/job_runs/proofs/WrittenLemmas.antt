@@ -1,5 +1,5 @@
 -- A run whose source is known to have certain items in all, whatever text is due.
-use Rattle.std.proofs.Common.{◌≡◌, ◌⊎◌, ℕ, Bool, true, false, List, [], ◌∷◌, ◌++◌, Option, Some, None, refl, sym, ap, subst, ◌∙◌, inl, inr}
+use Rattle.std.proofs.Common.{◌≡◌, ◌⊎◌, ℕ, ◌≤◌, Bool, true, false, List, [], ◌∷◌, ◌++◌, length, Option, Some, None, refl, sym, ap, subst, ◌∙◌, inl, inr}
 use Rattle.std.proofs.lemmas.List.{append-nil}
 use Rattle.log_model.specs.Prefix.{IsPrefix}
 use Rattle.vio.specs.declared.world.TheConstants.{ERRORS}
@@ -26,9 +26,9 @@ use Rattle.fan_output.proofs.EndLemmas.{ended_short, short_prefix, written_short
 use Rattle.job_steps.specs.declared.fault.ToolFault.{ToolFault}
 use Rattle.job_steps.specs.declared.fault.ToolFault.TheVariants.{ReadFault, NotALog, Damaged, TooLarge}
 use Rattle.job_runs.specs.Rows.{RanFor, log_answer, output_answer, stop_answer}
-use Rattle.job_runs.specs.Told.{WritesOf}
-use Rattle.unit_output.specs.Units.{converted, units_due}
-use Rattle.unit_output.proofs.UnitLemmas.{due_of_log, units_grow}
+use Rattle.job_runs.specs.Told.{EndedAt, WritesOf}
+use Rattle.unit_text.specs.Units.{converted, units_due}
+use Rattle.unit_text.proofs.UnitLemmas.{due_of_log, units_grow}
 use Rattle.tool_words.specs.declared.command.Names.{Names}
 use Rattle.job_runs.specs.declared.record.RunRecord.{RunRecord}
 use Rattle.job_runs.specs.declared.record.RunRecord.TheVariants.{Nothing}
@@ -43,6 +43,14 @@ pub record Lasts (d : Due) : Type 0 where
   pub filled_more : (met more : List Item) → d.filled met ≡ true → d.filled (met ++ more) ≡ true
 
 module _ (d : Due) (lasts : Lasts d) where
+  module _ (sink : ℕ) (calls : List Call) where
+    -- without a fault each message was written
+    pub none_told : (ending : TextEnding) (done last : List Item) (all : Bool) (fault : Option ToolFault) → fault ≡ output_answer ending → TextEnded sink d ending calls done last all → fault ≡ None → written_by ERRORS calls ≡ messages_of (done ++ last)
+    none_told endings.Whole done last all fault is p none = p.ends.3 ∙ ap messages_of (sym (append-nil done)) ∙ ap (λ (xs : List Item). messages_of (done ++ xs)) (sym p.ends.0)
+    none_told endings.Kept done last all fault is p none = p.ends.3
+    none_told (endings.Unwritten name) done last all fault is p none = let no = sym none ∙ is in absurd cc
+    none_told endings.Unreported done last all fault is p none = let no = sym none ∙ is in absurd cc
+
   module _ (sink : ℕ) (every : List Item) (ended : Bool) (calls : List Call) where
     -- a part of what is due of the items that came is one of what is due of all
     pub short_of : (met : List Item) (all : Bool) → AreOf met all every ended → TextShort sink d calls met all → TextShort sink d calls every ended
@@ -50,27 +58,35 @@ module _ (d : Due) (lasts : Lasts d) where
 
     -- what is written up to a fault
     part_of : (fault : ToolFault) → TextShort sink d calls every ended → WritesOf sink d (Some fault) every ended calls
-    part_of fault short = record { part = short.text; told = short.told; done = λ e. absurd cc; ends = λ e. absurd cc }
+    part_of fault short = record { part = short.text; told = short.told; done = λ e. absurd cc; ends = λ e. absurd cc; messages = λ e. absurd cc }
 
     -- and without one
-    all_of : TextShort sink d calls every ended → written_by sink calls ≡ whole d every ended → (ended ≡ true) ⊎ (d.filled every ≡ true) → WritesOf sink d None every ended calls
-    all_of short text end = record { part = short.text; told = short.told; done = λ e. text; ends = λ e. end }
+    all_of : (met : List Item) → TextShort sink d calls every ended → written_by sink calls ≡ whole d every ended → (ended ≡ true) ⊎ (d.filled every ≡ true) → EndedAt d every ended met → written_by ERRORS calls ≡ messages_of met → WritesOf sink d None every ended calls
+    all_of met short text end at told = record { part = short.text; told = short.told; done = λ e. text; ends = λ e. end; messages = λ e. (met, at, told) }
+
+    -- where it ended
+    end_at : (done last : List Item) (all : Bool) → (are : AreOf (done ++ last) all every ended) → length last ≤ 1 → d.filled done ≡ false → ((last ≡ []) × (are.rest ≡ []) × (ended ≡ true)) ⊎ (d.filled (done ++ last) ≡ true) → EndedAt d every ended (done ++ last)
+    end_at done last all are one fewer ends = record { done = done; last = last; rest = are.rest; are = refl; one = one; parts = are.parts; fewer = fewer; ends = ends }
 
     -- an output ended
-    pub ended_writes : (ending : TextEnding) (done last : List Item) (all : Bool) → AreOf (done ++ last) all every ended → TextEnded sink d ending calls done last all → WritesOf sink d (output_answer ending) every ended calls
-    ended_writes endings.Whole done last all are p =
+    pub ended_writes : (ending : TextEnding) (done last : List Item) (all : Bool) → length last ≤ 1 → AreOf (done ++ last) all every ended → TextEnded sink d ending calls done last all → WritesOf sink d (output_answer ending) every ended calls
+    ended_writes endings.Whole done last all one are p =
         let short = short_of (done ++ last) all are (ended_short sink d lasts.grows endings.Whole calls done last all p) in
         let so = p.ends in let end = are.whole so.1 in
         let same : every ≡ done = are.parts ∙ ap (λ (xs : List Item). done ++ last ++ xs) end.0 ∙ append-nil (done ++ last) ∙ ap (λ (xs : List Item). done ++ xs) so.0 ∙ append-nil done in
-        all_of short (so.2 ∙ ap (λ (xs : List Item). whole d xs true) (sym same) ∙ ap (λ (b : Bool). whole d every b) (sym end.1)) (inl end.1)
-    ended_writes endings.Kept done last all are p =
+        all_of (done ++ last) short (so.2 ∙ ap (λ (xs : List Item). whole d xs true) (sym same) ∙ ap (λ (b : Bool). whole d every b) (sym end.1)) (inl end.1)
+        (end_at done last all are one p.fewer (inl (so.0, end.0, end.1)))
+        (none_told sink calls endings.Whole done last all None refl p refl)
+    ended_writes endings.Kept done last all one are p =
         let short = short_of (done ++ last) all are (ended_short sink d lasts.grows endings.Kept calls done last all p) in
         let so = p.ends in
-        all_of short
+        all_of (done ++ last) short
         (so.2 ∙ lasts.filled_all (done ++ last) are.rest ended so.1 ∙ ap (λ (xs : List Item). whole d xs ended) (sym are.parts))
         (inr (ap (λ (xs : List Item). d.filled xs) are.parts ∙ lasts.filled_more (done ++ last) are.rest so.1))
-    ended_writes (endings.Unwritten name) done last all are p = part_of _ (short_of (done ++ last) all are (ended_short sink d lasts.grows (endings.Unwritten name) calls done last all p))
-    ended_writes endings.Unreported done last all are p = part_of _ (short_of (done ++ last) all are (ended_short sink d lasts.grows endings.Unreported calls done last all p))
+        (end_at done last all are one p.fewer (inr so.1))
+        so.3
+    ended_writes (endings.Unwritten name) done last all one are p = part_of _ (short_of (done ++ last) all are (ended_short sink d lasts.grows (endings.Unwritten name) calls done last all p))
+    ended_writes endings.Unreported done last all one are p = part_of _ (short_of (done ++ last) all are (ended_short sink d lasts.grows endings.Unreported calls done last all p))
 
     -- its source stopped
     stopped_writes : (fault : ToolFault) (done : List Item) → AreOf done false every ended → TextWritten sink d calls done → WritesOf sink d (Some fault) every ended calls
@@ -85,7 +101,7 @@ module _ (d : Due) (lasts : Lasts d) where
         → WritesOf sink d fault every ended calls
     end_writes (ends.ByOutput ending) met fault ran is =
         let e = ran.ends in
-        subst (λ (f : Option ToolFault). WritesOf sink d f every ended calls) (sym is) (ended_writes sink every ended calls ending ran.done ran.last ran.all (comes e.0 e.1 (ran.done ++ ran.last) ran.all e.2 e.4) e.5)
+        subst (λ (f : Option ToolFault). WritesOf sink d f every ended calls) (sym is) (ended_writes sink every ended calls ending ran.done ran.last ran.all ran.one (comes e.0 e.1 (ran.done ++ ran.last) ran.all e.2 e.4) e.5)
     end_writes (ends.BySource why) met fault ran is =
         let e = ran.ends in
         subst (λ (f : Option ToolFault). WritesOf sink d f every ended calls) (sym is) (stopped_writes sink every ended calls (stop_answer name why) ran.done (stays why ran.done e.1) e.2)
@@ -93,14 +109,6 @@ module _ (d : Due) (lasts : Lasts d) where
     -- what it wrote is of all that its source has
     pub ran_writes : (reads : List ℕ) (fault : Option ToolFault) (records : List Item → Type 0) → RanFor reads came stopped records sink d (log_answer name) fault calls → WritesOf sink d fault every ended calls
     ran_writes reads fault records r = end_writes r.end r.met fault r.ran r.answers
-
-  module _ (sink : ℕ) (calls : List Call) where
-    -- without a fault each message was written
-    pub none_told : (ending : TextEnding) (done last : List Item) (all : Bool) (fault : Option ToolFault) → fault ≡ output_answer ending → TextEnded sink d ending calls done last all → fault ≡ None → written_by ERRORS calls ≡ messages_of (done ++ last)
-    none_told endings.Whole done last all fault is p none = p.ends.3 ∙ ap messages_of (sym (append-nil done)) ∙ ap (λ (xs : List Item). messages_of (done ++ xs)) (sym p.ends.0)
-    none_told endings.Kept done last all fault is p none = p.ends.3
-    none_told (endings.Unwritten name) done last all fault is p none = let no = sym none ∙ is in absurd cc
-    none_told endings.Unreported done last all fault is p none = let no = sym none ∙ is in absurd cc
 
 -- ---- how a fault names the end of a log
 

@@ -9,7 +9,7 @@ use Rattle.vsl_file.specs.File.{FileEnding, Whole}
 use Rattle.run_sources.specs.declared.file_items.FileStop.{FileStop}
 use Rattle.run_sources.specs.Sources.{FileCame, FileStopped}
 use Rattle.run_sources.specs.Told.{named_ending}
-use Rattle.unit_output.specs.Units.{converted, units_due}
+use Rattle.unit_text.specs.Units.{converted, units_due}
 use Rattle.tool_words.specs.declared.command.Names.{Names}
 use Rattle.job_steps.specs.declared.fault.ToolFault.{ToolFault}
 use Rattle.job_steps.specs.Steps.{Found, FoundLog, FoundSink}
@@ -29,7 +29,7 @@ Converts names h sink now fault recorded calls =
 abbrev pub ConvertsPart : Names → ℕ → ℕ → List Call → Type 0
 ConvertsPart names h sink calls = RanShort (h ∷ []) (LogBegan h) sink (units_due names.output) calls
 
--- the run of `convert`, by what its steps found: a log, and what is written. That may have bytes no more, and is written from its beginning
+-- the run of `convert`, by what its steps found: a log, and what is written. What is written to has no bytes any more, or is standard output
 abbrev pub ConvertRan : Names → Seen → Option ToolFault → RunRecord → List Found → List Call → Type 0
 ConvertRan names now fault recorded found calls =
     (h : ℕ) × (sink : ℕ) × (empty : Bool) × (found ≡ FoundLog h ∷ FoundSink sink empty ∷ []) ×

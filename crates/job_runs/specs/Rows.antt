@@ -1,5 +1,5 @@
 -- What a job's run is, by what its steps found: groups that are printed of a log or of feeds, or counters (varnishlog(1), varnishstat(1); this project's choice).
-use Rattle.std.specs.Prelude.{◌≡◌, ◌⊎◌, ℕ, ◌||◌, Bool, false, List, [], ◌∷◌, ◌++◌, Option, Some, None, codes}
+use Rattle.std.specs.Prelude.{◌≡◌, ◌⊎◌, ℕ, ◌||◌, Bool, false, List, [], ◌∷◌, ◌++◌, map, Option, Some, None}
 use Rattle.std.specs.Bool.{MatchBool}
 use Rattle.vio.specs.declared.world.TheConstants.{ERRORS}
 use Rattle.vio.specs.World.{Seen}
@@ -16,8 +16,10 @@ use Rattle.run_sources.specs.declared.file_items.FileStop.{FileStop}
 use Rattle.run_sources.specs.declared.file_items.FileStop.TheVariants as stops
 use Rattle.vsl_file.specs.File.{most_bytes}
 use Rattle.fan_output.specs.declared.ending.TextEnding.{TextEnding}
-use Rattle.fan_output.specs.declared.ending.TextEnding.TheVariants as endings
+use Rattle.fan_output.specs.declared.fan.FanEnding.{FanEnding}
 use Rattle.fan_output.specs.Ends.{Due, TextWritten, TextEnded, TextShort}
+use Rattle.fan_output.specs.Fan.{FanEnded, FansPrinted, Outlet, blame_by, own_blame}
+use Rattle.fan_output.specs.Unwritten.{first_of, first_unwritten}
 use Rattle.text_printer.specs.Taken.{taken_of}
 use Rattle.job_steps.specs.declared.fault.ToolFault.{ToolFault}
 use Rattle.job_steps.specs.declared.fault.ToolFault.TheVariants.{ReadFault, WriteFault, NotALog, Damaged, TooLarge}
@@ -56,13 +58,24 @@ stop_answer name (stops.Damaged at) = Damaged name at
 stop_answer name stops.TooLarge = TooLarge name most_bytes
 stop_answer name stops.ReadFault = ReadFault name
 
+-- the fault of a write that failed, by the name under which it was counted, if one failed
+abbrev pub write_fault : Option (List ℕ) → Option ToolFault
+write_fault None = None
+write_fault (Some name) = Some (WriteFault name)
+
 -- how it is answered that an output ended so. An overrun that can't be told is a fault: who can't be told that records
 -- are missing should not take the output for whole
 abbrev pub output_answer : TextEnding → Option ToolFault
-output_answer endings.Whole = None
-output_answer endings.Kept = None
-output_answer (endings.Unwritten name) = Some (WriteFault name)
-output_answer endings.Unreported = Some (WriteFault (codes "stderr"))
+output_answer ending = write_fault (blame_by ending)
+
+-- the name at a place, if there is a place
+abbrev pub name_at : List ℕ → Option ℕ → Option (List ℕ)
+name_at name None = None
+name_at name (Some place) = Some name
+
+-- how it is answered that the one output ended so, to a sink of this name
+abbrev pub one_answer : List ℕ → FanEnding → Option ToolFault
+one_answer name ending = write_fault (first_of (name_at name ending.unwritten) (own_blame ending.how))
 
 -- the fault of a run over a log of this name
 abbrev pub log_answer : List ℕ → RunEnd TextEnding FileStop → Option ToolFault
@@ -73,25 +86,36 @@ log_answer name (ends.BySource why) = Some (stop_answer name why)
 abbrev pub end_answer : Job → RunEnd TextEnding FileStop → Option ToolFault
 end_answer job = log_answer (file_of job)
 
+-- how a run with several outputs is answered over a log of this name: the first write that failed is told, whatever ended the run; else how the log stopped
+abbrev pub fan_answer : List ℕ → RunEnd FanEnding FileStop → List Call → Option ToolFault
+fan_answer name (ends.ByOutput ending) calls = write_fault (first_unwritten calls)
+fan_answer name (ends.BySource why) calls = first_of (write_fault (first_unwritten calls)) (Some (stop_answer name why))
+
 -- ---- a run that prints groups
 
 -- of items that came so, and of an output that writes these handles and printed and ended so, a run came to this fault, and what it met is recorded so, by these calls
 pub record RanWith {E : Type 0} (reads writes : List ℕ) (came : List Call → List Item → Bool → Type 0)
     (stopped : FileStop → List Call → List Item → Type 0) (records : List Item → Type 0)
-    (printed : List Call → List Item → Type 0) (ended : E → List Call → List Item → List Item → Bool → Type 0) (answer : RunEnd E FileStop → Option ToolFault) (fault : Option ToolFault) (calls : List Call) : Type 0 where
+    (printed : List Call → List Item → Type 0) (ended : E → List Call → List Item → List Item → Bool → Type 0) (answer : RunEnd E FileStop → List Call → Option ToolFault) (fault : Option ToolFault) (calls : List Call) : Type 0 where
   pub on : AreOn reads writes calls
   pub end : RunEnd E FileStop
   pub met : Met
   pub ran : Ran came stopped printed ended writes end met calls
-  pub answers : fault ≡ answer end
+  pub answers : fault ≡ answer end calls
   pub recorded : records (ran.done ++ ran.last)
 
--- the same of a text that is due at one sink
+-- the same of texts that are due at several sinks, of which each may stop alone
+abbrev pub FanFor : List ℕ → (List Call → List Item → Bool → Type 0) → (FileStop → List Call → List Item → Type 0) →
+    (List Item → Type 0) → List Outlet → List ℕ → Option ToolFault → List Call → Type 0
+FanFor reads came stopped records outlets name fault calls = RanWith reads (ERRORS ∷ map (λ o. o.sink) outlets) came
+    stopped records (FansPrinted outlets) (FanEnded outlets) (fan_answer name) fault calls
+
+-- the same of a text that is due at one sink, which is the only one
 abbrev pub RanFor : List ℕ → (List Call → List Item → Bool → Type 0) → (FileStop → List Call → List Item → Type 0) →
     (List Item → Type 0) → ℕ → Due →
     (RunEnd TextEnding FileStop → Option ToolFault) → Option ToolFault → List Call → Type 0
 RanFor reads came stopped records sink d answer fault calls = RanWith reads (ERRORS ∷ sink ∷ []) came stopped records
-    (TextWritten sink d) (TextEnded sink d) answer fault calls
+    (TextWritten sink d) (TextEnded sink d) (λ end cs. answer end) fault calls
 
 -- what the queries ask, and what was found to write to
 pub record IsAsked (job : Job) (found : List Found) (ask : Ask) (sink : ℕ) (empty : Bool) : Type 0 where

@@ -1,5 +1,5 @@
 -- What a run wrote of all the items that its source has, where that is known (this project's choice).
-use Rattle.std.specs.Prelude.{◌≡◌, ◌⊎◌, ℕ, Bool, true, false, List, [], ◌∷◌, Option, None}
+use Rattle.std.specs.Prelude.{◌≡◌, ◌⊎◌, ℕ, ◌≤◌, Bool, true, false, List, [], ◌∷◌, ◌++◌, length, Option, None}
 use Rattle.log_model.specs.Interleaving.{IsInterleaving}
 use Rattle.log_model.specs.Prefix.{IsPrefix}
 use Rattle.vio.specs.declared.world.TheConstants.{ERRORS}
@@ -24,12 +24,26 @@ use Rattle.job_runs.specs.declared.record.RunRecord.TheVariants.{Closed}
 use Rattle.job_runs.specs.Sources.{AreFed}
 use Rattle.job_runs.specs.Rows.{IsAsked, job_due}
 
--- what a run wrote of them: whatever it came to, a part of what is due of all; and without a fault all of it, since its source had ended or as many groups had come as are kept
+-- a run without a fault met these of all items: with those before the last fewer groups came than are kept; and they are all, and its source had ended, or with the last as many came
+pub record EndedAt (d : Due) (every : List Item) (ended : Bool) (met : List Item) : Type 0 where
+  pub done : List Item
+  pub last : List Item
+  pub rest : List Item
+  pub are : met ≡ done ++ last
+  pub one : length last ≤ 1
+  pub parts : every ≡ met ++ rest
+  pub fewer : d.filled done ≡ false
+  pub ends : ((last ≡ []) × (rest ≡ []) × (ended ≡ true)) ⊎ (d.filled met ≡ true)
+
+-- what a run wrote of them: whatever it came to, a part of what is due of all, and of their messages; and without a fault all that is due, since its source had ended or as many groups had
+-- come as are kept, and the messages of those that it met
 pub record WritesOf (sink : ℕ) (d : Due) (fault : Option ToolFault) (every : List Item) (ended : Bool) (calls : List Call) : Type 0 where
   pub part : IsPrefix (written_by sink calls) (whole d every ended)
   pub told : IsPrefix (written_by ERRORS calls) (messages_of every)
   pub done : fault ≡ None → written_by sink calls ≡ whole d every ended
   pub ends : fault ≡ None → (ended ≡ true) ⊎ (d.filled every ≡ true)
+  pub messages : fault ≡ None → (met : List Item) × EndedAt d every ended met ×
+      (written_by ERRORS calls ≡ messages_of met)
 
 -- a job that had no memory wrote a part of what is due of them
 abbrev pub WritesPart : Job → List Found → List Item → Bool → List Call → Type 0

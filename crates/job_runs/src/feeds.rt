@@ -19,6 +19,7 @@ ghost use Rattle.job_runs.specs.inside.Outputs.{IsFed};
 use crate::output::{answer, output_of};
 use crate::record::Ran;
 use feed_schedule::{Replay, every_schedule_ends, schedules_are_read_whole};
+use job_steps::written_name;
 use log_model::Text;
 use one_run::{RunEnd, RunEnded, run};
 use query_parser::Query;
@@ -108,12 +109,13 @@ pub fn print_feeds<W: World, C: Consumer>(
         Called (RanShort [] (λ calls. FedCame job.now listings.items) sink.handle
         (job_due job.now ask sink.empty)) (W.seen world.old) (W.seen world.new)) }
 {
+    let written = Text::new(alloc, written_name(job))?;
     let errors = Text::new(alloc, "stderr")?;
     let mut output = output_of(alloc, job, consumer, query, sink)?;
     let mut feeds = items_of(alloc, job, listings)?;
     let RunEnded { end, met } = run(world, &mut feeds, &mut output)?;
     match end {
-        RunEnd::ByOutput(ending) => Ok(Ran::counted(answer(ending, errors), met)),
+        RunEnd::ByOutput(ending) => Ok(Ran::counted(answer(ending, written, errors), met)),
         RunEnd::BySource(never) => match never {},
     }
 }

@@ -2,7 +2,7 @@
 
 ghost use Rattle.std.specs.Prelude.{◌≡◌, ℕ, Bool, true, false, List, [], ◌∷◌, Option, Some};
 ghost use Rattle.vio.specs.World.{Seen};
-ghost use Rattle.vio.specs.Calls.{Call, Did, written_by};
+ghost use Rattle.vio.specs.Calls.{Call, Did, last_failed, written_by};
 ghost use Rattle.vsl_record.specs.Unit.{LogUnit, Log};
 ghost use Rattle.ring_layout.specs.declared.history.HistoryItem.{HistoryItem};
 ghost use Rattle.ring_layout.specs.Items.{items_of};
@@ -14,16 +14,34 @@ ghost use Rattle.run_sources.specs.declared.file_items.FileStop.{FileStop};
 ghost use Rattle.run_sources.specs.Sources.{FileCame, FileStopped, unit_items};
 ghost use Rattle.run_sources.specs.Told.{TellsLog, named_ending};
 ghost use Rattle.fan_output.specs.Ends.{whole};
+ghost use Rattle.fan_output.specs.Fan.{Outlet};
 ghost use Rattle.job_steps.specs.declared.fault.ToolFault.{ToolFault};
 ghost use Rattle.job_steps.specs.Jobs.{file_of, is_on_threads};
 ghost use Rattle.job_steps.specs.Queries.{Ask};
 ghost use Rattle.job_steps.specs.Steps.{Found, logs_of};
 ghost use Rattle.job_runs.specs.declared.record.RunRecord.{RunRecord};
 ghost use Rattle.job_runs.specs.Sources.{AreFed, FeedsCame, RecordsCount, RecordsOf};
-ghost use Rattle.job_runs.specs.Rows.{GroupsShort, JobRan, RanFor, end_answer, job_due, stop_answer};
+ghost use Rattle.job_runs.specs.Rows.{FanFor, GroupsShort, JobRan, RanFor, end_answer, job_due, log_answer, stop_answer};
 ghost use Rattle.job_runs.specs.Converts.{Converts, WritesConverted};
 ghost use Rattle.job_runs.specs.Told.{WritesFedPart, WritesOf, WritesPart, WritesRing};
 ghost use Rattle.job_runs.specs.Good.{HasCause, StoppedByLog};
+
+/// A run with a list of one output is a run with that output: over a log, and over feeds, it printed and ended as that does, and is
+/// answered so.
+pub fn a_list_of_one_is_alone()
+    ensures log { (h : ℕ) (recorded : RunRecord) (o : Outlet) (name : List ℕ) (now : Seen)
+        (fault : Option ToolFault) (calls : List Call) → last_failed calls ≡ true →
+        FanFor (h ∷ []) (FileCame h) (λ why cs met. FileStopped h why cs met now)
+        (RecordsCount recorded) (o ∷ []) name fault calls →
+        RanFor (h ∷ []) (FileCame h) (λ why cs met. FileStopped h why cs met now)
+        (RecordsCount recorded) o.sink o.due (log_answer name) fault calls }
+    ensures feeds { (job : Job) (listings : List Listing) (recorded : RunRecord) (o : Outlet)
+        (name : List ℕ) (fault : Option ToolFault) (calls : List Call) → last_failed calls ≡ true →
+        FanFor [] (λ cs. FeedsCame job listings recorded) (λ why cs met. ⊥)
+        (RecordsOf [] job recorded) (o ∷ []) name fault calls →
+        RanFor [] (λ cs. FeedsCame job listings recorded) (λ why cs met. ⊥)
+        (RecordsOf [] job recorded) o.sink o.due (log_answer name) fault calls }
+{}
 
 /// Where a handle told what it had left, a run over its log wrote a part of what is due of that log, and without a fault all
 /// of it; so it did where the log stopped in a way that names the file's ending, and that is how the file ends.
@@ -86,13 +104,17 @@ pub fn short_runs_are_part()
         GroupsShort job found calls → WritesFedPart job found calls }
 {}
 
-/// Where a run has a fault, one of its calls failed, or its log stopped it for what that holds: it is no log, is damaged or is too
-/// large. A log that its handle told to be whole doesn't.
+/// Where a run has a fault, of a job or of `convert`, one of its calls failed, or its log stopped it for what that holds: it is no
+/// log, is damaged or is too large. A log that its handle told to be whole doesn't.
 pub fn faults_have_failed_calls()
     ensures cause { (job : Job) (fault : ToolFault) (recorded : RunRecord) (found : List Found)
         (calls : List Call) (now : Seen) →
         JobRan job now (Some fault) recorded found calls →
         HasCause (logs_of found) (file_of job) fault calls now }
+    ensures convert { (names : Names) (h sink : ℕ) (fault : ToolFault) (recorded : RunRecord)
+        (calls : List Call) (now : Seen) →
+        Converts names h sink now (Some fault) recorded calls →
+        HasCause (h ∷ []) names.input fault calls now }
     ensures whole { (h : ℕ) (name : List ℕ) (fault : ToolFault) (units : Log) (calls : List Call)
         (before now : Seen) →
         TellsLog h units Whole before → Did calls before now →

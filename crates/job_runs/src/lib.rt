@@ -21,8 +21,8 @@ pub use convert::convert_log;
 pub use counters::{print_counters, print_live_counters};
 pub use feeds::print_feeds;
 pub use laws::{
-    converted_logs_are_written, faults_have_failed_calls, feeds_are_written, short_runs_are_part,
-    told_logs_are_written,
+    a_list_of_one_is_alone, converted_logs_are_written, faults_have_failed_calls,
+    feeds_are_written, short_runs_are_part, told_logs_are_written,
 };
 pub use live::print_live;
 pub use log::print_log;

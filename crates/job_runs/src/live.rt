@@ -17,6 +17,7 @@ ghost use Rattle.job_runs.specs.Runs.{RanShort, RanSo};
 use crate::feeds::with_made;
 use crate::output::{answer, output_of};
 use crate::record::{Ran, RunRecord};
+use job_steps::written_name;
 use live_run::{LiveEnded, run_live};
 use log_model::Text;
 use one_run::RunEnd;
@@ -61,13 +62,14 @@ pub fn print_live<R: Threads + Wait + Sync, W: World, C: Consumer, G: Gate>(
     let Some(shape) = Shape::new(job.seg) else {
         unreachable!()
     };
+    let written = Text::new(alloc, written_name(job))?;
     let errors = Text::new(alloc, "stderr")?;
     let mut output = output_of(alloc, job, consumer, query, sink)?;
     let writers = with_made(alloc, job, listings, shape)?;
     let LiveEnded { ended, ring } = run_live(rt, alloc, writers, shape, world, &mut output, gate)?;
     match ended.end {
         RunEnd::ByOutput(ending) => Ok(Ran {
-            fault: answer(ending, errors),
+            fault: answer(ending, written, errors),
             run: RunRecord::Closed(ring),
         }),
         RunEnd::BySource(never) => match never {},

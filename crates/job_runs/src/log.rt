@@ -15,7 +15,7 @@ ghost use Rattle.job_runs.specs.Runs.{RanShort, RanSo};
 
 use crate::output::{answer, output_of};
 use crate::record::Ran;
-use job_steps::{ToolFault, file_name};
+use job_steps::{ToolFault, file_name, written_name};
 use log_model::Text;
 use one_run::{RunEnd, RunEnded, run};
 use query_parser::Query;
@@ -68,12 +68,13 @@ pub fn print_log<W: World, C: Consumer>(
         (job_due job.now ask sink.empty)) (W.seen world.old) (W.seen world.new)) }
 {
     let name = Text::new(alloc, file_name(job))?;
+    let written = Text::new(alloc, written_name(job))?;
     let errors = Text::new(alloc, "stderr")?;
     let mut output = output_of(alloc, job, consumer, query, sink)?;
     let mut log = FileItems::new(alloc, handle)?;
     let RunEnded { end, met } = run(world, &mut log, &mut output)?;
     match end {
-        RunEnd::ByOutput(ending) => Ok(Ran::counted(answer(ending, errors), met)),
+        RunEnd::ByOutput(ending) => Ok(Ran::counted(answer(ending, written, errors), met)),
         RunEnd::BySource(stop) => Ok(Ran::counted(Some(stop_answer(name, stop)), met)),
     }
 }

@@ -12,7 +12,7 @@ use one_run::Met;
 /// What was taken of the input. With the input it gives the run.
 #[derive(Drop)]
 pub enum RunRecord {
-    /// Nothing was taken: a refusal came before the run, or the job has no log.
+    /// Nothing was taken: a refusal came before the run, or the job has no log; or the command records nothing, as `convert`.
     Nothing,
     /// Units were taken, from the first on, of a log file or of feeds in a stated order. varnishstat takes none, and both
     /// numbers are 0.
