@@ -43,7 +43,7 @@ use Rattle.fan_output.specs.declared.ending.TextEnding.TheVariants as endings
 use Rattle.fan_output.specs.Ends.{Due, TextEnded, TextWritten}
 use Rattle.ring_layout.specs.declared.item.Item.{Item}
 use Rattle.run_sources.specs.Sources.{FileCame}
-use Rattle.unit_output.specs.Units.{units_due}
+use Rattle.unit_text.specs.Units.{units_due}
 use Rattle.job_steps.specs.declared.fault.ToolFault.{ToolFault}
 use Rattle.job_steps.specs.declared.fault.ToolFault.TheVariants.{BadFormat, NoOpen, ReadFault, WriteFault, NotALog, Damaged, TooLarge, OldLog}
 use Rattle.job_steps.specs.Appends.{AppendStops, LookStops}

@@ -4,6 +4,7 @@ mod WorkLemmas
 mod SaidLemmas
 mod PartLemmas
 mod OutLemmas
+mod RunLemmas
 mod PrintedLemmas
 mod ToldLemmas
 mod PartedLemmas

@@ -1,37 +1,35 @@
 -- The plain case of the main theorem.
 use Rattle.std.specs.Bool.{MatchBool}
 use Rattle.std.specs.Str.{bytes_eq}
-use Rattle.std.proofs.Common.{◌≡◌, ◌≢◌, ℕ, Bool, true, false, ◌&&◌, not, if◌then◌else◌, is_some, unwrap_or, List, [], ◌++◌, map, Option, Some, None, Result, Ok, refl, sym, ap, subst, ◌∙◌, inl, inr, codes, IfOk, Err}
+use Rattle.std.proofs.Common.{◌≡◌, ◌≢◌, ℕ, Bool, true, false, ◌&&◌, not, if◌then◌else◌, is_some, unwrap_or, List, [], ◌∷◌, ◌++◌, map, Option, Some, None, Result, Ok, refl, sym, ap, subst, ◌∙◌, inl, inr, codes, IfOk, Err}
 use Rattle.std.proofs.lemmas.Slice.Eq.{bytes_eq-Decides}
 use Rattle.vio.specs.declared.world.TheConstants.{ERRORS, INPUT, OUTPUT}
 use Rattle.vio.specs.World.{Gains, HasStreams, Seen}
 use Rattle.vsl_record.specs.Unit.{Log}
+use Rattle.ring_layout.specs.declared.item.Item.{Item}
 use Rattle.vsl_file.specs.File.{Whole, file_header}
 use Rattle.txn_rows.specs.declared.group.Group.{Group}
 use Rattle.txn_rows.specs.Grouping.{all_taken, groups_of}
 use Rattle.vsl_select.specs.Shown.{shown}
-use Rattle.one_command.specs.Promise.{Says}
 use Rattle.run_sources.specs.Sources.{unit_items}
 use Rattle.fan_output.specs.Ends.{whole}
-use Rattle.tool_words.specs.declared.command.Command.{Command}
-use Rattle.tool_words.specs.declared.command.Command.TheVariants.{ForTool}
-use Rattle.tool_words.specs.declared.fault.UsageFault.{UsageFault}
+use Rattle.fan_output.specs.Messages.{messages_of}
+use Rattle.fan_output.proofs.EndLemmas.{messages_append}
 use Rattle.tool_words.specs.declared.job.Job.{Job}
 use Rattle.tool_words.specs.declared.job.Tool.{Tool}
 use Rattle.tool_words.specs.declared.job.Tool.TheVariants as tools
-use Rattle.tool_words.proofs.CommandLemmas.{asks_tool}
-use Rattle.job_steps.specs.declared.fault.ToolFault.{ToolFault}
 use Rattle.job_steps.specs.Jobs.{file_of, options_of, showing_of, writes_log, writes_units}
 use Rattle.job_steps.specs.Queries.{Ask}
 use Rattle.tool_consumers.specs.declared.layout.Layout.TheVariants.{Lines, Units}
 use Rattle.tool_consumers.specs.Output.{head_text, output_of, tool_output, written}
 use Rattle.job_runs.specs.Rows.{job_due}
 use Rattle.varnish_tools.specs.declared.outcome.Outcome.{Outcome}
-use Rattle.varnish_tools.specs.Faults.{fault_message, status_of}
-use Rattle.varnish_tools.specs.Theorem.{IsFaithful, NamesLog, Prints, PrintsBy, PrintsPlain, WorksOff, printed_groups}
+use Rattle.varnish_tools.specs.Faults.{status_of}
+use Rattle.varnish_tools.specs.Theorem.{IsFaithful, NamesLog, Prints, PrintsBy, PrintsPlain, printed_groups}
 use Rattle.varnish_tools.specs.Told.{IsFileSink, IsOut, PrintsLog, TellsInput}
 use Rattle.varnish_tools.proofs.PartedLemmas.{due_is}
-use Rattle.varnish_tools.proofs.ToldLemmas.{TellsStops, TellsWrites, errors_silent, log_printed}
+use Rattle.varnish_tools.proofs.RunLemmas.{prefix_none}
+use Rattle.varnish_tools.proofs.ToldLemmas.{TellsStops, TellsWrites, log_printed}
 
 -- ---- a job without OUT
 
@@ -87,25 +85,30 @@ plain_told words job units s p = record {
   file = (p.most, (p.version, p.file));
 }
 
-module _ (writes_told : TellsWrites) (stops_told : TellsStops) (words : List (List ℕ)) (outcome : Outcome) (s t : Seen) (streams : HasStreams s) (p : IsFaithful words outcome s t) where
-  silent : (job : Job) (units : Log) → NamesLog words job units s → outcome.fault ≡ None → Gains (s.written ERRORS) (t.written ERRORS) []
-  silent job units q none =
-      let stated = subst (λ (r : Result Command UsageFault). WorksOff (Says (fault_message words outcome.fault)) r outcome.fault outcome.run s t) (asks_tool words job q.states) p.works in
-      errors_silent writes_told stops_told job units Whole q.groups (ap (λ (f : Option (List ℕ)). is_some f) q.is_log) outcome.run s t streams (plain_told words job units s q)
-      (subst (λ (f : Option ToolFault). WorksOff (Says (fault_message words f)) (Ok (ForTool job)) f outcome.run s t) none stated)
+-- no item of a log has a message
+units_silent : (units : Log) → messages_of (unit_items units) ≡ []
+units_silent [] = refl
+units_silent (u ∷ units) = units_silent units
 
+-- nor have those that were met of it
+met_silent : (units : Log) (met rest : List Item) → unit_items units ≡ met ++ rest → messages_of met ≡ []
+met_silent units met rest are = prefix_none (messages_of met) (record { rest = messages_of rest; is = sym (units_silent units) ∙ ap messages_of are ∙ messages_append met rest })
+
+module _ (writes_told : TellsWrites) (stops_told : TellsStops) (words : List (List ℕ)) (outcome : Outcome) (s t : Seen) (streams : HasStreams s) (p : IsFaithful words outcome s t) where
   -- what was printed of the log that words name
   pub prints_plain : PrintsPlain words outcome s t
   prints_plain job units q none =
       elim (log_printed writes_told stops_told words outcome job units Whole s t q.states (ap (λ (f : Option (List ℕ)). is_some f) q.is_log) q.groups streams (plain_told words job units s q) p) [
-        | inl stopped ↦ let no : false ≡ true = subst (λ (f : Option ToolFault). is_some f ≡ true) none stopped.0 in absurd cc
+        | inl stopped ↦ let no : None ≡ Some stopped.by = sym none ∙ stopped.is in absurd cc
         | inr log ↦
             let items = log.prints in
             let text = items.done none ∙ due_plain job items.ask items.empty units q.no_out in
-            let out = subst (λ (h : ℕ). Gains (s.written h) (t.written h) items.text) (out_is job items.sink items.empty items.text s t q.no_out items.is_out) items.gains in (
+            let out = subst (λ (h : ℕ). Gains (s.written h) (t.written h) items.text) (out_is job items.sink items.empty items.text s t q.no_out items.is_out) items.gains in
+            let told = items.errors none in
+            let errors = subst (λ (x : List ℕ). Gains (s.written ERRORS) (t.written ERRORS) x) (met_silent units told.0 told.1.rest told.1.parts) told.2 in (
               items.ask,
               record { texts = items.texts; are_texts = items.are_texts; asked = items.asked },
-              prints_by job items.ask units outcome s t q.no_out (p.status ∙ ap status_of none) (silent job units q none) job.tool (subst (λ (x : List ℕ). Gains (s.written OUTPUT) (t.written OUTPUT) x) text out),
+              prints_by job items.ask units outcome s t q.no_out (p.status ∙ ap status_of none) errors job.tool (subst (λ (x : List ℕ). Gains (s.written OUTPUT) (t.written OUTPUT) x) text out),
             )
       ]
 

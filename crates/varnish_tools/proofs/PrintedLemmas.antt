@@ -1,7 +1,7 @@
 -- What a job that prints groups wrote of items: of a log, or of feeds.
 use Rattle.std.specs.Bool.{MatchBool}
 use Rattle.std.specs.Str.{bytes_eq}
-use Rattle.std.proofs.Common.{◌≡◌, ◌≢◌, ℕ, Bool, false, List, [], ◌∷◌, ◌++◌, Option, None, Ok, refl, sym, ap, subst, ◌∙◌, codes}
+use Rattle.std.proofs.Common.{◌≡◌, ℕ, Bool, false, List, [], ◌∷◌, ◌++◌, Option, None, Ok, sym, ap, subst, ◌∙◌, codes}
 use Rattle.std.proofs.lemmas.List.{append-nil}
 use Rattle.vio.specs.declared.world.TheConstants.{ERRORS}
 use Rattle.vio.specs.World.{Gains, HasStreams, Seen, Writing}
@@ -10,28 +10,26 @@ use Rattle.vio.proofs.CallLemmas.{did_then, on_append, written_append}
 use Rattle.vio.proofs.TouchLemmas.{did_touch}
 use Rattle.ring_layout.specs.declared.item.Item.{Item}
 use Rattle.traffic_feed.specs.declared.listing.Listing.{Listing}
-use Rattle.one_command.specs.Promise.{RanOn, Says}
-use Rattle.one_command.proofs.PromiseLemmas.{promised_gain, said_other}
-use Rattle.tool_words.specs.declared.command.Command.{Command}
+use Rattle.one_command.specs.Promise.{Says}
+use Rattle.one_command.proofs.PromiseLemmas.{said_other}
 use Rattle.tool_words.specs.declared.command.Command.TheVariants.{ForTool}
 use Rattle.tool_words.specs.declared.job.Job.{Job}
 use Rattle.job_steps.specs.declared.fault.ToolFault.{ToolFault}
 use Rattle.job_steps.specs.Jobs.{is_counting, write_of}
 use Rattle.job_steps.specs.Queries.{Ask, AreAsked}
-use Rattle.job_steps.specs.Steps.{Found, Passes, Stops, creates_of, listings_of, logs_of, opens_of, steps_of}
+use Rattle.job_steps.specs.Steps.{Found, creates_of, listings_of, logs_of, opens_of, steps_of}
 use Rattle.job_steps.proofs.StepFacts.{passed_within}
 use Rattle.job_runs.specs.declared.record.RunRecord.{RunRecord}
-use Rattle.job_runs.specs.declared.record.RunRecord.TheVariants.{Nothing}
 use Rattle.job_runs.specs.Sources.{CameOf, RecordsOf, StopsOf}
 use Rattle.job_runs.specs.Counters.{PrintsCounters}
 use Rattle.job_runs.specs.Rows.{IsAsked, JobRan, PrintsGroups, RanFor, end_answer, job_due}
 use Rattle.job_runs.specs.Told.{WritesOf}
-use Rattle.varnish_tools.specs.Commands.{alone_of}
-use Rattle.varnish_tools.specs.Theorem.{StatedRan, WorksOff}
+use Rattle.varnish_tools.specs.Theorem.{WorksOff}
 use Rattle.varnish_tools.specs.Told.{PrintsItems}
 use Rattle.varnish_tools.proofs.FoundLemmas.{FoundSo}
 use Rattle.varnish_tools.proofs.PartLemmas.{GroupParts}
 use Rattle.varnish_tools.proofs.OutLemmas.{out_by, sink_apart}
+use Rattle.varnish_tools.proofs.RunLemmas.{RanOf, run_errors, run_gains}
 use Rattle.varnish_tools.proofs.TouchLemmas.{says_on}
 
 pub same_one : {A : Type 0} (x y : A) → x ∷ [] ≡ y ∷ [] → x ≡ y
@@ -56,21 +54,11 @@ ran_over job found texts logs listings sink empty at fault recorded calls groups
       over = subst (λ (hs : List ℕ). RanFor hs (CameOf hs job listings recorded) (StopsOf hs at) (RecordsOf hs job recorded) sink (job_due job g.0 empty) (end_answer job) fault calls) so.logs_are of_listings;
     }
 
--- what the last of a command's calls wrote to a handle but standard error it gained: nothing was written before them, nor by the message
-pub run_gains : (command : Command) (message : List ℕ) (fault : Option ToolFault) (recorded : RunRecord) (h : ℕ) (s t : Seen) → h ≢ ERRORS → (q : WorksOff (Says message) (Ok command) fault recorded s t)
-    → (ran : RanOn Passes Stops (StatedRan (Ok command)) alone_of Nothing (steps_of (Ok command)) q.at fault recorded q.work) → Gains (s.written h) (t.written h) (written_by h ran.last)
-run_gains command message fault recorded h s t apart q ran =
-    let gained = promised_gain Passes Stops (StatedRan (Ok command)) alone_of Nothing (Says message) (steps_of (Ok command)) fault recorded h s t (λ calls says. said_other h message calls apart says) q in
-    let within = passed_within (steps_of (Ok command)) ran.found ran.first ran.passed in
-    let last : written_by h q.work ≡ written_by h ran.last =
-    ap (λ (cs : List Call). written_by h cs) ran.are ∙ written_append h ran.first ran.last ∙ ap (λ (xs : List ℕ). xs ++ written_by h ran.last) (within.writes h) in
-    subst (λ (text : List ℕ). Gains (s.written h) (t.written h) text) last gained
-
--- what such a run wrote of items is what OUT gained
-unfoldable pub items_printed : (job : Job) (message : List ℕ) (fault : Option ToolFault) (recorded : RunRecord) (s t : Seen) (every : List Item) (ended : Bool) (logs : List ℕ) (listings : List Listing) → HasStreams s → (q : WorksOff (Says message) (Ok (ForTool job)) fault recorded s t)
-    → (ran : RanOn Passes Stops (StatedRan (Ok (ForTool job))) alone_of Nothing (steps_of (Ok (ForTool job))) q.at fault recorded q.work) → (mid : Seen) → Did ran.first s mid → Did ran.last mid q.at → (out : GroupParts job ran.found s mid) → FoundSo ran.found out.texts logs listings out.sink out.empty
+-- what such a run wrote of items is what OUT gained, and without a fault standard error
+unfoldable pub items_printed : (job : Job) (message : List ℕ) (fault : Option ToolFault) (recorded : RunRecord) (s t : Seen) (every : List Item) (ended : Bool) (logs : List ℕ) (listings : List Listing) → HasStreams s → (fault ≡ None → message ≡ []) → (q : WorksOff (Says message) (Ok (ForTool job)) fault recorded s t)
+    → (ran : RanOf (ForTool job) q.at fault recorded q.work) → (mid : Seen) → Did ran.first s mid → Did ran.last mid q.at → (out : GroupParts job ran.found s mid) → FoundSo ran.found out.texts logs listings out.sink out.empty
     → (g : RanOver job ran.found logs listings out.sink out.empty q.at fault recorded ran.last) → WritesOf out.sink (job_due job g.ask out.empty) fault every ended ran.last → PrintsItems job fault every ended s t
-items_printed job message fault recorded s t every ended logs listings streams q ran mid did_first did_last out so g wrote =
+items_printed job message fault recorded s t every ended logs listings streams quiet q ran mid did_first did_last out so g wrote =
     let sink = out.sink in
     let apart = sink_apart (bytes_eq (write_of job) (codes "-")) job.append (write_of job) sink out.empty out.out.own out.at out.out.mid out.out.is_made out.out.did_own in
     let within = passed_within (steps_of (Ok (ForTool job))) ran.found ran.first ran.passed in
@@ -90,4 +78,5 @@ items_printed job message fault recorded s t every ended logs listings streams q
       done = wrote.done;
       ends = wrote.ends;
       gains = run_gains (ForTool job) message fault recorded sink s t apart q ran;
+      errors = λ none. let m = wrote.messages none in (m.0, m.1, subst (λ (text : List ℕ). Gains (s.written ERRORS) (t.written ERRORS) text) m.2 (run_errors (ForTool job) message fault recorded s t (quiet none) q ran));
     }

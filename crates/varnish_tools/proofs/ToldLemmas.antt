@@ -1,26 +1,22 @@
 -- What the main theorem comes to, where the world tells what the log of a job holds.
 use Rattle.std.specs.Bool.{MatchBool}
 use Rattle.std.specs.Str.{bytes_eq}
-use Rattle.std.proofs.Common.{◌≡◌, ◌⊎◌, ℕ, ◌<◌, Bool, true, false, if◌then◌else◌, is_some, List, [], ◌∷◌, ◌++◌, length, Option, Some, None, Result, Ok, refl, sym, ap, subst, ◌∙◌, inl, inr, codes, arith}
-use Rattle.std.proofs.lemmas.List.{append-nil}
-use Rattle.vio.specs.declared.world.TheConstants.{ERRORS, INPUT}
-use Rattle.log_model.specs.Prefix.{IsPrefix}
-use Rattle.vio.specs.World.{Gains, HasStreams, Seen, Writing}
+use Rattle.std.proofs.Common.{◌≡◌, ◌⊎◌, ℕ, Bool, true, false, if◌then◌else◌, is_some, List, [], ◌∷◌, Option, Some, None, Result, Ok, refl, sym, ap, subst, ◌∙◌, inl, inr, codes}
+use Rattle.vio.specs.declared.world.TheConstants.{INPUT}
+use Rattle.vio.specs.World.{HasStreams, Seen}
 use Rattle.vio.specs.Touches.{IsOneOf}
-use Rattle.vio.specs.Calls.{Call, Did, Open, Went, SomeFailed, none_failed, written_by}
+use Rattle.vio.specs.Calls.{Call, Did, Open, SomeFailed, none_failed, written_by}
 use Rattle.vio.specs.Steps.{Passed, Stopped}
-use Rattle.vio.proofs.CallLaws.{did_gain, did_keep}
-use Rattle.vio.proofs.CallLemmas.{did_apart, did_then, none_or_some, on_append, some_behind, written_append, written_here}
+use Rattle.vio.proofs.CallLaws.{did_keep}
+use Rattle.vio.proofs.CallLemmas.{did_apart, some_behind}
 use Rattle.vio.proofs.TouchLemmas.{did_touch, only_one}
 use Rattle.vsl_record.specs.Unit.{Log}
 use Rattle.vsl_file.specs.File.{FileEnding, IsFile, Whole, is_whole}
 use Rattle.one_command.specs.Promise.{Says, Works}
-use Rattle.one_command.proofs.PromiseLemmas.{promised_gain, said_other}
 use Rattle.run_sources.specs.Sources.{FileCame, FileStopped, unit_items}
 use Rattle.run_sources.specs.declared.file_items.FileStop.{FileStop}
 use Rattle.run_sources.specs.Told.{TellsLog, named_ending}
 use Rattle.fan_output.specs.Ends.{whole}
-use Rattle.fan_output.specs.Messages.{messages_of}
 use Rattle.tool_words.specs.declared.command.Command.{Command}
 use Rattle.tool_words.specs.declared.command.Command.TheVariants.{ForTool}
 use Rattle.tool_words.specs.declared.fault.UsageFault.{UsageFault}
@@ -30,17 +26,16 @@ use Rattle.tool_words.proofs.CommandLemmas.{asks_tool}
 use Rattle.job_steps.specs.declared.fault.ToolFault.{ToolFault}
 use Rattle.job_steps.specs.Good.{AreGoodSteps}
 use Rattle.job_steps.specs.Jobs.{file_of, is_counting}
-use Rattle.job_steps.specs.Queries.{Ask, AreAsked}
-use Rattle.job_steps.specs.Steps.{Step, OpenLog, Found, FoundSink, Passes, Stops, creates_of, feed_steps, listings_of, logs_of, opens_of, sink_step, steps_of}
+use Rattle.job_steps.specs.Queries.{Ask}
+use Rattle.job_steps.specs.Steps.{Step, OpenLog, Found, FoundSink, Passes, Stops, creates_of, feed_steps, logs_of, opens_of, sink_step, steps_of}
 use Rattle.job_steps.proofs.BegunLemmas.{formatted_create}
 use Rattle.job_steps.proofs.StepFacts.{passed_within}
 use Rattle.job_steps.proofs.TookLemmas.{opens_alone}
 use Rattle.job_runs.specs.declared.record.RunRecord.{RunRecord}
 use Rattle.job_runs.specs.declared.record.RunRecord.TheVariants.{Nothing}
 use Rattle.job_runs.specs.Good.{HasCause, StoppedByLog}
-use Rattle.job_runs.specs.Sources.{CameOf, RecordsCount, RecordsOf, StopsOf}
-use Rattle.job_runs.specs.Counters.{PrintsCounters}
-use Rattle.job_runs.specs.Rows.{JobRan, PrintsGroups, RanFor, end_answer, job_due, stop_answer}
+use Rattle.job_runs.specs.Sources.{RecordsCount}
+use Rattle.job_runs.specs.Rows.{JobRan, RanFor, end_answer, job_due, stop_answer}
 use Rattle.job_runs.specs.Told.{WritesOf}
 use Rattle.varnish_tools.specs.declared.outcome.Outcome.{Outcome}
 use Rattle.varnish_tools.specs.Faults.{fault_message}
@@ -50,6 +45,7 @@ use Rattle.varnish_tools.specs.Told.{PrintsLog, TellsInput, WasStopped}
 use Rattle.varnish_tools.proofs.FoundLemmas.{FoundSo, found_feeds, found_file}
 use Rattle.varnish_tools.proofs.PartLemmas.{GroupParts, counter_parts, early, feeds_found, group_parts, passed_alone}
 use Rattle.varnish_tools.proofs.PrintedLemmas.{items_printed, ran_over}
+use Rattle.varnish_tools.proofs.RunLemmas.{RanOf, no_message, none_fails, stopped_or}
 
 -- ---- a log that is told
 
@@ -94,22 +90,6 @@ log_found job units ending found calls s t groups file streams tells passed did 
 
 -- ---- what a run over a told log comes to
 
--- no item of a log has a message
-units_silent : (units : Log) → messages_of (unit_items units) ≡ []
-units_silent [] = refl
-units_silent (u ∷ units) = units_silent units
-
--- a part of nothing is nothing
-prefix_none : (text : List ℕ) → IsPrefix text [] → text ≡ []
-prefix_none [] part = refl
-prefix_none (byte ∷ text) part = let no : [] ≡ byte ∷ (text ++ part.rest) = part.is in absurd cc
-
--- where there is no message nothing is written
-says_none : (calls : List Call) → Says [] calls → written_by ERRORS calls ≡ []
-says_none calls (inl none) = ap (λ (cs : List Call). written_by ERRORS cs) none.1
-says_none calls (inr (inl whole)) = ap (λ (cs : List Call). written_by ERRORS cs) whole ∙ written_here ERRORS [] Went
-says_none calls (inr (inr part)) = let no : length part.0 < 0 = (part.1).shorter in absurd (omega (arith, no))
-
 -- that a run over a log whose handle told what it had left writes what is due of it
 abbrev pub TellsWrites : Type 0
 TellsWrites = (job : Job) (ask : Ask) (h : ℕ) (others : List ℕ) (sink : ℕ) (empty : Bool) (units : Log) (ending : FileEnding) (fault : Option ToolFault) (recorded : RunRecord) (calls : List Call) (before now : Seen) → TellsLog h units ending before → Did calls before now
@@ -122,45 +102,26 @@ TellsStops = (job : Job) (ask : Ask) (h : ℕ) (others : List ℕ) (sink : ℕ) 
     → (ending ≡ named) × (written_by sink calls ≡ whole (job_due job ask empty) (unit_items units) (is_whole ending))
 
 module _ (writes_told : TellsWrites) (stops_told : TellsStops) (job : Job) (units : Log) (ending : FileEnding) (groups : is_counting job.tool ≡ false) (file : is_some job.file ≡ true) where
-  work_prints : (message : List ℕ) (fault : Option ToolFault) (recorded : RunRecord) (s t : Seen) → HasStreams s → TellsInput job units ending s → WorksOff (Says message) (Ok (ForTool job)) fault recorded s t → WasStopped fault recorded ⊎ PrintsLog job fault units ending s t
+  work_prints : (message : List ℕ) (fault : Option ToolFault) (recorded : RunRecord) (s t : Seen) → HasStreams s → TellsInput job units ending s → (fault ≡ None → message ≡ []) → (q : WorksOff (Says message) (Ok (ForTool job)) fault recorded s t)
+      → RanOf (ForTool job) q.at fault recorded q.work → PrintsLog job fault units ending s t
   unfolding items_printed
-  work_prints message fault recorded s t streams tells q = elim q.works [
-    | inl early ↦ inl (ap (λ (o : Option ToolFault). is_some o) early.is, early.none)
-    | inr ran ↦
-        let parts = did_apart ran.first ran.last s q.at (subst (λ (cs : List Call). Did cs s q.at) ran.are q.did) in
-        let of = log_found job units ending ran.found ran.first s parts.0 groups file streams tells ran.passed parts.1 in
-        let out = of.parts in
-        let g = ran_over job ran.found out.texts (of.h ∷ []) [] out.sink out.empty q.at fault recorded ran.last groups of.so ran.ran in
-        inr (record {
-          prints = items_printed job message fault recorded s t (unit_items units) (is_whole ending) (of.h ∷ []) [] streams q ran parts.0 parts.1 parts.2 out of.so g
-              (writes_told job g.ask of.h [] out.sink out.empty units ending fault recorded ran.last parts.0 q.at of.tells parts.2 g.over);
-          stops = λ why named. stops_told job g.ask of.h [] out.sink out.empty units ending fault recorded ran.last parts.0 q.at why named of.tells parts.2 g.over;
-        })
-  ]
-
-  -- and where there is no message standard error gained nothing, if there is no fault
-  pub errors_silent : (recorded : RunRecord) (s t : Seen) → HasStreams s → TellsInput job units ending s → WorksOff (Says []) (Ok (ForTool job)) None recorded s t → Gains (s.written ERRORS) (t.written ERRORS) []
-  errors_silent recorded s t streams tells q = elim q.works [
-    | inl early ↦ let no : None ≡ Some early.by = early.is in absurd cc
-    | inr ran ↦
-        let parts = did_apart ran.first ran.last s q.at (subst (λ (cs : List Call). Did cs s q.at) ran.are q.did) in
-        let of = log_found job units ending ran.found ran.first s parts.0 groups file streams tells ran.passed parts.1 in
-        let out = of.parts in
-        let g = ran_over job ran.found out.texts (of.h ∷ []) [] out.sink out.empty q.at None recorded ran.last groups of.so ran.ran in
-        let wrote = writes_told job g.ask of.h [] out.sink out.empty units ending None recorded ran.last parts.0 q.at of.tells parts.2 g.over in
-        let first : written_by ERRORS ran.first ≡ [] = (passed_within (steps_of (Ok (ForTool job))) ran.found ran.first ran.passed).writes ERRORS in
-        let last : written_by ERRORS ran.last ≡ [] = prefix_none (written_by ERRORS ran.last) (subst (λ (text : List ℕ). IsPrefix (written_by ERRORS ran.last) text) (units_silent units) wrote.told) in
-        let work : written_by ERRORS q.work ≡ [] = ap (λ (cs : List Call). written_by ERRORS cs) ran.are ∙ written_append ERRORS ran.first ran.last ∙ (λ i. first i ++ last i) in
-        let all : written_by ERRORS (q.work ++ q.said) ≡ [] = written_append ERRORS q.work q.said ∙ (λ i. work i ++ says_none q.said q.says i) in
-        subst (λ (text : List ℕ). Gains (s.written ERRORS) (t.written ERRORS) text) all (did_gain ERRORS (q.work ++ q.said) s t (did_then q.work q.said s q.at t q.did q.told))
-  ]
+  work_prints message fault recorded s t streams tells quiet q ran =
+      let parts = did_apart ran.first ran.last s q.at (subst (λ (cs : List Call). Did cs s q.at) ran.are q.did) in
+      let of = log_found job units ending ran.found ran.first s parts.0 groups file streams tells ran.passed parts.1 in
+      let out = of.parts in
+      let g = ran_over job ran.found out.texts (of.h ∷ []) [] out.sink out.empty q.at fault recorded ran.last groups of.so ran.ran in
+      record {
+        prints = items_printed job message fault recorded s t (unit_items units) (is_whole ending) (of.h ∷ []) [] streams quiet q ran parts.0 parts.1 parts.2 out of.so g
+            (writes_told job g.ask of.h [] out.sink out.empty units ending fault recorded ran.last parts.0 q.at of.tells parts.2 g.over);
+        stops = λ why named. stops_told job g.ask of.h [] out.sink out.empty units ending fault recorded ran.last parts.0 q.at why named of.tells parts.2 g.over;
+      }
 
 -- what was written of a log that was told
 pub log_printed : TellsWrites → TellsStops → (words : List (List ℕ)) (outcome : Outcome) (job : Job) (units : Log) (ending : FileEnding) (before now : Seen) → job_of words ≡ Ok job → is_some job.file ≡ true → is_counting job.tool ≡ false → HasStreams before → TellsInput job units ending before
-    → IsFaithful words outcome before now → WasStopped outcome.fault outcome.run ⊎ PrintsLog job outcome.fault units ending before now
+    → (p : IsFaithful words outcome before now) → WasStopped words outcome p.works.work ⊎ PrintsLog job outcome.fault units ending before now
 log_printed writes_told stops_told words outcome job units ending before now states file groups streams tells p =
-    work_prints writes_told stops_told job units ending groups file (fault_message words outcome.fault) outcome.fault outcome.run before now streams tells
-    (subst (λ (stated : Result Command UsageFault). WorksOff (Says (fault_message words outcome.fault)) stated outcome.fault outcome.run before now) (asks_tool words job states) p.works)
+    stopped_or (PrintsLog job outcome.fault units ending before now) words outcome (ForTool job) before now (asks_tool words job states) p
+    (work_prints writes_told stops_told job units ending groups file (fault_message words outcome.fault) outcome.fault outcome.run before now streams tells (no_message words outcome.fault))
 
 -- ---- a fault has a call that failed
 
@@ -197,23 +158,17 @@ log_stops whole false false job found first last h fault r s t groups is streams
     none_found h (logs_of found) (found_feeds g.texts g.inputs found fed.0 g.sink g.empty g.are fed.1).logs_are one
 
 module _ (pass : GoodPass) (cause : FaultCause) (whole : WholeRuns) (job : Job) (s t : Seen) (streams : HasStreams s) (good : AreGoodSteps s (steps_of (Ok (ForTool job)))) (tells : TellsWhole job s) where
-  work_failed : (fault : ToolFault) (recorded : RunRecord) (work : List Call) → Did work s t → Works Passes Stops (StatedRan (Ok (ForTool job))) alone_of Nothing (steps_of (Ok (ForTool job))) t (Some fault) recorded work → SomeFailed work
-  work_failed fault recorded work did (inl early) = pass (Ok (ForTool job)) early.by work s t good did early.stopped
-  work_failed fault recorded work did (inr ran) =
+  work_failed : (recorded : RunRecord) (work : List Call) (fault : ToolFault) → Did work s t → Works Passes Stops (StatedRan (Ok (ForTool job))) alone_of Nothing (steps_of (Ok (ForTool job))) t (Some fault) recorded work → SomeFailed work
+  work_failed recorded work fault did (inl early) = pass (Ok (ForTool job)) early.by work s t good did early.stopped
+  work_failed recorded work fault did (inr ran) =
       let parts = did_apart ran.first ran.last s t (subst (λ (cs : List Call). Did cs s t) ran.are did) in
       elim (cause job fault recorded ran.found ran.last t ran.ran) [
         | inl failed ↦ subst (λ (cs : List Call). SomeFailed cs) (sym ran.are) (some_behind ran.first ran.last failed)
         | inr log ↦ absurd (log_stops whole (is_counting job.tool) (is_some job.file) job ran.found ran.first ran.last log.0 fault s parts.0 t refl refl streams tells ran.passed parts.1 parts.2 log.1 log.2)
       ]
 
-  work_whole : (fault : Option ToolFault) (recorded : RunRecord) (work : List Call) → Did work s t → Works Passes Stops (StatedRan (Ok (ForTool job))) alone_of Nothing (steps_of (Ok (ForTool job))) t fault recorded work → none_failed work ≡ true → fault ≡ None
-  work_whole None recorded work did works none = refl
-  work_whole (Some fault) recorded work did works none = absurd (none_or_some work none (work_failed fault recorded work did works))
-
 -- words whose job has what it needs have no fault where no call failed
 pub no_fault : GoodPass → FaultCause → WholeRuns → (words : List (List ℕ)) (outcome : Outcome) (job : Job) (before now : Seen) → job_of words ≡ Ok job → HasStreams before → AreGoodSteps before (steps_of (Ok (ForTool job))) → TellsWhole job before
     → (p : IsFaithful words outcome before now) → none_failed p.works.work ≡ true → outcome.fault ≡ None
 no_fault pass cause whole words outcome job before now states streams good tells p none =
-    let q = p.works in
-    work_whole pass cause whole job before q.at streams good tells outcome.fault outcome.run q.work q.did
-    (subst (λ (stated : Result Command UsageFault). Works Passes Stops (StatedRan stated) alone_of Nothing (steps_of stated) q.at outcome.fault outcome.run q.work) (asks_tool words job states) q.works) none
+    none_fails words outcome (ForTool job) before now (asks_tool words job states) p (λ fault. work_failed pass cause whole job before p.works.at streams good tells outcome.run p.works.work fault p.works.did) none

@@ -1,14 +1,14 @@
 -- What the work touches: what its steps name, and nothing where the words are refused.
 use Rattle.std.specs.Bool.{MatchBool}
 use Rattle.std.specs.List.{flat_map}
-use Rattle.std.proofs.Common.{◌≡◌, ◌⊎◌, ℕ, ◌≤◌, Bool, true, false, List, [], ◌∷◌, ◌++◌, length, length-append, if◌then◌else◌, is_some, Option, Some, None, Result, Ok, Err, refl, sym, ap, subst, ◌∙◌, inl, inr, arith}
+use Rattle.std.proofs.Common.{◌≡◌, ◌⊎◌, ℕ, Bool, true, false, List, [], ◌∷◌, ◌++◌, length-append, if◌then◌else◌, is_some, Option, Some, None, Result, Ok, Err, refl, sym, ap, subst, ◌∙◌, inl, inr, arith}
 use Rattle.vio.specs.declared.world.TheConstants.{ERRORS}
 use Rattle.vio.specs.World.{Seen}
 use Rattle.vio.specs.Touches.{IsOneOf}
-use Rattle.vio.specs.Calls.{Call, Called, Create, Lack, AreOn, count_given}
+use Rattle.vio.specs.Calls.{Call, Called, AreOn}
 use Rattle.vio.specs.Steps.{Passed, Stopped}
 use Rattle.vio.proofs.CallLemmas.{did_then, given_append, handles_created, handles_opened, on_given, on_within, within_behind, within_more}
-use Rattle.vio.proofs.TouchLemmas.{one_of_either, one_of_left, one_of_right}
+use Rattle.vio.proofs.TouchLemmas.{one_of_left, one_of_right}
 use Rattle.one_command.specs.Promise.{Says, SaysPart, Works}
 use Rattle.vsl_select.specs.declared.rule_text.SelectFault.{SelectFault}
 use Rattle.vsl_select.specs.Shown.{rules_fault}
@@ -21,9 +21,9 @@ use Rattle.tool_words.specs.declared.job.Job.{Job}
 use Rattle.tool_words.specs.Command.{command_of}
 use Rattle.job_steps.specs.declared.fault.ToolFault.{ToolFault}
 use Rattle.job_steps.specs.Jobs.{is_counting}
-use Rattle.job_steps.specs.Steps.{Step, RefuseWords, TakeRules, AppendLog, Found, Passes, Stops, job_steps, logs_of, names_steps, opens_of, creates, creates_of, reads_of, writes_of, steps_of}
-use Rattle.job_steps.specs.Took.{LacksSteps, appends, appends_of}
-use Rattle.job_steps.proofs.StepFacts.{StaysWithin, passed_within, stopped_within}
+use Rattle.job_steps.specs.Steps.{Step, RefuseWords, TakeRules, Found, Passes, Stops, job_steps, logs_of, names_steps, opens_of, creates_of, reads_of, writes_of, steps_of}
+use Rattle.job_steps.specs.Took.{LacksSteps}
+use Rattle.job_steps.proofs.StepFacts.{StaysWithin, look_within, passed_within, stopped_within}
 use Rattle.job_runs.specs.declared.record.RunRecord.{RunRecord}
 use Rattle.job_runs.specs.declared.record.RunRecord.TheVariants.{Nothing}
 use Rattle.job_runs.specs.Converts.{ConvertRan, ConvertShort}
@@ -144,35 +144,13 @@ works_touch (Err why) at fault recorded calls (inr p) = absurd p.ran
 works_touch (Ok (ForTool job)) at fault recorded calls (inr p) = rw p.are (ran_touch job p.found p.first p.last p.passed (run_on job at fault recorded p.found p.last p.ran))
 works_touch (Ok (ForConvert names)) at fault recorded calls (inr p) = rw p.are (touch_on (names_steps names) p.found p.first p.last p.passed (convert_on names at fault recorded p.found p.last p.ran))
 
--- a log file that is appended to is created
-append_created : (step : Step) (name : List ℕ) → IsOneOf name (appends step) → IsOneOf name (creates step)
-append_created (AppendLog file) name is = is
-append_created step name is = absurd is
-
-appended_created : (steps : List Step) (name : List ℕ) → IsOneOf name (appends_of steps) → IsOneOf name (creates_of steps)
-appended_created [] name is = absurd is
-appended_created (step ∷ steps) name is = elim (one_of_either name (appends step) (appends_of steps) is) [
-  | inl first ↦ one_of_left name (creates step) (creates_of steps) (append_created step name first)
-  | inr later ↦ one_of_right name (creates step) (creates_of steps) (appended_created steps name later)
-]
-
-some_there : (names : List (List ℕ)) (name : List ℕ) → IsOneOf name names → 1 ≤ length names
-some_there [] name is = absurd is
-some_there (x ∷ names) name is = omega arith
-
 -- steps for which there was no memory touch what they name
 lacks_within : (steps : List Step) (calls : List Call) → LacksSteps steps calls → TouchesSteps steps calls
 lacks_within steps calls (inl p) = (
   within_more [] (reads_of steps) [] (ERRORS ∷ writes_of steps) (opens_of steps) (opens_of steps) [] (creates_of steps) calls (λ h is. absurd is) (λ h is. absurd is) (λ n is. is) (λ n is. absurd is) p.0,
   omega (arith, p.1, length-append (opens_of steps) (creates_of steps)),
 )
-lacks_within steps calls (inr p) =
-    let R = reads_of steps in let W = ERRORS ∷ writes_of steps in let O = opens_of steps in let C = creates_of steps in
-    let created = appended_created steps p.name p.appends in
-    let last : List Call = Create true p.name p.handle false ∷ Lack ∷ [] in
-    let one : count_given last ≡ 1 = refl in
-    let early = within_more [] R [] W O O [] C p.first (λ h is. absurd is) (λ h is. absurd is) (λ n is. is) (λ n is. absurd is) p.opens.0 in
-    rw p.are (within_behind R W O C p.first last early (created, (tt, tt)), omega (arith, one, p.opens.1, some_there C p.name created, given_append p.first last, length-append O C))
+lacks_within steps calls (inr p) = touch_within steps calls (look_within steps calls p)
 
 -- so does what had no memory
 pub lacks_touch : (stated : Result Command UsageFault) (calls : List Call) → LacksWork stated calls → TouchesSteps (asked_of stated) calls

@@ -54,8 +54,8 @@ abbrev pub fault_message : List (List ℕ) → Option ToolFault → List ℕ
 fault_message words None = []
 fault_message words (Some fault) = message words fault
 
--- the status of a run: 0 without a fault; 2 where the words, the pattern of a rule, the text of a query, of `-q` or of a file, or a format was refused; else 1, where a call failed or a
--- log or feed isn't one. Want of memory is no fault of a run, and `vtools` answers it with 3
+-- the status of a run: 0 without a fault; 2 where the words, the pattern of a rule, the text of a query, of `-q` or of a file, or a format was refused; else 1: a call failed, a
+-- log or a feed isn't one, a file is larger than is read, or isn't one that can be appended to. Want of memory is no fault of a run, and `vtools` answers it with 3
 abbrev pub status_of : Option ToolFault → ℕ
 status_of None = 0
 status_of (Some (Usage fault)) = 2

@@ -111,7 +111,7 @@ WorksOff IsSaid stated fault recorded before now = Promised Passes Stops (Stated
 -- ---- an outcome
 
 -- the main theorem, where the call answers an outcome: what it did in the world is the work, of which no call failed but perhaps the last, and behind it one write of the fault's message to
--- standard error, or of not all of it where that failed; without a fault nothing more. The status is that of the fault
+-- standard error, or of not all of it where that failed; without a fault no byte more. The status is that of the fault
 pub record IsFaithful (words : List (List ℕ)) (outcome : Outcome) (before now : Seen) : Type 0 where
   pub status : outcome.status ≡ status_of outcome.fault
   pub works : WorksOff (Says (fault_message words outcome.fault))

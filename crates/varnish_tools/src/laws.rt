@@ -45,26 +45,27 @@ pub fn plain_logs_are_printed()
 }
 
 /// Where the world told what the log of a job holds, OUT gained a part of what is due of that log: all of it without a fault, for
-/// which the log is whole, or completes as many groups as are kept, and where the fault says how it ends; or a step stopped the job.
+/// which the log is whole, or completes as many groups as are kept, and where the fault says how it ends; or a step stopped the job
+/// before its run, by the calls of the work.
 pub fn told_logs_are_printed()
     ensures { (words : List (List ℕ)) (outcome : Outcome) (job : Job) (units : Log)
         (ending : FileEnding) (before now : Seen) →
         job_of words ≡ Ok job → is_some job.file ≡ true → is_counting job.tool ≡ false →
         HasStreams before → TellsInput job units ending before →
-        IsFaithful words outcome before now → WasStopped outcome.fault outcome.run ⊎
+        (p : IsFaithful words outcome before now) → WasStopped words outcome p.works.work ⊎
         PrintsLog job outcome.fault units ending before now }
 {
     told_logs_are_written();
 }
 
 /// Where the world told what the log holds that words ask to be converted, OUT gained a part of a log file of its units: all of it
-/// without a fault, for which that log is whole, and where the fault says how it ends; or a step stopped the work.
+/// without a fault, for which that log is whole, and where the fault says how it ends; or a step stopped the work before its run.
 pub fn told_logs_are_converted()
     ensures { (words : List (List ℕ)) (outcome : Outcome) (names : Names) (units : Log)
         (ending : FileEnding) (before now : Seen) →
         command_of words ≡ Ok (ForConvert names) → HasStreams before →
         TellsNamed names.input units ending before →
-        IsFaithful words outcome before now → WasStopped outcome.fault outcome.run ⊎
+        (p : IsFaithful words outcome before now) → WasStopped words outcome p.works.work ⊎
         PrintsConverted names outcome.fault units ending before now }
 {
     converted_logs_are_written();
@@ -72,21 +73,21 @@ pub fn told_logs_are_converted()
 
 /// Where the world told what the feeds of a job hold, OUT gained a part of what is due of all that a reader meets of their
 /// listings in the order that the job states, and without a fault all of it; on threads of all that the one reader of the ring
-/// took; or a step stopped the job.
+/// took; and without a fault standard error the messages of what was met. Or a step stopped the job before its run.
 pub fn told_feeds_are_printed()
     ensures stated { (words : List (List ℕ)) (outcome : Outcome) (job : Job)
         (contents : List (List ℕ)) (listings : List Listing) (before now : Seen) →
         job_of words ≡ Ok job → is_some job.file ≡ false → is_counting job.tool ≡ false →
         is_on_threads job ≡ false → HasStreams before →
         FeedsHold before job.feeds contents → AreListings job.reclen job.seg contents listings →
-        IsFaithful words outcome before now → WasStopped outcome.fault outcome.run ⊎
+        (p : IsFaithful words outcome before now) → WasStopped words outcome p.works.work ⊎
         PrintsFeeds job outcome.fault listings before now }
     ensures live { (words : List (List ℕ)) (outcome : Outcome) (job : Job)
         (contents : List (List ℕ)) (listings : List Listing) (before now : Seen) →
         job_of words ≡ Ok job → is_some job.file ≡ false → is_counting job.tool ≡ false →
         is_on_threads job ≡ true → HasStreams before →
         FeedsHold before job.feeds contents → AreListings job.reclen job.seg contents listings →
-        IsFaithful words outcome before now → WasStopped outcome.fault outcome.run ⊎
+        (p : IsFaithful words outcome before now) → WasStopped words outcome p.works.work ⊎
         PrintsRing job outcome.fault outcome.run listings before now }
 {
     feeds_are_listings_or_have_a_fault();
@@ -95,26 +96,33 @@ pub fn told_feeds_are_printed()
 }
 
 /// Where the world told what the feeds of varnishstat hold, standard output gained a part of the counters of their listings, and
-/// without a fault all of it; or a step stopped the job.
+/// without a fault all of it; or a step stopped the job before its run.
 pub fn told_counters_are_printed()
     ensures { (words : List (List ℕ)) (outcome : Outcome) (job : Job) (contents : List (List ℕ))
         (listings : List Listing) (before now : Seen) →
         job_of words ≡ Ok job → is_counting job.tool ≡ true → FeedsHold before job.feeds contents →
         AreListings job.reclen job.seg contents listings →
-        IsFaithful words outcome before now → WasStopped outcome.fault outcome.run ⊎
-        PrintsCounted job outcome.fault listings before now }
+        (p : IsFaithful words outcome before now) → WasStopped words outcome p.works.work ⊎
+        PrintsCounted job outcome.fault outcome.run listings before now }
 {
     feeds_are_listings_or_have_a_fault();
     told_feeds_are_read();
 }
 
-/// Words whose job needs nothing that it doesn't have, over a whole log or over feeds, have no fault where no call failed.
+/// Words whose job needs nothing that it doesn't have, over a whole log or over feeds, have no fault where no call failed; nor have
+/// those that ask for a whole log to be converted.
 pub fn good_words_have_no_fault()
-    ensures { (words : List (List ℕ)) (outcome : Outcome) (job : Job) (before now : Seen) →
+    ensures tool { (words : List (List ℕ)) (outcome : Outcome) (job : Job) (before now : Seen) →
         job_of words ≡ Ok job → HasStreams before →
         AreGoodSteps before (steps_of (Ok (ForTool job))) →
         (is_some job.file ≡ true → is_counting job.tool ≡ false →
         (units : Log) × TellsInput job units Whole before) →
+        (p : IsFaithful words outcome before now) → none_failed p.works.work ≡ true →
+        outcome.fault ≡ None }
+    ensures convert { (words : List (List ℕ)) (outcome : Outcome) (names : Names) (units : Log)
+        (before now : Seen) →
+        command_of words ≡ Ok (ForConvert names) → HasStreams before →
+        TellsNamed names.input units Whole before →
         (p : IsFaithful words outcome before now) → none_failed p.works.work ≡ true →
         outcome.fault ≡ None }
 {

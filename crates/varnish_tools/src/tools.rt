@@ -210,8 +210,9 @@ pub fn run_other<W: World>(
 ///
 /// The steps are taken in order: the words, and the rules in them; the queries, in the order of the words, where the file of each is
 /// opened and read, and its text judged, before the next one's; the format of varnishncsa; the log is opened, or is standard input,
-/// or the feeds are read, one after the other; what is written is created, or is standard output. The first that refuses the job
-/// ends the call, and nothing else is done then but that its message is written to standard error.
+/// or the feeds are read, one after the other; what is written is created, or is standard output, and a log file that is appended
+/// to with `-a`, and has bytes, is opened and looked at. The first that refuses the job ends the call, and nothing else is done then
+/// but that its message is written to standard error.
 ///
 /// Then the job runs. Of varnishlog, what is written gains what is shown of the groups for which a query holds, all where there is
 /// none, as lines, or with `-w` and without `-A` as the units of a log file; of varnishncsa a line for each request that is logged
