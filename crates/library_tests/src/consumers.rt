@@ -103,6 +103,24 @@ fn one_that_is_done_leaves_the_other_going(rt: HostRuntime) {
 }
 
 #[test]
+fn one_that_is_stopped_takes_no_more_and_is_not_ended(rt: HostRuntime) {
+    let alloc = rt.alloc();
+    let shown = all_shown(&rt, alloc);
+    let stopped = top(&rt, alloc, &shown, None);
+    let all = top(&rt, alloc, &shown, None);
+    let both = Vec::from_array(alloc, [stopped, all]).expect(&rt, "memory");
+    let mut dispatch = Dispatcher::new(alloc, both).expect(&rt, "memory");
+    give(&rt, alloc, &mut dispatch, b"req 1 rxreq", true, true);
+    dispatch.stop(0);
+    same(&rt, dispatch.live(), 1);
+    give(&rt, alloc, &mut dispatch, b"req 3 rxreq", true, true);
+    dispatch.finish().expect(&rt, "memory");
+    same(&rt, dispatch.live(), 0);
+    expect_text(&rt, &mut dispatch, 0, b"");
+    expect_text(&rt, &mut dispatch, 1, BOTH);
+}
+
+#[test]
 fn each_receives_what_its_query_holds_for(rt: HostRuntime) {
     let alloc = rt.alloc();
     let shown = all_shown(&rt, alloc);
