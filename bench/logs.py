@@ -101,3 +101,36 @@ def one_session(count):
         yield vslog.unit(vxid, "c", list(itertools.chain(*request(vxid, FIRST_SECOND + STEP * at))))
         opened = []
     yield vslog.unit(SESSION, "c", [("SessClose", b"REM_CLOSE %.3f" % (STEP * count)), ("End", b"")])
+
+
+def single_records(units):
+    """The same records, each in a unit of its own, as a log that was written under raw grouping has them."""
+    for unit in units:
+        for vxid, mark, records in vslog.read_units(vslog.HEADER + unit):
+            for record in records:
+                yield vslog.unit(vxid, mark, [record])
+
+
+def esi_trees(trees, parts, depth):
+    """The units of pages of so many parts, in order: each level of parts is included by the last part of the one above it.
+
+    A part is delivered within the page, so it has no line of an access log; a Link is a unit of its own.
+    """
+    vxid, level = SESSION, parts // depth
+    for tree in range(trees):
+        seconds = FIRST_SECOND + STEP * tree
+        page = vxid = vxid + 1
+        first, *others = request(page, seconds)
+        yield vslog.unit(page, "c", first)
+        ended, parent = [(page, list(itertools.chain(*others)))], page
+        for at in range(parts):
+            vxid += 1
+            yield vslog.unit(parent, "c", [("Link", b"req %d esi %d" % (vxid, 1 + at // level))])
+            head, *rest = request(vxid, seconds)
+            begin = ("Begin", b"req %d esi %d" % (parent, 1 + at // level))
+            yield vslog.unit(vxid, "c", [begin, *head[1:]])
+            ended.append((vxid, list(itertools.chain(*rest))))
+            if (at + 1) % level == 0:
+                parent = vxid
+        for each, records in reversed(ended):
+            yield vslog.unit(each, "c", records)

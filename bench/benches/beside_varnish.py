@@ -19,7 +19,7 @@ import tempfile
 from vslog import HEADER
 
 from benches.varnish_traffic import make_log
-from logs import one_session, open_at_once, our_units, repeat, varnish_records
+from logs import esi_trees, one_session, open_at_once, our_units, repeat, single_records, varnish_records
 from timing import RUNS, best, run
 from varnish_log import FILE_MARK
 
@@ -41,6 +41,21 @@ COMMANDS = [
     (0.20, ["varnishtop", "-1"]),
     (0.35, ["varnishtop", "-1", "-i", "ReqURL"]),
 ]
+# more forms that a user writes: with rules of patterns, and over records by themselves
+FORMS = [
+    (0.40, ["varnishlog", "-g", "vxid", "-I", "ReqHeader:^Host"]),
+    (0.40, ["varnishlog", "-g", "vxid", "-C", "-I", "host"]),
+    (0.40, ["varnishlog", "-g", "vxid", "-X", "ReqHeader:Cookie"]),
+    (0.40, ["varnishlog", "-g", "raw", "-I", "ReqHeader:^Host"]),
+    (0.40, ["varnishlog", "-g", "raw", "-i", "ReqURL"]),
+    (0.40, ["varnishlog", "-g", "raw", "-c"]),
+    (0.40, ["varnishlog", "-g", "raw", "-x", "ReqHeader"]),
+    (0.40, ["varnishlog", "-g", "raw", "-q", "RespStatus >= 500"]),
+    (0.40, ["varnishlog", "-g", "raw", "-i", "ReqURL", "-w", OUT]),
+    (0.40, ["varnishncsa", "-b"]),
+    (0.40, ["varnishtop", "-1", "-g", "raw", "-i", "ReqURL"]),
+    (0.40, ["varnishtop", "-1", "-I", "ReqHeader:^Host"]),
+]
 # logs that are made: what they have, the name that their files begin with, their units, and commands as above
 MADE = [
     ("100,000 requests, of which 4,000 are open at once", "open", lambda: open_at_once(100_000, 4_000), [
@@ -51,6 +66,18 @@ MADE = [
     ("One session of 50,000 requests", "session", lambda: one_session(50_000), [
         (0.40, ["varnishlog", "-g", "session", "-L", "100000"]),
         (0.40, ["varnishlog", "-g", "session", "-L", "100000", "-q", "RespStatus >= 500"]),
+    ]),
+    ("20,000 requests whose units have one record each", "single", lambda: single_records(open_at_once(20_000, 40)), [
+        (0.60, ["varnishlog", "-g", "raw"]),
+        (0.60, ["varnishlog", "-g", "raw", "-w", OUT]),
+        (0.60, ["varnishlog", "-g", "vxid", "-i", "ReqURL"]),
+        (0.60, ["varnishlog", "-g", "request", "-q", "RespStatus >= 500"]),
+        (0.60, ["varnishncsa"]),
+        (0.60, ["varnishtop", "-1", "-i", "ReqURL"]),
+    ]),
+    ("100 pages, each of 1,000 parts that include parts, five deep", "esi", lambda: esi_trees(100, 1_000, 5), [
+        (0.60, ["varnishlog", "-g", "request", "-L", "5000"]),
+        (0.60, ["varnishncsa", "-L", "5000"]),
     ]),
 ]
 
@@ -194,7 +221,7 @@ def bench(program, given):
         print_facts(program, ours, theirs, compare_raw(program, ours, theirs))
         with tempfile.TemporaryDirectory(dir=folder_for(8 * os.path.getsize(ours))) as written:
             out = os.path.join(written, "out")
-            peak = print_beside(program, ours, theirs, out, COMMANDS)
+            peak = print_beside(program, ours, theirs, out, [*COMMANDS, *FORMS])
             print(f"\nOf the largest of our peaks, {peak:.1f} MiB, at most {MOST_MEBIBYTES} is wanted.")
             print_growth(program, ours, folder, out)
             for what, name, units, commands in MADE:

@@ -12,7 +12,7 @@ import sys
 import tempfile
 
 import vslog
-from benches.beside_varnish import COMMANDS, OUT, logs_in
+from benches.beside_varnish import COMMANDS, FORMS, OUT, logs_in
 
 NEEDED = ["valgrind", "callgrind_annotate"]
 RECORDS = 500_000
@@ -80,7 +80,7 @@ def bench(program, given):
         records = copy_first(ours, part, RECORDS)
         print(f"instructions a record, over {records} records\n\n| Command | all | {' | '.join(KINDS)} | most in |")
         print(f"|---|{'---:|' * (1 + len(KINDS))}---|")
-        for _, words in COMMANDS:
+        for _, words in [*COMMANDS, *FORMS]:
             named = [program, *(out if word == OUT else word for word in words), "-r", part]
             total, functions = count(named, counts)
             cells = [f"{taken / records:.0f}" for taken in (total, *by_kind(total, functions).values())]

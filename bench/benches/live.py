@@ -114,6 +114,10 @@ class Pipe:
         self.reader = threading.Thread(target=self.read, args=(source,), daemon=True)
         self.reader.start()
 
+    def has_come(self):
+        """Whether more than a header came out of vslog, whose file `tee` makes a while after it begins."""
+        return os.path.exists(self.written) and os.path.getsize(self.written) > 8
+
     def read(self, source):
         """Reads all lines, and keeps how long after its request's end each came that tells it."""
         left = b""
@@ -242,7 +246,7 @@ def bench(program, given):
         varnish.start()
         pipes = [Pipe(name, folder, varnish.instance, os.path.abspath(program), vslog) for name in PIPES]
         stack.callback(lambda: [child.kill() for pipe in pipes for child in pipe.programs])
-        wait_for_all(pipes, 20, lambda pipe: probe(varnish.port) and os.path.getsize(pipe.written) > 8)
+        wait_for_all(pipes, 20, lambda pipe: probe(varnish.port) and pipe.has_come())
         traffic = Traffic(varnish.port, varnish.proxy_port, given.rate)
         run_for(60 * given.minutes, varnish, pipes, traffic)
         end_all(pipes)

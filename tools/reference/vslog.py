@@ -79,7 +79,7 @@ def version_of(data):
     for at in range(len(HEADER)):
         if not any(version.header.startswith(data[: at + 1]) for version in VERSIONS) or at == len(data):
             raise NotRead("not a log", at)
-    return next(version for version in VERSIONS if data.startswith(version.header))
+    return next(version for version in VERSIONS if data[: len(version.header)] == version.header)
 
 
 def read_units(data):
