@@ -24,7 +24,7 @@ pub struct UnitWords<'a> {
 }
 
 impl<'a> Model for UnitWords<'a> {
-    ghost use Rattle.std.specs.Prelude.{List, ℕ, ◌<◌, ◌++◌, option_to_list};
+    ghost use Rattle.std.specs.Prelude.{◌≡◌, List, ℕ, ◌<◌, ◌++◌, None, option_to_list};
     ghost use Rattle.std.specs.List.{flat_map};
     ghost use Rattle.vsl_record.specs.Unit.{vxid_end};
     ghost use Rattle.vsl_record.specs.Words.{packed, record_words};
@@ -34,7 +34,7 @@ impl<'a> Model for UnitWords<'a> {
     ghost view = { λ w. option_to_list w.pending ++ option_to_list w.high ++ packed w.payload.now ++
         flat_map (record_words w.vxid) w.records };
 
-    ghost invariant = { λ w. w.vxid < vxid_end };
+    ghost invariant = { λ w. (w.vxid < vxid_end) × (w.pending ≡ None → w.high ≡ None) };
 }
 
 impl Unit {
@@ -58,11 +58,13 @@ impl UnitWords<'_> {
         ensures word { IfSome result (λ word. self.old ≡ word ∷ self.new) }
         ensures none { IfNone result (self.old ≡ []) }
     {
-        if let Some(word) = self.pending.take() {
+        if let Some(word) = self.pending {
+            self.pending = self.high.take();
             return Some(word);
         }
-        if let Some(word) = self.high.take() {
-            return Some(word);
+        if let [a, b, c, d, rest @ ..] = self.payload {
+            self.payload = rest;
+            return Some(u32::from_le_bytes([*a, *b, *c, *d]));
         }
         if !self.payload.is_empty() {
             let word = first_packed(self.payload);
