@@ -1,7 +1,8 @@
 -- A reader of a file: what each step leaves of what it represents.
-use Rattle.std.proofs.Common.{◌≡◌, ℕ, ◌+◌, ◌<◌, ◌≤◌, inr, List, [], ◌∷◌, ◌++◌, length, Option, Some, None, false, Result, Ok, Err, sym, ap, subst, ◌∙◌, append_assoc, arith}
+use Rattle.std.proofs.Common.{◌≡◌, ℕ, ◌+◌, ◌<◌, ◌≤◌, inr, Bool, true, is_err, List, [], ◌∷◌, ◌++◌, length, Option, Some, None, false, Result, Ok, Err, sym, ap, subst, ◌∙◌, append_assoc, arith}
 use Rattle.std.specs.List.{AllByRecursion}
-use Rattle.std.proofs.lemmas.List.{append-nil, length-append}
+use Rattle.std.proofs.lemmas.List.{append-nil, length-append, nil_from_length}
+use Rattle.std.proofs.lemmas.Bool.{not-true}
 use Rattle.std.proofs.lemmas.List.Concat.{flat_map-append, flat_map-cons}
 use Rattle.vio.specs.World.{Seen, Reading, Read, ReadSome, FaultsRose, IsAtEnd}
 use Rattle.vio.proofs.WholeLemmas.{Read-then, FaultsRose-later}
@@ -12,9 +13,9 @@ use Rattle.vsl_file.specs.declared.fault.FileFault.{FileFault}
 use Rattle.vsl_file.specs.declared.fault.FileFault.TheVariants as faults
 use Rattle.vsl_file.specs.declared.reader.FileStep.{FileStep}
 use Rattle.vsl_file.specs.declared.reader.FileStep.TheVariants as steps
-use Rattle.vsl_file.specs.File.{unit_bytes_of, log_bytes_of, file_header_of, most_bytes, FileEnding, Whole, Damaged, TooLarge, IsFile, HoldsWhole}
+use Rattle.vsl_file.specs.File.{unit_bytes_of, log_bytes_of, file_header_of, most_bytes, FileEnding, Whole, Damaged, TooLarge, IsFile, HoldsWhole, stops_early}
 use Rattle.vsl_file.specs.inside.ReaderSteps.{Filled, TookUnit, TookEnd, TookDamaged, TookTooLarge, CutShort, TookHeader, Began}
-use Rattle.vsl_file.specs.ReaderState.{ReaderState, Represents, AreUnitsOf, used, GaveUnit, GaveEnd, EndsSo, StoppedSo, Stepped}
+use Rattle.vsl_file.specs.ReaderState.{ReaderState, Represents, AreUnitsOf, used, GaveUnit, GaveEnd, EndsSo, StoppedSo, Stepped, SteppedAtHand, is_at_hand, holds_next}
 use Rattle.vsl_file.proofs.FileLemmas.{ends_whole, ends_damaged, ends_too_large}
 use Rattle.vsl_file.proofs.HeaderLemmas.{length-header}
 
@@ -116,6 +117,53 @@ gave_cut ver old new taken units s t p begun cut = record {
   rose = cut.rose;
   holds = inr (ver, new, record { are_units = units_on ver old taken units p begun; parts = parts_on ver old taken units new s t cut.filled p begun }, cut.stops);
 }
+
+-- ---- what is at hand
+
+-- what is held where it is at hand doesn't stop early
+pub hand_holds : (ver : Version) (r : ReaderState) → r.version ≡ Some ver → is_at_hand r ≡ true → stops_early ver r.rest ≡ false
+hand_holds ver r begun hand = not-true (stops_early ver r.rest) (ap (λ (o : Option Version). holds_next o r.rest) (sym begun) ∙ hand)
+
+-- what is there is one
+some_is : {x y : List ℕ} → Some x ≡ Some y → x ≡ y
+some_is e = cc
+
+-- a unit that was given and for which no bytes were taken is of those that were taken before
+pub unit_at_hand : (u : LogUnit) (old new : ReaderState) (taken : List ℕ) (units : Log) (s t : Seen) → Represents old taken units → GaveUnit u old new taken units s t
+    → new.place + length new.rest ≡ old.place + length old.rest → Represents new taken (units ++ u ∷ [])
+unit_at_hand u old new taken units s t p gave same =
+    let none : gave.added ≡ [] = nil_from_length gave.added (omega (
+      arith,
+      same,
+      length-append taken gave.added,
+      p.place,
+      ap length p.parts,
+      length-append (used old.version units) old.rest,
+      gave.represents.place,
+      ap length gave.represents.parts,
+      length-append (used new.version (units ++ u ∷ [])) new.rest,
+    )) in
+    subst (λ (x : List ℕ). Represents new x (units ++ u ∷ [])) (ap (λ (x : List ℕ). taken ++ x) none ∙ append-nil taken) gave.represents
+
+-- where nothing was read the file ends so with what was taken before
+pub ends_at_hand : (e : FileEnding) (old : ReaderState) (taken : List ℕ) (units : Log) (s t : Seen) → t ≡ s → EndsSo old taken units e s t → (more : List ℕ) → t.left old.handle ≡ Some more → IsFile (taken ++ more) units e
+ends_at_hand e old taken units s t same ends more told =
+    let lost = ends.read.loses more (ap (λ (w : Seen). w.left old.handle) (sym same) ∙ told) in
+    let rest : lost.0 ≡ more = some_is (sym lost.2 ∙ told) in
+    let none : ends.added ≡ [] = nil_from_length ends.added (omega (arith, ap length lost.1, length-append ends.added lost.0, ap length rest)) in
+    subst (λ (x : List ℕ). IsFile (x ++ more) units e) (ap (λ (x : List ℕ). taken ++ x) none ∙ append-nil taken) (ends.ends more told)
+
+-- what a call came to, where it is kept whether it answered a fault
+pub kept_at_hand : (r : Result FileStep FileFault) (old mid : ReaderState) (failed : Bool) (taken : List ℕ) (units : Log) (now : Seen) → failed ≡ is_err r → SteppedAtHand r old mid taken units now
+    → SteppedAtHand r old (record mid { failed = failed }) taken units now
+kept_at_hand (Ok (steps.Unit u)) old mid failed taken units now kept p = record { sound = kept; are_units = p.are_units; parts = p.parts; place = p.place; short = p.short; most = p.most }
+kept_at_hand (Ok steps.End) old mid failed taken units now kept p = p
+kept_at_hand (Err (faults.NotALog at)) old mid failed taken units now kept p = p
+kept_at_hand (Err (faults.Damaged at)) old mid failed taken units now kept p = p
+kept_at_hand (Err faults.TooLarge) old mid failed taken units now kept p = p
+kept_at_hand (Err faults.ReadFault) old mid failed taken units now kept p = p
+kept_at_hand (Err faults.NoMemory) old mid failed taken units now kept p = p
+kept_at_hand (Err faults.FailedBefore) old mid failed taken units now kept p = p
 
 -- ---- a call that begins with the header
 

@@ -1,8 +1,8 @@
 -- The bytes of units: what the first four tell, and that no unit's bytes begin another's.
-use Rattle.std.proofs.Common.{◌≡◌, ℕ, ◌+◌, ◌*◌, ◌/◌, ◌%◌, ◌<◌, ◌≤◌, true, false, eqb, ltb, leb, ◌&&◌, inl, inr, List, [], ◌∷◌, ◌++◌, length, take, drop, refl, sym, ap, ◌∙◌, append_assoc, arith}
+use Rattle.std.proofs.Common.{◌≡◌, ℕ, ◌+◌, ◌*◌, ◌/◌, ◌%◌, ◌<◌, ◌≤◌, true, false, not, eqb, ltb, leb, ◌&&◌, inl, inr, List, [], ◌∷◌, ◌++◌, length, take, drop, refl, sym, ap, ◌∙◌, append_assoc, arith}
 use Rattle.std.specs.Int.{w32, from_le_bytes}
 use Rattle.std.specs.List.{AllByRecursion}
-use Rattle.std.proofs.lemmas.Bool.{ltb-true, leb-true, eq-eqb, le-leb, le-ltb, lt-ltb, and_parts, both_ways, cases_lt}
+use Rattle.std.proofs.lemmas.Bool.{ltb-true, leb-true, lt-leb, not_from_true, not_from_false, eq-eqb, le-leb, le-ltb, lt-ltb, and_parts, both_ways, cases_lt}
 use Rattle.std.proofs.lemmas.List.{append-nil, length-append, append_cancel_left, length-take-le, take-append-drop, take-append-le, take_at, drop_at}
 use Rattle.std.proofs.lemmas.List.Concat.{flat_map-cons}
 use Rattle.std.proofs.lemmas.Nat.{from_le_bytes-to_le_bytes_4}
@@ -106,6 +106,22 @@ stopped_begins_none ver bytes e = λ u more fits is.
           let cut : length bytes < 4 * (from_le_bytes w32 bytes % 16777216) = ltb-true _ _ (and_parts (is_unit_header ver (from_le_bytes w32 bytes)) (ltb (length bytes) (4 * (from_le_bytes w32 bytes % 16777216))) tests).1 in
           omega (arith, cut, head.count, length_with_unit ver bytes u more is)
     ]
+
+-- bytes stop early where they are fewer than their header counts
+sized_stops : (ver : Version) (size : ℕ) (bytes : List ℕ) → IsHeadSize ver size bytes → stops_early ver bytes ≡ ltb (length bytes) size
+sized_stops ver size bytes sized = ap (stops_early ver) (sym (append-nil bytes)) ∙ sized.stops [] ∙ ap (λ (x : List ℕ). ltb (length x) size) (append-nil bytes)
+
+-- and where they are no fewer they don't
+pub sized_holds : (ver : Version) (size : ℕ) (bytes : List ℕ) → IsHeadSize ver size bytes → leb size (length bytes) ≡ not (stops_early ver bytes)
+sized_holds ver size bytes sized =
+    elim (cases_lt (length bytes) size) [
+      | inl short ↦ lt-leb size (length bytes) short ∙ sym (not_from_true (stops_early ver bytes) (cut_stops ver size bytes sized short))
+      | inr enough ↦ le-leb size (length bytes) enough ∙ sym (not_from_false (stops_early ver bytes) (sized_stops ver size bytes sized ∙ le-ltb (length bytes) size enough))
+    ]
+
+-- what begins as no header doesn't stop early
+pub broken_holds : (ver : Version) (bytes : List ℕ) → IsBroken ver bytes → true ≡ not (stops_early ver bytes)
+broken_holds ver bytes broken = sym (not_from_false (stops_early ver bytes) (ap (stops_early ver) (sym (append-nil bytes)) ∙ broken.stays []))
 
 -- ---- the unit that begins bytes
 

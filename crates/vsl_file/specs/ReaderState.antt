@@ -1,5 +1,5 @@
 -- What a reader of a file keeps, and what it represents (this project's choice).
-use Rattle.std.specs.Prelude.{◌≡◌, ℕ, ◌+◌, ◌<◌, ◌≤◌, Bool, false, List, [], ◌∷◌, ◌++◌, length, Option, Some, None, Result, Ok, Err}
+use Rattle.std.specs.Prelude.{◌≡◌, ℕ, ◌+◌, ◌<◌, ◌≤◌, not, Bool, false, List, [], ◌∷◌, ◌++◌, length, Option, Some, None, Result, Ok, Err}
 use Rattle.std.specs.List.{AllByRecursion}
 use Rattle.vio.specs.World.{Seen, Reading, Read, ReadSome, FaultsRose, IsAtEnd}
 use Rattle.vsl_record.specs.Unit.{LogUnit, Log}
@@ -9,7 +9,7 @@ use Rattle.vsl_file.specs.declared.fault.FileFault.{FileFault}
 use Rattle.vsl_file.specs.declared.fault.FileFault.TheVariants as faults
 use Rattle.vsl_file.specs.declared.reader.FileStep.{FileStep}
 use Rattle.vsl_file.specs.declared.reader.FileStep.TheVariants as steps
-use Rattle.vsl_file.specs.File.{file_header_of, log_bytes_of, most_bytes, FileEnding, Whole, NotALog, Damaged, TooLarge, IsFile, HoldsWhole}
+use Rattle.vsl_file.specs.File.{file_header_of, log_bytes_of, most_bytes, FileEnding, Whole, NotALog, Damaged, TooLarge, IsFile, HoldsWhole, stops_early}
 
 -- what a reader keeps: its handle, the version of the file, once its header was read, how many bytes it used, those that it
 -- took and hasn't used, and whether it answered a fault
@@ -29,6 +29,16 @@ used (Some v) units = file_header_of v ++ log_bytes_of v units
 abbrev pub AreUnitsOf : Option Version → Log → Type 0
 AreUnitsOf None units = units ≡ []
 AreUnitsOf (Some v) units = AllByRecursion (IsUnitOf v) units
+
+-- whether these bytes of a file don't stop early; of what version they are is known
+abbrev pub holds_next : Option Version → List ℕ → Bool
+holds_next None rest = false
+holds_next (Some v) rest = not (stops_early v rest)
+
+-- whether what comes next is at hand: the header was read, and the bytes that are held don't stop before the end of a unit. So a unit lies
+-- in them, or what they begin is none, and nothing is read to see which
+abbrev pub is_at_hand : ReaderState → Bool
+is_at_hand r = holds_next r.version r.rest
 
 -- the reader took these first bytes of a file, and gave these units
 pub record Represents (r : ReaderState) (taken : List ℕ) (units : Log) : Type 0 where
@@ -82,3 +92,16 @@ abbrev pub Stepped : Result FileStep FileFault → ReaderState → ReaderState �
 Stepped (Ok (steps.Unit u)) old new taken units before now = GaveUnit u old new taken units before now
 Stepped (Ok steps.End) old new taken units before now = GaveEnd old new taken units before now
 Stepped (Err e) old new taken units before now = Refused e old taken units before now
+
+-- what such a call came to where what comes next was at hand: a unit, of what was taken before; or nothing more was taken, since the
+-- file is damaged or there was no memory
+abbrev pub SteppedAtHand : Result FileStep FileFault → ReaderState → ReaderState → List ℕ → Log → Seen → Type 0
+SteppedAtHand (Ok (steps.Unit u)) old new taken units now = Represents new taken (units ++ u ∷ [])
+SteppedAtHand (Ok steps.End) old new taken units now = ⊥
+SteppedAtHand (Err (faults.NotALog at)) old new taken units now = ⊥
+SteppedAtHand (Err (faults.Damaged at)) old new taken units now =
+    (more : List ℕ) → now.left old.handle ≡ Some more → IsFile (taken ++ more) units (Damaged at)
+SteppedAtHand (Err faults.TooLarge) old new taken units now = ⊥
+SteppedAtHand (Err faults.ReadFault) old new taken units now = ⊥
+SteppedAtHand (Err faults.NoMemory) old new taken units now = Prim.Unit {0}
+SteppedAtHand (Err faults.FailedBefore) old new taken units now = ⊥

@@ -82,6 +82,8 @@ pub(crate) fn fill_to<W: World>(
     ensures filled { Filled handle buffer.old.items buffer.new.items (W.seen world.old)
         (W.seen world.new) }
     ensures within { length buffer.new.items ≤ most }
+    ensures held { size ≤ length buffer.old.items → buffer.new.items ≡ buffer.old.items }
+    ensures unread { size ≤ length buffer.old.items → W.seen world.new ≡ W.seen world.old }
     ensures enough { IfOk result (λ b. b ≡ true → size ≤ length buffer.new.items) }
     ensures bound { IfOk result
         (λ _. length buffer.new.items ≤ max (length buffer.old.items) (size + 65535)) }

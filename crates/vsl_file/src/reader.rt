@@ -4,13 +4,13 @@ ghost use Rattle.std.specs.Prelude.{◌≡◌, ◌+◌, ◌≤◌, ℕ, List, []
 ghost use Rattle.vio.specs.World.{ReadSome};
 ghost use Rattle.vsl_file.specs.File.{most_bytes};
 ghost use Rattle.vsl_file.specs.inside.ReaderSteps.{BeganSo};
-ghost use Rattle.vsl_file.specs.ReaderState.{Represents, Stepped};
+ghost use Rattle.vsl_file.specs.ReaderState.{Represents, Stepped, SteppedAtHand, is_at_hand};
 ghost use Rattle.vsl_record.specs.Unit.{LogUnit, Log};
 
 use crate::fault::{FileFault, StepFault};
 use crate::filling::PIECE;
 use crate::header::{HEADER, Header, take_header};
-use crate::steps::{Taken, take_unit};
+use crate::steps::{Taken, holds_next, take_unit};
 use bytes::BytesMut;
 use std::alloc::Global;
 use std::marker::Model;
@@ -96,6 +96,11 @@ impl FileReader {
         ensures unread { self.old.failed ≡ true → W.seen world.new ≡ W.seen world.old }
         ensures failed { self.new.failed ≡ is_err result }
         ensures handle { self.new.handle ≡ self.old.handle }
+
+        ensures at_hand { (taken : List ℕ) (units : Log) → Represents self.old taken units →
+            is_at_hand self.old ≡ true →
+            SteppedAtHand result self.old self.new taken units (W.seen world.new) }
+        ensures unread_at_hand { is_at_hand self.old ≡ true → W.seen world.new ≡ W.seen world.old }
     {
         if self.failed {
             return Err(FileFault::FailedBefore);
@@ -110,6 +115,16 @@ impl FileReader {
         ensures { result ≡ self.now.version }
     {
         self.version
+    }
+
+    /// Whether what comes next is at hand: `next` reads nothing for it, and gives a unit, or says why there is none.
+    pub fn is_at_hand(&self) -> bool
+        ensures { result ≡ is_at_hand self.now }
+    {
+        let Some(version) = self.version else {
+            return false;
+        };
+        holds_next(version, self.buffer.as_slice())
     }
 
     /// Takes back a unit that isn't needed: the next one will stand in its memory.
@@ -130,6 +145,10 @@ impl FileReader {
         ensures reads { ReadSome self.old.handle (W.seen world.old) (W.seen world.new) }
         ensures failed { self.new.failed ≡ self.old.failed }
         ensures handle { self.new.handle ≡ self.old.handle }
+        ensures at_hand { (taken : List ℕ) (units : Log) → Represents self.old taken units →
+            is_at_hand self.old ≡ true →
+            SteppedAtHand result self.old self.new taken units (W.seen world.new) }
+        ensures unread_at_hand { is_at_hand self.old ≡ true → W.seen world.new ≡ W.seen world.old }
     {
         if let Some(version) = self.version {
             return self.take(version, world);
@@ -171,6 +190,10 @@ impl FileReader {
         ensures reads { ReadSome self.old.handle (W.seen world.old) (W.seen world.new) }
         ensures failed { self.new.failed ≡ self.old.failed }
         ensures handle { self.new.handle ≡ self.old.handle }
+        ensures at_hand { (taken : List ℕ) (units : Log) → Represents self.old taken units →
+            is_at_hand self.old ≡ true →
+            SteppedAtHand result self.old self.new taken units (W.seen world.new) }
+        ensures unread_at_hand { is_at_hand self.old ≡ true → W.seen world.new ≡ W.seen world.old }
     {
         let most = (MOST_BYTES - self.place) as usize;
         match take_unit(

@@ -1,10 +1,10 @@
 //! Taking a unit from a file.
 
-ghost use Rattle.std.specs.Prelude.{◌≡◌, ◌+◌, ◌<◌, ◌≤◌, true, false, length, drop, IfOk, OnErr, IfSome, IfNone, IsErrOf};
+ghost use Rattle.std.specs.Prelude.{◌≡◌, ◌+◌, ◌<◌, ◌≤◌, not, true, false, length, drop, IfOk, OnErr, IfSome, IfNone, IsErrOf};
 ghost use Rattle.vio.specs.World.{Reading, ReadSome, FaultsRose, IsAtEnd, OnlyCounts};
 ghost use Rattle.vsl_file.specs.File.{is_unit_header, stops_early};
 ghost use Rattle.vsl_file.specs.inside.FileReading.{IsHeadSize, IsBroken, BeginsWithUnit};
-ghost use Rattle.vsl_file.specs.inside.ReaderSteps.{Filled, Holds, GoesOn, HasEnded, Took, CutShort};
+ghost use Rattle.vsl_file.specs.inside.ReaderSteps.{Filled, Holds, GoesOn, HasEnded, Took, TookHeld, CutShort};
 
 use crate::fault::StepFault;
 use crate::filling::fill_to;
@@ -66,6 +66,19 @@ fn head_size(version: Version, bytes: &[u8]) -> Option<usize>
     Some(WORD * (head % TOP_BYTE) as usize)
 }
 
+/// Whether the bytes don't stop before the end of a unit: a unit lies in them, or what they begin is none.
+pub(crate) fn holds_next(version: Version, bytes: &[u8]) -> bool
+    ensures { result ≡ not (stops_early version bytes.now) }
+{
+    if bytes.len() < WORD {
+        return false;
+    }
+    match head_size(version, bytes) {
+        Some(size) => size <= bytes.len(),
+        None => true,
+    }
+}
+
 /// Reads the unit of this size that begins the bytes. It stands in the memory of the records that are given.
 fn read_sized(
     version: Version,
@@ -103,6 +116,10 @@ fn hold_unit<W: World>(
     ensures holds { IfOk result
         (λ held. Holds version handle most held buffer.old.items buffer.new.items
         (W.seen world.new)) }
+    ensures held { stops_early version buffer.old.items ≡ false →
+        buffer.new.items ≡ buffer.old.items }
+    ensures unread { stops_early version buffer.old.items ≡ false →
+        W.seen world.new ≡ W.seen world.old }
 
     ensures stops { OnErr result (stops_early version buffer.new.items ≡ true) }
     ensures rose { IsErrOf result StepFault.Failed →
@@ -158,6 +175,10 @@ pub(crate) fn take_unit<W: World>(
         (W.seen world.new)) }
     ensures within { length buffer.new.items ≤ most }
     ensures reads { ReadSome handle (W.seen world.old) (W.seen world.new) }
+    ensures held { stops_early version buffer.old.items ≡ false →
+        TookHeld result buffer.old.items buffer.new.items }
+    ensures unread { stops_early version buffer.old.items ≡ false →
+        W.seen world.new ≡ W.seen world.old }
 
     ensures failed { IsErrOf result StepFault.Failed →
         CutShort version handle buffer.old.items buffer.new.items (W.seen world.old)

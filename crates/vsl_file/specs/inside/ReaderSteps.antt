@@ -12,6 +12,8 @@ use Rattle.vsl_file.specs.declared.steps.Held.TheVariants.{Sized, Stopped, Broke
 use Rattle.vsl_file.specs.declared.steps.Taken.{Taken}
 use Rattle.vsl_file.specs.declared.steps.Taken.TheVariants.{Whole, End, Damaged, TooLarge}
 use Rattle.vsl_file.specs.declared.fault.FileFault.{FileFault}
+use Rattle.vsl_file.specs.declared.fault.StepFault.{StepFault}
+use Rattle.vsl_file.specs.declared.fault.StepFault.TheVariants as step_faults
 use Rattle.vsl_file.specs.ReaderState.{ReaderState, Represents, Refused}
 use Rattle.vsl_file.specs.File.{unit_bytes_of, file_header_of, BeginsNoUnit, DiffersFirst, stops_early}
 use Rattle.vsl_file.specs.inside.FileReading.{IsHeadSize, IsBroken}
@@ -102,6 +104,15 @@ Took v h most (Whole u size) old new before now = TookUnit v h most u size old n
 Took v h most End old new before now = TookEnd h old new before now
 Took v h most Damaged old new before now = TookDamaged v h most old new before now
 Took v h most TooLarge old new before now = TookTooLarge v h most old new before now
+
+-- what a step took of bytes that don't stop early: a unit of them, or nothing, since they are damaged or there was no memory
+abbrev pub TookHeld : Result Taken StepFault → List ℕ → List ℕ → Type 0
+TookHeld (Ok (Whole u size)) old new = length old ≡ size + length new
+TookHeld (Ok End) old new = ⊥
+TookHeld (Ok Damaged) old new = Prim.Unit {0}
+TookHeld (Ok TooLarge) old new = ⊥
+TookHeld (Err step_faults.Failed) old new = ⊥
+TookHeld (Err step_faults.NoMemory) old new = Prim.Unit {0}
 
 -- the header was taken from the bytes, of which more may have been read
 pub record TookHeader (v : Version) (h most : ℕ) (old new : List ℕ) (before now : Seen) : Type 0 where
