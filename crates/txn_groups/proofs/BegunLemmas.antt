@@ -1,5 +1,5 @@
 -- Where a node began, nodes stand for one row more.
-use Rattle.std.proofs.Common.{◌≡◌, ◌+◌, ◌<◌, ⊎_elim, inl, ℕ, Bool, true, false, not, eqb, cond, ◌&&◌, Option, Some, None, List, [], ◌∷◌, ◌++◌, length, refl, ap, sym, ◌∙◌, subst, arith}
+use Rattle.std.proofs.Common.{◌≡◌, ◌+◌, ◌<◌, ⊎_elim, inl, ℕ, Bool, true, false, not, eqb, cond, ◌&&◌, Option, Some, None, List, [], ◌∷◌, ◌++◌, refl, ap, sym, ◌∙◌, subst, arith}
 use Rattle.std.specs.Prelude.{count_by}
 use Rattle.std.proofs.lemmas.Bool.{eq-eqb, ne_eqb}
 use Rattle.std.proofs.lemmas.List.Sums.{sum_by-cons, sum_by_push}
@@ -9,7 +9,7 @@ use Rattle.txn_rows.specs.Trees.{row_of, Rising, AreTrees, IsTop, IsBelow}
 use Rattle.txn_rows.specs.inside.Rows.{Each}
 use Rattle.txn_rows.proofs.LineLemmas.{row_of_serial}
 use Rattle.txn_rows.proofs.TreeLemmas.{each_weaker, each_found}
-use Rattle.txn_rows.proofs.StandLemmas.{found_push, found_still, found_under, rising_ends, trees_push}
+use Rattle.txn_rows.proofs.StandLemmas.{found_push, found_still, found_under, rising_ends, root_under, trees_push}
 use Rattle.txn_rows.proofs.PendingLemmas.{empty_row}
 use Rattle.txn_groups.specs.declared.node.Node.{Node}
 use Rattle.txn_groups.specs.declared.order.Entry.{Entry}
@@ -17,17 +17,11 @@ use Rattle.txn_groups.specs.inside.Nodes.{StandsAt, EntriesRise, AreNodes, AreNu
 use Rattle.txn_groups.specs.inside.Left.{IsRelinked}
 use Rattle.txn_groups.specs.inside.Begun.{fresh_node, AreBegun}
 use Rattle.txn_groups.proofs.SetLemmas.{in_left, in_right}
-use Rattle.txn_groups.proofs.LeftLemmas.{root_found, relinked_children, relinked_up}
+use Rattle.txn_groups.proofs.LeftLemmas.{relinked_children, relinked_up}
 
 entries_push : (low high at : ℕ) (order : List Entry) → EntriesRise low high order → EntriesRise low (high + 1) (order ++ record { serial = high; at = at } ∷ [])
 entries_push low high at [] r = (r, omega arith)
 entries_push low high at (e ∷ order) r = (r.0, entries_push (e.serial + 1) high at order r.1)
-
--- no tree has the serial number that is next
-root_under : (begun s : ℕ) (rows : List Row) (row : Row) → AreTrees begun rows → row_of s rows ≡ Some row → row.root < begun
-root_under begun s rows row trees found =
-    let head = root_found (length row.path + 1) rows s row trees.forest found (omega arith) in
-    omega (arith, found_under row.root 0 begun rows head.row trees.rising head.found, row_of_serial row.root rows head.row head.found)
 
 none_counted : (p : Row → Bool) (rows : List Row) → Each (λ row. p row ≡ false) rows → count_by p rows ≡ 0
 none_counted p [] e = refl

@@ -1,13 +1,13 @@
 -- Where a tree of nodes left, the others stand for the rows beside it.
-use Rattle.std.proofs.Common.{◌≡◌, ◌≢◌, ◌+◌, ◌<◌, ⊎_elim, ℕ, zero, suc, Bool, false, not, eqb, cond, ◌&&◌, Some, List, [], ◌∷◌, length, refl, ap, sym, ◌∙◌, subst, arith}
+use Rattle.std.proofs.Common.{◌≡◌, ◌≢◌, ◌+◌, ℕ, Bool, false, not, eqb, cond, ◌&&◌, Some, List, [], ◌∷◌, length, refl, ap, sym, ◌∙◌, subst, arith}
 use Rattle.std.specs.Prelude.{count_by}
 use Rattle.std.proofs.lemmas.Bool.{eqb-true, eqb-false, ne_eqb, not-true}
 use Rattle.std.proofs.lemmas.List.Sums.{sum_by-cons}
 use Rattle.txn_rows.specs.declared.rows.Row.{Row}
-use Rattle.txn_rows.specs.Trees.{row_of, AreTrees, IsTop, IsBelow, IsForest}
+use Rattle.txn_rows.specs.Trees.{row_of, AreTrees}
 use Rattle.txn_rows.specs.inside.Rows.{rows_beside}
-use Rattle.txn_rows.proofs.LineLemmas.{by_cases, row_of_serial, deeper}
-use Rattle.txn_rows.proofs.StandLemmas.{found_filter, kept_filter, count_beside, trees_left}
+use Rattle.txn_rows.proofs.LineLemmas.{by_cases, row_of_serial}
+use Rattle.txn_rows.proofs.StandLemmas.{found_filter, kept_filter, count_beside, root_found, trees_left}
 use Rattle.txn_groups.specs.declared.node.Node.{Node}
 use Rattle.txn_groups.specs.declared.order.Entry.{Entry}
 use Rattle.txn_groups.specs.inside.Nodes.{StandsAt, AreNodes, AreNumbered, HasRow, HasNode, StandFor, ChildAt, HasChildren, LeadsUp, row_of_node}
@@ -100,20 +100,6 @@ left_children begun root old new order rows at x are left there row found is apa
       last = λ place e. let n = has.last place e in (n.0, n.1, kids place n.0 n.2);
       none_last = has.none_last;
     }
-
--- the row at the top of a tree
-pub record HasRoot (rows : List Row) (root : ℕ) : Type 0 where
-  pub row : Row
-  pub found : row_of root rows ≡ Some row
-  pub top : IsTop row
-  pub is : row.root ≡ root
-
-pub root_found : (n : ℕ) (rows : List Row) (s : ℕ) (row : Row) → IsForest rows → row_of s rows ≡ Some row → length row.path < n → HasRoot rows row.root
-root_found zero rows s row forest found short = absurd (omega (arith, short))
-root_found (suc n) rows s row forest found short = ⊎_elim
-    (λ (top : IsTop row). record { row = row; found = ap (λ (m : ℕ). row_of m rows) (top.root ∙ row_of_serial s rows row found) ∙ found; top = top; is = refl })
-    (λ (below : IsBelow rows row). subst (HasRoot rows) (sym below.root) (root_found n rows below.link.serial below.above forest below.found (omega (arith, short, deeper rows row below))))
-    (forest.linked s row found)
 
 left_up : (begun root : ℕ) (old new : List Node) (order : List Entry) (rows : List Row) (at : ℕ) (x : Node) (row : Row) → AreNodes begun old order rows → AreLeft old new rows root → StandsAt old at x → row_of x.serial rows ≡ Some row → row.root ≢ root → LeadsUp new (rows_beside root rows) at x row
 left_up begun root old new order rows at x row are left there found apart =

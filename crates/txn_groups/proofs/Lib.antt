@@ -37,6 +37,7 @@ pub mod EndRowLemmas
 pub mod ForceRowLemmas
 pub mod LinkRowLemmas
 pub mod ToldWentLemmas
+pub mod WholeLemmas
 pub mod RaiseLemmas
 pub mod AskersLemmas
 pub mod MarkedLemmas

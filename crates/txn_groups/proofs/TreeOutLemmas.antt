@@ -15,6 +15,7 @@ use Rattle.txn_rows.specs.Grouping.{is_session, is_led_by_session, is_reported, 
 use Rattle.txn_rows.specs.Trees.{row_of}
 use Rattle.txn_rows.specs.inside.Rows.{rows_below, rows_beside, rows_in_preorder, RowsLeft}
 use Rattle.txn_rows.proofs.LineLemmas.{by_cases, row_of_serial}
+use Rattle.txn_rows.proofs.StandLemmas.{root_found}
 use Rattle.query_parser.specs.declared.query.Query.{Query}
 use Rattle.query_eval.specs.declared.chosen.Chosen.{Chosen}
 use Rattle.query_eval.specs.Meaning.{is_held}
@@ -34,7 +35,7 @@ use Rattle.txn_groups.specs.inside.Leaves.{AreHanded, LeavesAs}
 use Rattle.txn_groups.proofs.SetLemmas.{AllOf, InRow, all_at}
 use Rattle.txn_groups.proofs.PreorderLemmas.{all_preorder, in_preorder, length_preorder, tree_in_row, before_one_way}
 use Rattle.txn_groups.proofs.StackLemmas.{Before}
-use Rattle.txn_groups.proofs.LeftLemmas.{root_found, nodes_left}
+use Rattle.txn_groups.proofs.LeftLemmas.{nodes_left}
 use Rattle.txn_groups.proofs.LeaveLemmas.{leaves_as, stays_as}
 use Rattle.txn_groups.proofs.FoundLemmas.{same_node, none_there}
 use Rattle.txn_groups.proofs.EndMarksLemmas.{taken_keeps, same_keep}

@@ -27,7 +27,7 @@ use log_model::NoMemory;
 use query_eval::{Chosen, Marks};
 use query_parser::Query;
 use std::alloc::Global;
-use txn_rows::{Cause, Claim, Grouping, Store, Which, last_in_time, raw_group};
+use txn_rows::{Cause, Claim, Grouping, Store, Which, last_in_time, raw_group, whole_group};
 use vsl_record::{RecordView, RecordsView, Vxid};
 
 /// Pending transactions as trees of nodes, with an index.
@@ -158,6 +158,7 @@ impl<'q> Store for Trees<'q> {
         raise(&mut self.pending, told);
     }
 
+    #[inline(always)]
     fn last_in_time(&mut self, seconds: u32) -> Option<u128> {
         let Some(now) = self.pending.time else {
             return None;
@@ -219,6 +220,22 @@ impl<'q> Store for Trees<'q> {
             out,
         )?;
         Ok(true)
+    }
+
+    fn hand_whole(
+        &mut self,
+        vxid: Vxid,
+        records: &RecordsView<'_>,
+        out: &mut Vec<Chosen>,
+    ) -> Result<(), NoMemory> {
+        if self.pending.begun == u64::MAX {
+            return Err(NoMemory);
+        }
+        let group = whole_group(self.alloc, vxid, records)?;
+        let holds = self.askers.holds(&group)?;
+        out.push(Chosen { group, holds })?;
+        self.pending.begun += 1;
+        Ok(())
     }
 
     fn hand_alone(

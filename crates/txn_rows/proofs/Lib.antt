@@ -18,6 +18,7 @@ pub mod PendingLemmas
 pub mod TakeLemmas
 pub mod PlainLemmas
 pub mod QuietLemmas
+pub mod WholeLemmas
 mod FirstFieldLemmas
 pub mod TakenLemmas
 pub mod TableLemmas

@@ -55,7 +55,7 @@ pub flush_empties : (state : State) → Standing state → length (flush state).
 flush_empties state s = often_enough (unfinished state) Flush state s (omega arith)
 
 -- no more are pending after a force-completion
-left_length : (o : Option Transaction) (state : State) → length (left_by o state).state.pending ≤ length state.pending
+pub left_length : (o : Option Transaction) (state : State) → length (left_by o state).state.pending ≤ length state.pending
 left_length None state = omega arith
 left_length (Some t) state =
     let root : Transaction = root_of state.pending t in

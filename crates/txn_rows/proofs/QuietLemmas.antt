@@ -112,7 +112,7 @@ risen_by (Some time) (Some old) last by risen =
     (λ e. let still : has_risen (Some old) (Some old) ≡ true = rw e at risen in absurd (both_ways (has_risen (Some old) (Some old)) (risen_same (Some old)) still))
 
 -- a log time is not before another
-abbrev IsFrom : Option ℕ → Option ℕ → Type 0
+abbrev pub IsFrom : Option ℕ → Option ℕ → Type 0
 IsFrom None now = ⊤
 IsFrom (Some old) None = ⊥
 IsFrom (Some old) (Some now) = old ≤ now
@@ -132,7 +132,7 @@ from_then (Some a) None c ab bc = absurd ab
 from_then (Some a) (Some b) None ab bc = bc
 from_then (Some a) (Some b) (Some c) ab bc = omega (arith, ab, bc)
 
-from_latest : (run : List Record) (time : Option ℕ) → IsFrom time (latest run time)
+pub from_latest : (run : List Record) (time : Option ℕ) → IsFrom time (latest run time)
 from_latest [] time = from_same time
 from_latest (rec ∷ run) time =
     from_then time (time_after rec time) (latest run (time_after rec time))
@@ -167,7 +167,7 @@ late_still seconds now vxid change keeps pending =
     sym (any_map late (with_newest vxid change pending)) ∙ ap (list_any (λ (b : Bool). b)) (newest_same late vxid change keeps pending) ∙ any_map late pending
 
 -- where none is late after a rise, none is force-completed
-none_forced : (seconds : ℕ) (before : Option ℕ) (state : State) → (has_risen before state.time ≡ true → list_any (is_late seconds state.time) state.pending ≡ false) → after_timeouts seconds before state ≡ nothing_left state
+pub none_forced : (seconds : ℕ) (before : Option ℕ) (state : State) → (has_risen before state.time ≡ true → list_any (is_late seconds state.time) state.pending ≡ false) → after_timeouts seconds before state ≡ nothing_left state
 none_forced seconds before state none =
     by_cases (after_timeouts seconds before state ≡ nothing_left state) (has_risen before state.time)
     (λ e. rw e (often_none (count_by (is_late seconds state.time) state.pending) (is_late seconds state.time) Timeout state (none e)))
@@ -196,7 +196,7 @@ stays options vxid rec state now told no_end few late =
     ∙ down_within options.limit (unfinished now) now few
 
 -- what a state says of late transactions up to a log time, where there is one
-abbrev NoneLate : ℕ → Option ℕ → State → Type 0
+abbrev pub NoneLate : ℕ → Option ℕ → State → Type 0
 NoneLate seconds last state = IfSome last (λ l. NoneLateUpTo seconds l state)
 
 -- one that tells no time
@@ -289,7 +289,7 @@ none_told grouping (rec ∷ run) time quiet =
     ap (λ (b : Bool). latest run (cond b (raised (time_of rec.payload) time) time)) plain ∙ none_told grouping run time tests.1
 
 -- the log time goes up to what was told: transactions take a first one, and none is told behind which none is known
-time_goes : (now old : Option ℕ) (begun : ℕ) (pending : List Transaction) → IsFrom old now → RiseTo old (times_of pending) → (old ≡ None → now ≡ None) → with_time now (record { pending = pending; begun = begun; time = old }) ≡ record { pending = pending; begun = begun; time = now }
+pub time_goes : (now old : Option ℕ) (begun : ℕ) (pending : List Transaction) → IsFrom old now → RiseTo old (times_of pending) → (old ≡ None → now ≡ None) → with_time now (record { pending = pending; begun = begun; time = old }) ≡ record { pending = pending; begun = begun; time = now }
 time_goes now None begun pending from times none =
     let no_time : now ≡ None = none refl in
     ap (λ (o : Option ℕ). at_time (raised o None) (record { pending = pending; begun = begun; time = None })) no_time
@@ -300,7 +300,7 @@ time_goes now (Some old) begun pending from times none =
     ∙ ap (λ (o : Option ℕ). record { pending = pending; begun = begun; time = o }) (raised_from now (Some old) from)
 
 -- a run tells no time where none is known
-run_none : (options : GroupOptions) (state : State) (now last : Option ℕ) (run : List Record) → NoneLate options.timeout last state → AreQuiet options.grouping last state.time now run → state.time ≡ None → now ≡ None
+pub run_none : (options : GroupOptions) (state : State) (now last : Option ℕ) (run : List Record) → NoneLate options.timeout last state → AreQuiet options.grouping last state.time now run → state.time ≡ None → now ≡ None
 run_none options state now None run late are none = are.told ∙ none_told options.grouping run state.time are.quiet ∙ none
 run_none options state now (Some last) run late are none = absurd (both_ways (is_some state.time) (ap (λ (o : Option ℕ). is_some o) none) late.known)
 

@@ -1,5 +1,5 @@
 -- Rows stand in trees after each step: a tree leaves, a row begins, rows are changed in other respects.
-use Rattle.std.proofs.Common.{◌≡◌, ◌+◌, ◌<◌, ◌≤◌, ◌⊎◌, ⊎_elim, inl, inr, ℕ, Bool, true, false, not, eqb, cond, Option, Some, None, List, [], ◌∷◌, ◌++◌, length, map, get_or, set, refl, ap, sym, ◌∙◌, subst, arith}
+use Rattle.std.proofs.Common.{◌≡◌, ◌+◌, ◌<◌, ◌≤◌, ◌⊎◌, ⊎_elim, inl, inr, ℕ, zero, suc, Bool, true, false, not, eqb, cond, Option, Some, None, List, [], ◌∷◌, ◌++◌, length, map, get_or, set, refl, ap, sym, ◌∙◌, subst, arith}
 use Rattle.std.specs.Prelude.{count_by}
 use Rattle.std.specs.List.{list_all, filter}
 use Rattle.std.specs.Option.{option_map, option_or}
@@ -12,10 +12,10 @@ use Rattle.txn_rows.specs.declared.group.Group.{Group}
 use Rattle.txn_rows.specs.Transaction.{Transaction}
 use Rattle.txn_rows.specs.Links.{leads_to, root_of, tree_of, others, group_of}
 use Rattle.txn_rows.specs.Grouping.{Leaving, left_by, nothing_left}
-use Rattle.txn_rows.specs.Trees.{transaction_of, row_of, Rising, IsTop, IsBelow, AreTrees}
+use Rattle.txn_rows.specs.Trees.{transaction_of, row_of, Rising, IsTop, IsBelow, IsForest, AreTrees}
 use Rattle.txn_rows.specs.inside.Rows.{row_told, Each, rows_below, rows_beside, left_rows}
 use Rattle.txn_rows.specs.States.{state_with}
-use Rattle.txn_rows.proofs.LineLemmas.{by_cases, row_of_serial}
+use Rattle.txn_rows.proofs.LineLemmas.{by_cases, row_of_serial, deeper}
 use Rattle.txn_rows.proofs.TreeLemmas.{line_whole, tree_rows, other_rows, group_rows, each_of_all, each_weaker, each_found, of_row, of_row_same, set_is_of_row}
 use Rattle.txn_rows.proofs.ChangeLemmas.{KeepsLinks}
 use Rattle.txn_rows.proofs.JoinLemmas.{row_of_map, rising_map, before_map, still_below}
@@ -323,6 +323,34 @@ found_under s low high (first ∷ rows) row r here =
     by_cases (row.serial < high) (eqb first.serial s)
     (λ t. let same : Some first ≡ Some row = rw t at here in let is : first ≡ row = (cc) in omega (arith, rising_ends (first.serial + 1) high rows r.1, ap (λ (x : Row). x.serial) is))
     (λ t. found_under s (first.serial + 1) high rows row r.1 (rw t at here))
+
+-- the row at the top of a tree
+pub record HasRoot (rows : List Row) (root : ℕ) : Type 0 where
+  pub row : Row
+  pub found : row_of root rows ≡ Some row
+  pub top : IsTop row
+  pub is : row.root ≡ root
+
+pub root_found : (n : ℕ) (rows : List Row) (s : ℕ) (row : Row) → IsForest rows → row_of s rows ≡ Some row → length row.path < n → HasRoot rows row.root
+root_found zero rows s row forest found short = absurd (omega (arith, short))
+root_found (suc n) rows s row forest found short = ⊎_elim
+    (λ (top : IsTop row). record { row = row; found = ap (λ (m : ℕ). row_of m rows) (top.root ∙ row_of_serial s rows row found) ∙ found; top = top; is = refl })
+    (λ (below : IsBelow rows row). subst (HasRoot rows) (sym below.root) (root_found n rows below.link.serial below.above forest below.found (omega (arith, short, deeper rows row below))))
+    (forest.linked s row found)
+
+-- no tree has the serial number that is next
+pub root_under : (begun s : ℕ) (rows : List Row) (row : Row) → AreTrees begun rows → row_of s rows ≡ Some row → row.root < begun
+root_under begun s rows row trees found =
+    let head = root_found (length row.path + 1) rows s row trees.forest found (omega arith) in
+    omega (arith, found_under row.root 0 begun rows head.row trees.rising head.found, row_of_serial row.root rows head.row head.found)
+
+-- rows stay where one more begins, and leaves
+pub rising_higher : (low high : ℕ) (rows : List Row) → Rising low high rows → Rising low (high + 1) rows
+rising_higher low high [] r = omega (arith, r)
+rising_higher low high (row ∷ rows) r = (r.0, rising_higher (row.serial + 1) high rows r.1)
+
+pub trees_higher : (begun : ℕ) (rows : List Row) → AreTrees begun rows → AreTrees (begun + 1) rows
+trees_higher begun rows trees = record { rising = rising_higher 0 begun rows trees.rising; forest = trees.forest }
 
 -- no link leads to the serial number that is next
 pub leads_to_none : (begun : ℕ) (rows : List Row) (row : Row) → AreTrees begun rows → row_of row.serial rows ≡ Some row → leads_to begun row.parent ≡ false

@@ -14,7 +14,7 @@ use Rattle.txn_rows.specs.declared.group.Cause.{Cause}
 use Rattle.txn_rows.specs.Claim.{claim_of}
 use Rattle.txn_rows.specs.Transaction.{Transaction, empty_transaction, newest, with_newest, with_record, with_kind, oldest, with_oldest, claimed_kind, ended, forced}
 use Rattle.txn_rows.specs.Links.{with_parent, can_join, children, root_of, tree_of, others, group_of}
-use Rattle.txn_rows.specs.Grouping.{State, Leaving, nothing_left, first_known, timed, raised, with_transaction, with_all_told, left_by, ended_one, forced_one, after_end, after_timeouts, TakenUnit, step, steps, unit_step, flush}
+use Rattle.txn_rows.specs.Grouping.{State, Leaving, nothing_left, first_known, timed, raised, with_new, with_transaction, with_all_told, left_by, ended_one, forced_one, after_end, after_timeouts, TakenUnit, step, steps, unit_step, flush}
 use Rattle.txn_rows.specs.Store.{Went, WentBy, IsOrdered, test_of}
 use Rattle.txn_rows.specs.Times.{TimesRise, NoneKnown, RiseTo, times_of, IsTimed}
 use Rattle.txn_rows.proofs.LineLemmas.{either}
@@ -112,6 +112,10 @@ timed_keeps = record {
   time = λ told state h. times_raised told state.time state.pending h;
 }
 
+-- one that begins
+pub new_timed : (vxid : ℕ) (state : State) → IsTimed state → IsTimed (with_new vxid state)
+new_timed vxid state h = timed_keeps.new vxid state h
+
 -- the rules up to an end
 begun_timed : (vxid : ℕ) (state : State) → IsTimed state → IsTimed (with_transaction vxid state)
 begun_timed vxid state h = begun_kept IsTimed timed_keeps vxid state h
@@ -137,11 +141,13 @@ left_timed (Some t) state h =
     (record { state = record state { pending = others state.pending root }; groups = group_of state.pending root ∷ [] }) (nothing_left state)
     (times_filter (λ u. not (eqb (root_of state.pending u).serial root.serial)) state.time state.pending h) h
 
-pub end_timed : (vxid : ℕ) (rec : Record) (state : State) → IsTimed state → IsTimed (after_end vxid rec state).state
-end_timed vxid rec state h =
+pub ended_timed : (vxid : ℕ) (state : State) → IsTimed state → IsTimed (ended_one vxid state).state
+ended_timed vxid state h =
     let now : State = record state { pending = with_newest vxid ended state.pending } in
-    either (λ r. IsTimed r.state) (eqb rec.tag end_tag) (ended_one vxid state) (nothing_left state)
-    (left_timed (newest vxid now.pending) now (newest_timed vxid ended (λ t. refl) state h)) h
+    left_timed (newest vxid now.pending) now (newest_timed vxid ended (λ t. refl) state h)
+
+pub end_timed : (vxid : ℕ) (rec : Record) (state : State) → IsTimed state → IsTimed (after_end vxid rec state).state
+end_timed vxid rec state h = either (λ r. IsTimed r.state) (eqb rec.tag end_tag) (ended_one vxid state) (nothing_left state) (ended_timed vxid state h) h
 
 pub one_timed : (test : Transaction → Bool) (cause : Cause) (state : State) → IsTimed state → IsTimed (forced_one test cause state).state
 one_timed test cause state h =

@@ -7,6 +7,7 @@ pub mod TableState
 pub mod Table
 pub mod Times
 pub mod Store
+pub mod Whole
 pub mod Trees
 pub mod States
 pub mod Taken

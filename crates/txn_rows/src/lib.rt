@@ -32,6 +32,7 @@ mod table;
 mod take;
 mod time;
 mod which;
+mod whole;
 
 pub use claim::{Claim, read_claim, read_vxid};
 pub use force::add_forced;
@@ -45,7 +46,7 @@ pub use laws::{
 pub use leave::is_reported;
 pub use path::Path;
 pub use pending::{Pending, raised};
-pub use raw::raw_group;
+pub use raw::{raw_group, whole_group};
 pub use steps::take_unit;
 pub use store::Store;
 pub use table::Table;

@@ -11,7 +11,7 @@ use crate::force::{count_unfinished, force_at, oldest_of};
 use crate::group::{Cause, Group, Grouping};
 use crate::join::link_rows;
 use crate::leave::leave;
-use crate::raw::take_raw;
+use crate::raw::{take_raw, whole_group};
 use crate::rows::{Row, add_record, add_records, empty_row, newest_row, time_rows};
 use crate::store::Store;
 use crate::which::Which;
@@ -198,6 +198,21 @@ impl Store for Pending {
         };
         force_at(self.alloc, grouping, &mut self.rows, at, cause, out)?;
         Ok(true)
+    }
+
+    fn hand_whole(
+        &mut self,
+        vxid: Vxid,
+        records: &RecordsView<'_>,
+        out: &mut Vec<Group>,
+    ) -> Result<(), NoMemory> {
+        if self.begun == u64::MAX {
+            return Err(NoMemory);
+        }
+        let group = whole_group(self.alloc, vxid, records)?;
+        out.push(group)?;
+        self.begun += 1;
+        Ok(())
     }
 
     fn hand_alone(

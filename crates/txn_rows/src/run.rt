@@ -62,7 +62,7 @@ fn is_by(last: Option<u128>, told: Option<u128>) -> bool
 
 /// The log time behind a record that disturbs nothing, where none is late up to a log time. It is told that before.
 #[inline(always)]
-fn time_behind(
+pub(crate) fn time_behind(
     grouping: Grouping,
     records: &RecordsView<'_>,
     at: usize,

@@ -7,6 +7,7 @@ ghost use Rattle.txn_rows.specs.Store.{WentBy, AddsPart, IsOrdered};
 use crate::group::{GroupOptions, Grouping};
 use crate::store::Store;
 use crate::take::take_some;
+use crate::whole::{take_whole, whole_time};
 use log_model::NoMemory;
 use vsl_record::{RecordsView, Unit, Vxid};
 
@@ -45,7 +46,8 @@ fn passes_over(grouping: Grouping, vxid: Vxid) -> bool
     grouping != Grouping::Raw && vxid == 0
 }
 
-/// Takes the records of a unit in order, and adds the groups that they complete.
+/// Takes the records of a unit in order, and adds the groups that they complete. One that is a whole transaction is taken
+/// at once, where its group can leave so.
 pub fn take_unit<S: Store>(
     options: GroupOptions,
     store: &mut S,
@@ -61,6 +63,9 @@ pub fn take_unit<S: Store>(
 {
     if passes_over(options.grouping, unit.vxid()) {
         return Ok(());
+    }
+    if let Some(time) = whole_time(options, store, unit) {
+        return take_whole(store, unit, time, out);
     }
     take_records(options, store, unit.vxid(), &unit.records(), out)
 }

@@ -9,6 +9,7 @@ ghost use Rattle.txn_rows.specs.Grouping.{State, with_transaction, with_other, w
 ghost use Rattle.txn_rows.specs.Store.{Went, WentBy, test_of};
 ghost use Rattle.txn_rows.specs.Claim.{own_claim};
 ghost use Rattle.txn_rows.specs.Times.{IsTimed, NoneLateUpTo};
+ghost use Rattle.txn_rows.specs.Whole.{with_whole};
 
 use crate::claim::Claim;
 use crate::group::{Cause, Grouping};
@@ -167,6 +168,19 @@ pub trait Store: Drop {
             (state self.old)) self.new out.old.items out.new.items) }
         ensures found { (key : Key) → holds key self.old → IsTimed (state self.old) →
             IfOk result (λ found. found ≡ list_any (test_of which) (state self.old).pending) }
+        ensures err { OnErr result (out.new.items ≡ out.old.items) };
+
+    /// A transaction begins, of which these are all records, and ends: it is handed out as a group by itself.
+    fn hand_whole(
+        &mut self,
+        vxid: Vxid,
+        records: &RecordsView<'_>,
+        out: &mut Vec<Self::Left>,
+    ) -> Result<(), NoMemory>
+        ensures ok { (key : Key) → holds key self.old →
+            OnOk result (WentBy (holds key) state (hand key) Grouping.Vxid
+            (ended_one vxid (with_whole vxid records.now
+            (state self.old))) self.new out.old.items out.new.items) }
         ensures err { OnErr result (out.new.items ≡ out.old.items) };
 
     /// Hands out a record as a group by itself.
