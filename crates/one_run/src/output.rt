@@ -3,7 +3,7 @@
 ghost use Rattle.std.specs.Prelude.{◌≡◌, ℕ, Bool, false, List, [], ◌++◌, Ok, None};
 ghost use Rattle.vio.specs.World.{Seen};
 ghost use Rattle.vio.specs.Calls.{Call, Did, AreOn};
-ghost use Rattle.one_run.specs.Run.{BeginTo, EndTo, ItemTo, MadeBut, goes_on};
+ghost use Rattle.one_run.specs.Run.{BeginTo, EndTo, FlushTo, ItemTo, MadeBut, goes_on, is_quiet};
 ghost use Rattle.ring_layout.specs.declared.item.Item.{Item};
 
 use log_model::NoMemory;
@@ -15,10 +15,14 @@ pub trait Output: Drop {
     /// How it ends.
     type Ending: Drop;
 
-    /// By these calls these items were printed whole, from an output on until a later one, which goes on.
+    /// By these calls these items were taken, from an output on until a later one, which goes on: what is due of them was
+    /// written, or is held.
+    ghost took: { Self → Self → List Call → List Item → Type 0 };
+
+    /// By these calls these items were printed whole, from an output on until a later one, which goes on: nothing is held.
     ghost printed: { Self → Self → List Call → List Item → Type 0 };
 
-    /// By these calls it ended so: behind items that were printed whole, with at most one more; whether they are all.
+    /// By these calls it ended so: behind items that were taken, with at most one more; whether they are all.
     ghost ended: { Self → Self.Ending → List Call → List Item → List Item → Bool → Type 0 };
 
     /// By these calls it came to want of memory, at the last of these items or behind them; whether they are all.
@@ -47,7 +51,8 @@ pub trait Output: Drop {
             (W.seen world.new) }
         ensures ready { result ≡ Ok None → is_ready self.new (W.seen world.new) };
 
-    /// Prints an item; how it ended with it, or nothing where it goes on.
+    /// Takes an item, of which it may hold what is due; how it ended with it, or nothing where it goes on. An item with a
+    /// message comes where nothing is held.
     fn item<W: World>(
         &mut self,
         world: &mut W,
@@ -55,11 +60,24 @@ pub trait Output: Drop {
     ) -> Result<Option<Self::Ending>, NoMemory>
         requires ready { is_ready self.old (W.seen world.old) }
         ensures prints { (start : Self) (calls : List Call) (done : List Item) →
-            printed start self.old calls done →
+            took start self.old calls done →
+            (is_quiet item.now ≡ false → printed start self.old calls done) →
             MadeBut (alone start) (goes_on result) [] (writes start)
-            (λ more. ItemTo (λ now. printed start self.new (calls ++ more) now)
+            (λ more. ItemTo (λ now. took start self.new (calls ++ more) now)
             (λ ending now last all. ended start ending (calls ++ more) now last all)
             (λ now all. starved start (calls ++ more) now all) result done item.now)
+            (W.seen world.old) (W.seen world.new) }
+        ensures ready { result ≡ Ok None → is_ready self.new (W.seen world.new) };
+
+    /// Writes what is held; how it ended with that, or nothing where it goes on.
+    fn flush<W: World>(&mut self, world: &mut W) -> Result<Option<Self::Ending>, NoMemory>
+        requires ready { is_ready self.old (W.seen world.old) }
+        ensures prints { (start : Self) (calls : List Call) (done : List Item) →
+            took start self.old calls done →
+            MadeBut (alone start) (goes_on result) [] (writes start)
+            (λ more. FlushTo (λ now. printed start self.new (calls ++ more) now)
+            (λ ending now last all. ended start ending (calls ++ more) now last all)
+            (λ now all. starved start (calls ++ more) now all) result done)
             (W.seen world.old) (W.seen world.new) }
         ensures ready { result ≡ Ok None → is_ready self.new (W.seen world.new) };
 
@@ -67,15 +85,23 @@ pub trait Output: Drop {
     fn end<W: World>(&mut self, world: &mut W) -> Result<Self::Ending, NoMemory>
         requires ready { is_ready self.old (W.seen world.old) }
         ensures prints { (start : Self) (calls : List Call) (done : List Item) →
-            printed start self.old calls done →
+            took start self.old calls done →
             MadeBut (alone start) false [] (writes start)
             (λ more. EndTo (λ ending now last all. ended start ending (calls ++ more) now last all)
             (λ now all. starved start (calls ++ more) now all) result done) (W.seen world.old)
             (W.seen world.new) };
 
-    /// What is read changes nothing of what was printed.
+    /// What was printed was taken.
+    ghost takes: { (start now : Self) (calls : List Call) (done : List Item) →
+        printed start now calls done → took start now calls done };
+
+    /// What is read changes nothing of what was taken.
     ghost stays: { (start now : Self) (calls more : List Call) (done : List Item) (reads : List ℕ) →
-        printed start now calls done → AreOn reads [] more →
+        took start now calls done → AreOn reads [] more → took start now (calls ++ more) done };
+
+    /// And nothing of what was printed.
+    ghost printed_stays: { (start now : Self) (calls more : List Call) (done : List Item)
+        (reads : List ℕ) → printed start now calls done → AreOn reads [] more →
         printed start now (calls ++ more) done };
 
     /// And it may still be given an item.

@@ -1,0 +1,2 @@
+-- What private steps say of one another; no public contract cites these definitions.
+pub mod Turns
