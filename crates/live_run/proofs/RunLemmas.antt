@@ -33,22 +33,27 @@ use Rattle.live_run.specs.inside.Opening.{IsOpened, lefts_of}
 use Rattle.live_run.specs.inside.Reading.{HasRead}
 use Rattle.live_run.proofs.WholeLemmas.{live_log}
 
+-- a pass of which never anything is at hand gave what it gave until it is as it is
+pub last_gave : (start now : ReaderState) (final : ReaderState) (met : List Item) (all : Bool) → LiveGave start now met all → (now ≡ final) ⊎ (false ≡ true) → LiveGave start final met all
+last_gave start now final met all p (inl same) = subst (λ (s : ReaderState). LiveGave start s met all) same p
+last_gave start now final met all p (inr hand) = absurd cc
+
 -- ---- however a run ended, its pass is of the same ring
 
-module _ {E : Type 0} (printed : List Call → List Item → Type 0) (ended : E → List Call → List Item → List Item → Bool → Type 0) (starved : List Call → List Item → Bool → Type 0) (alone writes : List ℕ) (start now : ReaderState) where
-  same_ended : (end : RunEnd E Never) (calls : List Call) (done last : List Item) (all : Bool) → EndsBy (λ cs met whole. LiveGave start now met whole) (λ fault cs met. ⊥) printed ended writes end calls done last all → now.ring ≡ start.ring
+module _ {E : Type 0} (took printed : List Call → List Item → Type 0) (ended : E → List Call → List Item → List Item → Bool → Type 0) (starved : List Call → List Item → Bool → Type 0) (alone writes : List ℕ) (start now : ReaderState) where
+  same_ended : (end : RunEnd E Never) (calls : List Call) (done last : List Item) (all : Bool) → EndsBy (λ cs met whole. LiveGave start now met whole) (λ fault cs met. ⊥) (λ before. ⊥) printed ended writes end calls done last all → now.ring ≡ start.ring
   same_ended (ends.ByOutput ending) calls done last all p = (p.4).same
   same_ended (ends.BySource fault) calls done last all p = absurd p.1
 
-  same_short : (calls : List Call) (met : List Item) (all : Bool) → (LiveGave start now met all × starved calls met all) ⊎ ((LiveGave start now met all ⊎ LiveStarved start now met) × printed calls met) → now.ring ≡ start.ring
+  same_short : (calls : List Call) (met : List Item) (all : Bool) → (LiveGave start now met all × starved calls met all) ⊎ ((LiveGave start now met all ⊎ LiveStarved start now met) × took calls met) → now.ring ≡ start.ring
   same_short calls met all (inl p) = (p.0).same
   same_short calls met all (inr (inl gave, prints)) = gave.same
   same_short calls met all (inr (inr lacking, prints)) = (lacking.2).same
 
   pub has_read : (result : Result (RunEnded E Never) NoMemory) (before after : Seen)
-      → IfOk result (λ r. MadeBut alone false [] writes (Ran (λ calls met all. LiveGave start now met all) (λ fault calls met. ⊥) printed ended writes r.end r.met) before after)
-      → OnErr result (MadeBut alone false [] writes (RanShort (λ calls met all. LiveGave start now met all) (λ calls met. LiveStarved start now met) printed starved) before after)
-      → HasRead alone writes printed ended starved result start now before after
+      → IfOk result (λ r. MadeBut alone false [] writes (Ran (λ calls met all. LiveGave start now met all) (λ fault calls met. ⊥) (λ before. ⊥) printed ended writes r.end r.met) before after)
+      → OnErr result (MadeBut alone false [] writes (RanShort (λ calls met all. LiveGave start now met all) (λ calls met. LiveStarved start now met) took starved) before after)
+      → HasRead alone writes took printed ended starved result start now before after
   has_read (Ok r) before after ran short = record { ring = same_ended r.end ran.calls (ran.is).done (ran.is).last (ran.is).all (ran.is).ends; ran = ran; short = short }
   has_read (Err e) before after ran short = record { ring = same_short short.calls (short.is).met (short.is).all (short.is).ends; ran = ran; short = short }
 
@@ -106,30 +111,30 @@ module _ (seg : ℕ) (ring : RingSet) (start pass : ReaderState) (feeds : List L
   began_starved met lacking = let h = given (met ++ items.Unit lacking.0 ∷ []) false lacking.2 in
       record { log = closed.log; interleaved = with.mixed; history = history_taken pass; read = h.1; adds_up = with.adds_up; rest = items.Unit lacking.0 ∷ []; parts = sym h.0; whole = λ e. cc }
 
-  module _ {E : Type 0} (printed : List Call → List Item → Type 0) (ended : E → List Call → List Item → List Item → Bool → Type 0) (starved : List Call → List Item → Bool → Type 0) (alone writes : List ℕ) (before after : Seen) where
-    ends_came : (end : RunEnd E Never) (calls : List Call) (done last : List Item) (all : Bool) → EndsBy (λ cs met whole. LiveGave start pass met whole) (λ fault cs met. ⊥) printed ended writes end calls done last all
-        → EndsBy (λ cs. LiveCame seg feeds closed) (λ fault cs met. ⊥) printed ended writes end calls done last all
+  module _ {E : Type 0} (took printed : List Call → List Item → Type 0) (ended : E → List Call → List Item → List Item → Bool → Type 0) (starved : List Call → List Item → Bool → Type 0) (alone writes : List ℕ) (before after : Seen) where
+    ends_came : (end : RunEnd E Never) (calls : List Call) (done last : List Item) (all : Bool) → EndsBy (λ cs met whole. LiveGave start pass met whole) (λ fault cs met. ⊥) (λ before. ⊥) printed ended writes end calls done last all
+        → EndsBy (λ cs. LiveCame seg feeds closed) (λ fault cs met. ⊥) (λ before. ⊥) printed ended writes end calls done last all
     ends_came (ends.ByOutput ending) calls done last all p = (p.0, p.1, p.2, p.3, came_of (done ++ last) all p.4, p.5)
     ends_came (ends.BySource fault) calls done last all p = absurd p.1
 
-    short_by : (calls : List Call) (met : List Item) (all : Bool) → (LiveGave start pass met all × starved calls met all) ⊎ ((LiveGave start pass met all ⊎ LiveStarved start pass met) × printed calls met)
-        → RanShort (λ cs. LiveBegan seg feeds) (λ cs met. ⊥) printed starved calls
+    short_by : (calls : List Call) (met : List Item) (all : Bool) → (LiveGave start pass met all × starved calls met all) ⊎ ((LiveGave start pass met all ⊎ LiveStarved start pass met) × took calls met)
+        → RanShort (λ cs. LiveBegan seg feeds) (λ cs met. ⊥) took starved calls
     short_by calls met all (inl p) = record { met = met; all = all; ends = inl (began_gave met all p.0, p.1) }
     short_by calls met all (inr (inl gave, prints)) = record { met = met; all = all; ends = inr (inl (began_gave met all gave), prints) }
     short_by calls met all (inr (inr lacking, prints)) = record { met = met; all = false; ends = inr (inl (began_starved met lacking), prints) }
 
     -- a run that ended met all of what its pass took
-    pub live_ran : (result : Result (RunEnded E Never) NoMemory) (r : RunEnded E Never) → result ≡ Ok r → HasRead alone writes printed ended starved result start pass before after
-        → MadeBut alone false [] writes (Ran (λ calls. LiveCame seg feeds closed) (λ fault calls met. ⊥) printed ended writes r.end r.met) before after
+    pub live_ran : (result : Result (RunEnded E Never) NoMemory) (r : RunEnded E Never) → result ≡ Ok r → HasRead alone writes took printed ended starved result start pass before after
+        → MadeBut alone false [] writes (Ran (λ calls. LiveCame seg feeds closed) (λ fault calls met. ⊥) (λ before. ⊥) printed ended writes r.end r.met) before after
     live_ran result r was read =
-        let made = (subst (λ (x : Result (RunEnded E Never) NoMemory). HasRead alone writes printed ended starved x start pass before after) was read).ran in
+        let made = (subst (λ (x : Result (RunEnded E Never) NoMemory). HasRead alone writes took printed ended starved x start pass before after) was read).ran in
         let is = made.is in
-        made_so made (record { done = is.done; last = is.last; all = is.all; one = is.one; count = is.count; ends = ends_came r.end made.calls is.done is.last is.all is.ends })
+        made_so made (record { done = is.done; last = is.last; all = is.all; one = is.one; count = is.count; ends = ends_came r.end made.calls is.done is.last is.all is.ends; prompt = is.prompt })
 
     -- and one that had no memory met the first of it, or all
-    pub live_short : (result : Result (RunEnded E Never) NoMemory) (e : NoMemory) → result ≡ Err e → HasRead alone writes printed ended starved result start pass before after
-        → MadeBut alone false [] writes (λ calls. (calls ≡ []) ⊎ RanShort (λ cs. LiveBegan seg feeds) (λ cs met. ⊥) printed starved calls) before after
+    pub live_short : (result : Result (RunEnded E Never) NoMemory) (e : NoMemory) → result ≡ Err e → HasRead alone writes took printed ended starved result start pass before after
+        → MadeBut alone false [] writes (λ calls. (calls ≡ []) ⊎ RanShort (λ cs. LiveBegan seg feeds) (λ cs met. ⊥) took starved calls) before after
     live_short result e was read =
-        let made = (subst (λ (x : Result (RunEnded E Never) NoMemory). HasRead alone writes printed ended starved x start pass before after) was read).short in
+        let made = (subst (λ (x : Result (RunEnded E Never) NoMemory). HasRead alone writes took printed ended starved x start pass before after) was read).short in
         let is = made.is in
         made_so made (inr (short_by made.calls is.met is.all is.ends))

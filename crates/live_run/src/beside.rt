@@ -56,9 +56,9 @@ fn read<R: Wait, G: Gate, W: World, O: Output>(
     requires pass { source.old.pass ≡ new_pass source.old.ring.now }
     requires output { O.is_ready output.old (W.seen world.old) }
     requires new { O.is_new output.old }
-    ensures { HasRead (O.alone output.old) (O.writes output.old) (O.printed output.old output.new)
-        (O.ended output.old) (O.starved output.old) result source.old.pass source.new.pass
-        (W.seen world.old) (W.seen world.new) }
+    ensures { HasRead (O.alone output.old) (O.writes output.old) (O.took output.old output.new)
+        (O.printed output.old output.new) (O.ended output.old) (O.starved output.old) result
+        source.old.pass source.new.pass (W.seen world.old) (W.seen world.new) }
 {
     run(world, source, output)
 }
@@ -85,7 +85,7 @@ fn read_beside<R: Wait, G: Gate, W: World, O: Output>(
     requires output { O.is_ready output.old (W.seen world.old) }
     requires new { O.is_new output.old }
     ensures { ReadBeside (λ s. s.pass) (O.alone output.old) (O.writes output.old)
-        (O.printed output.old output.new) (O.ended output.old)
+        (O.took output.old output.new) (O.printed output.old output.new) (O.ended output.old)
         (O.starved output.old) result source.old source.new output.old output.new (W.seen world.old)
         (W.seen world.new) }
 {
@@ -125,7 +125,7 @@ pub fn run_beside<R: Threads + Wait + Sync, W: World, O: Output, G: Gate>(
     requires new { O.is_new output.old }
     ensures fed { AllFed ring.now counters.now (listings_of workers.items) result.fed.items }
     ensures read { HasRead (O.alone output.old) (O.writes output.old)
-        (O.printed output.old output.new) (O.ended output.old)
+        (O.took output.old output.new) (O.printed output.old output.new) (O.ended output.old)
         (O.starved output.old) result.ran pass result.pass (W.seen world.old) (W.seen world.new) }
 {
     let mut work = Work {
@@ -146,7 +146,8 @@ pub fn run_beside<R: Threads + Wait + Sync, W: World, O: Output, G: Gate>(
             requires { IsSync G.row × (source.now.pass ≡ new_pass source.now.ring.now) ×
                 O.is_ready output.now (W.seen world.now) × O.is_new output.now }
             ensures { ReadBeside (λ s. s.pass) (O.alone output.entry.now)
-                (O.writes output.entry.now) (O.printed output.entry.now output.exit.now)
+                (O.writes output.entry.now) (O.took output.entry.now output.exit.now)
+                (O.printed output.entry.now output.exit.now)
                 (O.ended output.entry.now)
                 (O.starved output.entry.now) result source.entry.now source.exit.now
                 output.entry.now output.exit.now (W.seen world.entry.now) (W.seen world.exit.now) }

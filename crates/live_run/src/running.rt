@@ -51,11 +51,11 @@ pub fn run_live<R: Threads + Wait + Sync, W: World, O: Output, G: Gate>(
     requires new { O.is_new output.old }
     ensures ran { IfOk result (λ r. MadeBut (O.alone output.old) false [] (O.writes output.old)
         (Ran (λ calls. LiveCame shape (feeds_of listings.items) r.ring) (λ fault calls met. ⊥)
-        (O.printed output.old output.new) (O.ended output.old)
+        (λ before. ⊥) (O.printed output.old output.new) (O.ended output.old)
         (O.writes output.old) r.ended.end r.ended.met) (W.seen world.old) (W.seen world.new)) }
     ensures short { OnErr result (MadeBut (O.alone output.old) false [] (O.writes output.old)
         (λ calls. (calls ≡ []) ⊎ RanShort (λ cs. LiveBegan shape (feeds_of listings.items))
-        (λ cs met. ⊥) (O.printed output.old output.new) (O.starved output.old) calls)
+        (λ cs met. ⊥) (O.took output.old output.new) (O.starved output.old) calls)
         (W.seen world.old) (W.seen world.new)) }
 {
     let Opened {

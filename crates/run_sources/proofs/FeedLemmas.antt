@@ -11,7 +11,7 @@ use Rattle.feed_schedule.specs.Replaying.{ReplayState}
 use Rattle.feed_schedule.specs.Replaying as replaying
 use Rattle.feed_schedule.specs.declared.replay.Advanced.{Advanced}
 use Rattle.feed_schedule.specs.declared.replay.Advanced.TheVariants.{Took, Overrun, Ended}
-use Rattle.one_run.specs.Run.{Made}
+use Rattle.one_run.specs.Run.{AtReads, Made}
 use Rattle.run_sources.specs.declared.feed_items.FeedItems.{FeedItems}
 use Rattle.run_sources.specs.Sources.{FeedsGave, FeedsBegan, HasToCome, owed}
 
@@ -20,8 +20,8 @@ abbrev pub Next : Advanced → ReplayState → ReplayState → Type 0
 Next answer now next = (rest : List Item) → replaying.Represents now rest → replaying.Meets answer rest next
 
 -- no call is made of the world
-pub quiet : {IsSo : List Call → Type 0} (go : Bool) (s : Seen) → IsSo [] → Made go [] [] IsSo s s
-quiet go s so = record { calls = []; did = refl; on = tt; fail = fails_late go [] refl; is = so }
+pub quiet : {IsSo : List Call → Type 0} (go : Bool) (s : Seen) → IsSo [] → Made go [] [] (λ more. AtReads (λ part. ⊥) more × IsSo more) s s
+quiet go s so = record { calls = []; did = refl; on = tt; fail = fails_late go [] refl; is = (tt, so) }
 
 one_more : (every rest more : List Item) (met : List Item) (item : Item) → every ≡ met ++ rest → rest ≡ item ∷ more → every ≡ (met ++ item ∷ []) ++ more
 one_more every rest more met item parts next = parts ∙ ap (λ (xs : List Item). met ++ xs) next ∙ sym (append_assoc met (item ∷ []) more)

@@ -21,7 +21,7 @@ use Rattle.log_ring.specs.declared.rule.Observation.{Observation}
 use Rattle.log_ring.specs.declared.rule.Observation.TheVariants.{CounterSeen, FinishedSeen, WordSeen, StartSeen, NumberSeen}
 use Rattle.log_ring.specs.Readers.{ReaderState, TookUnit, WasOverrun, GoesOn, FoundAt, HasFound, HasLooked, IsAnswer, IsSought}
 use Rattle.ring_layout.proofs.MetLemmas.{overrun_met, run_met, unit_met}
-use Rattle.one_run.specs.Run.{Made}
+use Rattle.one_run.specs.Run.{AtReads, Made}
 use Rattle.run_sources.specs.Live.{met_by, count_seeks, HasSought, LiveGave, LiveStarved}
 
 -- what a pass met, by what its calls answer
@@ -37,8 +37,8 @@ at_items segment place number old new on =
     ap (λ (taken : List (HistoryItem LogUnit)). items_of (reverse taken)) on.items ∙ run_met segment number (number - next_number old.reader.items) old.reader.items on.later
 
 -- no call is made of the world
-pub quiet : {IsSo : List Call → Type 0} (go : Bool) (s : Seen) → IsSo [] → Made go [] [] IsSo s s
-quiet go s so = record { calls = []; did = refl; on = tt; fail = fails_late go [] refl; is = so }
+pub quiet : {IsSo : List Call → Type 0} (go : Bool) (s : Seen) → IsSo [] → Made go [] [] (λ more. AtReads (λ part. ⊥) more × IsSo more) s s
+quiet go s so = record { calls = []; did = refl; on = tt; fail = fails_late go [] refl; is = (tt, so) }
 
 overruns_append : (xs ys : List Item) → count_overruns (xs ++ ys) ≡ count_overruns xs + count_overruns ys
 overruns_append [] ys = omega arith

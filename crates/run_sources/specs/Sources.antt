@@ -38,13 +38,19 @@ file_halt file_faults.FailedBefore = halts.NoMemory
 abbrev pub IsReadWhole : ℕ → List Call → Log → Type 0
 IsReadWhole h calls units = IsFile (taken_by h calls) units Whole × (has_read is_end h calls ≡ true)
 
--- these items are the units that the reader gave of the bytes that were taken; all of them where the file ended and is whole
+-- these items are the units that the reader gave of the bytes that were taken; all of them where the file ended and is whole. Where no
+-- header was read yet fewer bytes are held than one has
 pub record FileGave (start now : FileItems) (calls : List Call) (met : List Item) (all : Bool) : Type 0 where
   pub handle : now.reader.handle ≡ start.reader.handle
   pub units : Log
   pub are : met ≡ unit_items units
   pub represents : Represents now.reader (taken_by start.reader.handle calls) units
   pub whole : all ≡ true → IsReadWhole start.reader.handle calls units
+  pub unread : all ≡ false → now.reader.version ≡ None → length now.reader.rest < 8
+
+-- these items are all units that lie whole in the bytes that were taken: so it is when more of a log is read
+abbrev pub FileAsks : ℕ → List Call → List Item → Type 0
+FileAsks h calls met = (units : Log) × (met ≡ unit_items units) × HoldsWhole (taken_by h calls) units
 
 -- the bytes begin with a log of these units, of a version; where none of its header was read there are none
 pub record BeginsLog (taken : List ℕ) (units : Log) : Type 0 where

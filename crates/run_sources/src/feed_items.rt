@@ -17,7 +17,7 @@ pub struct FeedItems {
 }
 
 impl Source for FeedItems {
-    ghost use Rattle.std.specs.Prelude.{List, []};
+    ghost use Rattle.std.specs.Prelude.{false, List, []};
     ghost use Rattle.ring_layout.specs.declared.item.Item.{Item};
     ghost use Rattle.run_sources.specs.Sources.{FeedsGave, FeedsBegan, HasToCome};
 
@@ -31,7 +31,15 @@ impl Source for FeedItems {
 
     ghost reads = { λ feeds. [] };
 
+    ghost asks = { λ start calls met. ⊥ };
+
     ghost is_ready = { λ feeds. (all : List Item) × HasToCome feeds all };
+
+    ghost at_hand = { λ feeds. false };
+
+    fn is_at_hand(&self) -> bool {
+        false
+    }
 
     fn next<W: World>(&mut self, _world: &mut W) -> Result<Option<Item>, Halt<Never>> {
         if let Some(units) = self.missed {
@@ -52,4 +60,6 @@ impl Source for FeedItems {
     }
 
     ghost stays = { λ start now calls more met all writes gave on. gave };
+
+    ghost stopped_stays = { λ start fault calls more met writes s t stopped on did. stopped };
 }

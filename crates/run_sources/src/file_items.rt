@@ -56,8 +56,9 @@ fn halt(fault: FileFault) -> Halt<FileStop>
 
 impl Source for FileItems {
     ghost use Rattle.std.specs.Prelude.{[], ◌∷◌};
-    ghost use Rattle.run_sources.specs.Sources.{FileGave, FileStopped, FileBegins};
-    ghost use Rattle.run_sources.specs.Laws.{file_stays};
+    ghost use Rattle.run_sources.specs.Sources.{FileAsks, FileGave, FileStopped, FileBegins};
+    ghost use Rattle.run_sources.specs.Laws.{file_stays, file_stopped_stays};
+    ghost use Rattle.vsl_file.specs.ReaderState.{is_at_hand};
 
     type Fault = FileStop;
 
@@ -70,7 +71,15 @@ impl Source for FileItems {
 
     ghost reads = { λ log. log.reader.handle ∷ [] };
 
+    ghost asks = { λ start calls met. FileAsks start.reader.handle calls met };
+
     ghost is_ready = { λ log. Unit {0} };
+
+    ghost at_hand = { λ log. is_at_hand log.reader };
+
+    fn is_at_hand(&self) -> bool {
+        self.reader.is_at_hand()
+    }
 
     fn next<W: World>(&mut self, world: &mut W) -> Result<Option<Item>, Halt<FileStop>> {
         match self.reader.next(world) {
@@ -87,4 +96,6 @@ impl Source for FileItems {
     }
 
     ghost stays = { file_stays };
+
+    ghost stopped_stays = { file_stopped_stays };
 }

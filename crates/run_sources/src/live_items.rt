@@ -82,7 +82,7 @@ fn seek(ring: &Ring, pass: &mut ReaderPass) -> Item
 }
 
 impl<'a, R: Wait, G: Gate> Source for LiveItems<'a, R, G> {
-    ghost use Rattle.std.specs.Prelude.{[], ◌≡◌};
+    ghost use Rattle.std.specs.Prelude.{[], ◌≡◌, false};
     ghost use Rattle.run_sources.specs.Live.{LiveGave, LiveStarved};
 
     type Fault = Never;
@@ -95,7 +95,15 @@ impl<'a, R: Wait, G: Gate> Source for LiveItems<'a, R, G> {
 
     ghost reads = { λ live. [] };
 
+    ghost asks = { λ start calls met. ⊥ };
+
     ghost is_ready = { λ live. live.pass.ring ≡ live.ring.now };
+
+    ghost at_hand = { λ live. false };
+
+    fn is_at_hand(&self) -> bool {
+        false
+    }
 
     fn next<W: World>(&mut self, _world: &mut W) -> Result<Option<Item>, Halt<Never>> {
         let rt = self.rt;
@@ -119,4 +127,6 @@ impl<'a, R: Wait, G: Gate> Source for LiveItems<'a, R, G> {
     }
 
     ghost stays = { λ start now calls more met all writes gave on. gave };
+
+    ghost stopped_stays = { λ start fault calls more met writes s t stopped on did. stopped };
 }

@@ -41,7 +41,7 @@ impl UnitItems {
 }
 
 impl Source for UnitItems {
-    ghost use Rattle.std.specs.Prelude.{[]};
+    ghost use Rattle.std.specs.Prelude.{[], false};
     ghost use Rattle.run_sources.specs.Sources.{UnitsGave};
 
     type Fault = Never;
@@ -54,7 +54,15 @@ impl Source for UnitItems {
 
     ghost reads = { λ units. [] };
 
+    ghost asks = { λ start calls met. ⊥ };
+
     ghost is_ready = { λ units. Unit {0} };
+
+    ghost at_hand = { λ units. false };
+
+    fn is_at_hand(&self) -> bool {
+        false
+    }
 
     fn next<W: World>(&mut self, _world: &mut W) -> Result<Option<Item>, Halt<Never>> {
         let Some(unit) = self.rest.next() else {
@@ -64,4 +72,6 @@ impl Source for UnitItems {
     }
 
     ghost stays = { λ start now calls more met all writes gave on. gave };
+
+    ghost stopped_stays = { λ start fault calls more met writes s t stopped on did. stopped };
 }

@@ -36,7 +36,7 @@ returns-in_err-ended-clause-short g c =
     (omega arith) c.requires.put c.in_ok-ring.ensures c.run_beside-fed.ensures.fed c.part-lefts.ensures.0 c.in-Some.ensures.items c.push_reserved.ensures.items
     c.close-ring.ensures.log c.close-ring.ensures.found c.close-ring.ensures.histories c.close-ring.ensures.readers c.items_are_the_history.ensures in
     OnErr-always c.from_residual-in_err-ended.result (live_short c.args.shape c.in_ok-ring.field-0.ring c.in-Some.pass c.run_beside-fed.result.pass feeds c.close-ring.result with
-    (g.O.Output.printed c.args.output.now c.run_beside-fed.new.output) (g.O.Output.ended c.args.output.now) (g.O.Output.starved c.args.output.now) (g.O.Output.alone c.args.output.now) (g.O.Output.writes c.args.output.now) _ _ c.run_beside-fed.result.ran c.in_err-ended.field-0.0 c.in_err-ended.was c.run_beside-fed.ensures.read)
+    (g.O.Output.took c.args.output.now c.run_beside-fed.new.output) (g.O.Output.printed c.args.output.now c.run_beside-fed.new.output) (g.O.Output.ended c.args.output.now) (g.O.Output.starved c.args.output.now) (g.O.Output.alone c.args.output.now) (g.O.Output.writes c.args.output.now) _ _ c.run_beside-fed.result.ran c.in_err-ended.field-0.0 c.in_err-ended.was c.run_beside-fed.ensures.read)
 
 pub returns-clause-ran : goal.returns-clause-ran
 returns-clause-ran g c =
@@ -45,4 +45,4 @@ returns-clause-ran g c =
     (omega arith) c.requires.put c.in_ok-ring.ensures c.run_beside-fed.ensures.fed c.part-lefts.ensures.0 c.in-Some.ensures.items c.push_reserved.ensures.items
     c.close-ring.ensures.log c.close-ring.ensures.found c.close-ring.ensures.histories c.close-ring.ensures.readers c.items_are_the_history.ensures in
     live_ran c.args.shape c.in_ok-ring.field-0.ring c.in-Some.pass c.run_beside-fed.result.pass feeds c.close-ring.result with
-    (g.O.Output.printed c.args.output.now c.run_beside-fed.new.output) (g.O.Output.ended c.args.output.now) (g.O.Output.starved c.args.output.now) (g.O.Output.alone c.args.output.now) (g.O.Output.writes c.args.output.now) _ _ c.run_beside-fed.result.ran c.in_ok-ended.ended c.in_ok-ended.was c.run_beside-fed.ensures.read
+    (g.O.Output.took c.args.output.now c.run_beside-fed.new.output) (g.O.Output.printed c.args.output.now c.run_beside-fed.new.output) (g.O.Output.ended c.args.output.now) (g.O.Output.starved c.args.output.now) (g.O.Output.alone c.args.output.now) (g.O.Output.writes c.args.output.now) _ _ c.run_beside-fed.result.ran c.in_ok-ended.ended c.in_ok-ended.was c.run_beside-fed.ensures.read

@@ -1,4 +1,5 @@
-use Rattle.std.proofs.Common.{true, false}
+use Rattle.std.proofs.Common.{rules, true, false}
+use Rattle.run_sources.specs.Live.{LiveGave}
 use Rattle.run_sources.proofs.ItemLemmas.{quiet, gave_more, gave_unit, gave_lost, starved_unit}
 use Rattle.run_sources.proofs.live_items.LiveItemsSource.next.Goals as goal
 
@@ -23,3 +24,7 @@ pub returns-in-Lost-clause-came : goal.returns-in-Lost-clause-came
 returns-in-Lost-clause-came g c = λ start calls met gave.
     let here = c.loop.invariant in
     quiet true _ (gave_lost _ _ _ _ met here.3 here.4 here.5 c.take.ensures.behind c.take.ensures.same gave c.in-Lost.at c.in-Lost.seen c.in-Lost.ensures.answer)
+
+pub returns-in-Ended-clause-came : goal.returns-in-Ended-clause-came
+returns-in-Ended-clause-came g c = λ start calls met gave.
+    let given : LiveGave start.pass c.take.new.pass met true = search rules in quiet true _ given
