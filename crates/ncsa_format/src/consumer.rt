@@ -145,4 +145,8 @@ impl Consumer for NcsaConsumer {
         self.usual = self.usual.max(self.text.len()).min(MOST_ROOM);
         replace(&mut self.text, Vec::new(self.alloc))
     }
+
+    fn text_len(&self) -> usize {
+        self.text.len()
+    }
 }

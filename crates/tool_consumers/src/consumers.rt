@@ -153,6 +153,14 @@ impl<'s> Consumer for ToolConsumer<'s> {
             ToolConsumer::Top(top) => top.take_text(),
         }
     }
+
+    fn text_len(&self) -> usize {
+        match self {
+            ToolConsumer::Log(log) => log.text_len(),
+            ToolConsumer::Ncsa(ncsa) => ncsa.text_len(),
+            ToolConsumer::Top(top) => top.text_len(),
+        }
+    }
 }
 
 /// The consumer of a job's tool, which received nothing.

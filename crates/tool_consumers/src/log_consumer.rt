@@ -87,4 +87,8 @@ impl<'s> Consumer for LogConsumer<'s> {
         self.usual = self.usual.max(self.text.len()).min(MOST_ROOM);
         replace(&mut self.text, Vec::new(self.alloc))
     }
+
+    fn text_len(&self) -> usize {
+        self.text.len()
+    }
 }

@@ -71,6 +71,9 @@ pub trait Consumer: Drop {
         ensures taken { (groups : List Group) (ended : Bool) (taken : List ℕ) →
             represents self.old groups ended taken →
             represents self.new groups ended (taken ++ result.items) };
+
+    /// How many bytes it wrote since its text was last taken.
+    fn text_len(&self) -> usize;
 }
 
 impl Consumer for Box<dyn Consumer> {
@@ -94,5 +97,9 @@ impl Consumer for Box<dyn Consumer> {
 
     fn take_text(&mut self) -> Vec<u8> {
         (**self).take_text()
+    }
+
+    fn text_len(&self) -> usize {
+        (**self).text_len()
     }
 }

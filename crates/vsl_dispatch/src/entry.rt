@@ -84,6 +84,11 @@ impl<C: Consumer> Entry<C> {
         self.consumer.take_text()
     }
 
+    /// How many bytes the consumer wrote since its text was last taken.
+    pub fn text_len(&self) -> usize {
+        self.consumer.text_len()
+    }
+
     /// Gives it no more groups; its text stays to be taken. It takes no memory.
     pub fn stop(&mut self)
         ensures consumer { self.new.consumer ≡ self.old.consumer }

@@ -108,4 +108,8 @@ impl<'s> Consumer for TopConsumer<'s> {
     fn take_text(&mut self) -> Vec<u8> {
         replace(&mut self.text, Vec::new(self.alloc))
     }
+
+    fn text_len(&self) -> usize {
+        self.text.len()
+    }
 }
