@@ -13,14 +13,16 @@ use Rattle.vio.proofs.AloneLemmas.{but_late}
 use Rattle.vio.proofs.CallLemmas.{did_then, on_append, on_names}
 use Rattle.ring_layout.specs.declared.item.Item.{Item}
 use Rattle.one_run.specs.Run.{MadeBut}
+use Rattle.fan_output.specs.declared.piece.Piece.{Piece}
 use Rattle.fan_output.specs.declared.sink.Sink.{Sink}
 use Rattle.fan_output.specs.Messages.{messages_of}
 use Rattle.fan_output.specs.Ends.{Due, TextShort}
-use Rattle.fan_output.specs.Fan.{AreApart, AreNamed, AtEach, FanShort, IsAway, Outlet, due_at, handles, outlet_at, outlets_of, several}
-use Rattle.fan_output.specs.inside.Steps.{AllWrote, BlamesOn, Wrote}
+use Rattle.fan_output.specs.Fan.{AreApart, AreNamed, FanShort, IsAway, Outlet, due_at, handles, outlet_at, outlets_of, several}
+use Rattle.fan_output.specs.inside.Pieces.{is_end}
+use Rattle.fan_output.specs.inside.Steps.{AllWait, AllWrote, BlamesOn, Waits, Wrote}
 use Rattle.fan_output.specs.Laws.{blames_still}
-use Rattle.fan_output.proofs.EndLemmas.{written_short}
-use Rattle.fan_output.proofs.PlaceLemmas.{Became, PlaceMade, on_away, still, wrote_still, short_still, gone_short}
+use Rattle.fan_output.proofs.EndLemmas.{took_prefix}
+use Rattle.fan_output.proofs.PlaceLemmas.{Became, PlaceMade, on_away, still, waits_short, waits_still, wrote_still, short_still, gone_short}
 
 -- ---- places
 
@@ -146,26 +148,18 @@ fails_on (s ∷ q ∷ sinks) k r at xs ys on none b go same fail = but_late (han
 
 -- ---- the places below one were written
 
--- what waits, of an output with its sink and what is due there
-abbrev pub Waiting : Type 1
-Waiting = (List Item → Bool → List ℕ → Type 0) → ℕ → Due → Bool → List Call → List Item → List Item → Bool → Type 0
+-- texts grow, where something was given
+abbrev pub AllGrow : (ℕ → List Item → Bool → List ℕ) → (ℕ → List Item → Bool → List ℕ → Type 0) → Type 0
+AllGrow text holds = (i : ℕ) (met : List Item) (every : Bool) (taken : List ℕ) → holds i met every taken → (list more : List Item) (ended : Bool) → IsPrefix (text i list false) (text i (list ++ more) ended)
 
--- it still waits, where others write
-abbrev pub StillWaits : Waiting → Type 1
-StillWaits Wait = (sink : ℕ) (d : Due) (calls more : List Call) → IsAway sink more → IsAway ERRORS more → (holds now : List Item → Bool → List ℕ → Type 0) → ((met : List Item) (all : Bool) (taken : List ℕ) → holds met all taken → now met all taken)
-    → (live : Bool) (done last : List Item) (all : Bool) → Wait holds sink d live calls done last all → Wait now sink d live (calls ++ more) done last all
-
-module _ (text : ℕ → List Item → Bool → List ℕ) (filled : ℕ → List Item → Bool) (sinks : List Sink) (all : Bool) (Wait : Waiting) (wait_still : StillWaits Wait) where
-  abbrev pub AllOf : (ℕ → List Item → Bool → List ℕ → Type 0) → List Bool → List Call → List Item → List Item → Type 0
-  AllOf holds live calls done last = AtEach (λ i s b. Wait (holds i) s.handle (due_at text filled i s) b calls done last all) sinks live
-
+module _ (text : ℕ → List Item → Bool → List ℕ) (filled : ℕ → List Item → Bool) (sinks : List Sink) (piece : Piece) where
   abbrev pub AllPart : (ℕ → List Item → Bool → List ℕ → Type 0) → List Bool → List Bool → ℕ → List Call → List Item → List Item → Type 0
   AllPart holds old new k calls done last = (i : ℕ) (s : Sink) (a b : Bool) → slice_get sinks i ≡ Some s → slice_get old i ≡ Some a → slice_get new i ≡ Some b →
-      (i < k → Wrote (holds i) s.handle (due_at text filled i s) a b calls done last all) × (k ≤ i → Wait (holds i) s.handle (due_at text filled i s) a calls done last all)
+      (i < k → Wrote piece (holds i) s.handle (due_at text filled i s) a b calls done last) × (k ≤ i → Waits piece (holds i) s.handle (due_at text filled i s) a calls done last)
 
   -- the calls of places below one: none where that is the first, and with them each was written, and those that wait do
   abbrev pub DoneBy : (first holds : ℕ → List Item → Bool → List ℕ → Type 0) → List Bool → List Bool → Option ℕ → Option ℕ → ℕ → List Call → Type 0
-  DoneBy first holds old new u v k more = (k ≡ 0 → more ≡ []) × BlamesOn (outlets_of text filled sinks) u v more × ((calls : List Call) (done last : List Item) → AllOf first old calls done last → AllPart holds old new k (calls ++ more) done last)
+  DoneBy first holds old new u v k more = (k ≡ 0 → more ≡ []) × BlamesOn (outlets_of text filled sinks) u v more × ((calls : List Call) (done last : List Item) → AllWait piece text filled first sinks old calls done last → AllPart holds old new k (calls ++ more) done last)
 
   pub record IsDone (first holds : ℕ → List Item → Bool → List ℕ → Type 0) (old new : List Bool) (u v : Option ℕ) (k : ℕ) (s t : Seen) : Type 0 where
     pub same : length new ≡ length old
@@ -198,7 +192,7 @@ module _ (text : ℕ → List Item → Bool → List ℕ) (filled : ℕ → List
     all_on ys on = on_append [] (handles sinks) xs ys done.made.on (on_one r.handle (handles sinks) ys (one_handle sinks k r at) on)
 
     pub done_more : {w : Seen} (was b : Bool) (x : Option ℕ) → slice_get new k ≡ Some was
-        → PlaceMade b k r v x (Became (λ calls ds ls. Wait (holds k) r.handle (due_at text filled k r) was calls ds ls all) (λ calls ds ls. Wrote (next k) r.handle (due_at text filled k r) was b calls ds ls all)) t w
+        → PlaceMade b k r v x (Became (λ calls ds ls. Waits piece (holds k) r.handle (due_at text filled k r) was calls ds ls) (λ calls ds ls. Wrote piece (next k) r.handle (due_at text filled k r) was b calls ds ls)) t w
         → IsDone first next old (set new k b) u x (k + 1) s w
     done_more {w = w} was b x before p = record {
       same = length-set new k b ∙ done.same;
@@ -212,12 +206,12 @@ module _ (text : ℕ → List Item → Bool → List ℕ) (filled : ℕ → List
       };
     }
       where
-        each : (calls : List Call) (ds ls : List Item) → AllOf first old calls ds ls → AllPart next old (set new k b) (k + 1) ((calls ++ done.made.calls) ++ p.calls) ds ls
+        each : (calls : List Call) (ds ls : List Item) → AllWait piece text filled first sinks old calls ds ls → AllPart next old (set new k b) (k + 1) ((calls ++ done.made.calls) ++ p.calls) ds ls
         each calls ds ls waits i q a c here was' now = elim (tri i k) [
           | inl below ↦ (
             λ _.
                 let other : i ≢ k = λ e. absurd (omega (arith, below, e)) in
-                wrote_still q.handle (due_at text filled i q) (calls ++ done.made.calls) p.calls (away other) quiet (holds i) (next i) (λ met every taken. kept i met every taken other) a c ds ls all
+                wrote_still q.handle (due_at text filled i q) (calls ++ done.made.calls) p.calls (away other) quiet piece (holds i) (next i) (λ met every taken. kept i met every taken other) a c ds ls
                 ((done.made.is.2 calls ds ls waits i q a c here was' (sym (get_other new k i b other) ∙ now)).0 below),
             λ above. absurd (omega (arith, below, above)),
           )
@@ -227,7 +221,7 @@ module _ (text : ℕ → List Item → Bool → List ℕ) (filled : ℕ → List
               λ below. absurd (omega (arith, above, below)),
               λ _.
                   let other : i ≢ k = λ e. absurd (omega (arith, above, e)) in
-                  wait_still q.handle (due_at text filled i q) (calls ++ done.made.calls) p.calls (away other) quiet (holds i) (next i) (λ met every taken. kept i met every taken other) a ds ls all
+                  waits_still q.handle (due_at text filled i q) (calls ++ done.made.calls) p.calls (away other) quiet piece (holds i) (next i) (λ met every taken. kept i met every taken other) a ds ls
                   ((done.made.is.2 calls ds ls waits i q a c here was' (sym (get_other new k i b other) ∙ now)).1 (omega (arith, above))),
             )
           ]
@@ -239,7 +233,7 @@ module _ (text : ℕ → List Item → Bool → List ℕ) (filled : ℕ → List
             away : i ≢ k → IsAway q.handle p.calls
             away other = on_away r.handle q.handle p.calls (apart.others k i r q at here (λ e. other (sym e))) p.on
 
-            own : i ≡ k → Wrote (next i) q.handle (due_at text filled i q) a c ((calls ++ done.made.calls) ++ p.calls) ds ls all
+            own : i ≡ k → Wrote piece (next i) q.handle (due_at text filled i q) a c ((calls ++ done.made.calls) ++ p.calls) ds ls
             own e =
                 let sinks_same : r ≡ q = some_same r q (slice_get sinks k) at (subst (λ (x : ℕ). slice_get sinks x ≡ Some q) e here) in
                 let now' : slice_get (set new k b) k ≡ Some c = subst (λ (x : ℕ). slice_get (set new k b) x ≡ Some c) e now in
@@ -248,34 +242,34 @@ module _ (text : ℕ → List Item → Bool → List ℕ) (filled : ℕ → List
                 let a_same : was ≡ a = some_same was a (slice_get new k) before (done.later k (omega arith) ∙ old') in
                 let w = (done.made.is.2 calls ds ls waits k r was was at (sym (done.later k (omega arith)) ∙ before) before).1 (omega arith) in
                 let wrote = p.is.1 (calls ++ done.made.calls) ds ls w in
-                subst (λ (x : ℕ). Wrote (next x) q.handle (due_at text filled x q) a c ((calls ++ done.made.calls) ++ p.calls) ds ls all) (sym e)
-                (subst (λ (x : Sink). Wrote (next k) x.handle (due_at text filled k x) a c ((calls ++ done.made.calls) ++ p.calls) ds ls all) sinks_same
-                (subst (λ (x : Bool). Wrote (next k) r.handle (due_at text filled k r) x c ((calls ++ done.made.calls) ++ p.calls) ds ls all) a_same
-                (subst (λ (x : Bool). Wrote (next k) r.handle (due_at text filled k r) was x ((calls ++ done.made.calls) ++ p.calls) ds ls all) b_same wrote)))
+                subst (λ (x : ℕ). Wrote piece (next x) q.handle (due_at text filled x q) a c ((calls ++ done.made.calls) ++ p.calls) ds ls) (sym e)
+                (subst (λ (x : Sink). Wrote piece (next k) x.handle (due_at text filled k x) a c ((calls ++ done.made.calls) ++ p.calls) ds ls) sinks_same
+                (subst (λ (x : Bool). Wrote piece (next k) r.handle (due_at text filled k r) x c ((calls ++ done.made.calls) ++ p.calls) ds ls) a_same
+                (subst (λ (x : Bool). Wrote piece (next k) r.handle (due_at text filled k r) was x ((calls ++ done.made.calls) ++ p.calls) ds ls) b_same wrote)))
 
     -- there was no memory for one more
     pub done_short : {w : Seen} (was : Bool) → slice_get new k ≡ Some was
-        → ((i : ℕ) (s : Sink) (x : Bool) (cs : List Call) (ds ls : List Item) → IsPrefix (written_by ERRORS cs) (messages_of (ds ++ ls)) → Wait (holds i) s.handle (due_at text filled i s) x cs ds ls all → TextShort s.handle (due_at text filled i s) cs (ds ++ ls) all)
-        → MadeBut [] false [] (r.handle ∷ []) (Became (λ calls ds ls. Wait (holds k) r.handle (due_at text filled k r) was calls ds ls all) (λ calls ds ls. TextShort r.handle (due_at text filled k r) calls (ds ++ ls) all)) t w
-        → MadeBut (several (handles sinks)) false [] (handles sinks) (λ more. (calls : List Call) (ds ls : List Item) → IsPrefix (written_by ERRORS calls) (messages_of (ds ++ ls)) → AllOf first old calls ds ls → FanShort (outlets_of text filled sinks) (calls ++ more) (ds ++ ls) all) s w
-    done_short {w = w} was before wait_short p = record {
+        → AllGrow text holds
+        → MadeBut [] false [] (r.handle ∷ []) (Became (λ calls ds ls. Waits piece (holds k) r.handle (due_at text filled k r) was calls ds ls) (λ calls ds ls. TextShort r.handle (due_at text filled k r) calls (ds ++ ls) (is_end piece))) t w
+        → MadeBut (several (handles sinks)) false [] (handles sinks) (λ more. (calls : List Call) (ds ls : List Item) → IsPrefix (written_by ERRORS calls) (messages_of (ds ++ ls)) → AllWait piece text filled first sinks old calls ds ls → FanShort (outlets_of text filled sinks) (calls ++ more) (ds ++ ls) (is_end piece)) s w
+    done_short {w = w} was before grows p = record {
       calls = xs ++ p.calls;
       did = did_then xs p.calls s t w done.made.did p.did;
       on = all_on p.calls p.on;
       fail = fails_on sinks k r at xs p.calls (all_on p.calls p.on) done.made.is.0 false false (λ one. refl) p.fail;
-      is = λ calls ds ls told waits. each_outlet text filled sinks (λ i o. TextShort o.sink o.due (calls ++ (xs ++ p.calls)) (ds ++ ls) all) (λ i q here. rw (sym (append_assoc calls xs p.calls)) (each calls ds ls told waits i q here));
+      is = λ calls ds ls told waits. each_outlet text filled sinks (λ i o. TextShort o.sink o.due (calls ++ (xs ++ p.calls)) (ds ++ ls) (is_end piece)) (λ i q here. rw (sym (append_assoc calls xs p.calls)) (each calls ds ls told waits i q here));
     }
       where
-        each : (calls : List Call) (ds ls : List Item) → IsPrefix (written_by ERRORS calls) (messages_of (ds ++ ls)) → AllOf first old calls ds ls → (i : ℕ) (q : Sink) → slice_get sinks i ≡ Some q → TextShort q.handle (due_at text filled i q) ((calls ++ done.made.calls) ++ p.calls) (ds ++ ls) all
+        each : (calls : List Call) (ds ls : List Item) → IsPrefix (written_by ERRORS calls) (messages_of (ds ++ ls)) → AllWait piece text filled first sinks old calls ds ls → (i : ℕ) (q : Sink) → slice_get sinks i ≡ Some q → TextShort q.handle (due_at text filled i q) ((calls ++ done.made.calls) ++ p.calls) (ds ++ ls) (is_end piece)
         each calls ds ls told waits i q here = elim (tri i k) [
-          | inl below ↦ short_still q.handle d cs p.calls (away (λ e. absurd (omega (arith, below, e)))) quiet (ds ++ ls) all (wrote_short a.0 c.0 ((part).0 below))
+          | inl below ↦ short_still q.handle d cs p.calls (away (λ e. absurd (omega (arith, below, e)))) quiet (ds ++ ls) (is_end piece) (wrote_short a.0 c.0 ((part).0 below))
           | inr more ↦ elim more [
             | inl e ↦
                 let same : r ≡ q = some_same r q (slice_get sinks k) at (subst (λ (x : ℕ). slice_get sinks x ≡ Some q) e here) in
                 let w = (done.made.is.2 calls ds ls waits k r was was at (sym (done.later k (omega arith)) ∙ before) before).1 (omega arith) in
-                subst (λ (x : ℕ). TextShort q.handle (due_at text filled x q) (cs ++ p.calls) (ds ++ ls) all) (sym e)
-                (subst (λ (x : Sink). TextShort x.handle (due_at text filled k x) (cs ++ p.calls) (ds ++ ls) all) same (p.is cs ds ls w))
-            | inr above ↦ short_still q.handle d cs p.calls (away (λ e. absurd (omega (arith, above, e)))) quiet (ds ++ ls) all (wait_short i q a.0 cs ds ls now_told (part.1 (omega (arith, above))))
+                subst (λ (x : ℕ). TextShort q.handle (due_at text filled x q) (cs ++ p.calls) (ds ++ ls) (is_end piece)) (sym e)
+                (subst (λ (x : Sink). TextShort x.handle (due_at text filled k x) (cs ++ p.calls) (ds ++ ls) (is_end piece)) same (p.is cs ds ls w))
+            | inr above ↦ short_still q.handle d cs p.calls (away (λ e. absurd (omega (arith, above, e)))) quiet (ds ++ ls) (is_end piece) (waits_short piece (holds i) q.handle d (grows i) a.0 cs ds ls now_told (part.1 (omega (arith, above))))
           ]
         ]
           where
@@ -291,7 +285,7 @@ module _ (text : ℕ → List Item → Bool → List ℕ) (filled : ℕ → List
             c : (x : Bool) × (slice_get new i ≡ Some x)
             c = get_there new i (omega (arith, get_within sinks i q here, lives, done.same))
 
-            part : (i < k → Wrote (holds i) q.handle d a.0 c.0 cs ds ls all) × (k ≤ i → Wait (holds i) q.handle d a.0 cs ds ls all)
+            part : (i < k → Wrote piece (holds i) q.handle d a.0 c.0 cs ds ls) × (k ≤ i → Waits piece (holds i) q.handle d a.0 cs ds ls)
             part = done.made.is.2 calls ds ls waits i q a.0 c.0 here a.1 c.1
 
             quiet : IsAway ERRORS p.calls
@@ -303,15 +297,18 @@ module _ (text : ℕ → List Item → Bool → List ℕ) (filled : ℕ → List
             now_told : IsPrefix (written_by ERRORS cs) (messages_of (ds ++ ls))
             now_told = rw (still ERRORS calls done.made.calls (on_quiet sinks done.made.calls apart done.made.on)) told
 
-            wrote_short : (x y : Bool) → Wrote (holds i) q.handle d x y cs ds ls all → TextShort q.handle d cs (ds ++ ls) all
-            wrote_short true true w = subst (λ (b : Bool). TextShort q.handle d cs (ds ++ ls) b) (sym w.0) (written_short q.handle d cs (ds ++ ls) w.1.wrote)
-            wrote_short true false w = gone_short q.handle d cs (ds ++ ls) all now_told w.gone
+            wrote_short : (x y : Bool) → Wrote piece (holds i) q.handle d x y cs ds ls → TextShort q.handle d cs (ds ++ ls) (is_end piece)
+            wrote_short true true w = record {
+              text = rw (append-nil (ds ++ ls)) at (took_prefix q.handle d (grows i (ds ++ ls) false (d.text w.1.took.early false) w.1.held) cs (ds ++ ls) [] (is_end piece) w.1.took);
+              told = now_told;
+            }
+            wrote_short true false w = gone_short q.handle d cs (ds ++ ls) (is_end piece) now_told w.gone
             wrote_short false true w = absurd w
-            wrote_short false false w = gone_short q.handle d cs (ds ++ ls) all now_told w
+            wrote_short false false w = gone_short q.handle d cs (ds ++ ls) (is_end piece) now_told w
 
   -- all were
   pub done_all : (first holds : ℕ → List Item → Bool → List ℕ → Type 0) (old new : List Bool) (u v : Option ℕ) (k : ℕ) {s t : Seen} → length sinks ≤ k → IsDone first holds old new u v k s t
-      → MadeBut (several (handles sinks)) (list_any (λ (b : Bool). b) new) [] (handles sinks) (λ more. BlamesOn (outlets_of text filled sinks) u v more × ((calls : List Call) (done last : List Item) → AllOf first old calls done last → AllWrote text filled holds sinks old new (calls ++ more) done last all)) s t
+      → MadeBut (several (handles sinks)) (list_any (λ (b : Bool). b) new) [] (handles sinks) (λ more. BlamesOn (outlets_of text filled sinks) u v more × ((calls : List Call) (done last : List Item) → AllWait piece text filled first sinks old calls done last → AllWrote piece text filled holds sinks old new (calls ++ more) done last)) s t
   done_all first holds old new u v k most done = record {
     calls = done.made.calls;
     did = done.made.did;

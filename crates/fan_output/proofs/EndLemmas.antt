@@ -1,15 +1,15 @@
 -- Items one more, and that what an output of text gains is a prefix of what is due for all that its source has.
-use Rattle.std.proofs.Common.{◌≡◌, ◌⊎◌, ℕ, Bool, true, false, List, [], ◌∷◌, ◌++◌, refl, sym, inl, inr}
+use Rattle.std.proofs.Common.{◌≡◌, ◌⊎◌, ℕ, Bool, true, false, List, [], ◌∷◌, ◌++◌, append_assoc, refl, sym, ap, ◌∙◌, inl, inr}
 use Rattle.std.proofs.lemmas.List.{append-nil}
 use Rattle.std.proofs.lemmas.Grind.{flat_map-append}
 use Rattle.log_model.specs.Prefix.{IsPrefix}
 use Rattle.log_model.proofs.PrefixLemmas.{prefix_append, prefix_by, prefix_equal, prefix_after, prefix_then}
-use Rattle.vio.specs.Calls.{Call}
+use Rattle.vio.specs.Calls.{Call, written_by}
 use Rattle.ring_layout.specs.declared.item.Item.{Item}
 use Rattle.fan_output.specs.declared.ending.TextEnding.{TextEnding}
 use Rattle.fan_output.specs.declared.ending.TextEnding.TheVariants as endings
 use Rattle.fan_output.specs.Messages.{message_of, messages_of}
-use Rattle.fan_output.specs.Ends.{Due, Grows, TextEnded, TextShort, TextWritten}
+use Rattle.fan_output.specs.Ends.{Due, Grows, TextEnded, TextShort, TextTook, TextWritten, whole}
 
 pub messages_append : (xs ys : List Item) → messages_of (xs ++ ys) ≡ messages_of xs ++ messages_of ys
 messages_append = flat_map-append message_of
@@ -34,8 +34,18 @@ last_or (d ∷ done) item (y ∷ earlier) x later e = elim (last_or done item ea
 -- ---- what was gained is no more than what is due
 
 module _ (sink : ℕ) (d : Due) where
-  pub written_short : (calls : List Call) (done : List Item) → TextWritten sink d calls done → TextShort sink d calls done false
-  written_short calls done written = record { text = prefix_equal (sym written.text); told = prefix_equal (sym written.told) }
+  -- of items that were taken, with more of them or their end
+  pub took_prefix : Grows d → (calls : List Call) (done more : List Item) (all : Bool) → TextTook sink d calls done → IsPrefix (written_by sink calls) (whole d (done ++ more) all)
+  took_prefix grows calls done more all took = rw (took.text, took.parts, append_assoc took.early took.late more) (prefix_after d.head (grows took.early (took.late ++ more) all))
+
+  -- where none is held they were printed whole
+  pub took_written : (calls : List Call) (done : List Item) (took : TextTook sink d calls done) → took.late ≡ [] → TextWritten sink d calls done
+  took_written calls done took none = record {
+    fewer = took.fewer;
+    text = took.text ∙ ap (λ (list : List Item). whole d list false) (sym (took.parts ∙ ap (λ (list : List Item). took.early ++ list) none ∙ append-nil took.early));
+    told = took.told;
+    order = took.order;
+  }
 
   -- with the items that follow, and then their end or not, where all have not come
   pub short_prefix : Grows d → (calls : List Call) (met rest : List Item) (all ended : Bool) → (all ≡ true → (rest ≡ []) × (ended ≡ true)) → TextShort sink d calls met all → TextShort sink d calls (met ++ rest) ended

@@ -1,5 +1,5 @@
 -- What an item, and the end, make of several outputs.
-use Rattle.std.proofs.Common.{◌≡◌, ◌≢◌, ℕ, zero, suc, Bool, true, false, not, if◌then◌else◌, ◌&&◌, List, [], ◌∷◌, ◌++◌, length, slice_get, Option, Some, None, codes, refl, sym, ap, subst, ◌∙◌, append_assoc, arith, inl, inr, Ok, Err, Vec, Global, ◌==◌}
+use Rattle.std.proofs.Common.{◌≡◌, ◌≢◌, ◌⊎◌, ℕ, zero, suc, Bool, true, false, not, if◌then◌else◌, ◌&&◌, List, [], ◌∷◌, ◌++◌, length, slice_get, Option, Some, None, codes, refl, sym, ap, subst, ◌∙◌, append_assoc, arith, inl, inr, Ok, Err, Vec, Global, ◌==◌}
 use Rattle.std.specs.List.{list_any}
 use Rattle.std.proofs.lemmas.List.{append-nil, flat_map_more}
 use Rattle.log_model.specs.declared.fault.NoMemory.{NoMemory}
@@ -10,24 +10,28 @@ use Rattle.vio.specs.World.{Seen, Writing}
 use Rattle.vio.specs.Calls.{Mark, Went, Failed, Call, Called, Did, Write, AreOn, written_by}
 use Rattle.vio.specs.Alone.{fails_but}
 use Rattle.vio.proofs.AloneLemmas.{but_then, but_late}
-use Rattle.vio.proofs.CallLemmas.{did_then, on_append, on_names}
+use Rattle.vio.proofs.CallLemmas.{did_then, on_append, on_names, written_here}
 use Rattle.ring_layout.specs.declared.item.Item.{Item}
-use Rattle.one_run.specs.Run.{MadeBut}
+use Rattle.ring_layout.specs.declared.item.Item.TheVariants as items
+use Rattle.one_run.specs.Run.{MadeBut, is_quiet}
 use Rattle.fan_output.specs.declared.ending.TextEnding.TheVariants as endings
 use Rattle.fan_output.specs.declared.fan.FanEnd.{FanEnd}
 use Rattle.fan_output.specs.declared.fan.FanEnd.TheVariants as fans
 use Rattle.fan_output.specs.declared.fan.FanEnding.{FanEnding}
 use Rattle.fan_output.specs.declared.fan.FanOutput.{FanOutput}
+use Rattle.fan_output.specs.declared.piece.Piece.{Piece}
+use Rattle.fan_output.specs.declared.piece.Piece.TheVariants as pieces
 use Rattle.fan_output.specs.declared.sink.Sink.{Sink}
 use Rattle.fan_output.specs.Messages.{message_of, messages_of}
-use Rattle.fan_output.specs.Ends.{Due, InOrder, TextShort, whole}
-use Rattle.fan_output.specs.Fan.{AreApart, AreNamed, Blames, EndsAll, FanEnded, FanPrinted, FanShort, Gone, GoneNow, IsAway, OneEnds, Outlet, Stands, due_at, handles, outlet_at, outlets_of, own_blame, several}
+use Rattle.fan_output.specs.Ends.{Due, InOrder, TextShort, TextWritten, whole}
+use Rattle.fan_output.specs.Fan.{AreApart, AreNamed, Blames, EndsAll, FanEnded, FanShort, FanTook, Gone, GoneNow, IsAway, OneEnds, Outlet, Stands, due_at, handles, outlet_at, outlets_of, own_blame, several}
 use Rattle.fan_output.specs.Unwritten.{fails_at, first_of}
-use Rattle.fan_output.specs.inside.Steps.{AllFresh, AllWait, AllWrote, BlamesOn, Puts, Waits, Wrote}
-use Rattle.fan_output.specs.Laws.{CanFan, HasPrinted, IsNew, away_clean, blames_still, clean_still, first_append, gone_still, order_still}
-use Rattle.fan_output.proofs.EndLemmas.{last_or}
+use Rattle.fan_output.specs.inside.Pieces.{IsSunk, is_end, leaves_none}
+use Rattle.fan_output.specs.inside.Steps.{AllWait, AllWrote, BlamesOn, Puts, Waits, Wrote}
+use Rattle.fan_output.specs.Laws.{CanFan, HasTaken, IsNew, blames_still, clean_still, first_append, gone_still, order_still}
+use Rattle.fan_output.proofs.EndLemmas.{last_or, no_item, took_prefix, took_written}
 use Rattle.fan_output.proofs.PlaceLemmas.{added_here, away_written, gone_short, last_call, still, went_clean}
-use Rattle.fan_output.proofs.EachLemmas.{but_none, each_outlet, get_within, get_there, on_quiet, outlet_there, outlets_length}
+use Rattle.fan_output.proofs.EachLemmas.{AllGrow, but_none, each_outlet, get_within, get_there, on_quiet, outlet_there, outlets_length}
 
 -- ---- flags
 
@@ -35,6 +39,10 @@ pub any_there : (bs : List Bool) → list_any (λ b. b) bs ≡ true → (i : ℕ
 any_there [] e = absurd cc
 any_there (true ∷ bs) e = (0, refl)
 any_there (false ∷ bs) e = let p = any_there bs e in (suc p.0, p.1)
+
+-- the flags of sinks, whether one is live
+abbrev pub is_live : List Bool → Bool
+is_live flags = list_any (λ (b : Bool). b) flags
 
 any_none : (bs : List Bool) (i : ℕ) (b : Bool) → list_any (λ b. b) bs ≡ false → slice_get bs i ≡ Some b → b ≡ false
 any_none [] i b e is = absurd cc
@@ -81,52 +89,94 @@ message_blames : (outlets : List Outlet) (x : Option ℕ) (calls : List Call) (p
 message_blames outlets None calls part p = first_append calls (Write ERRORS part (Failed (codes "stderr")) ∷ []) ∙ ap (λ (o : Option (List ℕ)). first_of o (Some (codes "stderr"))) p
 message_blames outlets (Some i) calls part p = (p.0, p.1, first_append calls (Write ERRORS part (Failed (codes "stderr")) ∷ []) ∙ ap (λ (o : Option (List ℕ)). first_of o (Some (codes "stderr"))) p.2)
 
--- ---- where all that was due was written
+-- ---- where a piece was to be written at each sink
 
-module _ (text : ℕ → List Item → Bool → List ℕ) (filled : ℕ → List Item → Bool) (next : ℕ → List Item → Bool → List ℕ → Type 0) (sinks : List Sink) (live new : List Bool) (x : Option ℕ) (all : List Call) (done last : List Item) (lives : length live ≡ length sinks) (same : length new ≡ length live)
-    (told : written_by ERRORS all ≡ messages_of (done ++ last)) (quiet : fails_at ERRORS all ≡ false) (blames : Blames (outlets_of text filled sinks) None x all) (wrote : AllWrote text filled next sinks live new all done last false) where
-  -- some are live
-  all_printed : list_any (λ b. b) new ≡ true → FanPrinted next (outlets_of text filled sinks) new x all (done ++ last)
-  all_printed some = record {
-    lives = same ∙ lives ∙ sym (outlets_length text filled sinks);
-    each = λ i o b at is. each_outlet text filled sinks (λ i o. slice_get new i ≡ Some b → Stands (next i) o.sink o.due b all (done ++ last) false)
-        (λ i s at is. let a = get_there live i (omega (arith, get_within sinks i s at, lives)) in each i s a.0 b (wrote i s a.0 b at a.1 is)) i o at is;
-    some = some;
-    told = told;
-    quiet = quiet;
-    blames = blames;
-  }
-    where
-      each : (i : ℕ) (s : Sink) (a b : Bool) → Wrote (next i) s.handle (due_at text filled i s) a b all done last false → Stands (next i) s.handle (due_at text filled i s) b all (done ++ last) false
-      each i s true true w = w
-      each i s true false w = w.gone
-      each i s false true w = absurd w
-      each i s false false w = w
+-- how texts are made, the sinks, of which some were live and some are, and the places that are blamed
+module _ (piece : Piece) (text : ℕ → List Item → Bool → List ℕ) (filled : ℕ → List Item → Bool) (holds : ℕ → List Item → Bool → List ℕ → Type 0) (sinks : List Sink) (live : List Bool) where
+  -- calls were made, with which it was written
+  abbrev pub EachWrote : (ℕ → List Item → Bool → List ℕ → Type 0) → List Bool → Option ℕ → Option ℕ → Seen → Seen → Type 0
+  EachWrote next new u x s t = MadeBut (several (handles sinks)) (is_live new) [] (handles sinks) (λ more. BlamesOn (outlets_of text filled sinks) u x more
+      × ((calls : List Call) (done last : List Item) → AllWait piece text filled holds sinks live calls done last → AllWrote piece text filled next sinks live new (calls ++ more) done last)) s t
 
-  -- none is, of which one was
-  all_idle : (ending : FanEnding) → ending.how ≡ fans.Idle → ending.unwritten ≡ x → list_any (λ b. b) live ≡ true → list_any (λ b. b) new ≡ false → FanEnded (outlets_of text filled sinks) ending all done last false
-  all_idle ending is_how is_x some none = fan_ended text filled sinks ending fans.Idle x is_how is_x all done last false
-      (λ i s at.
-      let a = get_there live i (omega (arith, get_within sinks i s at, lives)) in
-      let b = get_there new i (omega (arith, get_within sinks i s at, lives, same)) in
-      gone i s a.0 b.0 (any_none new i b.0 none b.1) (wrote i s a.0 b.0 at a.1 b.1))
-      (refl, one, told, quiet) blames
-    where
-      gone : (i : ℕ) (s : Sink) (a b : Bool) → b ≡ false → Wrote (next i) s.handle (due_at text filled i s) a b all done last false → Gone s.handle (due_at text filled i s) all (done ++ last) false
-      gone i s a true e w = absurd cc
-      gone i s true false e w = w.gone
-      gone i s false false e w = w
+  -- or there was no memory
+  abbrev pub EachShort : Seen → Seen → Type 0
+  EachShort s t = MadeBut (several (handles sinks)) false [] (handles sinks) (λ more. (calls : List Call) (done last : List Item) → IsPrefix (written_by ERRORS calls) (messages_of (done ++ last))
+      → AllWait piece text filled holds sinks live calls done last → FanShort (outlets_of text filled sinks) (calls ++ more) (done ++ last) (is_end piece)) s t
 
-      now : (i : ℕ) (s : Sink) (b : Bool) → b ≡ false → Wrote (next i) s.handle (due_at text filled i s) true b all done last false → GoneNow s.handle (due_at text filled i s) all done last false
-      now i s true e w = absurd cc
-      now i s false e w = w
+  -- it was written behind these calls
+  module _ (apart : AreApart sinks) (next : ℕ → List Item → Bool → List ℕ → Type 0) (new : List Bool) (u x : Option ℕ) (lives : length live ≡ length sinks) (same : length new ≡ length live) (calls : List Call) (done last : List Item)
+      (told : written_by ERRORS calls ≡ messages_of (done ++ last)) (quiet : fails_at ERRORS calls ≡ false) (blames : Blames (outlets_of text filled sinks) None u calls) (waits : AllWait piece text filled holds sinks live calls done last) {s t : Seen} (e : EachWrote next new u x s t) where
+    abbrev all : List Call
+    all = calls ++ e.calls
 
-      one : OneEnds (outlets_of text filled sinks) all done last false
+    wrote : AllWrote piece text filled next sinks live new all done last
+    wrote = e.is.1 calls done last waits
+
+    away : IsAway ERRORS e.calls
+    away = on_quiet sinks e.calls apart e.on
+
+    all_told : written_by ERRORS all ≡ messages_of (done ++ last)
+    all_told = still ERRORS calls e.calls away ∙ told
+
+    all_quiet : fails_at ERRORS all ≡ false
+    all_quiet = clean_still ERRORS calls e.calls away ∙ quiet
+
+    all_blames : Blames (outlets_of text filled sinks) None x all
+    all_blames = e.is.0 calls blames
+
+    -- some are live
+    pub all_stand : is_end piece ≡ false → is_live new ≡ true → FanTook (leaves_none piece) next (outlets_of text filled sinks) new x all (done ++ last)
+    all_stand goes some = record {
+      lives = same ∙ lives ∙ sym (outlets_length text filled sinks);
+      each = λ i o b at is. each_outlet text filled sinks (λ i o. slice_get new i ≡ Some b → Stands (leaves_none piece) (next i) o.sink o.due b all (done ++ last) false)
+          (λ i s at is. let a = get_there live i (omega (arith, get_within sinks i s at, lives)) in each i s a.0 b (wrote i s a.0 b at a.1 is)) i o at is;
+      some = some;
+      told = all_told;
+      quiet = all_quiet;
+      blames = all_blames;
+    }
+      where
+        each : (i : ℕ) (s : Sink) (a b : Bool) → Wrote piece (next i) s.handle (due_at text filled i s) a b all done last → Stands (leaves_none piece) (next i) s.handle (due_at text filled i s) b all (done ++ last) false
+        each i s true true w = rw goes at w
+        each i s true false w = rw goes at w.gone
+        each i s false true w = absurd w
+        each i s false false w = rw goes at w
+
+    -- none is, of which one was: at the end, or since each ended
+    module _ (some : is_live live ≡ true) (none : (is_end piece ≡ true) ⊎ (is_live new ≡ false)) where
+      own_none : (i : ℕ) (b : Bool) → slice_get new i ≡ Some b → (is_end piece ≡ true) ⊎ (b ≡ false)
+      own_none i b at = elim none [ inl every ↦ inl every | inr off ↦ inr (any_none new i b off at) ]
+
+      now : (i : ℕ) (s : Sink) (b : Bool) → (is_end piece ≡ true) ⊎ (b ≡ false) → Wrote piece (next i) s.handle (due_at text filled i s) true b all done last → GoneNow s.handle (due_at text filled i s) all done last (is_end piece)
+      now i s true (inl every) w = let goes : is_end piece ≡ false = w.0 in absurd cc
+      now i s true (inr off) w = absurd cc
+      now i s false off w = w
+
+      gone : (i : ℕ) (s : Sink) (a b : Bool) → (is_end piece ≡ true) ⊎ (b ≡ false) → Wrote piece (next i) s.handle (due_at text filled i s) a b all done last → Gone s.handle (due_at text filled i s) all (done ++ last) (is_end piece)
+      gone i s true b off w = (now i s b off w).gone
+      gone i s false true off w = absurd w
+      gone i s false false off w = w
+
+      one : OneEnds (outlets_of text filled sinks) all done last (is_end piece)
       one =
           let was = any_there live some in
           let s = get_there sinks was.0 (omega (arith, get_within live was.0 true was.1, lives)) in
           let b = get_there new was.0 (omega (arith, get_within live was.0 true was.1, same)) in
-          (was.0, outlet_at text filled was.0 s.0, outlet_there text filled sinks was.0 s.0 s.1, now was.0 s.0 b.0 (any_none new was.0 b.0 none b.1) (wrote was.0 s.0 true b.0 s.1 was.1 b.1))
+          (was.0, outlet_at text filled was.0 s.0, outlet_there text filled sinks was.0 s.0 s.1, now was.0 s.0 b.0 (own_none was.0 b.0 b.1) (wrote was.0 s.0 true b.0 s.1 was.1 b.1))
+
+      all_gone : (ending : FanEnding) (how : FanEnd) → ending.how ≡ how → own_blame how ≡ None → ending.unwritten ≡ x → EndsAll how (outlets_of text filled sinks) all done last (is_end piece) → FanEnded (outlets_of text filled sinks) ending all done last (is_end piece)
+      all_gone ending how is_how unblamed is_x ends = fan_ended text filled sinks ending how x is_how is_x all done last (is_end piece)
+          (λ i s at.
+          let a = get_there live i (omega (arith, get_within sinks i s at, lives)) in
+          let b = get_there new i (omega (arith, get_within sinks i s at, lives, same)) in
+          gone i s a.0 b.0 (own_none i b.0 b.1) (wrote i s a.0 b.0 at a.1 b.1))
+          ends (rw unblamed all_blames)
+
+    pub all_idle : is_live live ≡ true → is_end piece ≡ false → is_live new ≡ false → (ending : FanEnding) → ending.how ≡ fans.Idle → ending.unwritten ≡ x → FanEnded (outlets_of text filled sinks) ending all done last (is_end piece)
+    all_idle some goes none ending is_how is_x = all_gone some (inr none) ending fans.Idle is_how refl is_x (goes, one some (inr none), all_told, all_quiet)
+
+    pub all_whole : is_live live ≡ true → is_end piece ≡ true → last ≡ [] → (ending : FanEnding) → ending.how ≡ fans.Whole → ending.unwritten ≡ x → FanEnded (outlets_of text filled sinks) ending all done last (is_end piece)
+    all_whole some every rest ending is_how is_x = all_gone some (inl every) ending fans.Whole is_how refl is_x (rest, every, one some (inl every), all_told ∙ ap messages_of (ap (λ (y : List Item). done ++ y) rest ∙ append-nil done), all_quiet)
 
 -- ---- an item more
 
@@ -150,8 +200,9 @@ gone_more sink d calls done item g = record {
   final = g.final;
 }
 
-gone_end : (sink : ℕ) (d : Due) (calls : List Call) (done : List Item) → Gone sink d calls done false → Gone sink d calls done true
-gone_end sink d calls done g = record {
+-- and so at their end
+gone_to : (all : Bool) (sink : ℕ) (d : Due) (calls : List Call) (done : List Item) → Gone sink d calls done false → Gone sink d calls done all
+gone_to all sink d calls done g = record {
   first = g.first;
   more = g.more;
   are = g.are;
@@ -172,23 +223,30 @@ gone_end sink d calls done g = record {
 message_away : (sink : ℕ) (bytes : List ℕ) (mark : Mark) → sink ≢ ERRORS → IsAway sink (Write ERRORS bytes mark ∷ [])
 message_away sink bytes mark apart = (λ e. apart (sym e), tt)
 
--- that texts grow
-abbrev pub AllGrow : (ℕ → List Item → Bool → List ℕ) → (ℕ → List Item → Bool → List ℕ → Type 0) → Type 0
-AllGrow text holds = (i : ℕ) (met : List Item) (every : Bool) (taken : List ℕ) → holds i met every taken → (list more : List Item) (ended : Bool) → IsPrefix (text i list false) (text i (list ++ more) ended)
+-- an item of whose message a part isn't all of it has one
+told_item : (part : List ℕ) (item : Item) → IsProperPrefix part (message_of item) → is_quiet item ≡ false
+told_item part (items.Unit u) p = absurd (omega (arith, p.shorter))
+told_item part (items.Overrun at seen) p = refl
+told_item part (items.Missed units) p = refl
 
 module _ (text : ℕ → List Item → Bool → List ℕ) (filled : ℕ → List Item → Bool) (sinks : List Sink) (apart : AreApart sinks) (live : List Bool) (u : Option ℕ) (calls : List Call) (done : List Item)
-    (holds : ℕ → List Item → Bool → List ℕ → Type 0) (printed : FanPrinted holds (outlets_of text filled sinks) live u calls done) where
+    (holds : ℕ → List Item → Bool → List ℕ → Type 0) (caught : Bool) (taken : FanTook caught holds (outlets_of text filled sinks) live u calls done) where
   lives : length live ≡ length sinks
-  lives = printed.lives ∙ outlets_length text filled sinks
+  lives = taken.lives ∙ outlets_length text filled sinks
 
   -- how each stands, at its sink
-  stand : (i : ℕ) (s : Sink) (b : Bool) → slice_get sinks i ≡ Some s → slice_get live i ≡ Some b → Stands (holds i) s.handle (due_at text filled i s) b calls done false
-  stand i s b at is = printed.each i (outlet_at text filled i s) b (outlet_there text filled sinks i s at) is
+  stand : (i : ℕ) (s : Sink) (b : Bool) → slice_get sinks i ≡ Some s → slice_get live i ≡ Some b → Stands caught (holds i) s.handle (due_at text filled i s) b calls done false
+  stand i s b at is = taken.each i (outlet_at text filled i s) b (outlet_there text filled sinks i s at) is
 
-  -- its message was written
+  -- where nothing is held all was written
+  pub all_written : caught ≡ true → (i : ℕ) (s : Sink) → slice_get sinks i ≡ Some s → slice_get live i ≡ Some true → TextWritten s.handle (due_at text filled i s) calls done
+  all_written e i s at is = let p = (stand i s true at is).1 in took_written s.handle (due_at text filled i s) calls done p.took (p.none e)
+
+  -- its message was written, behind all text of what came before where it has one
   item_waits : (next : ℕ → List Item → Bool → List ℕ → Type 0) (item : Item) → ((i : ℕ) (met : List Item) (taken : List ℕ) → holds i met false taken → filled i met ≡ false → next i (met ++ item ∷ []) false taken)
-      → AllWait text filled next sinks live (calls ++ Write ERRORS (message_of item) Went ∷ []) done (item ∷ []) false
-  item_waits next item takes i s b at is = wait b (stand i s b at is)
+      → (is_quiet item ≡ false → (i : ℕ) (s : Sink) → slice_get sinks i ≡ Some s → slice_get live i ≡ Some true → TextWritten s.handle (due_at text filled i s) calls done)
+      → AllWait pieces.Full text filled next sinks live (calls ++ Write ERRORS (message_of item) Went ∷ []) done (item ∷ [])
+  item_waits next item takes printed i s b at is = wait b is (stand i s b at is)
     where
       W : List Call
       W = Write ERRORS (message_of item) Went ∷ []
@@ -199,96 +257,80 @@ module _ (text : ℕ → List Item → Bool → List ℕ) (filled : ℕ → List
       away : IsAway s.handle W
       away = message_away s.handle (message_of item) Went (apart.errors i s at)
 
-      wait : (b : Bool) → Stands (holds i) s.handle d b calls done false → Waits (next i) s.handle d b (calls ++ W) done (item ∷ []) false
-      wait true p =
-          let sunk = still s.handle calls W away ∙ p.1.wrote.text in
-          let said = added_here ERRORS (message_of item) Went calls (messages_of done) p.1.wrote.told ∙ flat_map_more message_of [] done item in (
-            record {
-              one = omega arith;
-              end = λ e. absurd cc;
-              fewer = p.1.wrote.fewer;
-              sunk = sunk;
-              said = said;
-              order = λ earlier x later e. elim (last_or done item earlier x later e) [
-                | inl last ↦ (calls ++ W, [], sym (append-nil (calls ++ W)), sunk ∙ ap (λ (list : List Item). whole d list false) last.0, said ∙ cc)
-                | inr other ↦ order_still s.handle d done calls W p.1.wrote.order earlier x other.0 other.1
-              ];
-              clean = clean_still s.handle calls W away ∙ p.1.clean;
-            },
-            takes i done (text i done false) p.1.held p.1.wrote.fewer,
-          )
-      wait false p = gone_still s.handle d calls W (done ++ item ∷ []) false away (gone_more s.handle d calls done item p)
+      wait : (b : Bool) → slice_get live i ≡ Some b → Stands caught (holds i) s.handle d b calls done false → Waits pieces.Full (next i) s.handle d b (calls ++ W) done (item ∷ [])
+      wait true is p =
+          let said = added_here ERRORS (message_of item) Went calls (messages_of done) p.1.took.told ∙ flat_map_more message_of [] done item in
+          record {
+            early = p.1.took.early;
+            late = p.1.took.late;
+            parts = p.1.took.parts;
+            one = omega arith;
+            end = λ e. absurd cc;
+            fewer = p.1.took.fewer;
+            sunk = still s.handle calls W away ∙ p.1.took.text;
+            said = said;
+            order = λ earlier x later e told. elim (last_or done item earlier x later e) [
+              | inl last ↦ record {
+                before = calls;
+                said = W;
+                after = [];
+                are = sym (append-nil (calls ++ W));
+                text = (printed (ap is_quiet last.1 ∙ told) i s at is).text ∙ ap (λ (list : List Item). whole d list false) last.0;
+                told = p.1.took.told ∙ ap messages_of last.0;
+                silent = away_written s.handle W away;
+                message = written_here ERRORS (message_of item) Went ∙ ap message_of last.1;
+              }
+              | inr other ↦ order_still s.handle d done calls W p.1.took.order earlier x other.0 other.1 told
+            ];
+            clean = clean_still s.handle calls W away ∙ p.1.clean;
+            held = takes i done (text i p.1.took.early false) p.1.held p.1.took.fewer;
+          }
+      wait false is p = gone_still s.handle d calls W (done ++ item ∷ []) false away (gone_more s.handle d calls done item p)
 
-  -- or the end came
-  end_waits : (next : ℕ → List Item → Bool → List ℕ → Type 0) → ((i : ℕ) (met : List Item) (taken : List ℕ) → holds i met false taken → filled i met ≡ false → next i met true taken) → AllWait text filled next sinks live calls done [] true
-  end_waits next ends i s b at is = wait b (stand i s b at is)
+  -- what is held, and the rest at the end
+  rest_waits : (piece : Piece) → ((d : Due) (early : List Item) (sunk : List ℕ) → sunk ≡ whole d early false → IsSunk piece d done [] early sunk) → (next : ℕ → List Item → Bool → List ℕ → Type 0)
+      → ((i : ℕ) (met : List Item) (taken : List ℕ) → holds i met false taken → filled i met ≡ false → next i met (is_end piece) taken) → AllWait piece text filled next sinks live calls done []
+  rest_waits piece is_sunk next ends i s b at is = wait b (stand i s b at is)
     where
       d : Due
       d = due_at text filled i s
 
-      wait : (b : Bool) → Stands (holds i) s.handle d b calls done false → Waits (next i) s.handle d b calls done [] true
-      wait true p = (
-        record {
-          one = omega arith;
-          end = λ e. refl;
-          fewer = p.1.wrote.fewer;
-          sunk = p.1.wrote.text;
-          said = p.1.wrote.told ∙ ap messages_of (sym (append-nil done));
-          order = subst (λ (list : List Item). InOrder s.handle d list calls) (sym (append-nil done)) p.1.wrote.order;
-          clean = p.1.clean;
-        },
-        subst (λ (list : List Item). next i list true (text i done false)) (sym (append-nil done)) (ends i done (text i done false) p.1.held p.1.wrote.fewer),
-      )
-      wait false p = rw (append-nil done) (gone_end s.handle d calls done p)
-
-  -- all that was due at the end was written
-  end_whole : (next : ℕ → List Item → Bool → List ℕ → Type 0) (new : List Bool) (x : Option ℕ) (all : List Call) → length new ≡ length live → written_by ERRORS all ≡ messages_of done → fails_at ERRORS all ≡ false → Blames (outlets_of text filled sinks) None x all
-      → AllWrote text filled next sinks live new all done [] true → (ending : FanEnding) → ending.how ≡ fans.Whole → ending.unwritten ≡ x → FanEnded (outlets_of text filled sinks) ending all done [] true
-  end_whole next new x all same told quiet blames wrote ending is_how is_x = fan_ended text filled sinks ending fans.Whole x is_how is_x all done [] true
-      (λ i s at.
-      let a = get_there live i (omega (arith, get_within sinks i s at, lives)) in
-      let b = get_there new i (omega (arith, get_within sinks i s at, lives, same)) in
-      gone i s a.0 b.0 (wrote i s a.0 b.0 at a.1 b.1))
-      (refl, refl, one, told, quiet) blames
-    where
-      gone : (i : ℕ) (s : Sink) (a b : Bool) → Wrote (next i) s.handle (due_at text filled i s) a b all done [] true → Gone s.handle (due_at text filled i s) all (done ++ []) true
-      gone i s true true w = let wrong : true ≡ false = w.0 in absurd cc
-      gone i s true false w = w.gone
-      gone i s false true w = absurd w
-      gone i s false false w = w
-
-      now : (i : ℕ) (s : Sink) (b : Bool) → Wrote (next i) s.handle (due_at text filled i s) true b all done [] true → GoneNow s.handle (due_at text filled i s) all done [] true
-      now i s true w = let wrong : true ≡ false = w.0 in absurd cc
-      now i s false w = w
-
-      one : OneEnds (outlets_of text filled sinks) all done [] true
-      one =
-          let was = any_there live printed.some in
-          let s = get_there sinks was.0 (omega (arith, get_within live was.0 true was.1, lives)) in
-          let b = get_there new was.0 (omega (arith, get_within live was.0 true was.1, same)) in
-          (was.0, outlet_at text filled was.0 s.0, outlet_there text filled sinks was.0 s.0 s.1, now was.0 s.0 b.0 (wrote was.0 s.0 true b.0 s.1 was.1 b.1))
+      wait : (b : Bool) → Stands caught (holds i) s.handle d b calls done false → Waits piece (next i) s.handle d b calls done []
+      wait true p = record {
+        early = p.1.took.early;
+        late = p.1.took.late;
+        parts = p.1.took.parts;
+        one = omega arith;
+        end = λ e. refl;
+        fewer = p.1.took.fewer;
+        sunk = is_sunk d p.1.took.early (written_by s.handle calls) p.1.took.text;
+        said = p.1.took.told ∙ ap messages_of (sym (append-nil done));
+        order = subst (λ (list : List Item). InOrder s.handle d list calls) (sym (append-nil done)) p.1.took.order;
+        clean = p.1.clean;
+        held = subst (λ (list : List Item). next i list (is_end piece) (text i p.1.took.early false)) (sym (append-nil done)) (ends i done (text i p.1.took.early false) p.1.held p.1.took.fewer);
+      }
+      wait false p = rw (append-nil done) (gone_to (is_end piece) s.handle d calls done p)
 
   -- an item's message wasn't written whole, since its write failed: each that is live ends so
-  item_unreported : (item : Item) → AllGrow text holds → (part : List ℕ) → IsProperPrefix part (message_of item) → (ending : FanEnding) → ending.how ≡ fans.Unreported → ending.unwritten ≡ u
+  item_unreported : caught ≡ true → (item : Item) → AllGrow text holds → (part : List ℕ) → IsProperPrefix part (message_of item) → (ending : FanEnding) → ending.how ≡ fans.Unreported → ending.unwritten ≡ u
       → FanEnded (outlets_of text filled sinks) ending (calls ++ Write ERRORS part (Failed (codes "stderr")) ∷ []) done (item ∷ []) false
-  item_unreported item grows part proper ending is_how is_x = fan_ended text filled sinks ending fans.Unreported u is_how is_x (calls ++ W) done (item ∷ []) false
-      (λ i s at. let a = get_there live i (omega (arith, get_within sinks i s at, lives)) in gone i s at a.0 (stand i s a.0 at a.1))
+  item_unreported all item grows part proper ending is_how is_x = fan_ended text filled sinks ending fans.Unreported u is_how is_x (calls ++ W) done (item ∷ []) false
+      (λ i s at. let a = get_there live i (omega (arith, get_within sinks i s at, lives)) in gone i s at a.0 a.1 (stand i s a.0 at a.1))
       (refl, one, (part, last_call calls (Write ERRORS part (Failed (codes "stderr")))), rw own_told (prefix_append (messages_of done) part), rw (own_told, sym (flat_map_more message_of [] done item)) (proper_after (messages_of done) proper))
-      (message_blames (outlets_of text filled sinks) u calls part printed.blames)
+      (message_blames (outlets_of text filled sinks) u calls part taken.blames)
     where
       W : List Call
       W = Write ERRORS part (Failed (codes "stderr")) ∷ []
 
       own_told : written_by ERRORS (calls ++ W) ≡ messages_of done ++ part
-      own_told = added_here ERRORS part (Failed (codes "stderr")) calls (messages_of done) printed.told
+      own_told = added_here ERRORS part (Failed (codes "stderr")) calls (messages_of done) taken.told
 
       away : (i : ℕ) (s : Sink) → slice_get sinks i ≡ Some s → IsAway s.handle W
       away i s at = message_away s.handle part (Failed (codes "stderr")) (apart.errors i s at)
 
-      now : (i : ℕ) (s : Sink) → slice_get sinks i ≡ Some s → Stands (holds i) s.handle (due_at text filled i s) true calls done false → GoneNow s.handle (due_at text filled i s) (calls ++ W) done (item ∷ []) false
-      now i s at p =
+      now : (i : ℕ) (s : Sink) → slice_get sinks i ≡ Some s → slice_get live i ≡ Some true → Stands caught (holds i) s.handle (due_at text filled i s) true calls done false → GoneNow s.handle (due_at text filled i s) (calls ++ W) done (item ∷ []) false
+      now i s at is p =
           let d = due_at text filled i s in
-          let told = added_here ERRORS part (Failed (codes "stderr")) calls (messages_of done) p.1.wrote.told in
           record {
             gone = record {
               first = calls ++ W;
@@ -303,11 +345,11 @@ module _ (text : ℕ → List Item → Bool → List ℕ) (filled : ℕ → List
               one = omega arith;
               parts = sym (append-nil (done ++ item ∷ []));
               whole = λ e. absurd cc;
-              grows = grows i done false (text i done false) p.1.held;
+              grows = grows i done false (text i p.1.took.early false) p.1.held;
               ends = record {
-                fewer = p.1.wrote.fewer;
-                ends = (refl, still s.handle calls W (away i s at) ∙ p.1.wrote.text, rw told (prefix_append (messages_of done) part), rw (told, sym (flat_map_more message_of [] done item)) (proper_after (messages_of done) proper));
-                order = order_still s.handle d done calls W p.1.wrote.order;
+                fewer = p.1.took.fewer;
+                ends = (refl, still s.handle calls W (away i s at) ∙ (all_written all i s at is).text, rw own_told (prefix_append (messages_of done) part), rw (own_told, sym (flat_map_more message_of [] done item)) (proper_after (messages_of done) proper));
+                order = order_still s.handle d done calls W p.1.took.order;
                 cause = (part, last_call calls (Write ERRORS part (Failed (codes "stderr"))));
               };
               final = clean_still s.handle calls W (away i s at) ∙ p.1.clean;
@@ -317,15 +359,15 @@ module _ (text : ℕ → List Item → Bool → List ℕ) (filled : ℕ → List
             own_here = refl;
           }
 
-      gone : (i : ℕ) (s : Sink) → slice_get sinks i ≡ Some s → (b : Bool) → Stands (holds i) s.handle (due_at text filled i s) b calls done false → Gone s.handle (due_at text filled i s) (calls ++ W) (done ++ item ∷ []) false
-      gone i s at true p = (now i s at p).gone
-      gone i s at false p = gone_still s.handle (due_at text filled i s) calls W (done ++ item ∷ []) false (away i s at) (gone_more s.handle (due_at text filled i s) calls done item p)
+      gone : (i : ℕ) (s : Sink) → slice_get sinks i ≡ Some s → (b : Bool) → slice_get live i ≡ Some b → Stands caught (holds i) s.handle (due_at text filled i s) b calls done false → Gone s.handle (due_at text filled i s) (calls ++ W) (done ++ item ∷ []) false
+      gone i s at true is p = (now i s at is p).gone
+      gone i s at false is p = gone_still s.handle (due_at text filled i s) calls W (done ++ item ∷ []) false (away i s at) (gone_more s.handle (due_at text filled i s) calls done item p)
 
       one : OneEnds (outlets_of text filled sinks) (calls ++ W) done (item ∷ []) false
       one =
-          let was = any_there live printed.some in
+          let was = any_there live taken.some in
           let s = get_there sinks was.0 (omega (arith, get_within live was.0 true was.1, lives)) in
-          (was.0, outlet_at text filled was.0 s.0, outlet_there text filled sinks was.0 s.0 s.1, now was.0 s.0 s.1 (stand was.0 s.0 true s.1 was.1))
+          (was.0, outlet_at text filled was.0 s.0, outlet_there text filled sinks was.0 s.0 s.1, now was.0 s.0 s.1 was.1 (stand was.0 s.0 true s.1 was.1))
 
   -- there was no memory for an item behind its message, or for that
   sink_short : (item : Item) → AllGrow text holds → (part : List ℕ) → IsPrefix part (message_of item) → (i : ℕ) (s : Sink) → slice_get sinks i ≡ Some s → TextShort s.handle (due_at text filled i s) (calls ++ Write ERRORS part Went ∷ []) (done ++ item ∷ []) false
@@ -344,13 +386,13 @@ module _ (text : ℕ → List Item → Bool → List ℕ) (filled : ℕ → List
       away = message_away s.handle part Went (apart.errors i s at)
 
       told : written_by ERRORS (calls ++ W) ≡ messages_of done ++ part
-      told = added_here ERRORS part Went calls (messages_of done) printed.told
+      told = added_here ERRORS part Went calls (messages_of done) taken.told
 
       so : IsPrefix (written_by ERRORS (calls ++ W)) (messages_of (done ++ item ∷ []))
       so = rw (told, sym (flat_map_more message_of [] done item)) (prefix_after (messages_of done) prefix)
 
-      short : (b : Bool) → Stands (holds i) s.handle d b calls done false → TextShort s.handle d (calls ++ W) (done ++ item ∷ []) false
-      short true p = record { text = rw (still s.handle calls W away ∙ p.1.wrote.text) (prefix_after d.head (grows i done false (text i done false) p.1.held done (item ∷ []) false)); told = so }
+      short : (b : Bool) → Stands caught (holds i) s.handle d b calls done false → TextShort s.handle d (calls ++ W) (done ++ item ∷ []) false
+      short true p = record { text = rw (still s.handle calls W away) (took_prefix s.handle d (grows i done false (text i p.1.took.early false) p.1.held) calls done (item ∷ []) false p.1.took); told = so }
       short false p = gone_short s.handle d (calls ++ W) (done ++ item ∷ []) false so (gone_still s.handle d calls W (done ++ item ∷ []) false away (gone_more s.handle d calls done item p))
 
   item_short : (item : Item) → AllGrow text holds → (part : List ℕ) → IsPrefix part (message_of item) → FanShort (outlets_of text filled sinks) (calls ++ Write ERRORS part Went ∷ []) (done ++ item ∷ []) false
@@ -366,9 +408,9 @@ module _ (text : ℕ → List Item → Bool → List ℕ) (filled : ℕ → List
       a : (x : Bool) × (slice_get live i ≡ Some x)
       a = get_there live i (omega (arith, get_within sinks i s at, lives))
 
-      short : (b : Bool) → Stands (holds i) s.handle d b calls done false → TextShort s.handle d calls done true
-      short true p = record { text = rw p.1.wrote.text (prefix_after d.head (subst (λ (list : List Item). IsPrefix (text i done false) (text i list true)) (append-nil done) (grows i done false (text i done false) p.1.held done [] true))); told = prefix_equal (sym p.1.wrote.told) }
-      short false p = gone_short s.handle d calls done true (prefix_equal (sym printed.told)) (gone_end s.handle d calls done p)
+      short : (b : Bool) → Stands caught (holds i) s.handle d b calls done false → TextShort s.handle d calls done true
+      short true p = record { text = rw (append-nil done) at (took_prefix s.handle d (grows i done false (text i p.1.took.early false) p.1.held) calls done [] true p.1.took); told = prefix_equal (sym p.1.took.told) }
+      short false p = gone_short s.handle d calls done true (prefix_equal (sym taken.told)) (gone_to true s.handle d calls done p)
 
   end_short : AllGrow text holds → FanShort (outlets_of text filled sinks) calls done true
   end_short grows = each_outlet text filled sinks (λ i o. TextShort o.sink o.due calls done true) (sink_end grows)
@@ -399,123 +441,132 @@ made_end alone hs IsSo b e so = record { calls = e.calls; did = e.did; on = on_w
 
 -- ---- the calls of an output
 
--- the flags of sinks, whether one is live
-abbrev pub is_live : List Bool → Bool
-is_live flags = list_any (λ (b : Bool). b) flags
-
--- of whatever it printed from a first output on
+-- of whatever it took from a first output on
 module _ {T : Type 0} (text : T → ℕ → List Item → Bool → List ℕ) (filled : T → ℕ → List Item → Bool) (holds : T → ℕ → List Item → Bool → List ℕ → Type 0) (count : T → ℕ)
     (grows : (texts : T) (i : ℕ) (met : List Item) (all : Bool) (taken : List ℕ) → holds texts i met all taken → (list more : List Item) (ended : Bool) → IsPrefix (text texts i list false) (text texts i (list ++ more) ended))
-    (start old : FanOutput T) (calls : List Call) (done : List Item) {s : Seen} (can : CanFan count old s) (p : HasPrinted text filled holds start old calls done) where
-  -- the sinks, and those of them that stop alone
+    (start old : FanOutput T) (calls : List Call) (done : List Item) {s : Seen} (can : CanFan count old s) where
+  -- the sinks, the outputs to them, and the flags of those that are live
+  abbrev ss : List Sink
+  ss = start.sinks.items
+
   abbrev hs : List ℕ
   hs = handles start.sinks.items
 
-  own_apart : AreApart start.sinks.items
-  own_apart = subst (λ (x : Vec Sink Global). AreApart x.items) p.sinks can.apart
+  abbrev outs : List Outlet
+  outs = outlets_of (text start.texts) (filled start.texts) start.sinks.items
 
-  own_lives : length old.live.items ≡ length start.sinks.items
-  own_lives = p.prints.lives ∙ outlets_length (text start.texts) (filled start.texts) start.sinks.items
-
-  own_grows : AllGrow (text start.texts) (holds old.texts)
-  own_grows i met every taken held list more ended = rw p.texts at (grows old.texts i met every taken held list more ended)
+  abbrev flags : List Bool
+  flags = old.live.items
 
   abbrev Short : List Item → Bool → List Call → Type 0
-  Short met all more = FanShort (outlets_of (text start.texts) (filled start.texts) start.sinks.items) (calls ++ more) met all
+  Short met all more = FanShort outs (calls ++ more) met all
 
   abbrev Ended : FanEnding → List Item → Bool → List Call → Type 0
-  Ended ending last all more = FanEnded (outlets_of (text start.texts) (filled start.texts) start.sinks.items) ending (calls ++ more) done last all
+  Ended ending last all more = FanEnded outs ending (calls ++ more) done last all
 
-  -- the message of an item: there was no memory for it, or its write failed
-  pub told_short : {t : Seen} (item : Item) (e : NoMemory) → Called (Puts ERRORS (codes "stderr") (message_of item) (Err e)) s t → MadeBut (several hs) false [] (ERRORS ∷ hs) (Short (done ++ item ∷ []) false) s t
-  told_short item e puts = made_told (several hs) hs puts.is.0 Went (Short (done ++ item ∷ []) false) puts.calls puts.is.2 puts.did
-      (item_short (text start.texts) (filled start.texts) start.sinks.items own_apart old.live.items old.unwritten calls done (holds old.texts) p.prints item own_grows puts.is.0 puts.is.1)
+  -- these were taken, or printed whole
+  module _ (caught : Bool) (p : HasTaken text filled holds caught start old calls done) where
+    own_apart : AreApart ss
+    own_apart = subst (λ (x : Vec Sink Global). AreApart x.items) p.sinks can.apart
 
-  pub told_failed : {t : Seen} (item : Item) (ending : FanEnding) → ending.how ≡ fans.Unreported → ending.unwritten ≡ old.unwritten → Called (Puts ERRORS (codes "stderr") (message_of item) (Ok false)) s t
-      → MadeBut (several hs) false [] (ERRORS ∷ hs) (Ended ending (item ∷ []) false) s t
-  told_failed item ending is_how is_x puts = made_told (several hs) hs puts.is.0 (Failed (codes "stderr")) (Ended ending (item ∷ []) false) puts.calls puts.is.2 puts.did
-      (item_unreported (text start.texts) (filled start.texts) start.sinks.items own_apart old.live.items old.unwritten calls done (holds old.texts) p.prints item own_grows puts.is.0 puts.is.1 ending is_how is_x)
+    own_lives : length flags ≡ length ss
+    own_lives = p.took.lives ∙ outlets_length (text start.texts) (filled start.texts) ss
 
-  -- it was written, and there was no memory for the texts
-  pub item_lacked : {t : Seen} (item : Item) → Called (Puts ERRORS (codes "stderr") (message_of item) (Ok true)) s t → MadeBut (several hs) false [] (ERRORS ∷ hs) (Short (done ++ item ∷ []) false) s t
-  item_lacked item puts = made_told (several hs) hs (message_of item) Went (Short (done ++ item ∷ []) false) puts.calls puts.is puts.did
-      (item_short (text start.texts) (filled start.texts) start.sinks.items own_apart old.live.items old.unwritten calls done (holds old.texts) p.prints item own_grows (message_of item) (prefix_same (message_of item)))
+    own_grows : AllGrow (text start.texts) (holds old.texts)
+    own_grows i met every taken held list more ended = rw p.texts at (grows old.texts i met every taken held list more ended)
 
-  -- the texts took it
-  module _ (next last : ℕ → List Item → Bool → List ℕ → Type 0) (item : Item) (takes : (i : ℕ) (met : List Item) (taken : List ℕ) → holds old.texts i met false taken → filled start.texts i met ≡ false → next i (met ++ item ∷ []) false taken) {t : Seen}
-      (puts : Called (Puts ERRORS (codes "stderr") (message_of item) (Ok true)) s t) where
-    abbrev W : List Call
-    W = Write ERRORS (message_of item) Went ∷ []
+    -- the message of an item: there was no memory for it, or its write failed where nothing is held
+    pub told_short : {t : Seen} (item : Item) (e : NoMemory) → Called (Puts ERRORS (codes "stderr") (message_of item) (Err e)) s t → MadeBut (several hs) false [] (ERRORS ∷ hs) (Short (done ++ item ∷ []) false) s t
+    told_short item e puts = made_told (several hs) hs puts.is.0 Went (Short (done ++ item ∷ []) false) puts.calls puts.is.2 puts.did
+        (item_short (text start.texts) (filled start.texts) ss own_apart flags old.unwritten calls done (holds old.texts) caught p.took item own_grows puts.is.0 puts.is.1)
 
-    waits : AllWait (text start.texts) (filled start.texts) next start.sinks.items old.live.items (calls ++ W) done (item ∷ []) false
-    waits = item_waits (text start.texts) (filled start.texts) start.sinks.items own_apart old.live.items old.unwritten calls done (holds old.texts) p.prints next item takes
+    untold : {t : Seen} → caught ≡ true → (item : Item) (ending : FanEnding) → ending.how ≡ fans.Unreported → ending.unwritten ≡ old.unwritten → Called (Puts ERRORS (codes "stderr") (message_of item) (Ok false)) s t
+        → MadeBut (several hs) false [] (ERRORS ∷ hs) (Ended ending (item ∷ []) false) s t
+    untold all item ending is_how is_x puts = made_told (several hs) hs puts.is.0 (Failed (codes "stderr")) (Ended ending (item ∷ []) false) puts.calls puts.is.2 puts.did
+        (item_unreported (text start.texts) (filled start.texts) ss own_apart flags old.unwritten calls done (holds old.texts) caught p.took all item own_grows puts.is.0 puts.is.1 ending is_how is_x)
 
-    told : written_by ERRORS (calls ++ W) ≡ messages_of (done ++ item ∷ [])
-    told = added_here ERRORS (message_of item) Went calls (messages_of done) p.prints.told ∙ flat_map_more message_of [] done item
+    -- it was written, and there was no memory for the texts
+    pub item_lacked : {t : Seen} (item : Item) → Called (Puts ERRORS (codes "stderr") (message_of item) (Ok true)) s t → MadeBut (several hs) false [] (ERRORS ∷ hs) (Short (done ++ item ∷ []) false) s t
+    item_lacked item puts = made_told (several hs) hs (message_of item) Went (Short (done ++ item ∷ []) false) puts.calls puts.is puts.did
+        (item_short (text start.texts) (filled start.texts) ss own_apart flags old.unwritten calls done (holds old.texts) caught p.took item own_grows (message_of item) (prefix_same (message_of item)))
 
-    pub each_lacked : {u : Seen} → (e : MadeBut (several hs) false [] hs (λ more. (cs : List Call) (ds ls : List Item) → IsPrefix (written_by ERRORS cs) (messages_of (ds ++ ls)) → AllWait (text start.texts) (filled start.texts) next start.sinks.items old.live.items cs ds ls false
-        → FanShort (outlets_of (text start.texts) (filled start.texts) start.sinks.items) (cs ++ more) (ds ++ ls) false) t u)
-        → MadeBut (several hs) false [] (ERRORS ∷ hs) (Short (done ++ item ∷ []) false) s u
-    each_lacked e = made_both (several hs) hs (message_of item) (Short (done ++ item ∷ []) false) puts false false refl e
-        (rw (sym (append_assoc calls W e.calls)) (e.is (calls ++ W) done (item ∷ []) (prefix_equal (sym told)) waits))
+    -- the end: there was no memory for the texts
+    pub texts_lacked : MadeBut (several hs) false [] (ERRORS ∷ hs) (Short done true) s s
+    texts_lacked = record {
+      calls = [];
+      did = refl;
+      on = tt;
+      fail = but_none (several hs) false;
+      is = rw (append-nil calls) (end_short (text start.texts) (filled start.texts) ss own_apart flags old.unwritten calls done (holds old.texts) caught p.took own_grows);
+    }
 
-    module _ (new : List Bool) (x : Option ℕ) (same : length new ≡ length old.live.items) {u : Seen} (e : MadeBut (several hs) (is_live new) [] hs (λ more. BlamesOn (outlets_of (text start.texts) (filled start.texts) start.sinks.items) old.unwritten x more
-        × ((cs : List Call) (ds ls : List Item) → AllWait (text start.texts) (filled start.texts) next start.sinks.items old.live.items cs ds ls false
-        → AllWrote (text start.texts) (filled start.texts) last start.sinks.items old.live.items new (cs ++ more) ds ls false)) t u) where
-      wrote : AllWrote (text start.texts) (filled start.texts) last start.sinks.items old.live.items new ((calls ++ W) ++ e.calls) done (item ∷ []) false
-      wrote = e.is.1 (calls ++ W) done (item ∷ []) waits
+    -- what is held, or the rest at the end
+    module _ (piece : Piece) (is_sunk : (d : Due) (early : List Item) (sunk : List ℕ) → sunk ≡ whole d early false → IsSunk piece d done [] early sunk) (next : ℕ → List Item → Bool → List ℕ → Type 0)
+        (takes : (i : ℕ) (met : List Item) (taken : List ℕ) → holds old.texts i met false taken → filled start.texts i met ≡ false → next i met (is_end piece) taken) where
+      rests : AllWait piece (text start.texts) (filled start.texts) next ss flags calls done []
+      rests = rest_waits (text start.texts) (filled start.texts) ss own_apart flags old.unwritten calls done (holds old.texts) caught p.took piece is_sunk next takes
 
-      away : IsAway ERRORS e.calls
-      away = on_quiet start.sinks.items e.calls own_apart e.on
+      rest_told : written_by ERRORS calls ≡ messages_of (done ++ [])
+      rest_told = p.took.told ∙ ap messages_of (sym (append-nil done))
 
-      all_told : written_by ERRORS ((calls ++ W) ++ e.calls) ≡ messages_of (done ++ item ∷ [])
-      all_told = still ERRORS (calls ++ W) e.calls away ∙ told
+      -- there was no memory for one of them
+      pub rest_lacked : {u : Seen} → EachShort piece (text start.texts) (filled start.texts) next ss flags s u → MadeBut (several hs) false [] (ERRORS ∷ hs) (Short done (is_end piece)) s u
+      rest_lacked e = made_sinks (several hs) hs (Short done (is_end piece)) false false refl e (rw (append-nil done) at (e.is calls done [] (prefix_equal (sym rest_told)) rests))
 
-      all_quiet : fails_at ERRORS ((calls ++ W) ++ e.calls) ≡ false
-      all_quiet = clean_still ERRORS (calls ++ W) e.calls away ∙ went_clean ERRORS calls ERRORS (message_of item) p.prints.quiet
+      module _ (last : ℕ → List Item → Bool → List ℕ → Type 0) (new : List Bool) (x : Option ℕ) (same : length new ≡ length flags) {u : Seen} (e : EachWrote piece (text start.texts) (filled start.texts) next ss flags last new old.unwritten x s u) where
+        -- some are live
+        pub rest_on : is_end piece ≡ false → is_live new ≡ true → MadeBut (several hs) true [] (ERRORS ∷ hs) (λ more. FanTook (leaves_none piece) last outs new x (calls ++ more) done) s u
+        rest_on goes some = made_sinks (several hs) hs (λ more. FanTook (leaves_none piece) last outs new x (calls ++ more) done) (is_live new) true some e
+            (rw (append-nil done) at (all_stand piece (text start.texts) (filled start.texts) next ss flags own_apart last new old.unwritten x own_lives same calls done [] rest_told p.took.quiet p.took.blames rests e goes some))
 
-      all_blames : Blames (outlets_of (text start.texts) (filled start.texts) start.sinks.items) None x ((calls ++ W) ++ e.calls)
-      all_blames = e.is.0 (calls ++ W) (blames_still (outlets_of (text start.texts) (filled start.texts) start.sinks.items) None old.unwritten calls W refl p.prints.blames)
+        -- none is
+        pub rest_idle : is_end piece ≡ false → is_live new ≡ false → (ending : FanEnding) → ending.how ≡ fans.Idle → ending.unwritten ≡ x → MadeBut (several hs) false [] (ERRORS ∷ hs) (Ended ending [] (is_end piece)) s u
+        rest_idle goes none ending is_how is_x = made_sinks (several hs) hs (Ended ending [] (is_end piece)) (is_live new) false none e
+            (all_idle piece (text start.texts) (filled start.texts) next ss flags own_apart last new old.unwritten x own_lives same calls done [] rest_told p.took.quiet p.took.blames rests e p.took.some goes none ending is_how is_x)
 
-      abbrev Printed : List Call → Type 0
-      Printed more = FanPrinted last (outlets_of (text start.texts) (filled start.texts) start.sinks.items) new x (calls ++ more) (done ++ item ∷ [])
+        -- all was written
+        pub rest_whole : is_end piece ≡ true → (ending : FanEnding) → ending.how ≡ fans.Whole → ending.unwritten ≡ x → MadeBut (several hs) false [] (ERRORS ∷ hs) (Ended ending [] (is_end piece)) s u
+        rest_whole every ending is_how is_x = made_end (several hs) hs (Ended ending [] (is_end piece)) (is_live new) e
+            (all_whole piece (text start.texts) (filled start.texts) next ss flags own_apart last new old.unwritten x own_lives same calls done [] rest_told p.took.quiet p.took.blames rests e p.took.some every refl ending is_how is_x)
 
-      pub each_on : is_live new ≡ true → MadeBut (several hs) true [] (ERRORS ∷ hs) Printed s u
-      each_on some = made_both (several hs) hs (message_of item) Printed puts (is_live new) true some e
-          (rw (sym (append_assoc calls W e.calls)) (all_printed (text start.texts) (filled start.texts) last start.sinks.items old.live.items new x ((calls ++ W) ++ e.calls) done (item ∷ []) own_lives same all_told all_quiet all_blames wrote some))
+  -- what was taken was printed whole, where an item has a message
+  module _ (p : HasTaken text filled holds false start old calls done) (item : Item) (printed : is_quiet item ≡ false → HasTaken text filled holds true start old calls done) where
+    -- its message couldn't be written
+    pub told_failed : {t : Seen} (ending : FanEnding) → ending.how ≡ fans.Unreported → ending.unwritten ≡ old.unwritten → Called (Puts ERRORS (codes "stderr") (message_of item) (Ok false)) s t
+        → MadeBut (several hs) false [] (ERRORS ∷ hs) (Ended ending (item ∷ []) false) s t
+    told_failed ending is_how is_x puts = untold true (printed (told_item puts.is.0 item puts.is.1)) refl item ending is_how is_x puts
 
-      pub each_idle : is_live new ≡ false → (ending : FanEnding) → ending.how ≡ fans.Idle → ending.unwritten ≡ x → MadeBut (several hs) false [] (ERRORS ∷ hs) (Ended ending (item ∷ []) false) s u
-      each_idle none ending is_how is_x = made_both (several hs) hs (message_of item) (Ended ending (item ∷ []) false) puts (is_live new) false none e
-          (rw (sym (append_assoc calls W e.calls)) (all_idle (text start.texts) (filled start.texts) last start.sinks.items old.live.items new x ((calls ++ W) ++ e.calls) done (item ∷ []) own_lives same all_told all_quiet all_blames wrote ending is_how is_x p.prints.some none))
+    -- it was written, and the texts took the item
+    module _ (next last : ℕ → List Item → Bool → List ℕ → Type 0) (takes : (i : ℕ) (met : List Item) (taken : List ℕ) → holds old.texts i met false taken → filled start.texts i met ≡ false → next i (met ++ item ∷ []) false taken) {t : Seen}
+        (puts : Called (Puts ERRORS (codes "stderr") (message_of item) (Ok true)) s t) where
+      abbrev W : List Call
+      W = Write ERRORS (message_of item) Went ∷ []
 
-  -- the end: there was no memory for the texts, or for one of them; or all was written
-  pub texts_lacked : MadeBut (several hs) false [] (ERRORS ∷ hs) (Short done true) s s
-  texts_lacked = record {
-    calls = [];
-    did = refl;
-    on = tt;
-    fail = but_none (several hs) false;
-    is = rw (append-nil calls) (end_short (text start.texts) (filled start.texts) start.sinks.items own_apart old.live.items old.unwritten calls done (holds old.texts) p.prints own_grows);
-  }
+      waits : AllWait pieces.Full (text start.texts) (filled start.texts) next ss flags (calls ++ W) done (item ∷ [])
+      waits = item_waits (text start.texts) (filled start.texts) ss (own_apart false p) flags old.unwritten calls done (holds old.texts) false p.took next item takes
+          (λ told. let q = printed told in all_written (text start.texts) (filled start.texts) ss (own_apart false p) flags old.unwritten calls done (holds old.texts) true q.took refl)
 
-  module _ (next last : ℕ → List Item → Bool → List ℕ → Type 0) (takes : (i : ℕ) (met : List Item) (taken : List ℕ) → holds old.texts i met false taken → filled start.texts i met ≡ false → next i met true taken) where
-    waits_end : AllWait (text start.texts) (filled start.texts) next start.sinks.items old.live.items calls done [] true
-    waits_end = end_waits (text start.texts) (filled start.texts) start.sinks.items own_apart old.live.items old.unwritten calls done (holds old.texts) p.prints next takes
+      told : written_by ERRORS (calls ++ W) ≡ messages_of (done ++ item ∷ [])
+      told = added_here ERRORS (message_of item) Went calls (messages_of done) p.took.told ∙ flat_map_more message_of [] done item
 
-    pub end_lacked : {u : Seen} → (e : MadeBut (several hs) false [] hs (λ more. (cs : List Call) (ds ls : List Item) → IsPrefix (written_by ERRORS cs) (messages_of (ds ++ ls)) → AllWait (text start.texts) (filled start.texts) next start.sinks.items old.live.items cs ds ls true
-        → FanShort (outlets_of (text start.texts) (filled start.texts) start.sinks.items) (cs ++ more) (ds ++ ls) true) s u)
-        → MadeBut (several hs) false [] (ERRORS ∷ hs) (Short done true) s u
-    end_lacked e = made_sinks (several hs) hs (Short done true) false false refl e
-        (rw (append-nil done) at (e.is calls done [] (prefix_equal (ap messages_of (append-nil done) ∙ sym p.prints.told)) waits_end))
+      quiet : fails_at ERRORS (calls ++ W) ≡ false
+      quiet = went_clean ERRORS calls ERRORS (message_of item) p.took.quiet
 
-    pub end_wrote : {u : Seen} → (new : List Bool) (x : Option ℕ) → length new ≡ length old.live.items → (ending : FanEnding) → ending.how ≡ fans.Whole → ending.unwritten ≡ x → (e : MadeBut (several hs) (is_live new) [] hs (λ more. BlamesOn (outlets_of (text start.texts) (filled start.texts) start.sinks.items) old.unwritten x more
-        × ((cs : List Call) (ds ls : List Item) → AllWait (text start.texts) (filled start.texts) next start.sinks.items old.live.items cs ds ls true
-        → AllWrote (text start.texts) (filled start.texts) last start.sinks.items old.live.items new (cs ++ more) ds ls true)) s u)
-        → MadeBut (several hs) false [] (ERRORS ∷ hs) (Ended ending [] true) s u
-    end_wrote new x same ending is_how is_x e = made_end (several hs) hs (Ended ending [] true) (is_live new) e
-        (end_whole (text start.texts) (filled start.texts) start.sinks.items own_apart old.live.items old.unwritten calls done (holds old.texts) p.prints last new x (calls ++ e.calls) same
-        (still ERRORS calls e.calls (on_quiet start.sinks.items e.calls own_apart e.on) ∙ p.prints.told) (clean_still ERRORS calls e.calls (on_quiet start.sinks.items e.calls own_apart e.on) ∙ p.prints.quiet) (e.is.0 calls p.prints.blames)
-        (e.is.1 calls done [] waits_end) ending is_how is_x)
+      blames : Blames outs None old.unwritten (calls ++ W)
+      blames = blames_still outs None old.unwritten calls W refl p.took.blames
+
+      pub each_lacked : {u : Seen} → EachShort pieces.Full (text start.texts) (filled start.texts) next ss flags t u → MadeBut (several hs) false [] (ERRORS ∷ hs) (Short (done ++ item ∷ []) false) s u
+      each_lacked e = made_both (several hs) hs (message_of item) (Short (done ++ item ∷ []) false) puts false false refl e
+          (rw (sym (append_assoc calls W e.calls)) (e.is (calls ++ W) done (item ∷ []) (prefix_equal (sym told)) waits))
+
+      module _ (new : List Bool) (x : Option ℕ) (same : length new ≡ length flags) {u : Seen} (e : EachWrote pieces.Full (text start.texts) (filled start.texts) next ss flags last new old.unwritten x t u) where
+        pub each_on : is_live new ≡ true → MadeBut (several hs) true [] (ERRORS ∷ hs) (λ more. FanTook false last outs new x (calls ++ more) (done ++ item ∷ [])) s u
+        each_on some = made_both (several hs) hs (message_of item) (λ more. FanTook false last outs new x (calls ++ more) (done ++ item ∷ [])) puts (is_live new) true some e
+            (rw (sym (append_assoc calls W e.calls)) (all_stand pieces.Full (text start.texts) (filled start.texts) next ss flags (own_apart false p) last new old.unwritten x (own_lives false p) same (calls ++ W) done (item ∷ []) told quiet blames waits e refl some))
+
+        pub each_idle : is_live new ≡ false → (ending : FanEnding) → ending.how ≡ fans.Idle → ending.unwritten ≡ x → MadeBut (several hs) false [] (ERRORS ∷ hs) (Ended ending (item ∷ []) false) s u
+        each_idle none ending is_how is_x = made_both (several hs) hs (message_of item) (Ended ending (item ∷ []) false) puts (is_live new) false none e
+            (rw (sym (append_assoc calls W e.calls)) (all_idle pieces.Full (text start.texts) (filled start.texts) next ss flags (own_apart false p) last new old.unwritten x (own_lives false p) same (calls ++ W) done (item ∷ []) told quiet blames waits e p.took.some refl none ending is_how is_x))
 
 -- ---- what stands before all items
 
@@ -523,30 +574,38 @@ module _ {T : Type 0} (text : T → ℕ → List Item → Bool → List ℕ) (fi
   abbrev ks : List ℕ
   ks = handles o.sinks.items
 
-  new_waits : AllFresh (text o.texts) (filled o.texts) (holds o.texts) o.sinks.items o.live.items [] [] []
-  new_waits i r b at is = rw (fresh.all_live i b is) (record { no_done = refl; no_last = refl; goes = refl; sunk = refl; said = refl; clean = refl; none = fresh.no_text i r at; fewer = fresh.fewer i r at; held = fresh.none i r at })
+  abbrev news : List Outlet
+  news = outlets_of (text o.texts) (filled o.texts) o.sinks.items
 
-  pub begin_short : {u : Seen} → (e : MadeBut (several ks) false [] ks (λ more. (cs : List Call) (ds ls : List Item) → IsPrefix (written_by ERRORS cs) (messages_of (ds ++ ls))
-      → AllFresh (text o.texts) (filled o.texts) (holds o.texts) o.sinks.items o.live.items cs ds ls → FanShort (outlets_of (text o.texts) (filled o.texts) o.sinks.items) (cs ++ more) (ds ++ ls) false) s u)
-      → MadeBut (several ks) false [] (ERRORS ∷ ks) (λ more. FanShort (outlets_of (text o.texts) (filled o.texts) o.sinks.items) more [] false) s u
-  begin_short e = made_sinks (several ks) ks (λ more. FanShort (outlets_of (text o.texts) (filled o.texts) o.sinks.items) more [] false) false false refl e (e.is [] [] [] (prefix_same []) new_waits)
+  new_waits : AllWait pieces.Head (text o.texts) (filled o.texts) (holds o.texts) o.sinks.items o.live.items [] [] []
+  new_waits i r b at is = rw (fresh.all_live i b is) (record {
+    early = [];
+    late = [];
+    parts = refl;
+    one = omega arith;
+    end = λ e. refl;
+    fewer = fresh.fewer i r at;
+    sunk = (refl, refl, refl, fresh.no_text i r at, refl);
+    said = refl;
+    order = λ earlier x later e. absurd (no_item earlier x later e);
+    clean = refl;
+    held = rw (fresh.no_text i r at) (fresh.none i r at);
+  })
 
-  module _ (last : ℕ → List Item → Bool → List ℕ → Type 0) (new : List Bool) (x : Option ℕ) (same : length new ≡ length o.live.items) {u : Seen} (e : MadeBut (several ks) (is_live new) [] ks (λ more. BlamesOn (outlets_of (text o.texts) (filled o.texts) o.sinks.items) o.unwritten x more
-      × ((cs : List Call) (ds ls : List Item) → AllFresh (text o.texts) (filled o.texts) (holds o.texts) o.sinks.items o.live.items cs ds ls
-      → AllWrote (text o.texts) (filled o.texts) last o.sinks.items o.live.items new (cs ++ more) ds ls false)) s u) where
-    silent : IsAway ERRORS e.calls
-    silent = on_quiet o.sinks.items e.calls can.apart e.on
+  unblamed : Blames news None o.unwritten []
+  unblamed = subst (λ (y : Option ℕ). Blames news None y []) (sym fresh.whole) refl
 
-    blames : Blames (outlets_of (text o.texts) (filled o.texts) o.sinks.items) None x e.calls
-    blames = e.is.0 [] (subst (λ (y : Option ℕ). Blames (outlets_of (text o.texts) (filled o.texts) o.sinks.items) None y []) (sym fresh.whole) refl)
+  pub begin_short : {u : Seen} → EachShort pieces.Head (text o.texts) (filled o.texts) (holds o.texts) o.sinks.items o.live.items s u → MadeBut (several ks) false [] (ERRORS ∷ ks) (λ more. FanShort news more [] false) s u
+  begin_short e = made_sinks (several ks) ks (λ more. FanShort news more [] false) false false refl e (e.is [] [] [] (prefix_same []) new_waits)
 
-    pub begin_on : is_live new ≡ true → MadeBut (several ks) true [] (ERRORS ∷ ks) (λ more. FanPrinted last (outlets_of (text o.texts) (filled o.texts) o.sinks.items) new x more []) s u
-    begin_on some = made_sinks (several ks) ks (λ more. FanPrinted last (outlets_of (text o.texts) (filled o.texts) o.sinks.items) new x more []) (is_live new) true some e
-        (all_printed (text o.texts) (filled o.texts) last o.sinks.items o.live.items new x e.calls [] [] can.lives same (away_written ERRORS e.calls silent) (away_clean ERRORS e.calls silent) blames (e.is.1 [] [] [] new_waits) some)
+  module _ (last : ℕ → List Item → Bool → List ℕ → Type 0) (new : List Bool) (x : Option ℕ) (same : length new ≡ length o.live.items) {u : Seen} (e : EachWrote pieces.Head (text o.texts) (filled o.texts) (holds o.texts) o.sinks.items o.live.items last new o.unwritten x s u) where
+    pub begin_on : is_live new ≡ true → MadeBut (several ks) true [] (ERRORS ∷ ks) (λ more. FanTook true last news new x more []) s u
+    begin_on some = made_sinks (several ks) ks (λ more. FanTook true last news new x more []) (is_live new) true some e
+        (all_stand pieces.Head (text o.texts) (filled o.texts) (holds o.texts) o.sinks.items o.live.items can.apart last new o.unwritten x can.lives same [] [] [] refl refl unblamed new_waits e refl some)
 
-    pub begin_idle : is_live new ≡ false → (ending : FanEnding) → ending.how ≡ fans.Idle → ending.unwritten ≡ x → MadeBut (several ks) false [] (ERRORS ∷ ks) (λ more. FanEnded (outlets_of (text o.texts) (filled o.texts) o.sinks.items) ending more [] [] false) s u
-    begin_idle none ending is_how is_x = made_sinks (several ks) ks (λ more. FanEnded (outlets_of (text o.texts) (filled o.texts) o.sinks.items) ending more [] [] false) (is_live new) false none e
-        (all_idle (text o.texts) (filled o.texts) last o.sinks.items o.live.items new x e.calls [] [] can.lives same (away_written ERRORS e.calls silent) (away_clean ERRORS e.calls silent) blames (e.is.1 [] [] [] new_waits) ending is_how is_x fresh.some none)
+    pub begin_idle : is_live new ≡ false → (ending : FanEnding) → ending.how ≡ fans.Idle → ending.unwritten ≡ x → MadeBut (several ks) false [] (ERRORS ∷ ks) (λ more. FanEnded news ending more [] [] false) s u
+    begin_idle none ending is_how is_x = made_sinks (several ks) ks (λ more. FanEnded news ending more [] [] false) (is_live new) false none e
+        (all_idle pieces.Head (text o.texts) (filled o.texts) (holds o.texts) o.sinks.items o.live.items can.apart last new o.unwritten x can.lives same [] [] [] refl refl unblamed new_waits e fresh.some refl none ending is_how is_x)
 
 -- ---- each sink still has its name
 

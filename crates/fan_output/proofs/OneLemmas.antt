@@ -1,5 +1,5 @@
 -- Of one sink, what several outputs come to is what one comes to.
-use Rattle.std.proofs.Common.{◌≡◌, ◌≢◌, ◌⊎◌, ℕ, zero, suc, ◌+◌, ◌<◌, ◌≤◌, ◌==◌, Bool, true, false, not, ◌&&◌, ◌||◌, List, [], ◌∷◌, ◌++◌, length, length-append, replicate, slice_get, Option, Some, None, codes, refl, sym, ap, subst, ◌∙◌, arith, inl, inr}
+use Rattle.std.proofs.Common.{◌≡◌, ◌≢◌, ◌⊎◌, ℕ, zero, suc, ◌<◌, ◌≤◌, ◌==◌, Bool, true, false, not, ◌&&◌, ◌||◌, List, [], ◌∷◌, ◌++◌, length, length-append, replicate, slice_get, Option, Some, None, codes, refl, sym, ap, subst, ◌∙◌, arith, inl, inr}
 use Rattle.std.proofs.lemmas.Bool.{eq-eqb}
 use Rattle.std.proofs.lemmas.List.{append-nil}
 use Rattle.std.specs.List.{list_any}
@@ -7,7 +7,7 @@ use Rattle.log_model.specs.Prefix.{IsPrefix, IsProperPrefix}
 use Rattle.vio.specs.declared.world.TheConstants.{ERRORS}
 use Rattle.vio.specs.Touches.{IsOneOf}
 use Rattle.vio.specs.World.{Seen, Writing}
-use Rattle.vio.specs.Calls.{Mark, Went, MetEnd, Failed, FailedEach, Call, Take, Write, AreOn, has_failed, is_failed, last_failed, written_by}
+use Rattle.vio.specs.Calls.{Mark, Went, MetEnd, Failed, FailedEach, Call, Write, AreOn, has_failed, is_failed, last_failed, written_by}
 use Rattle.vio.proofs.TouchLemmas.{one_of_left}
 use Rattle.vio.proofs.CallLemmas.{written_append}
 use Rattle.ring_layout.specs.declared.item.Item.{Item}
@@ -19,10 +19,11 @@ use Rattle.fan_output.specs.declared.fan.FanEnding.{FanEnding}
 use Rattle.fan_output.specs.declared.fan.FanOutput.{FanOutput}
 use Rattle.fan_output.specs.declared.sink.Sink.{Sink}
 use Rattle.fan_output.specs.Messages.{messages_of}
-use Rattle.fan_output.specs.Ends.{Due, FailedWrite, TextEnded, TextShort, TextWritten, whole}
-use Rattle.fan_output.specs.Fan.{AreApart, AreNamed, EndedAlone, EndsAll, FailsLast, FanEnded, FanPrinted, FanShort, GoneNow, IsAway, IsFan, Outlet}
+use Rattle.fan_output.specs.Ends.{Due, FailedWrite, TextEnded, TextShort, TextTook, TextWritten, whole}
+use Rattle.fan_output.specs.Fan.{AreApart, AreNamed, EndedAlone, EndsAll, FailsLast, FanEnded, FanShort, FansPrinted, FansTook, GoesOn, GoneNow, IsAway, IsFan, Outlet}
 use Rattle.fan_output.specs.Unwritten.{blame_of, blamed_in, fails_at, first_of, first_unwritten}
 use Rattle.fan_output.specs.Laws.{CanFan, IsNew, clean_still, order_still}
+use Rattle.fan_output.proofs.EndLemmas.{took_written}
 use Rattle.fan_output.proofs.PlaceLemmas.{still}
 use Rattle.fan_output.proofs.EachLemmas.{get_within}
 use Rattle.fan_output.proofs.FanLemmas.{any_there}
@@ -144,7 +145,7 @@ module _ (sink : ℕ) (d : Due) (reads : List ℕ) (first more : List Call) (on 
       ending = endings.Unwritten name;
       ends = record {
         fewer = p.fewer;
-        ends = (so.0, told, subst (λ (t : List ℕ). ((done ++ last ≡ []) × (all ≡ false) × IsProperPrefix t d.head) ⊎ (IsPrefix (whole d done false) t × IsProperPrefix t (whole d (done ++ last) all))) (sym (still sink first more away)) so.2);
+        ends = (so.0, told, subst (λ (t : List ℕ). ((done ++ last ≡ []) × (all ≡ false) × IsProperPrefix t d.head) ⊎ (IsPrefix d.head t × IsProperPrefix t (whole d (done ++ last) all))) (sym (still sink first more away)) so.2);
         order = order_still sink d (done ++ last) first more p.order;
         cause = (p.cause.0, one);
       };
@@ -211,13 +212,22 @@ module _ (o : Outlet) where
     one_ended ending p = ends_one ending.how p.ends
 
   -- one that goes on is live
-  pub one_printed : (holds : ℕ → List Item → Bool → List ℕ → Type 0) (live : List Bool) (unwritten : Option ℕ) (reads : List ℕ) (calls : List Call) (done : List Item) → AreOn reads (ERRORS ∷ o.sink ∷ []) calls → FanPrinted holds (o ∷ []) live unwritten calls done
-      → TextWritten o.sink o.due calls done × (first_unwritten calls ≡ None)
-  one_printed holds live unwritten reads calls done on p = at (any_there live p.some).0 (any_there live p.some).1
+  one_goes : (caught : Bool) (calls : List Call) (done : List Item) → (p : FansTook caught (o ∷ []) calls done) → GoesOn caught (λ met all taken. Prim.Unit {0}) o.sink o.due calls done
+  one_goes caught calls done p = at (any_there p.0 p.2.some).0 (any_there p.0 p.2.some).1
     where
-      at : (i : ℕ) → slice_get live i ≡ Some true → TextWritten o.sink o.due calls done × (first_unwritten calls ≡ None)
-      at zero is = let so = (p.each 0 o true refl is).1 in (so.wrote, quiet_blames reads o.sink calls on p.quiet so.clean)
-      at (suc i) is = absurd (omega (arith, get_within live (suc i) true is, p.lives))
+      at : (i : ℕ) → slice_get p.0 i ≡ Some true → GoesOn caught (λ met all taken. Prim.Unit {0}) o.sink o.due calls done
+      at zero is = (p.2.each 0 o true refl is).1
+      at (suc i) is = absurd (omega (arith, get_within p.0 (suc i) true is, p.2.lives))
+
+  pub one_took : (caught : Bool) (reads : List ℕ) (calls : List Call) (done : List Item) → AreOn reads (ERRORS ∷ o.sink ∷ []) calls → FansTook caught (o ∷ []) calls done → TextTook o.sink o.due calls done × (first_unwritten calls ≡ None)
+  one_took caught reads calls done on p = let so = one_goes caught calls done p in (so.took, quiet_blames reads o.sink calls on p.2.quiet so.clean)
+
+  pub one_printed : (reads : List ℕ) (calls : List Call) (done : List Item) → AreOn reads (ERRORS ∷ o.sink ∷ []) calls → FansPrinted (o ∷ []) calls done → TextWritten o.sink o.due calls done × (first_unwritten calls ≡ None)
+  one_printed reads calls done on p = let so = one_goes true calls done p in (took_written o.sink o.due calls done so.took (so.none refl), quiet_blames reads o.sink calls on p.2.quiet so.clean)
+
+  -- and printed all of them, where all are caught up
+  pub one_wrote : (calls : List Call) (done : List Item) → FansPrinted (o ∷ []) calls done → TextWritten o.sink o.due calls done
+  one_wrote calls done p = let so = one_goes true calls done p in took_written o.sink o.due calls done so.took (so.none refl)
 
   pub one_short : (calls : List Call) (met : List Item) (all : Bool) → FanShort (o ∷ []) calls met all → TextShort o.sink o.due calls met all
   one_short calls met all p = p 0 o refl

@@ -1,9 +1,9 @@
 -- What one write makes of one output, and that it changes nothing of the others.
-use Rattle.std.proofs.Common.{◌≡◌, ◌≢◌, ℕ, ◌==◌, ◌&&◌, ◌||◌, Bool, true, false, List, [], ◌∷◌, ◌++◌, Option, Some, None, refl, sym, ap, subst, ◌∙◌, append_assoc, arith, inl, inr, not, Ok, Err}
+use Rattle.std.proofs.Common.{◌≡◌, ◌≢◌, ◌⊎◌, ℕ, ◌==◌, ◌&&◌, ◌||◌, Bool, true, false, List, [], ◌∷◌, ◌++◌, Option, Some, None, refl, sym, ap, subst, ◌∙◌, append_assoc, inl, inr, not, Ok, Err}
 use Rattle.std.proofs.lemmas.List.{append-nil}
 use Rattle.std.proofs.lemmas.List.Folds.{list_any-append}
 use Rattle.log_model.specs.Prefix.{IsPrefix, IsProperPrefix}
-use Rattle.log_model.proofs.PrefixLemmas.{prefix_nil, prefix_append, prefix_equal, prefix_after, prefix_then, proper_after}
+use Rattle.log_model.proofs.PrefixLemmas.{prefix_nil, prefix_append, prefix_equal, prefix_after, proper_after}
 use Rattle.vio.specs.declared.world.TheConstants.{ERRORS}
 use Rattle.vio.specs.Touches.{IsOneOf}
 use Rattle.log_model.specs.declared.fault.NoMemory.{NoMemory}
@@ -14,14 +14,17 @@ use Rattle.ring_layout.specs.declared.item.Item.{Item}
 use Rattle.one_run.specs.Run.{MadeBut}
 use Rattle.fan_output.specs.declared.ending.TextEnding.{TextEnding}
 use Rattle.fan_output.specs.declared.ending.TextEnding.TheVariants as endings
+use Rattle.fan_output.specs.declared.piece.Piece.{Piece}
+use Rattle.fan_output.specs.declared.piece.Piece.TheVariants as pieces
 use Rattle.fan_output.specs.declared.sink.Sink.{Sink}
 use Rattle.fan_output.specs.Messages.{messages_of}
-use Rattle.fan_output.specs.Ends.{Due, Grows, InOrder, TextEnded, TextShort, TextWritten, whole}
-use Rattle.fan_output.specs.Fan.{Blames, FailsLast, Gone, GoneNow, IsAway}
+use Rattle.fan_output.specs.Ends.{Due, Grows, InOrder, TextEnded, TextShort, whole}
+use Rattle.fan_output.specs.Fan.{Blames, FailsLast, Gone, GoneNow, IsAway, Stands}
 use Rattle.fan_output.specs.Unwritten.{fails_at, first_of, is_unwritten}
-use Rattle.fan_output.specs.inside.Steps.{BlamesAt, Fresh, Half, HeadWaits, Puts, Waits, Wrote}
+use Rattle.fan_output.specs.inside.Pieces.{IsPiece, IsSunk, is_end, leaves_none}
+use Rattle.fan_output.specs.inside.Steps.{BlamesAt, Half, Puts, Waits, Wrote}
 use Rattle.fan_output.specs.Laws.{blames_still, clean_still, first_append, gone_still, gone_now_still, order_still}
-use Rattle.fan_output.proofs.EndLemmas.{ended_short, no_item, short_prefix}
+use Rattle.fan_output.proofs.EndLemmas.{ended_short, short_prefix}
 
 -- ---- one write
 
@@ -47,12 +50,53 @@ and_false false = refl
 pub went_clean : (h : ℕ) (calls : List Call) (k : ℕ) (bytes : List ℕ) → fails_at h calls ≡ false → fails_at h (calls ++ Write k bytes Went ∷ []) ≡ false
 went_clean h calls k bytes clean = more_fails h calls k bytes Went ∙ ap (λ (b : Bool). b || (((k == h) && false) || false)) clean ∙ and_false (k == h)
 
+-- ---- what was written before a piece
+
+-- nothing was, before all items; or the text of the first
+sunk_or : (piece : Piece) (d : Due) (done last early : List Item) (sunk : List ℕ) → IsSunk piece d done last early sunk
+    → ((is_end piece ≡ false) × (done ++ last ≡ []) × (d.text [] false ≡ []) × (sunk ≡ [])) ⊎ (sunk ≡ whole d early false)
+sunk_or pieces.Head d done last early sunk p = inl (refl, rw (p.0, p.1) refl, p.3, p.4)
+sunk_or pieces.Full d done last early sunk p = inr p
+sunk_or pieces.All d done last early sunk p = inr p
+sunk_or pieces.Last d done last early sunk p = inr p
+
+-- it is no more than what is due of more items
+sunk_short : (piece : Piece) (d : Due) (done last early late : List Item) (sunk : List ℕ) → Grows d → done ≡ early ++ late → IsSunk piece d done last early sunk → (all : Bool) → IsPrefix sunk (whole d (done ++ last) all)
+sunk_short piece d done last early late sunk grows parts p all = elim (sunk_or piece d done last early sunk p) [
+  | inl none ↦ rw none.3 (prefix_nil (whole d (done ++ last) all))
+  | inr is ↦ rw (is, parts, append_assoc early late last) (prefix_after d.head (grows early (late ++ last) all))
+]
+
+-- a part of a text that is all that is due behind it: before all items it is a part of what stands there, else it comes behind that
+sunk_part : (piece : Piece) (d : Due) (done last early : List Item) (sunk text part : List ℕ) → IsSunk piece d done last early sunk → sunk ++ text ≡ whole d (done ++ last) (is_end piece) → IsProperPrefix part text
+    → ((done ++ last ≡ []) × (is_end piece ≡ false) × IsProperPrefix (sunk ++ part) d.head) ⊎ (IsPrefix d.head (sunk ++ part) × IsProperPrefix (sunk ++ part) (whole d (done ++ last) (is_end piece)))
+sunk_part piece d done last early sunk text part p fit proper = elim (sunk_or piece d done last early sunk p) [
+  | inl none ↦
+      let head : text ≡ d.head = sym (ap (λ (x : List ℕ). x ++ text) none.3) ∙ fit ∙ ap (λ (x : List Item). whole d x (is_end piece)) none.1 ∙ ap (λ (b : Bool). whole d [] b) none.0 ∙ ap (λ (x : List ℕ). d.head ++ x) none.2 ∙ append-nil d.head in
+      inl (none.1, none.0, rw none.3 (rw head at proper))
+  | inr is ↦ inr (rw (is, append_assoc d.head (d.text early false) part) (prefix_append d.head (d.text early false ++ part)), rw fit at (proper_after sunk proper))
+]
+
+text_due : (d : Due) (holds now : List Item → Bool → List ℕ → Type 0) (bytes : List ℕ) (early : List Item) (sunk : List ℕ) (met : List Item) (all : Bool) → sunk ≡ whole d early false → (d.text early false ++ bytes ≡ d.text met all) × now met all (d.text early false ++ bytes)
+    → (sunk ++ bytes ≡ whole d met all) × now met all (d.text met all)
+text_due d holds now bytes early sunk met all p is =
+    (ap (λ (x : List ℕ). x ++ bytes) p ∙ append_assoc d.head (d.text early false) bytes ∙ ap (λ (x : List ℕ). d.head ++ x) is.0, subst (λ (x : List ℕ). now met all x) is.0 is.1)
+
+-- bytes that are a piece are all that is due behind it, and then nothing is held
+piece_due : (piece : Piece) (d : Due) (holds now : List Item → Bool → List ℕ → Type 0) (bytes : List ℕ) (done last early : List Item) (sunk : List ℕ) → IsSunk piece d done last early sunk → IsPiece piece d.head d.text holds now bytes → holds (done ++ last) (is_end piece) (d.text early false)
+    → (sunk ++ bytes ≡ whole d (done ++ last) (is_end piece)) × now (done ++ last) (is_end piece) (d.text (done ++ last) (is_end piece))
+piece_due pieces.Head d holds now bytes done last early sunk p is held =
+    rw (p.0, p.1, p.4, is.0, p.3) (sym (append-nil d.head), rw (p.0, p.1, p.2, p.3) at (is.1 (done ++ last) false (d.text early false) held))
+piece_due pieces.Full d holds now bytes done last early sunk p is held = text_due d holds now bytes early sunk (done ++ last) false p (is (done ++ last) false (d.text early false) held)
+piece_due pieces.All d holds now bytes done last early sunk p is held = text_due d holds now bytes early sunk (done ++ last) false p (is (done ++ last) false (d.text early false) held)
+piece_due pieces.Last d holds now bytes done last early sunk p is held = text_due d holds now bytes early sunk (done ++ last) true p (is (done ++ last) true (d.text early false) held)
+
 -- ---- what an output comes to with a write to its sink
 
-module _ (sink : ℕ) (d : Due) (apart : sink ≢ ERRORS) (calls : List Call) (done last : List Item) (all : Bool) (half : Half sink d calls done last all) where
+module _ (piece : Piece) (holds : List Item → Bool → List ℕ → Type 0) (sink : ℕ) (d : Due) (apart : sink ≢ ERRORS) (calls : List Call) (done last : List Item) (half : Half piece holds sink d calls done last) where
   module _ (part : List ℕ) (mark : Mark) where
-    sunk : written_by sink (calls ++ Write sink part mark ∷ []) ≡ whole d done false ++ part
-    sunk = added_here sink part mark calls (whole d done false) half.sunk
+    sunk : written_by sink (calls ++ Write sink part mark ∷ []) ≡ written_by sink calls ++ part
+    sunk = added_here sink part mark calls (written_by sink calls) refl
 
     said : written_by ERRORS (calls ++ Write sink part mark ∷ []) ≡ messages_of (done ++ last)
     said = added_other sink ERRORS part mark calls (messages_of (done ++ last)) apart half.said
@@ -61,7 +105,7 @@ module _ (sink : ℕ) (d : Due) (apart : sink ≢ ERRORS) (calls : List Call) (d
     order = order_still sink d (done ++ last) calls (Write sink part mark ∷ []) half.order
 
     -- it ended with it
-    ended : Grows d → (ending : TextEnding) → FailsLast sink d.name ending (calls ++ Write sink part mark ∷ []) → TextEnded sink d ending (calls ++ Write sink part mark ∷ []) done last all → GoneNow sink d (calls ++ Write sink part mark ∷ []) done last all
+    ended : Grows d → (ending : TextEnding) → FailsLast sink d.name ending (calls ++ Write sink part mark ∷ []) → TextEnded sink d ending (calls ++ Write sink part mark ∷ []) done last (is_end piece) → GoneNow sink d (calls ++ Write sink part mark ∷ []) done last (is_end piece)
     ended grows ending final ends = record {
       gone = record {
         first = calls ++ Write sink part mark ∷ [];
@@ -72,7 +116,7 @@ module _ (sink : ℕ) (d : Due) (apart : sink ≢ ERRORS) (calls : List Call) (d
         done = done;
         last = last;
         rest = [];
-        here = all;
+        here = is_end piece;
         one = half.one;
         parts = sym (append-nil (done ++ last));
         whole = λ e. (refl, e);
@@ -85,38 +129,59 @@ module _ (sink : ℕ) (d : Due) (apart : sink ≢ ERRORS) (calls : List Call) (d
       own_here = refl;
     }
 
-  module _ (text : List ℕ) (is : d.text done false ++ text ≡ d.text (done ++ last) all) where
+  module _ (text : List ℕ) (fit : written_by sink calls ++ text ≡ whole d (done ++ last) (is_end piece)) where
     clean : fails_at sink (calls ++ Write sink text Went ∷ []) ≡ false
     clean = went_clean sink calls sink text half.clean
 
-    all_sunk : (mark : Mark) → written_by sink (calls ++ Write sink text mark ∷ []) ≡ whole d (done ++ last) all
-    all_sunk mark = sunk text mark ∙ append_assoc d.head (d.text done false) text ∙ ap (λ (x : List ℕ). d.head ++ x) is
+    all_sunk : written_by sink (calls ++ Write sink text Went ∷ []) ≡ whole d (done ++ last) (is_end piece)
+    all_sunk = sunk text Went ∙ fit
 
-    pub put_on : all ≡ false → d.filled (done ++ last) ≡ false → TextWritten sink d (calls ++ Write sink text Went ∷ []) (done ++ last)
-    put_on none fewer = record { fewer = fewer; text = all_sunk Went ∙ ap (λ (b : Bool). whole d (done ++ last) b) none; told = said text Went; order = order text Went }
+    -- it was written, and more may follow
+    pub put_on : (now : List Item → Bool → List ℕ → Type 0) → now (done ++ last) (is_end piece) (d.text (done ++ last) (is_end piece)) → is_end piece ≡ false → d.filled (done ++ last) ≡ false → Stands (leaves_none piece) now sink d true (calls ++ Write sink text Went ∷ []) (done ++ last) (is_end piece)
+    put_on now held goes fewer = (
+      goes,
+      record {
+        took = record {
+          early = done ++ last;
+          late = [];
+          parts = sym (append-nil (done ++ last));
+          fewer = fewer;
+          text = all_sunk ∙ ap (λ (b : Bool). whole d (done ++ last) b) goes;
+          told = said text Went;
+          order = order text Went;
+        };
+        none = λ e. refl;
+        clean = clean;
+        held = subst (λ (b : Bool). now (done ++ last) b (d.text (done ++ last) b)) goes held;
+      },
+    )
 
-    pub put_kept : Grows d → all ≡ false → d.filled (done ++ last) ≡ true → GoneNow sink d (calls ++ Write sink text Went ∷ []) done last all
-    put_kept grows none filled = ended text Went grows endings.Kept clean (record { fewer = half.fewer; ends = (none, filled, all_sunk Went ∙ ap (λ (b : Bool). whole d (done ++ last) b) none, said text Went); order = order text Went; cause = tt })
+    -- it was the last of what is kept
+    pub put_kept : Grows d → is_end piece ≡ false → d.filled (done ++ last) ≡ true → GoneNow sink d (calls ++ Write sink text Went ∷ []) done last (is_end piece)
+    put_kept grows goes filled = ended text Went grows endings.Kept clean (record { fewer = half.fewer; ends = (goes, filled, all_sunk ∙ ap (λ (b : Bool). whole d (done ++ last) b) goes, said text Went); order = order text Went; cause = tt })
 
-    pub put_whole : Grows d → all ≡ true → GoneNow sink d (calls ++ Write sink text Went ∷ []) done last all
+    -- it was the rest, at the end
+    pub put_whole : Grows d → is_end piece ≡ true → GoneNow sink d (calls ++ Write sink text Went ∷ []) done last (is_end piece)
     put_whole grows every =
         let none = half.end every in
         let list : done ++ last ≡ done = ap (λ (x : List Item). done ++ x) none ∙ append-nil done in
-        ended text Went grows endings.Whole clean (record { fewer = half.fewer; ends = (none, every, all_sunk Went ∙ (λ i. whole d (list i) (every i)), said text Went ∙ ap messages_of list); order = order text Went; cause = tt })
+        ended text Went grows endings.Whole clean (record { fewer = half.fewer; ends = (none, every, all_sunk ∙ (λ i. whole d (list i) (every i)), said text Went ∙ ap messages_of list); order = order text Went; cause = tt })
 
-    pub put_failed : Grows d → (part : List ℕ) → IsProperPrefix part text → GoneNow sink d (calls ++ Write sink part (Failed d.name) ∷ []) done last all
+    -- its write failed
+    pub put_failed : Grows d → (part : List ℕ) → IsProperPrefix part text → GoneNow sink d (calls ++ Write sink part (Failed d.name) ∷ []) done last (is_end piece)
     put_failed grows part proper =
         let failed = Failed d.name in
         ended part failed grows (endings.Unwritten d.name) (calls, part, refl, half.clean) (record {
           fewer = half.fewer;
-          ends = (refl, said part failed, inr (rw (sunk part failed) (prefix_append (whole d done false) part), rw (sunk part failed, append_assoc d.head (d.text done false) part) (proper_after d.head (rw is at (proper_after (d.text done false) proper)))));
+          ends = (refl, said part failed, rw (sunk part failed) (sunk_part piece d done last half.early (written_by sink calls) text part half.sunk fit proper));
           order = order part failed;
           cause = (part, last_call calls (Write sink part failed));
         })
 
-    pub put_short : (part : List ℕ) → IsPrefix part text → TextShort sink d (calls ++ Write sink part Went ∷ []) (done ++ last) all
+    -- there was no memory for it
+    pub put_short : (part : List ℕ) → IsPrefix part text → TextShort sink d (calls ++ Write sink part Went ∷ []) (done ++ last) (is_end piece)
     put_short part prefix = record {
-      text = rw (sunk part Went, append_assoc d.head (d.text done false) part) (prefix_after d.head (rw is at (prefix_after (d.text done false) prefix)));
+      text = rw (sunk part Went) (rw fit at (prefix_after (written_by sink calls) prefix));
       told = prefix_equal (sym (said part Went));
     }
 
@@ -141,47 +206,51 @@ pub still : (k : ℕ) (calls more : List Call) → IsAway k more → written_by 
 still k calls more away = written_append k calls more ∙ ap (λ (x : List ℕ). written_by k calls ++ x) (away_written k more away) ∙ append-nil (written_by k calls)
 
 module _ (sink : ℕ) (d : Due) (calls more : List Call) (away : IsAway sink more) (quiet : IsAway ERRORS more) where
-  pub half_still : (done last : List Item) (all : Bool) → Half sink d calls done last all → Half sink d (calls ++ more) done last all
-  half_still done last all half = record {
-    one = half.one;
-    fewer = half.fewer;
-    end = half.end;
-    sunk = still sink calls more away ∙ half.sunk;
-    said = still ERRORS calls more quiet ∙ half.said;
-    order = order_still sink d (done ++ last) calls more half.order;
-    clean = clean_still sink calls more away ∙ half.clean;
-  }
-
-  pub written_still : (met : List Item) → TextWritten sink d calls met → TextWritten sink d (calls ++ more) met
-  written_still met p = record { fewer = p.fewer; text = still sink calls more away ∙ p.text; told = still ERRORS calls more quiet ∙ p.told; order = order_still sink d met calls more p.order }
-
   pub short_still : (met : List Item) (all : Bool) → TextShort sink d calls met all → TextShort sink d (calls ++ more) met all
   short_still met all p = record { text = rw (still sink calls more away) p.text; told = rw (still ERRORS calls more quiet) p.told }
 
-  module _ (holds now : List Item → Bool → List ℕ → Type 0) (kept : (met : List Item) (all : Bool) (taken : List ℕ) → holds met all taken → now met all taken) where
-    pub waits_still : (live : Bool) (done last : List Item) (all : Bool) → Waits holds sink d live calls done last all → Waits now sink d live (calls ++ more) done last all
-    waits_still true done last all p = (half_still done last all p.0, kept (done ++ last) all (d.text done false) p.1)
-    waits_still false done last all p = gone_still sink d calls more (done ++ last) all away p
+  module _ (piece : Piece) (holds now : List Item → Bool → List ℕ → Type 0) (kept : (met : List Item) (all : Bool) (taken : List ℕ) → holds met all taken → now met all taken) where
+    pub waits_still : (live : Bool) (done last : List Item) → Waits piece holds sink d live calls done last → Waits piece now sink d live (calls ++ more) done last
+    waits_still true done last p = record {
+      early = p.early;
+      late = p.late;
+      parts = p.parts;
+      one = p.one;
+      end = p.end;
+      fewer = p.fewer;
+      sunk = subst (λ (x : List ℕ). IsSunk piece d done last p.early x) (sym (still sink calls more away)) p.sunk;
+      said = still ERRORS calls more quiet ∙ p.said;
+      order = order_still sink d (done ++ last) calls more p.order;
+      clean = clean_still sink calls more away ∙ p.clean;
+      held = kept (done ++ last) (is_end piece) (d.text p.early false) p.held;
+    }
+    waits_still false done last p = gone_still sink d calls more (done ++ last) (is_end piece) away p
 
-    pub wrote_still : (old new : Bool) (done last : List Item) (all : Bool) → Wrote holds sink d old new calls done last all → Wrote now sink d old new (calls ++ more) done last all
-    wrote_still true true done last all p = (
+    pub wrote_still : (old new : Bool) (done last : List Item) → Wrote piece holds sink d old new calls done last → Wrote piece now sink d old new (calls ++ more) done last
+    wrote_still true true done last p = (
       p.0,
       record {
-        wrote = written_still (done ++ last) p.1.wrote;
+        took = record {
+          early = p.1.took.early;
+          late = p.1.took.late;
+          parts = p.1.took.parts;
+          fewer = p.1.took.fewer;
+          text = still sink calls more away ∙ p.1.took.text;
+          told = still ERRORS calls more quiet ∙ p.1.took.told;
+          order = order_still sink d (done ++ last) calls more p.1.took.order;
+        };
+        none = p.1.none;
         clean = clean_still sink calls more away ∙ p.1.clean;
-        held = kept (done ++ last) false (d.text (done ++ last) false) p.1.held;
+        held = kept (done ++ last) false (d.text p.1.took.early false) p.1.held;
       },
     )
-    wrote_still true false done last all p = gone_now_still sink d calls more done last all away p
-    wrote_still false true done last all p = absurd p
-    wrote_still false false done last all p = gone_still sink d calls more (done ++ last) all away p
+    wrote_still true false done last p = gone_now_still sink d calls more done last (is_end piece) away p
+    wrote_still false true done last p = absurd p
+    wrote_still false false done last p = gone_still sink d calls more (done ++ last) (is_end piece) away p
 
 -- ---- where there is no memory, each sink has a prefix of what is due
 
 module _ (sink : ℕ) (d : Due) where
-  pub half_short : Grows d → (calls : List Call) (done last : List Item) (all : Bool) → Half sink d calls done last all → TextShort sink d calls (done ++ last) all
-  half_short grows calls done last all half = record { text = rw half.sunk (prefix_after d.head (grows done last all)); told = prefix_equal (sym half.said) }
-
   -- the messages are those of the pass
   pub gone_short : (calls : List Call) (met : List Item) (all : Bool) → IsPrefix (written_by ERRORS calls) (messages_of met) → Gone sink d calls met all → TextShort sink d calls met all
   gone_short calls met all told g =
@@ -219,215 +288,131 @@ abbrev pub Became : (List Call → List Item → List Item → Type 0) → (List
 Became Wait Came more = (calls : List Call) (done last : List Item) → Wait calls done last → Came (calls ++ more) done last
 
 -- one that is gone stays so
-pub gone_place : (place : ℕ) (k : Sink) (unwritten : Option ℕ) (live : Bool) → live ≡ false → (holds : List Item → Bool → List ℕ → Type 0) (d : Due) (all : Bool) (s : Seen)
-    → PlaceMade false place k unwritten unwritten (Became (λ calls done last. Waits holds k.handle d live calls done last all) (λ calls done last. Wrote holds k.handle d live false calls done last all)) s s
-gone_place place k unwritten true is holds d all s = absurd cc
-gone_place place k unwritten false is holds d all s = record { calls = []; did = refl; on = tt; fail = refl; is = (none_blames place k.name unwritten, λ calls done last p. rw (append-nil calls) p) }
+pub gone_place : (piece : Piece) (place : ℕ) (k : Sink) (unwritten : Option ℕ) (live : Bool) → live ≡ false → (holds : List Item → Bool → List ℕ → Type 0) (d : Due) (s : Seen)
+    → PlaceMade false place k unwritten unwritten (Became (λ calls done last. Waits piece holds k.handle d live calls done last) (λ calls done last. Wrote piece holds k.handle d live false calls done last)) s s
+gone_place piece place k unwritten true is holds d s = absurd cc
+gone_place piece place k unwritten false is holds d s = record { calls = []; did = refl; on = tt; fail = refl; is = (none_blames place k.name unwritten, λ calls done last p. rw (append-nil calls) p) }
 
 on_sink : (sink : ℕ) (bytes : List ℕ) (mark : Mark) (calls : List Call) → calls ≡ Write sink bytes mark ∷ [] → AreOn [] (sink ∷ []) calls
 on_sink sink bytes mark calls is = subst (λ (x : List Call). AreOn [] (sink ∷ []) x) (sym is) (inl refl, tt)
 
 -- one write fails alone
-pub went_fails : (go : Bool) (h : ℕ) (bytes : List ℕ) (calls : List Call) → calls ≡ Write h bytes Went ∷ [] → fails go calls ≡ true
+went_fails : (go : Bool) (h : ℕ) (bytes : List ℕ) (calls : List Call) → calls ≡ Write h bytes Went ∷ [] → fails go calls ≡ true
 went_fails true h bytes calls is = subst (λ (x : List Call). fails true x ≡ true) (sym is) refl
 went_fails false h bytes calls is = subst (λ (x : List Call). fails false x ≡ true) (sym is) refl
 
-pub one_fails : (call : Call) (calls : List Call) → calls ≡ call ∷ [] → fails false calls ≡ true
+one_fails : (call : Call) (calls : List Call) → calls ≡ call ∷ [] → fails false calls ≡ true
 one_fails call calls is = subst (λ (x : List Call). fails false x ≡ true) (sym is) refl
 
-module _ (place : ℕ) (k : Sink) (live : Bool) (is_live : live ≡ true) (holds now : List Item → Bool → List ℕ → Type 0) (d : Due) (named : d.name ≡ k.name) (apart : k.handle ≢ ERRORS) (text : List ℕ)
-    (fit : (met : List Item) (all : Bool) (taken : List ℕ) → holds met all taken → taken ++ text ≡ d.text met all) where
-  waiting : (calls : List Call) (done last : List Item) (all : Bool) → Waits holds k.handle d live calls done last all → Waits holds k.handle d true calls done last all
-  waiting calls done last all p = subst (λ (b : Bool). Waits holds k.handle d b calls done last all) is_live p
+-- of a place that is live
+module _ (piece : Piece) (place : ℕ) (k : Sink) (live : Bool) (is_live : live ≡ true) (holds : List Item → Bool → List ℕ → Type 0) (d : Due) (named : d.name ≡ k.name) (apart : k.handle ≢ ERRORS) where
+  waiting : (calls : List Call) (done last : List Item) → Waits piece holds k.handle d live calls done last → Half piece holds k.handle d calls done last
+  waiting calls done last p = subst (λ (b : Bool). Waits piece holds k.handle d b calls done last) is_live p
 
-  lived : (new : Bool) (calls : List Call) (done last : List Item) (all : Bool) → Wrote now k.handle d true new calls done last all → Wrote now k.handle d live new calls done last all
-  lived new calls done last all p = subst (λ (b : Bool). Wrote now k.handle d b new calls done last all) (sym is_live) p
+  lived : (now : List Item → Bool → List ℕ → Type 0) (new : Bool) (calls : List Call) (done last : List Item) → Wrote piece now k.handle d true new calls done last → Wrote piece now k.handle d live new calls done last
+  lived now new calls done last p = subst (λ (b : Bool). Wrote piece now k.handle d b new calls done last) (sym is_live) p
 
-  -- it was written, and was the last or not
-  pub placed : {s t : Seen} → (unwritten : Option ℕ) → (keeps : (met : List Item) (all : Bool) (taken : List ℕ) → holds met all taken → now met all (taken ++ text)) → ((met : List Item) (all : Bool) (taken : List ℕ) → holds met all taken → Grows d)
-      → (all is_last : Bool) → (all ≡ true → is_last ≡ true) → (all ≡ false → (met : List Item) (taken : List ℕ) → holds met false taken → is_last ≡ d.filled met) → Called (Puts k.handle k.name text (Ok true)) s t
-      → PlaceMade (not is_last) place k unwritten unwritten (Became (λ calls done last. Waits holds k.handle d live calls done last all) (λ calls done last. Wrote now k.handle d live (not is_last) calls done last all)) s t
-  placed unwritten keeps grows all is_last end fills p = record {
-    calls = p.calls;
-    did = p.did;
-    on = on_sink k.handle text Went p.calls p.is;
-    fail = went_fails (not is_last) k.handle text p.calls p.is;
-    is = (
-      rw p.is (went_blames place k.name unwritten k.handle text),
-      λ calls done last w. lived (not is_last) (calls ++ p.calls) done last all
-          (rw p.is (each all is_last end fills calls done last (waiting calls done last all w))),
-    );
+  -- it holds what it has
+  pub held_place : (unwritten : Option ℕ) (s : Seen) → piece ≡ pieces.Full → (is_last : Bool) → is_last ≡ false → (is_end piece ≡ false → (met : List Item) (taken : List ℕ) → holds met false taken → is_last ≡ d.filled met)
+      → PlaceMade true place k unwritten unwritten (Became (λ calls done last. Waits piece holds k.handle d live calls done last) (λ calls done last. Wrote piece holds k.handle d live true calls done last)) s s
+  held_place unwritten s full is_last more fills = record {
+    calls = [];
+    did = refl;
+    on = tt;
+    fail = refl;
+    is = (none_blames place k.name unwritten, λ calls done last w. rw (append-nil calls) (lived holds true calls done last (each piece full fills calls done last (waiting calls done last w))));
   }
     where
-      each : (e l : Bool) → (e ≡ true → l ≡ true) → (e ≡ false → (met : List Item) (taken : List ℕ) → holds met false taken → l ≡ d.filled met) → (calls : List Call) (done last : List Item) → Waits holds k.handle d true calls done last e
-          → Wrote now k.handle d true (not l) (calls ++ Write k.handle text Went ∷ []) done last e
-      each true true end fills calls done last w = put_whole k.handle d apart calls done last true w.0 text (fit (done ++ last) true (d.text done false) w.1) (grows (done ++ last) true (d.text done false) w.1) refl
-      each true false end fills calls done last w = let wrong : false ≡ true = end refl in absurd cc
-      each false true end fills calls done last w =
-          put_kept k.handle d apart calls done last false w.0 text (fit (done ++ last) false (d.text done false) w.1) (grows (done ++ last) false (d.text done false) w.1) refl (sym (fills refl (done ++ last) (d.text done false) w.1))
-      each false false end fills calls done last w =
-          let is = fit (done ++ last) false (d.text done false) w.1 in (
-            refl,
-            record {
-              wrote = put_on k.handle d apart calls done last false w.0 text is refl (sym (fills refl (done ++ last) (d.text done false) w.1));
-              clean = went_clean k.handle calls k.handle text w.0.clean;
-              held = subst (λ (x : List ℕ). now (done ++ last) false x) is (keeps (done ++ last) false (d.text done false) w.1);
-            },
-          )
-
-  -- the write failed
-  pub stopped : {s t : Seen} → (old new : Option ℕ) → new ≡ first_of old (Some place) → ((met : List Item) (all : Bool) (taken : List ℕ) → holds met all taken → Grows d) → (all : Bool) → Called (Puts k.handle k.name text (Ok false)) s t
-      → PlaceMade false place k old new (Became (λ calls done last. Waits holds k.handle d live calls done last all) (λ calls done last. Wrote now k.handle d live false calls done last all)) s t
-  stopped old new first grows all p = record {
-    calls = p.calls;
-    did = p.did;
-    on = on_sink k.handle p.is.0 (Failed k.name) p.calls p.is.2;
-    fail = one_fails (Write k.handle p.is.0 (Failed k.name)) p.calls p.is.2;
-    is = (
-      rw p.is.2 (failed_blames place k.name old new first k.handle p.is.0),
-      λ calls done last w. lived false (calls ++ p.calls) done last all
-          (rw p.is.2 (each calls done last (waiting calls done last all w))),
-    );
-  }
-    where
-      each : (calls : List Call) (done last : List Item) → Waits holds k.handle d true calls done last all → Wrote now k.handle d true false (calls ++ Write k.handle p.is.0 (Failed k.name) ∷ []) done last all
-      each calls done last w = subst (λ (n : List ℕ). GoneNow k.handle d (calls ++ Write k.handle p.is.0 (Failed n) ∷ []) done last all) named (put_failed k.handle d apart calls done last all w.0 text (fit (done ++ last) all (d.text done false) w.1) (grows (done ++ last) all (d.text done false) w.1) p.is.0 p.is.1)
-
-  -- there was no memory for it
-  pub lacked : {s t : Seen} → (all : Bool) (e : NoMemory) → Called (Puts k.handle k.name text (Err e)) s t
-      → MadeBut [] false [] (k.handle ∷ []) (Became (λ calls done last. Waits holds k.handle d live calls done last all) (λ calls done last. TextShort k.handle d calls (done ++ last) all)) s t
-  lacked all e p = record {
-    calls = p.calls;
-    did = p.did;
-    on = on_sink k.handle p.is.0 Went p.calls p.is.2;
-    fail = one_fails (Write k.handle p.is.0 Went) p.calls p.is.2;
-    is = λ calls done last w. rw p.is.2 (each calls done last (waiting calls done last all w));
-  }
-    where
-      each : (calls : List Call) (done last : List Item) → Waits holds k.handle d true calls done last all → TextShort k.handle d (calls ++ Write k.handle p.is.0 Went ∷ []) (done ++ last) all
-      each calls done last w = put_short k.handle d apart calls done last all w.0 text (fit (done ++ last) all (d.text done false) w.1) p.is.0 p.is.1
-
--- one that waits has a prefix
-pub waits_short : (holds : List Item → Bool → List ℕ → Type 0) (sink : ℕ) (d : Due) (grows : (met : List Item) (all : Bool) (taken : List ℕ) → holds met all taken → Grows d) (live : Bool) (calls : List Call) (done last : List Item) (all : Bool) → IsPrefix (written_by ERRORS calls) (messages_of (done ++ last))
-    → Waits holds sink d live calls done last all → TextShort sink d calls (done ++ last) all
-waits_short holds sink d grows true calls done last all told w = half_short sink d (grows (done ++ last) all (d.text done false) w.1) calls done last all w.0
-waits_short holds sink d grows false calls done last all told w = gone_short sink d calls (done ++ last) all told w
-
--- ---- what stands before all items
-
-pub head_still : (sink : ℕ) (d : Due) (calls more : List Call) → IsAway sink more → IsAway ERRORS more → (holds now : List Item → Bool → List ℕ → Type 0) → ((met : List Item) (all : Bool) (taken : List ℕ) → holds met all taken → now met all taken)
-    → (live : Bool) (done last : List Item) (all : Bool) → HeadWaits holds sink d live calls done last all → HeadWaits now sink d live (calls ++ more) done last all
-head_still sink d calls more away quiet holds now kept true done last all p = record {
-  no_done = p.no_done;
-  no_last = p.no_last;
-  goes = p.goes;
-  sunk = still sink calls more away ∙ p.sunk;
-  said = still ERRORS calls more quiet ∙ p.said;
-  clean = clean_still sink calls more away ∙ p.clean;
-  none = p.none;
-  fewer = p.fewer;
-  held = kept [] false [] p.held;
-}
-head_still sink d calls more away quiet holds now kept false done last all p = absurd p
-
-module _ (place : ℕ) (k : Sink) (holds : List Item → Bool → List ℕ → Type 0) (d : Due) (named : d.name ≡ k.name) (apart : k.handle ≢ ERRORS) where
-  -- it was written
-  pub head_placed : {s t : Seen} → (unwritten : Option ℕ) → Called (Puts k.handle k.name d.head (Ok true)) s t
-      → PlaceMade true place k unwritten unwritten (Became (λ calls done last. HeadWaits holds k.handle d true calls done last false) (λ calls done last. Wrote holds k.handle d true true calls done last false)) s t
-  head_placed unwritten p = record {
-    calls = p.calls;
-    did = p.did;
-    on = on_sink k.handle d.head Went p.calls p.is;
-    fail = went_fails true k.handle d.head p.calls p.is;
-    is = (
-      rw p.is (went_blames place k.name unwritten k.handle d.head),
-      λ calls done last w. rw (p.is, w.no_done, w.no_last) (
+      each : (p : Piece) → p ≡ pieces.Full → (is_end p ≡ false → (met : List Item) (taken : List ℕ) → holds met false taken → is_last ≡ d.filled met) → (calls : List Call) (done last : List Item) → Half p holds k.handle d calls done last → Wrote p holds k.handle d true true calls done last
+      each pieces.Full e fills calls done last half = (
         refl,
         record {
-          wrote = record {
-            fewer = w.fewer;
-            text = added_here k.handle d.head Went calls [] w.sunk ∙ rw w.none (sym (append-nil d.head));
-            told = added_other k.handle ERRORS d.head Went calls [] apart w.said;
-            order = λ earlier x later e. absurd (no_item earlier x later e);
+          took = record {
+            early = half.early;
+            late = half.late ++ last;
+            parts = ap (λ (x : List Item). x ++ last) half.parts ∙ append_assoc half.early half.late last;
+            fewer = sym (fills refl (done ++ last) (d.text half.early false) half.held) ∙ more;
+            text = half.sunk;
+            told = half.said;
+            order = half.order;
           };
-          clean = went_clean k.handle calls k.handle d.head w.clean;
-          held = rw w.none w.held;
+          none = λ e. absurd cc;
+          clean = half.clean;
+          held = half.held;
         },
-      ),
-    );
-  }
+      )
+      each pieces.Head e fills calls done last half = absurd cc
+      each pieces.All e fills calls done last half = absurd cc
+      each pieces.Last e fills calls done last half = absurd cc
 
-  -- its write failed
-  pub head_stopped : (now : List Item → Bool → List ℕ → Type 0) → ((met : List Item) (all : Bool) (taken : List ℕ) → holds met all taken → Grows d) → {s t : Seen} → (old new : Option ℕ) → new ≡ first_of old (Some place) → Called (Puts k.handle k.name d.head (Ok false)) s t
-      → PlaceMade false place k old new (Became (λ calls done last. HeadWaits holds k.handle d true calls done last false) (λ calls done last. Wrote now k.handle d true false calls done last false)) s t
-  head_stopped now grows old new first p = record {
-    calls = p.calls;
-    did = p.did;
-    on = on_sink k.handle p.is.0 (Failed k.name) p.calls p.is.2;
-    fail = one_fails (Write k.handle p.is.0 (Failed k.name)) p.calls p.is.2;
-    is = (rw p.is.2 (failed_blames place k.name old new first k.handle p.is.0), λ calls done last w. rw (p.is.2, w.no_done, w.no_last) (subst (λ (n : List ℕ). GoneNow k.handle d (calls ++ Write k.handle p.is.0 (Failed n) ∷ []) [] [] false) named (gone calls done last w)));
-  }
-    where
-      W : List Call
-      W = Write k.handle p.is.0 (Failed d.name) ∷ []
+  -- bytes were put that are the piece
+  module _ (now : List Item → Bool → List ℕ → Type 0) (bytes : List ℕ) (are : IsPiece piece d.head d.text holds now bytes) (grows : (met : List Item) (all : Bool) (taken : List ℕ) → holds met all taken → Grows d) where
+    fit : (calls : List Call) (done last : List Item) (half : Half piece holds k.handle d calls done last) → (written_by k.handle calls ++ bytes ≡ whole d (done ++ last) (is_end piece)) × now (done ++ last) (is_end piece) (d.text (done ++ last) (is_end piece))
+    fit calls done last half = piece_due piece d holds now bytes done last half.early (written_by k.handle calls) half.sunk are half.held
 
-      gone : (calls : List Call) (done last : List Item) → Fresh holds k.handle d calls done last false → GoneNow k.handle d (calls ++ W) [] [] false
-      gone calls done last w = record {
-        gone = record {
-          first = calls ++ W;
-          more = [];
-          are = sym (append-nil (calls ++ W));
-          away = tt;
-          ending = endings.Unwritten d.name;
-          done = [];
-          last = [];
-          rest = [];
-          here = false;
-          one = omega arith;
-          parts = refl;
-          whole = λ e. absurd cc;
-          grows = grows [] false [] w.held;
-          ends = record {
-            fewer = w.fewer;
-            ends = (refl, added_other k.handle ERRORS p.is.0 (Failed d.name) calls [] apart w.said, inl (refl, refl, rw (added_here k.handle p.is.0 (Failed d.name) calls [] w.sunk) p.is.1));
-            order = λ earlier x later e. absurd (no_item earlier x later e);
-            cause = (p.is.0, last_call calls (Write k.handle p.is.0 (Failed d.name)));
-          };
-          final = (calls, p.is.0, refl, w.clean);
-        };
-        own_done = refl;
-        own_last = refl;
-        own_here = refl;
-      }
+    own_grows : (calls : List Call) (done last : List Item) → Half piece holds k.handle d calls done last → Grows d
+    own_grows calls done last half = grows (done ++ last) (is_end piece) (d.text half.early false) half.held
 
-  -- there was no memory for it
-  pub head_lacked : (e : NoMemory) → {s t : Seen} → Called (Puts k.handle k.name d.head (Err e)) s t
-      → MadeBut [] false [] (k.handle ∷ []) (Became (λ calls done last. HeadWaits holds k.handle d true calls done last false) (λ calls done last. TextShort k.handle d calls (done ++ last) false)) s t
-  head_lacked e p = record {
-    calls = p.calls;
-    did = p.did;
-    on = on_sink k.handle p.is.0 Went p.calls p.is.2;
-    fail = one_fails (Write k.handle p.is.0 Went) p.calls p.is.2;
-    is = λ calls done last w. rw (p.is.2, w.no_done, w.no_last) (record {
-      text = rw (added_here k.handle p.is.0 Went calls [] w.sunk) (prefix_then p.is.1 (prefix_append d.head (d.text [] false)));
-      told = prefix_equal (sym (added_other k.handle ERRORS p.is.0 Went calls [] apart w.said));
-    });
-  }
+    -- they were written, and were the last or not
+    pub placed : {s t : Seen} → (unwritten : Option ℕ) → (is_last : Bool) → (is_end piece ≡ true → is_last ≡ true) → (is_end piece ≡ false → (met : List Item) (taken : List ℕ) → holds met false taken → is_last ≡ d.filled met) → Called (Puts k.handle k.name bytes (Ok true)) s t
+        → PlaceMade (not is_last) place k unwritten unwritten (Became (λ calls done last. Waits piece holds k.handle d live calls done last) (λ calls done last. Wrote piece now k.handle d live (not is_last) calls done last)) s t
+    placed unwritten is_last end fills p = record {
+      calls = p.calls;
+      did = p.did;
+      on = on_sink k.handle bytes Went p.calls p.is;
+      fail = went_fails (not is_last) k.handle bytes p.calls p.is;
+      is = (
+        rw p.is (went_blames place k.name unwritten k.handle bytes),
+        λ calls done last w. lived now (not is_last) (calls ++ p.calls) done last
+            (rw p.is (each (is_end piece) is_last refl end fills calls done last (waiting calls done last w))),
+      );
+    }
+      where
+        each : (e l : Bool) → is_end piece ≡ e → (e ≡ true → l ≡ true) → (e ≡ false → (met : List Item) (taken : List ℕ) → holds met false taken → l ≡ d.filled met) → (calls : List Call) (done last : List Item) → Half piece holds k.handle d calls done last
+            → Wrote piece now k.handle d true (not l) (calls ++ Write k.handle bytes Went ∷ []) done last
+        each true true is end fills calls done last h = put_whole piece holds k.handle d apart calls done last h bytes (fit calls done last h).0 (own_grows calls done last h) is
+        each true false is end fills calls done last h = let wrong : false ≡ true = end refl in absurd cc
+        each false true is end fills calls done last h =
+            put_kept piece holds k.handle d apart calls done last h bytes (fit calls done last h).0 (own_grows calls done last h) is (sym (fills refl (done ++ last) (d.text h.early false) (rw is at h.held)))
+        each false false is end fills calls done last h =
+            put_on piece holds k.handle d apart calls done last h bytes (fit calls done last h).0 now (fit calls done last h).1 is (sym (fills refl (done ++ last) (d.text h.early false) (rw is at h.held)))
 
--- all are live before all items
-pub head_was : {holds : List Item → Bool → List ℕ → Type 0} (now : List Item → Bool → List ℕ → Type 0) (place : ℕ) (k : Sink) {d : Due} (b : Bool) (old new : Option ℕ) {s t : Seen} (was : Bool)
-    → PlaceMade b place k old new (Became (λ calls done last. HeadWaits holds k.handle d true calls done last false) (λ calls done last. Wrote now k.handle d true b calls done last false)) s t
-    → PlaceMade b place k old new (Became (λ calls done last. HeadWaits holds k.handle d was calls done last false) (λ calls done last. Wrote now k.handle d was b calls done last false)) s t
-head_was now place k b old new true p = p
-head_was now place k b old new false p = record { calls = p.calls; did = p.did; on = p.on; fail = p.fail; is = (p.is.0, λ calls done last w. absurd w) }
+    -- the write failed
+    pub stopped : {s t : Seen} (after : List Item → Bool → List ℕ → Type 0) → (old new : Option ℕ) → new ≡ first_of old (Some place) → Called (Puts k.handle k.name bytes (Ok false)) s t
+        → PlaceMade false place k old new (Became (λ calls done last. Waits piece holds k.handle d live calls done last) (λ calls done last. Wrote piece after k.handle d live false calls done last)) s t
+    stopped after old new first p = record {
+      calls = p.calls;
+      did = p.did;
+      on = on_sink k.handle p.is.0 (Failed k.name) p.calls p.is.2;
+      fail = one_fails (Write k.handle p.is.0 (Failed k.name)) p.calls p.is.2;
+      is = (
+        rw p.is.2 (failed_blames place k.name old new first k.handle p.is.0),
+        λ calls done last w. lived after false (calls ++ p.calls) done last (rw p.is.2 (each calls done last (waiting calls done last w))),
+      );
+    }
+      where
+        each : (calls : List Call) (done last : List Item) → Half piece holds k.handle d calls done last → GoneNow k.handle d (calls ++ Write k.handle p.is.0 (Failed k.name) ∷ []) done last (is_end piece)
+        each calls done last h = subst (λ (n : List ℕ). GoneNow k.handle d (calls ++ Write k.handle p.is.0 (Failed n) ∷ []) done last (is_end piece)) named (put_failed piece holds k.handle d apart calls done last h bytes (fit calls done last h).0 (own_grows calls done last h) p.is.0 p.is.1)
 
-pub head_lacks : {holds : List Item → Bool → List ℕ → Type 0} {sink : ℕ} {d : Due} {s t : Seen} (was : Bool)
-    → MadeBut [] false [] (sink ∷ []) (Became (λ calls done last. HeadWaits holds sink d true calls done last false) (λ calls done last. TextShort sink d calls (done ++ last) false)) s t
-    → MadeBut [] false [] (sink ∷ []) (Became (λ calls done last. HeadWaits holds sink d was calls done last false) (λ calls done last. TextShort sink d calls (done ++ last) false)) s t
-head_lacks true p = p
-head_lacks false p = record { calls = p.calls; did = p.did; on = p.on; fail = p.fail; is = λ calls done last w. absurd w }
+    -- there was no memory for it
+    pub lacked : {s t : Seen} → (e : NoMemory) → Called (Puts k.handle k.name bytes (Err e)) s t
+        → MadeBut [] false [] (k.handle ∷ []) (Became (λ calls done last. Waits piece holds k.handle d live calls done last) (λ calls done last. TextShort k.handle d calls (done ++ last) (is_end piece))) s t
+    lacked e p = record {
+      calls = p.calls;
+      did = p.did;
+      on = on_sink k.handle p.is.0 Went p.calls p.is.2;
+      fail = one_fails (Write k.handle p.is.0 Went) p.calls p.is.2;
+      is = λ calls done last w. rw p.is.2 (each calls done last (waiting calls done last w));
+    }
+      where
+        each : (calls : List Call) (done last : List Item) → Half piece holds k.handle d calls done last → TextShort k.handle d (calls ++ Write k.handle p.is.0 Went ∷ []) (done ++ last) (is_end piece)
+        each calls done last h = put_short piece holds k.handle d apart calls done last h bytes (fit calls done last h).0 p.is.0 p.is.1
 
-pub head_short : (holds : List Item → Bool → List ℕ → Type 0) (sink : ℕ) (d : Due) (live : Bool) (calls : List Call) (done last : List Item) (all : Bool) → IsPrefix (written_by ERRORS calls) (messages_of (done ++ last)) → HeadWaits holds sink d live calls done last all
-    → TextShort sink d calls (done ++ last) all
-head_short holds sink d true calls done last all told w = record { text = rw w.sunk (prefix_nil (whole d (done ++ last) all)); told = told }
-head_short holds sink d false calls done last all told w = absurd w
+-- one that waits has a prefix
+pub waits_short : (piece : Piece) (holds : List Item → Bool → List ℕ → Type 0) (sink : ℕ) (d : Due) (grows : (met : List Item) (all : Bool) (taken : List ℕ) → holds met all taken → Grows d) (live : Bool) (calls : List Call) (done last : List Item) → IsPrefix (written_by ERRORS calls) (messages_of (done ++ last))
+    → Waits piece holds sink d live calls done last → TextShort sink d calls (done ++ last) (is_end piece)
+waits_short piece holds sink d grows true calls done last told h = record {
+  text = sunk_short piece d done last h.early h.late (written_by sink calls) (grows (done ++ last) (is_end piece) (d.text h.early false) h.held) h.parts h.sunk (is_end piece);
+  told = told;
+}
+waits_short piece holds sink d grows false calls done last told w = gone_short sink d calls (done ++ last) (is_end piece) told w

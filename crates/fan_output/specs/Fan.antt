@@ -1,4 +1,4 @@
--- What several outputs of one pass have printed, and how they end: each as one that is alone, and where a write to one fails the others go on (this project's choice).
+-- What several outputs of one pass have taken and printed, and how they end: each as one that is alone, and where a write to one fails the others go on (this project's choice).
 use Rattle.std.specs.Prelude.{◌≡◌, ◌≢◌, ℕ, suc, ◌≤◌, Bool, true, false, List, [], ◌∷◌, ◌++◌, codes, map, length, replicate, slice_get, Option, Some, None}
 use Rattle.std.specs.List.{list_any}
 use Rattle.log_model.specs.Prefix.{IsPrefix, IsProperPrefix}
@@ -14,7 +14,7 @@ use Rattle.fan_output.specs.declared.fan.FanEnding.{FanEnding}
 use Rattle.fan_output.specs.declared.fan.FanOutput.{FanOutput}
 use Rattle.fan_output.specs.declared.sink.Sink.{Sink}
 use Rattle.fan_output.specs.Messages.{messages_of}
-use Rattle.fan_output.specs.Ends.{Due, FailedWrite, Grows, TextEnded, TextShort, TextWritten}
+use Rattle.fan_output.specs.Ends.{Due, FailedWrite, Grows, TextEnded, TextShort, TextTook}
 use Rattle.fan_output.specs.Unwritten.{fails_at, first_unwritten}
 
 -- ---- one sink
@@ -31,7 +31,7 @@ FailsLast sink name (endings.Unwritten other) calls =
     (before : List Call) × (part : List ℕ) × (calls ≡ before ++ Write sink part (Failed name) ∷ []) × (fails_at sink before ≡ false)
 FailsLast sink name ending calls = fails_at sink calls ≡ false
 
--- an output ended: by the first of the calls, at the first of the items, as an output ends that is alone, with at most one item that wasn't printed whole before; where a write to its sink
+-- an output ended: by the first of the calls, at the first of the items, as an output ends that is alone, with at most one item that wasn't taken before; where a write to its sink
 -- failed that was the last of these calls, and no other write to it did; and nothing was written to its sink behind
 pub record Gone (sink : ℕ) (d : Due) (calls : List Call) (met : List Item) (all : Bool) : Type 0 where
   pub first : List Call
@@ -57,16 +57,19 @@ pub record GoneNow (sink : ℕ) (d : Due) (calls : List Call) (done last : List 
   pub own_last : gone.last ≡ last
   pub own_here : gone.here ≡ all
 
--- an output goes on that printed these items whole, as one that is alone: no write to its sink failed, and what was due there was taken of its text
-pub record GoesOn (holds : List Item → Bool → List ℕ → Type 0) (sink : ℕ) (d : Due) (calls : List Call) (met : List Item) : Type 0 where
-  pub wrote : TextWritten sink d calls met
+-- an output goes on that took these items, as one that is alone: no write to its sink failed, and what was written there was taken of
+-- its text. Where it is caught up nothing is held
+pub record GoesOn (caught : Bool) (holds : List Item → Bool → List ℕ → Type 0) (sink : ℕ) (d : Due)
+    (calls : List Call) (met : List Item) : Type 0 where
+  pub took : TextTook sink d calls met
+  pub none : caught ≡ true → took.late ≡ []
   pub clean : fails_at sink calls ≡ false
-  pub held : holds met false (d.text met false)
+  pub held : holds met false (d.text took.early false)
 
 -- an output that is live goes on, before the end of all items; one that is not is gone
-abbrev pub Stands : (List Item → Bool → List ℕ → Type 0) → ℕ → Due → Bool → List Call → List Item → Bool → Type 0
-Stands holds sink d true calls met all = (all ≡ false) × GoesOn holds sink d calls met
-Stands holds sink d false calls met all = Gone sink d calls met all
+abbrev pub Stands : Bool → (List Item → Bool → List ℕ → Type 0) → ℕ → Due → Bool → List Call → List Item → Bool → Type 0
+Stands caught holds sink d true calls met all = (all ≡ false) × GoesOn caught holds sink d calls met
+Stands caught holds sink d false calls met all = Gone sink d calls met all
 
 -- ---- all of them
 
@@ -123,21 +126,25 @@ abbrev pub Blames : List Outlet → Option (List ℕ) → Option ℕ → List Ca
 Blames outlets other None calls = first_unwritten calls ≡ other
 Blames outlets other (Some i) calls = (o : Outlet) × (slice_get outlets i ≡ Some o) × (first_unwritten calls ≡ Some o.due.name)
 
--- these items were printed whole by each that is live, what was given at its place and taken of its text is so, and one is live: so nothing more is read once none is. The messages were
--- told, once for all
-pub record FanPrinted (holds : ℕ → List Item → Bool → List ℕ → Type 0) (outlets : List Outlet)
+-- these items were taken by each that is live, what was given at its place and taken of its text is so, and one is live: so nothing
+-- more is read once none is. Where they are caught up none holds anything. The messages were told, once for all
+pub record FanTook (caught : Bool) (holds : ℕ → List Item → Bool → List ℕ → Type 0) (outlets : List Outlet)
     (live : List Bool) (unwritten : Option ℕ) (calls : List Call) (done : List Item) : Type 0 where
   pub lives : length live ≡ length outlets
-  pub each : AtEach (λ i o b. Stands (holds i) o.sink o.due b calls done false) outlets live
+  pub each : AtEach (λ i o b. Stands caught (holds i) o.sink o.due b calls done false) outlets live
   pub some : list_any (λ b. b) live ≡ true
   pub told : written_by ERRORS calls ≡ messages_of done
   pub quiet : fails_at ERRORS calls ≡ false
   pub blames : Blames outlets None unwritten calls
 
 -- the same of outputs, whatever makes their texts
+abbrev pub FansTook : Bool → List Outlet → List Call → List Item → Type 0
+FansTook caught outlets calls done = (live : List Bool) × (unwritten : Option ℕ) ×
+    FanTook caught (λ i met all taken. Prim.Unit {0}) outlets live unwritten calls done
+
+-- and they were printed whole
 abbrev pub FansPrinted : List Outlet → List Call → List Item → Type 0
-FansPrinted outlets calls done = (live : List Bool) × (unwritten : Option ℕ) ×
-    FanPrinted (λ i met all taken. Prim.Unit {0}) outlets live unwritten calls done
+FansPrinted = FansTook true
 
 -- the name that an end blames by itself: that of standard error, where a message couldn't be written
 abbrev pub own_blame : FanEnd → Option (List ℕ)

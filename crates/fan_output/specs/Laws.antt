@@ -1,4 +1,4 @@
--- When several outputs may go on, and that what outputs printed stays printed where others are read (this project's choice).
+-- When several outputs may go on, and that what outputs took and printed stays so where others are read (this project's choice).
 use Rattle.std.proofs.Common.{◌≡◌, ℕ, ◌||◌, Bool, true, false, List, [], ◌∷◌, ◌++◌, length, slice_get, Option, Some, None, ap, refl, sym, ◌∙◌, append_assoc}
 use Rattle.std.proofs.lemmas.List.{append-nil}
 use Rattle.std.proofs.lemmas.List.Folds.{list_any-append}
@@ -11,8 +11,8 @@ use Rattle.vio.proofs.CallLemmas.{written_append, written_none, on_names}
 use Rattle.ring_layout.specs.declared.item.Item.{Item}
 use Rattle.fan_output.specs.declared.fan.FanOutput.{FanOutput}
 use Rattle.fan_output.specs.declared.sink.Sink.{Sink}
-use Rattle.fan_output.specs.Ends.{Due, InOrder, TextWritten}
-use Rattle.fan_output.specs.Fan.{AreApart, AreNamed, Blames, FanPrinted, Gone, GoneNow, IsAway, Outlet, Stands, outlets_of}
+use Rattle.fan_output.specs.Ends.{Due, InOrder, IsTold}
+use Rattle.fan_output.specs.Fan.{AreApart, AreNamed, Blames, FanTook, Gone, GoneNow, IsAway, Outlet, Stands, outlets_of}
 use Rattle.fan_output.specs.Unwritten.{blamed_in, fails_at, first_of, first_unwritten, is_unwritten}
 
 -- ---- what was written stays written where others are read
@@ -21,20 +21,23 @@ written_still : (reads : List ℕ) (h : ℕ) (calls more : List Call) → AreOn 
 written_still reads h calls more on = written_append h calls more
     ∙ ap (λ (x : List ℕ). written_by h calls ++ x) (written_none reads h more on) ∙ append-nil (written_by h calls)
 
--- what was printed in order was so, whatever is called behind it
-pub order_still : (sink : ℕ) (d : Due) (met : List Item) (calls more : List Call) → InOrder sink d met calls → InOrder sink d met (calls ++ more)
-order_still sink d met calls more order earlier item later is =
-    let so = order earlier item later is in (so.0, so.1 ++ more, ap (λ (x : List Call). x ++ more) so.2 ∙ append_assoc so.0 so.1 more, so.3, so.4)
-
--- what was written stays written where others are read
-pub written_stays : (sink : ℕ) (d : Due) (calls more : List Call) (done : List Item) (reads : List ℕ) →
-    TextWritten sink d calls done → AreOn reads [] more → TextWritten sink d (calls ++ more) done
-written_stays sink d calls more done reads wrote on = record {
-  fewer = wrote.fewer;
-  text = written_still reads sink calls more on ∙ wrote.text;
-  told = written_still reads ERRORS calls more on ∙ wrote.told;
-  order = order_still sink d done calls more wrote.order;
+-- what was told of an item was told so, whatever is called behind it
+told_still : (sink : ℕ) (d : Due) (calls more : List Call) (earlier : List Item) (item : Item) →
+    IsTold sink d calls earlier item → IsTold sink d (calls ++ more) earlier item
+told_still sink d calls more earlier item p = record {
+  before = p.before;
+  said = p.said;
+  after = p.after ++ more;
+  are = ap (λ (x : List Call). x ++ more) p.are ∙ append_assoc (p.before ++ p.said) p.after more;
+  text = p.text;
+  told = p.told;
+  silent = p.silent;
+  message = p.message;
 }
+
+-- and so was what was printed in order
+pub order_still : (sink : ℕ) (d : Due) (met : List Item) (calls more : List Call) → InOrder sink d met calls → InOrder sink d met (calls ++ more)
+order_still sink d met calls more order earlier item later is told = told_still sink d calls more earlier item (order earlier item later is told)
 
 -- ---- calls that don't write to a sink
 
@@ -108,18 +111,33 @@ gone_now_still sink d calls more done last all away p = record {
 }
 
 -- an output stands as it did, where others are read
-stands_still : (holds : List Item → Bool → List ℕ →
+stands_still : (caught : Bool) (holds : List Item → Bool → List ℕ →
     Type 0) (sink : ℕ) (d : Due) (live : Bool) (calls more : List Call) (met : List Item) (all : Bool) (reads : List ℕ) →
-    AreOn reads [] more → Stands holds sink d live calls met all → Stands holds sink d live (calls ++ more) met all
-stands_still holds sink d true calls more met all reads on p = (
+    AreOn reads [] more → Stands caught holds sink d live calls met all → Stands caught holds sink d live (calls ++ more) met all
+stands_still caught holds sink d true calls more met all reads on p = (
   p.0,
   record {
-    wrote = written_stays sink d calls more met reads p.1.wrote on;
+    took = record {
+      early = p.1.took.early;
+      late = p.1.took.late;
+      parts = p.1.took.parts;
+      fewer = p.1.took.fewer;
+      text = written_still reads sink calls more on ∙ p.1.took.text;
+      told = written_still reads ERRORS calls more on ∙ p.1.took.told;
+      order = order_still sink d met calls more p.1.took.order;
+    };
+    none = p.1.none;
     clean = clean_still sink calls more (reads_away reads sink more on) ∙ p.1.clean;
     held = p.1.held;
   },
 )
-stands_still holds sink d false calls more met all reads on p = gone_still sink d calls more met all (reads_away reads sink more on) p
+stands_still caught holds sink d false calls more met all reads on p = gone_still sink d calls more met all (reads_away reads sink more on) p
+
+-- one that is caught up took what it printed
+stands_taken : (holds : List Item → Bool → List ℕ → Type 0) (sink : ℕ) (d : Due) (live : Bool) (calls : List Call) (met : List Item) (all : Bool) →
+    Stands true holds sink d live calls met all → Stands false holds sink d live calls met all
+stands_taken holds sink d true calls met all p = (p.0, record { took = p.1.took; none = λ e. absurd cc; clean = p.1.clean; held = p.1.held })
+stands_taken holds sink d false calls met all p = p
 
 -- ---- the first write that failed
 
@@ -185,28 +203,44 @@ module _ {T : Type 0} (text : T → ℕ → List Item → Bool → List ℕ) (fi
     pub fewer : (i : ℕ) (s : Sink) → slice_get o.sinks.items i ≡ Some s → filled o.texts i [] ≡ false
     pub no_text : (i : ℕ) (s : Sink) → slice_get o.sinks.items i ≡ Some s → text o.texts i [] false ≡ []
 
-  -- these items were printed, from one output on until a later one
-  pub record HasPrinted (start now : FanOutput T) (calls : List Call) (done : List Item) : Type 0 where
+  -- these items were taken, from one output on until a later one; where it is caught up they were printed whole
+  pub record HasTaken (caught : Bool) (start now : FanOutput T) (calls : List Call) (done : List Item) : Type 0 where
     pub sinks : now.sinks ≡ start.sinks
     pub texts : text now.texts ≡ text start.texts
     pub fills : filled now.texts ≡ filled start.texts
-    pub prints : FanPrinted (holds now.texts) (outlets_of (text start.texts) (filled start.texts) start.sinks.items)
+    pub took : FanTook caught (holds now.texts) (outlets_of (text start.texts) (filled start.texts) start.sinks.items)
         now.live.items now.unwritten calls done
 
-  -- and nothing of what was printed
-  pub printed_stays : (start now : FanOutput T) (calls more : List Call) (done : List Item) (reads : List ℕ) →
-      HasPrinted start now calls done → AreOn reads [] more → HasPrinted start now (calls ++ more) done
-  printed_stays start now calls more done reads p on = record {
+  -- what was printed was taken
+  pub has_taken : (start now : FanOutput T) (calls : List Call) (done : List Item) → HasTaken true start now calls done → HasTaken false start now calls done
+  has_taken start now calls done p = record {
     sinks = p.sinks;
     texts = p.texts;
     fills = p.fills;
-    prints = record {
-      lives = p.prints.lives;
-      each = λ i o b is live. stands_still (holds now.texts i) o.sink o.due b calls more done false reads on (p.prints.each i o b is live);
-      some = p.prints.some;
-      told = written_still reads ERRORS calls more on ∙ p.prints.told;
-      quiet = clean_still ERRORS calls more (reads_away reads ERRORS more on) ∙ p.prints.quiet;
+    took = record {
+      lives = p.took.lives;
+      each = λ i o b is live. stands_taken (holds now.texts i) o.sink o.due b calls done false (p.took.each i o b is live);
+      some = p.took.some;
+      told = p.took.told;
+      quiet = p.took.quiet;
+      blames = p.took.blames;
+    };
+  }
+
+  -- and what is read changes nothing of what was taken
+  pub taken_stays : (caught : Bool) (start now : FanOutput T) (calls more : List Call) (done : List Item) (reads : List ℕ) →
+      HasTaken caught start now calls done → AreOn reads [] more → HasTaken caught start now (calls ++ more) done
+  taken_stays caught start now calls more done reads p on = record {
+    sinks = p.sinks;
+    texts = p.texts;
+    fills = p.fills;
+    took = record {
+      lives = p.took.lives;
+      each = λ i o b is live. stands_still caught (holds now.texts i) o.sink o.due b calls more done false reads on (p.took.each i o b is live);
+      some = p.took.some;
+      told = written_still reads ERRORS calls more on ∙ p.took.told;
+      quiet = clean_still ERRORS calls more (reads_away reads ERRORS more on) ∙ p.took.quiet;
       blames = blames_still (outlets_of (text start.texts) (filled start.texts) start.sinks.items) None now.unwritten
-          calls more (reads_blameless reads more on) p.prints.blames;
+          calls more (reads_blameless reads more on) p.took.blames;
     };
   }

@@ -3,7 +3,8 @@
 ghost use Rattle.std.specs.Prelude.{◌≡◌};
 
 use crate::fan::{FanEnd, FanEnding, FanOutput, has_live};
-use crate::printing::{print_each, print_heads, tell};
+use crate::piece::Piece;
+use crate::printing::{print_each, tell};
 use crate::texts::Texts;
 use log_model::NoMemory;
 use one_run::Output;
@@ -24,15 +25,18 @@ impl<T: Texts> FanOutput<T> {
 }
 
 impl<T: Texts> Output for FanOutput<T> {
-    ghost use Rattle.std.specs.Prelude.{[], ◌∷◌};
+    ghost use Rattle.std.specs.Prelude.{[], ◌∷◌, true, false};
     ghost use Rattle.vio.specs.declared.world.TheConstants.{ERRORS};
     ghost use Rattle.fan_output.specs.Fan.{FanEnded, FanShort, handles, outlets_of, several};
-    ghost use Rattle.fan_output.specs.Laws.{CanFan, HasPrinted, IsNew, printed_stays, ready_stays};
+    ghost use Rattle.fan_output.specs.Laws.{CanFan, HasTaken, IsNew, has_taken, ready_stays, taken_stays};
 
     type Ending = FanEnding;
 
+    ghost took = { λ start now calls done.
+        HasTaken T.text T.filled T.holds false start now calls done };
+
     ghost printed = { λ start now calls done.
-        HasPrinted T.text T.filled T.holds start now calls done };
+        HasTaken T.text T.filled T.holds true start now calls done };
 
     ghost ended = { λ start ending calls done last all.
         FanEnded (outlets_of (T.text start.texts) (T.filled start.texts) start.sinks.items) ending
@@ -51,12 +55,13 @@ impl<T: Texts> Output for FanOutput<T> {
     ghost is_ready = { λ o world. CanFan T.count o world };
 
     fn begin<W: World>(&mut self, world: &mut W) -> Result<Option<FanEnding>, NoMemory> {
-        print_heads(
+        print_each(
             world,
             &mut self.texts,
             &self.sinks,
             &mut self.live,
             &mut self.unwritten,
+            Piece::Head,
         )?;
         if has_live(&self.live) {
             return Ok(None);
@@ -79,7 +84,22 @@ impl<T: Texts> Output for FanOutput<T> {
             &self.sinks,
             &mut self.live,
             &mut self.unwritten,
-            false,
+            Piece::Full,
+        )?;
+        if has_live(&self.live) {
+            return Ok(None);
+        }
+        Ok(Some(self.ending(FanEnd::Idle)))
+    }
+
+    fn flush<W: World>(&mut self, world: &mut W) -> Result<Option<FanEnding>, NoMemory> {
+        print_each(
+            world,
+            &mut self.texts,
+            &self.sinks,
+            &mut self.live,
+            &mut self.unwritten,
+            Piece::All,
         )?;
         if has_live(&self.live) {
             return Ok(None);
@@ -95,13 +115,19 @@ impl<T: Texts> Output for FanOutput<T> {
             &self.sinks,
             &mut self.live,
             &mut self.unwritten,
-            true,
+            Piece::Last,
         )?;
         Ok(self.ending(FanEnd::Whole))
     }
 
+    ghost takes = { λ start now calls done p. has_taken T.text T.filled T.holds start now calls
+        done p };
+
     ghost stays = { λ start now calls more done reads.
-        printed_stays T.text T.filled T.holds start now calls more done reads };
+        taken_stays T.text T.filled T.holds false start now calls more done reads };
+
+    ghost printed_stays = { λ start now calls more done reads.
+        taken_stays T.text T.filled T.holds true start now calls more done reads };
 
     ghost ready_still = { λ o reads more s t. ready_stays T.count o reads more s t };
 }

@@ -59,6 +59,10 @@ pub trait Texts: Drop {
         ensures { (met : List Item) (taken : List ℕ) → holds self.now place met false taken →
             result ≡ filled self.now place met };
 
+    /// How many bytes of the text at a place weren't taken. No promise rests on it.
+    fn text_len(&self, place: usize) -> usize
+        requires place { place < count self.now };
+
     /// Nothing more is wanted at a place.
     fn stop(&mut self, place: usize)
         requires place { place < count self.old }

@@ -114,6 +114,10 @@ impl<'q, C: Consumer> Texts for Printer<'q, C> {
         !self.entry.is_live()
     }
 
+    fn text_len(&self, _place: usize) -> usize {
+        self.entry.text_len()
+    }
+
     fn stop(&mut self, _place: usize) {
         self.entry.stop();
     }

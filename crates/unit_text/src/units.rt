@@ -60,6 +60,10 @@ impl Texts for UnitsText {
         false
     }
 
+    fn text_len(&self, _place: usize) -> usize {
+        self.bytes.len()
+    }
+
     fn stop(&mut self, _place: usize) {}
 
     ghost grows = { λ u i met all taken held list more ended. units_grow list more };

@@ -1,17 +1,14 @@
 use Rattle.std.proofs.Common.{◌<◌, ◌∙◌, length, refl, arith}
 use Rattle.std.proofs.lemmas.Result.{err_from_is_err_and}
-use Rattle.fan_output.specs.Fan.{due_at}
-use Rattle.fan_output.specs.inside.Steps.{Waits}
-use Rattle.fan_output.proofs.PlaceLemmas.{waits_still, waits_short}
 use Rattle.fan_output.proofs.EachLemmas.{get_read, done_none, done_more, done_short, done_all, done_named}
 use Rattle.fan_output.proofs.printing.print_each.Goals as goal
 
 pub loop-place-init : goal.loop-place-init
-loop-place-init g c = record { text = refl; filled = refl; count = refl; done = done_none _ _ _ _ Waits waits_still (g.T.Texts.holds c.args.texts.now) c.args.live.now.items c.args.unwritten.now _ }
+loop-place-init g c = record { text = refl; filled = refl; count = refl; done = done_none _ _ _ _ (g.T.Texts.holds c.args.texts.now) c.args.live.now.items c.args.unwritten.now _ }
 
 pub print_place-requires-clause-named : goal.print_place-requires-clause-named
 print_place-requires-clause-named g c =
-    done_named _ _ _ _ Waits waits_still c.loop-place.invariant.done c.requires.named c.loop-place.place c.index.result.now (get_read c.args.sinks.now.items c.loop-place.place c.index.result.now c.index.ensures (omega (arith, c.loop-place-test.true, c.len-place-end.ensures, c.args.sinks.now.ok.0)))
+    done_named _ _ _ _ c.loop-place.invariant.done c.requires.named c.loop-place.place c.index.result.now (get_read c.args.sinks.now.items c.loop-place.place c.index.result.now c.index.ensures (omega (arith, c.loop-place-test.true, c.len-place-end.ensures, c.args.sinks.now.ok.0)))
 
 pub print_place-requires-clause-apart : goal.print_place-requires-clause-apart
 print_place-requires-clause-apart g c =
@@ -23,10 +20,10 @@ returns-in_err-live-clause-short g c =
     let run = c.loop-place.invariant in
     let within : c.loop-place.place < length c.args.sinks.now.items = omega (arith, c.loop-place-test.true, c.len-place-end.ensures, c.args.sinks.now.ok.0) in
     let short = rw (run.text, run.filled) at c.in_err-live.ensures.short in
-    rw p.1 (done_short _ _ _ _ Waits waits_still c.requires.apart (g.T.Texts.holds c.args.texts.now) (g.T.Texts.holds c.loop-place.texts) (g.T.Texts.holds c.print_place.new.texts) c.args.live.now.items c.loop-place.live.items c.args.unwritten.now c.loop-place.unwritten c.requires.lives c.loop-place.place run.done
+    rw p.1 (done_short _ _ _ _ c.requires.apart (g.T.Texts.holds c.args.texts.now) (g.T.Texts.holds c.loop-place.texts) (g.T.Texts.holds c.print_place.new.texts) c.args.live.now.items c.loop-place.live.items c.args.unwritten.now c.loop-place.unwritten c.requires.lives c.loop-place.place run.done
     c.index.result.now (get_read c.args.sinks.now.items c.loop-place.place c.index.result.now c.index.ensures within) c.in_err-live.ensures.others
     c.index-in-loop-place.result.now (get_read c.loop-place.live.items c.loop-place.place c.index-in-loop-place.result.now c.index-in-loop-place.ensures (omega (arith, within, run.done.same, c.requires.lives)))
-    (λ i s x cs ds ls told w. waits_short (g.T.Texts.holds c.loop-place.texts i) s.handle (due_at (g.T.Texts.text c.args.texts.now) (g.T.Texts.filled c.args.texts.now) i s) (λ met every taken held. rw run.text at (g.met.T.Texts.grows c.loop-place.texts i met every taken held)) x cs ds ls c.args.ended told w) short)
+    (λ i met every taken held. rw run.text at (g.met.T.Texts.grows c.loop-place.texts i met every taken held)) short)
 
 pub loop-place-preserved : goal.loop-place-preserved
 loop-place-preserved g c =
@@ -37,11 +34,11 @@ loop-place-preserved g c =
       text = c.in_ok-live.ensures.same_text ∙ run.text;
       filled = c.in_ok-live.ensures.same_filled ∙ run.filled;
       count = c.in_ok-live.ensures.same_count ∙ run.count;
-      done = done_more _ _ _ _ Waits waits_still c.requires.apart (g.T.Texts.holds c.args.texts.now) (g.T.Texts.holds c.loop-place.texts) (g.T.Texts.holds c.print_place.new.texts) c.args.live.now.items c.loop-place.live.items c.args.unwritten.now c.loop-place.unwritten c.requires.lives c.loop-place.place run.done
+      done = done_more _ _ _ _ c.requires.apart (g.T.Texts.holds c.args.texts.now) (g.T.Texts.holds c.loop-place.texts) (g.T.Texts.holds c.print_place.new.texts) c.args.live.now.items c.loop-place.live.items c.args.unwritten.now c.loop-place.unwritten c.requires.lives c.loop-place.place run.done
           c.index.result.now (get_read c.args.sinks.now.items c.loop-place.place c.index.result.now c.index.ensures within) c.in_ok-live.ensures.others
           c.index-in-loop-place.result.now c.in_ok-live.field-0 c.print_place.new.unwritten (get_read c.loop-place.live.items c.loop-place.place c.index-in-loop-place.result.now c.index-in-loop-place.ensures (omega (arith, within, run.done.same, c.requires.lives))) printed;
     }
 
 pub returns-clause-printed : goal.returns-clause-printed
 returns-clause-printed g c =
-    done_all _ _ _ _ Waits waits_still (g.T.Texts.holds c.args.texts.now) (g.T.Texts.holds c.loop-place.texts) c.args.live.now.items c.loop-place.live.items c.args.unwritten.now c.loop-place.unwritten c.loop-place.place (omega (arith, c.loop-place-test.false, c.loop-place.auto.place-end, c.len-place-end.ensures, c.args.sinks.now.ok.0)) c.loop-place.invariant.done
+    done_all _ _ _ _ (g.T.Texts.holds c.args.texts.now) (g.T.Texts.holds c.loop-place.texts) c.args.live.now.items c.loop-place.live.items c.args.unwritten.now c.loop-place.unwritten c.loop-place.place (omega (arith, c.loop-place-test.false, c.loop-place.auto.place-end, c.len-place-end.ensures, c.args.sinks.now.ok.0)) c.loop-place.invariant.done

@@ -1,7 +1,5 @@
 -- The outputs below the place were written, and the others wait.
 use Rattle.std.proofs.Common.{◌≡◌}
-use Rattle.fan_output.specs.inside.Steps.{Waits}
-use Rattle.fan_output.proofs.PlaceLemmas.{waits_still}
 use Rattle.fan_output.proofs.EachLemmas.{IsDone}
 use Rattle.fan_output.proofs.printing.print_each.Given as goal
 
@@ -10,5 +8,5 @@ invariant-loop-place g l = record {
   text : g.T.Texts.text l.texts ≡ g.T.Texts.text l.initial.texts;
   filled : g.T.Texts.filled l.texts ≡ g.T.Texts.filled l.initial.texts;
   count : g.T.Texts.count l.texts ≡ g.T.Texts.count l.initial.texts;
-  done : IsDone (g.T.Texts.text l.initial.texts) (g.T.Texts.filled l.initial.texts) l.sinks.items l.ended Waits waits_still (g.T.Texts.holds l.initial.texts) (g.T.Texts.holds l.texts) l.initial.live.items l.live.items l.initial.unwritten l.unwritten l.place (g.W.World.seen l.initial.world) (g.W.World.seen l.world);
+  done : IsDone (g.T.Texts.text l.initial.texts) (g.T.Texts.filled l.initial.texts) l.sinks.items l.piece (g.T.Texts.holds l.initial.texts) (g.T.Texts.holds l.texts) l.initial.live.items l.live.items l.initial.unwritten l.unwritten l.place (g.W.World.seen l.initial.world) (g.W.World.seen l.world);
 }
