@@ -71,8 +71,8 @@ counters_fault sink text fault calls (inr p) = subst (λ (c : List Call). SomeFa
 -- ---- a run
 
 -- a run of a text that is due with a fault has a call that failed, or its log stopped it, which has this name; feeds stop none
-due_fault : (name : List ℕ) (logs : List ℕ) (came : List Call → List Item → Bool → Type 0) (sink : ℕ) (d : Due) (fault : ToolFault) (end : RunEnd TextEnding FileStop) (met : Met) (calls : List Call) (now : Seen) → Some fault ≡ log_answer name end
-    → Ran came (StopsOf logs now) (TextWritten sink d) (TextEnded sink d) (ERRORS ∷ sink ∷ []) end met calls → HasCause logs name fault calls now
+due_fault : {ready : List Call → Type 0} (name : List ℕ) (logs : List ℕ) (came : List Call → List Item → Bool → Type 0) (sink : ℕ) (d : Due) (fault : ToolFault) (end : RunEnd TextEnding FileStop) (met : Met) (calls : List Call) (now : Seen) → Some fault ≡ log_answer name end
+    → Ran came (StopsOf logs now) ready (TextWritten sink d) (TextEnded sink d) (ERRORS ∷ sink ∷ []) end met calls → HasCause logs name fault calls now
 due_fault name logs came sink d fault (ends.ByOutput ending) met calls now e r = inl (output_failed sink d ending fault calls e ((r.ends.5).cause))
 due_fault name [] came sink d fault (ends.BySource why) met calls now e r = absurd r.ends.1
 due_fault name (h ∷ others) came sink d fault (ends.BySource why) met calls now e r =

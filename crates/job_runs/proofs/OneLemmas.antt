@@ -1,5 +1,5 @@
 -- New outputs of one text: that of a job's groups, and that of units.
-use Rattle.std.proofs.Common.{◌≡◌, ◌≢◌, ℕ, zero, suc, Bool, true, false, List, [], ◌∷◌, Option, Some, ◌≤◌, arith, refl, sym, ap, subst, ◌∙◌}
+use Rattle.std.proofs.Common.{◌≡◌, ◌≢◌, ℕ, zero, suc, Bool, true, false, List, [], ◌∷◌, ◌++◌, Option, Some, ◌≤◌, arith, refl, sym, ap, subst, ◌∙◌}
 use Rattle.std.specs.Prelude.{slice_get, length}
 use Rattle.vio.specs.declared.world.TheConstants.{ERRORS}
 use Rattle.vio.specs.World.{Seen, Writing}
@@ -13,16 +13,18 @@ use Rattle.vsl_dispatch.proofs.GroupLemmas.{kept_none}
 use Rattle.tool_words.specs.declared.job.Job.{Job}
 use Rattle.fan_output.specs.declared.fan.FanOutput.{FanOutput}
 use Rattle.fan_output.specs.declared.sink.Sink.{Sink}
-use Rattle.fan_output.specs.Ends.{Due}
+use Rattle.fan_output.specs.Ends.{Due, Grows}
 use Rattle.fan_output.specs.Fan.{AreApart, AreNamed, IsFan, handles, outlets_of}
 use Rattle.fan_output.proofs.OneLemmas.{fan_can, fan_new, one_apart, one_named}
 use Rattle.text_printer.specs.declared.printer.Printer.{Printer}
 use Rattle.text_printer.specs.Printer.{HoldsAt, IsOutput, Plan, PrinterState, Represents, due, filled_at, has_all, plan_of, printer_state, text_at}
 use Rattle.text_printer.proofs.DueLemmas.{due_none, due_prefix}
+use Rattle.text_printer.specs.Laws.{taken_append}
 use Rattle.text_printer.specs.Taken.{taken_of}
 use Rattle.unit_text.specs.declared.units.UnitsText.{UnitsText}
 use Rattle.unit_text.specs.Texts.{HoldsUnits, units_filled, units_text}
 use Rattle.unit_text.specs.Units.{units_due}
+use Rattle.unit_text.proofs.UnitLemmas.{units_grow}
 use Rattle.vsl_file.specs.File.{file_header}
 use Rattle.job_steps.specs.Jobs.{options_of, write_of}
 use Rattle.tool_consumers.specs.Consumers.{IsJobConsumer}
@@ -33,8 +35,8 @@ use Rattle.job_runs.specs.inside.Outputs.{IsOne, job_plan, query_due}
 -- an output of one text, where that was given nothing
 module _ {T : Type 0} (text : T → ℕ → List Item → Bool → List ℕ) (filled : T → ℕ → List Item → Bool) (holds : T → ℕ → List Item → Bool → List ℕ → Type 0) (count : T → ℕ) where
   pub one_output : (o : FanOutput T) (texts : T) (s : Sink) (d : Due) → IsFan o → o.texts ≡ texts → o.sinks.items ≡ s ∷ [] → text texts 0 ≡ d.text → filled texts 0 ≡ d.filled → s.head.items ≡ d.head → s.name ≡ d.name → count texts ≡ 1
-      → holds texts 0 [] false [] → d.filled [] ≡ false → d.text [] false ≡ [] → IsOne text filled holds count s.handle d o
-  one_output o texts s d is own sinks same_text same_filled same_head same_name one given fewer none = record {
+      → holds texts 0 [] false [] → d.filled [] ≡ false → d.text [] false ≡ [] → Grows d → IsOne text filled holds count s.handle d o
+  one_output o texts s d is own sinks same_text same_filled same_head same_name one given fewer none grows = record {
     outlets = ap (λ (t : T). outlets_of (text t) (filled t) o.sinks.items) own ∙ ap (λ (ss : List Sink). outlets_of (text texts) (filled texts) ss) sinks
         ∙ (λ i. record { sink = s.handle; due = record { head = same_head i; text = same_text i; filled = same_filled i; name = same_name i } } ∷ []);
     only = ap handles sinks;
@@ -42,6 +44,7 @@ module _ {T : Type 0} (text : T → ℕ → List Item → Bool → List ℕ) (fi
         (λ i r at. at_first (λ k. holds o.texts k [] false []) (subst (λ (t : T). holds t 0 [] false []) (sym own) given) i r at)
         (λ i r at. at_first (λ k. filled o.texts k [] ≡ false) (ap (λ (t : T). filled t 0 []) own ∙ ap (λ (f : List Item → Bool). f []) same_filled ∙ fewer) i r at)
         (λ i r at. at_first (λ k. text o.texts k [] false ≡ []) (ap (λ (t : T). text t 0 [] false) own ∙ ap (λ (f : List Item → Bool → List ℕ). f [] false) same_text ∙ none) i r at);
+    grows = grows;
     can = λ now named apart. fan_can text filled holds count o is now (subst (λ (ss : List Sink). AreApart ss) (sym sinks) (one_apart s apart))
         (subst (λ (ss : List Sink). AreNamed ss now) (sym sinks) (one_named s now (ap (λ (n : List ℕ). now.names Writing s.handle n) same_name ∙ named)))
         (ap count own ∙ one ∙ sym (ap length sinks));
@@ -56,6 +59,11 @@ module _ {T : Type 0} (text : T → ℕ → List Item → Bool → List ℕ) (fi
           first : (i : ℕ) → slice_get (s ∷ []) i ≡ Some r → IsSo i
           first zero is = so
           first (suc i) is = absurd cc
+
+-- what is due of a job goes on where more items come
+query_grows : (job : Job) (query : Query) (empty : Bool) → Grows (query_due job query empty)
+query_grows job query empty met more all = subst (λ (list : List Taken). IsPrefix (due (job_plan job query) (taken_of met) false) (due (job_plan job query) list all)) (sym (taken_append met more))
+    (due_prefix (job_plan job query) (job_output job) (taken_of met) (taken_of more) all)
 
 module _ {C : Type 0} (keep : C → Option ℕ) (output : C → List Group → Bool → List ℕ) (represents : C → List Group → Bool → List ℕ → Type 0) where
   -- what a new printer tells
@@ -81,11 +89,11 @@ module _ {C : Type 0} (keep : C → Option ℕ) (output : C → List Group → B
       subst (λ (h : ℕ). IsOne (text_at keep output) (filled_at keep output) (HoldsAt keep output represents) (λ (q : Printer C). 1) h (query_due job query empty) o) handle
       (one_output (text_at keep output) (filled_at keep output) (HoldsAt keep output represents) (λ (q : Printer C). 1) o p s (query_due job query empty) fan own sinks
       (ap (λ (x : Plan). λ (met : List Item) (all : Bool). due x (taken_of met) all) plan) (ap (λ (x : Plan). λ (met : List Item). has_all x (taken_of met)) plan) head name refl
-      (refl, subst (λ (q : PrinterState C). Represents keep output represents q [] false []) (sym state) (none_given job query c is unfilled)) unfilled (due_none (job_plan job query) (job_output job) false))
+      (refl, subst (λ (q : PrinterState C). Represents keep output represents q [] false []) (sym state) (none_given job query c is unfilled)) unfilled (due_none (job_plan job query) (job_output job) false) (query_grows job query empty))
 
 -- the output of a log file of units
 pub units_one : (name : List ℕ) (sink : ℕ) (u : UnitsText) (s : Sink) (o : FanOutput UnitsText) → u.bytes.items ≡ [] → IsFan o → o.texts ≡ u → o.sinks.items ≡ s ∷ [] → s.handle ≡ sink → s.head.items ≡ file_header → s.name ≡ name
     → IsOne units_text units_filled HoldsUnits (λ (v : UnitsText). 1) sink (units_due name) o
 units_one name sink u s o none fan own sinks handle head named =
     subst (λ (h : ℕ). IsOne units_text units_filled HoldsUnits (λ (v : UnitsText). 1) h (units_due name) o) handle
-    (one_output units_text units_filled HoldsUnits (λ (v : UnitsText). 1) o u s (units_due name) fan own sinks refl refl head named refl (refl, none) refl refl)
+    (one_output units_text units_filled HoldsUnits (λ (v : UnitsText). 1) o u s (units_due name) fan own sinks refl refl head named refl (refl, none) refl refl (units_grow name))

@@ -84,7 +84,7 @@ module _ (job : Job) (ask : Ask) (sink : ℕ) (empty : Bool) (listings : List Li
   ended_of ending done last all ended every fault one is are p = subst (λ (f : Option ToolFault). WritesOf sink (job_due job ask empty) f every ended calls) (sym is) (ended_writes (job_due job ask empty) (job_lasts job ask empty) sink every ended calls ending done last all one are p)
 
   -- a run that ended so
-  fed_end : (end : RunEnd TextEnding FileStop) (met : Met) (fault : Option ToolFault) → runs.Ran (λ cs. FeedsCame job listings recorded) (λ why cs met. ⊥) (TextWritten sink (job_due job ask empty)) (TextEnded sink (job_due job ask empty)) (ERRORS ∷ sink ∷ []) end met calls → fault ≡ end_answer job end
+  fed_end : {ready : List Call → Type 0} (end : RunEnd TextEnding FileStop) (met : Met) (fault : Option ToolFault) → runs.Ran (λ cs. FeedsCame job listings recorded) (λ why cs met. ⊥) ready (TextWritten sink (job_due job ask empty)) (TextEnded sink (job_due job ask empty)) (ERRORS ∷ sink ∷ []) end met calls → fault ≡ end_answer job end
       → (log : Log) × (history : List (HistoryItem LogUnit)) × AreFed job listings log history × WritesOf sink (job_due job ask empty) fault (items_of history) true calls
   fed_end (ends.ByOutput ending) met fault ran is =
       let e = ran.ends in
@@ -101,7 +101,7 @@ module _ (job : Job) (ask : Ask) (sink : ℕ) (empty : Bool) (listings : List Li
   all_met history met rest parts none = parts ∙ ap (λ (xs : List Item). met ++ xs) none ∙ append-nil met
 
   -- the same of a ring that threads share
-  live_end : (end : RunEnd TextEnding FileStop) (met : Met) (fault : Option ToolFault) → is_on_threads job ≡ true → runs.Ran (λ cs. FeedsCame job listings recorded) (λ why cs met. ⊥) (TextWritten sink (job_due job ask empty)) (TextEnded sink (job_due job ask empty)) (ERRORS ∷ sink ∷ []) end met calls → fault ≡ end_answer job end
+  live_end : {ready : List Call → Type 0} (end : RunEnd TextEnding FileStop) (met : Met) (fault : Option ToolFault) → is_on_threads job ≡ true → runs.Ran (λ cs. FeedsCame job listings recorded) (λ why cs met. ⊥) ready (TextWritten sink (job_due job ask empty)) (TextEnded sink (job_due job ask empty)) (ERRORS ∷ sink ∷ []) end met calls → fault ≡ end_answer job end
       → WritesRing job listings recorded sink (job_due job ask empty) fault calls
   live_end (ends.ByOutput ending) met fault threads ran is =
       let e = ran.ends in

@@ -22,7 +22,8 @@ use Rattle.fan_output.specs.Messages.{messages_of}
 use Rattle.fan_output.specs.declared.ending.TextEnding.{TextEnding}
 use Rattle.fan_output.specs.declared.ending.TextEnding.TheVariants as endings
 use Rattle.fan_output.specs.Ends.{Due, Grows, TextEnded, TextShort, TextWritten, whole}
-use Rattle.fan_output.proofs.EndLemmas.{ended_short, short_prefix, written_short}
+use Rattle.log_model.proofs.PrefixLemmas.{prefix_equal}
+use Rattle.fan_output.proofs.EndLemmas.{ended_short, short_prefix}
 use Rattle.job_steps.specs.declared.fault.ToolFault.{ToolFault}
 use Rattle.job_steps.specs.declared.fault.ToolFault.TheVariants.{ReadFault, NotALog, Damaged, TooLarge}
 use Rattle.job_runs.specs.Rows.{RanFor, log_answer, output_answer, stop_answer}
@@ -90,14 +91,14 @@ module _ (d : Due) (lasts : Lasts d) where
 
     -- its source stopped
     stopped_writes : (fault : ToolFault) (done : List Item) → AreOf done false every ended → TextWritten sink d calls done → WritesOf sink d (Some fault) every ended calls
-    stopped_writes fault done are p = part_of fault (short_of done false are (written_short sink d calls done p))
+    stopped_writes fault done are p = part_of fault (short_of done false are (record { text = prefix_equal (sym p.text); told = prefix_equal (sym p.told) }))
 
   -- ---- a run over any source, which has this name
 
   module _ (name : List ℕ) (sink : ℕ) (every : List Item) (ended : Bool) (calls : List Call) (came : List Call → List Item → Bool → Type 0) (stopped : FileStop → List Call → List Item → Type 0)
       (comes : (first more : List Call) (met : List Item) (all : Bool) → calls ≡ first ++ more → came first met all → AreOf met all every ended) (stays : (why : FileStop) (met : List Item) → stopped why calls met → AreOf met false every ended) where
     -- a run that ended so
-    end_writes : (end : RunEnd TextEnding FileStop) (met : Met) (fault : Option ToolFault) → runs.Ran came stopped (TextWritten sink d) (TextEnded sink d) (ERRORS ∷ sink ∷ []) end met calls → fault ≡ log_answer name end
+    end_writes : {ready : List Call → Type 0} (end : RunEnd TextEnding FileStop) (met : Met) (fault : Option ToolFault) → runs.Ran came stopped ready (TextWritten sink d) (TextEnded sink d) (ERRORS ∷ sink ∷ []) end met calls → fault ≡ log_answer name end
         → WritesOf sink d fault every ended calls
     end_writes (ends.ByOutput ending) met fault ran is =
         let e = ran.ends in
@@ -159,7 +160,7 @@ module _ (d : Due) (lasts : Lasts d) (name : List ℕ) (h : ℕ) (others : List 
       ran_writes d lasts name sink (unit_items units) (is_whole ending) calls (FileCame h) (λ why cs met. FileStopped h why cs met now) came_first (stopped_are h units ending before tells calls now did) (h ∷ others) fault records r
 
   -- where it was answered that the source stopped so, it did
-  stop_ends : (end : RunEnd TextEnding FileStop) (met : Met) (why : FileStop) (named : FileEnding) → runs.Ran (FileCame h) (λ why cs met. FileStopped h why cs met now) (TextWritten sink d) (TextEnded sink d) (ERRORS ∷ sink ∷ []) end met calls
+  stop_ends : {ready : List Call → Type 0} (end : RunEnd TextEnding FileStop) (met : Met) (why : FileStop) (named : FileEnding) → runs.Ran (FileCame h) (λ why cs met. FileStopped h why cs met now) ready (TextWritten sink d) (TextEnded sink d) (ERRORS ∷ sink ∷ []) end met calls
       → Some (stop_answer name why) ≡ log_answer name end → named_ending why ≡ Some named → (ending ≡ named) × (written_by sink calls ≡ whole d (unit_items units) (is_whole ending))
   stop_ends (ends.ByOutput out) met why named ran is names = absurd (let none = sym (stop_back name why) ∙ ap stop_in is ∙ no_stop out in cc)
   stop_ends (ends.BySource other) met why named ran is names =

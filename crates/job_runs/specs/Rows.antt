@@ -11,7 +11,7 @@ use Rattle.tool_words.specs.declared.job.Job.{Job}
 use Rattle.one_run.specs.declared.met.Met.{Met}
 use Rattle.one_run.specs.declared.pass.RunEnd.{RunEnd}
 use Rattle.one_run.specs.declared.pass.RunEnd.TheVariants as ends
-use Rattle.one_run.specs.Run.{Ran}
+use Rattle.one_run.specs.Run.{IsCaughtUp, Ran}
 use Rattle.run_sources.specs.declared.file_items.FileStop.{FileStop}
 use Rattle.run_sources.specs.declared.file_items.FileStop.TheVariants as stops
 use Rattle.vsl_file.specs.File.{most_bytes}
@@ -28,7 +28,7 @@ use Rattle.job_steps.specs.Queries.{Ask, AreAsked, chosen}
 use Rattle.job_steps.specs.Steps.{Found, texts_of, listings_of, logs_of, sinks_of}
 use Rattle.tool_consumers.specs.Output.{head_text, output_of}
 use Rattle.job_runs.specs.declared.record.RunRecord.{RunRecord}
-use Rattle.job_runs.specs.Sources.{BeganOf, CameOf, RecordsOf, StopsOf}
+use Rattle.job_runs.specs.Sources.{AsksOf, BeganOf, CameOf, RecordsOf, StopsOf}
 use Rattle.job_runs.specs.Counters.{CountersShort, PrintsCounters}
 
 -- ---- what is written of them
@@ -93,14 +93,16 @@ fan_answer name (ends.BySource why) calls = first_of (write_fault (first_unwritt
 
 -- ---- a run that prints groups
 
--- of items that came so, and of an output that writes these handles and printed and ended so, a run came to this fault, and what it met is recorded so, by these calls
+-- of items that came so, and of an output that writes these handles and printed and ended so, a run came to this fault, and what it met is recorded so, by these calls; whenever it read, all
+-- that is due of the units that lay whole in what it had read was written
 pub record RanWith {E : Type 0} (reads writes : List ℕ) (came : List Call → List Item → Bool → Type 0)
     (stopped : FileStop → List Call → List Item → Type 0) (records : List Item → Type 0)
-    (printed : List Call → List Item → Type 0) (ended : E → List Call → List Item → List Item → Bool → Type 0) (answer : RunEnd E FileStop → List Call → Option ToolFault) (fault : Option ToolFault) (calls : List Call) : Type 0 where
+    (printed : List Call → List Item → Type 0) (ended : E → List Call → List Item → List Item → Bool → Type 0)
+    (answer : RunEnd E FileStop → List Call → Option ToolFault) (fault : Option ToolFault) (calls : List Call) : Type 0 where
   pub on : AreOn reads writes calls
   pub end : RunEnd E FileStop
   pub met : Met
-  pub ran : Ran came stopped printed ended writes end met calls
+  pub ran : Ran came stopped (IsCaughtUp (AsksOf reads) printed) printed ended writes end met calls
   pub answers : fault ≡ answer end calls
   pub recorded : records (ran.done ++ ran.last)
 

@@ -14,7 +14,7 @@ use Rattle.traffic_feed.specs.declared.listing.Listing.{Listing}
 use Rattle.feed_schedule.specs.Schedule.{IsScheduled}
 use Rattle.tool_words.specs.declared.job.Job.{Job}
 use Rattle.run_sources.specs.declared.file_items.FileStop.{FileStop}
-use Rattle.run_sources.specs.Sources.{FileCame, FileBegins, FileStopped, IsReadWhole, unit_items}
+use Rattle.run_sources.specs.Sources.{FileAsks, FileCame, FileBegins, FileStopped, IsReadWhole, unit_items}
 use Rattle.job_steps.specs.Jobs.{is_on_threads, order_seed, units_of, with_made}
 use Rattle.job_runs.specs.declared.record.RunRecord.{RunRecord}
 use Rattle.job_runs.specs.declared.record.RunRecord.TheVariants.{Counted, Closed}
@@ -56,6 +56,11 @@ pub record FeedsCame (job : Job) (listings : List Listing) (recorded : RunRecord
 abbrev pub CameOf : List ℕ → Job → List Listing → RunRecord → List Call → List Item → Bool → Type 0
 CameOf [] job listings recorded calls met all = FeedsCame job listings recorded met all
 CameOf (h ∷ others) job listings recorded calls met all = FileCame h calls met all
+
+-- these items are all units that lie whole in what was read of the log of a handle; of feeds nothing is read
+abbrev pub AsksOf : List ℕ → List Call → List Item → Type 0
+AsksOf [] calls met = ⊥
+AsksOf (h ∷ others) calls met = FileAsks h calls met
 
 -- and then the log stopped so; feeds never stop
 abbrev pub StopsOf : List ℕ → Seen → FileStop → List Call → List Item → Type 0

@@ -206,8 +206,8 @@ counters_counted sink text fault calls s t (inr p) did = counted_as fault (Write
     (did_fail Writing (codes "-") (Write sink p.1.0 (calling.Failed (codes "-"))) (Write sink p.1.0 (calling.Failed (codes "-")) ∷ []) s t (inl refl) (refl, refl) (subst (λ (cs : List Call). Did cs s t) p.1.2 did))
 
 -- a text that is due: a write of the output failed, or a read of the log; of what that holds no count speaks
-due_counted : (file : List ℕ) (logs : List ℕ) (came : List Call → List Item → Bool → Type 0) (sink : ℕ) (d : Due) (fault : ToolFault) (end : RunEnd TextEnding FileStop) (met : Met) (calls : List Call) (s t : Seen) → ((h : ℕ) → IsOneOf h logs → IsNamed h file s)
-    → Some fault ≡ log_answer file end → Ran came (StopsOf logs t) (TextWritten sink d) (TextEnded sink d) (ERRORS ∷ sink ∷ []) end met calls → Did calls s t → IsCounted fault s t
+due_counted : {ready : List Call → Type 0} (file : List ℕ) (logs : List ℕ) (came : List Call → List Item → Bool → Type 0) (sink : ℕ) (d : Due) (fault : ToolFault) (end : RunEnd TextEnding FileStop) (met : Met) (calls : List Call) (s t : Seen) → ((h : ℕ) → IsOneOf h logs → IsNamed h file s)
+    → Some fault ≡ log_answer file end → Ran came (StopsOf logs t) ready (TextWritten sink d) (TextEnded sink d) (ERRORS ∷ sink ∷ []) end met calls → Did calls s t → IsCounted fault s t
 due_counted file logs came sink d fault (ends.ByOutput endings.Whole) met calls s t known is r did = absurd cc
 due_counted file logs came sink d fault (ends.ByOutput endings.Kept) met calls s t known is r did = absurd cc
 due_counted file logs came sink d fault (ends.ByOutput (endings.Unwritten name)) met calls s t known is r did =

@@ -12,7 +12,7 @@ use Rattle.run_sources.specs.declared.feed_items.FeedItems.{FeedItems}
 use Rattle.run_sources.specs.Sources.{HasToCome}
 use Rattle.tool_words.specs.declared.job.Job.{Job}
 use Rattle.fan_output.specs.declared.fan.FanOutput.{FanOutput}
-use Rattle.fan_output.specs.Ends.{Due}
+use Rattle.fan_output.specs.Ends.{Due, Grows}
 use Rattle.fan_output.specs.Fan.{handles, outlets_of}
 use Rattle.fan_output.specs.Laws.{CanFan, IsNew}
 use Rattle.text_printer.specs.Printer.{Plan, due_of}
@@ -28,13 +28,14 @@ job_plan job query = record { options = options_of job; query = query; keep = jo
 abbrev pub query_due : Job → Query → Bool → Due
 query_due job query empty = due_of (head_text job empty) (write_of job) (job_plan job query)
 
--- an output of one text, of which nothing was written: this is due, to this handle, to which it may be written where that has its name and is not standard error
+-- an output of one text, of which nothing was written: this is due, and goes on where more items come, to this handle, to which it may be written where that has its name and is not standard error
 module _ {T : Type 0} (text : T → ℕ → List Item → Bool → List ℕ) (filled : T → ℕ → List Item → Bool)
     (holds : T → ℕ → List Item → Bool → List ℕ → Type 0) (count : T → ℕ) where
   pub record IsOne (sink : ℕ) (d : Due) (o : FanOutput T) : Type 0 where
     pub outlets : outlets_of (text o.texts) (filled o.texts) o.sinks.items ≡ record { sink = sink; due = d } ∷ []
     pub only : handles o.sinks.items ≡ sink ∷ []
     pub new : IsNew text filled holds o
+    pub grows : Grows d
     pub can : (now : Seen) → now.names Writing sink d.name ≡ true → sink ≢ ERRORS → CanFan count o now
 
 -- what is to come of feeds is what a reader meets of these listings

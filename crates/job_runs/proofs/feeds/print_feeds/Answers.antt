@@ -1,7 +1,9 @@
-use Rattle.std.proofs.Common.{[], subst, ◌∙◌}
+use Rattle.std.proofs.Common.{◌∷◌, [], subst, ◌∙◌}
 use Rattle.std.proofs.lemmas.Result.{err_from_is_err_and}
+use Rattle.vio.specs.declared.world.TheConstants.{ERRORS}
 use Rattle.vio.specs.Calls.{Called}
-use Rattle.run_sources.specs.Sources.{FeedsGave, FeedsBegan}
+use Rattle.one_run.proofs.RunLemmas.{none_read}
+use Rattle.run_sources.specs.Sources.{FeedsBegan}
 use Rattle.fan_output.specs.Ends.{Due}
 use Rattle.text_printer.specs.Printer.{HoldsAt, filled_at, text_at}
 use Rattle.job_steps.specs.Jobs.{file_of}
@@ -26,8 +28,8 @@ returns-in_err-end-clause-short g c =
     let feeds = c.in_ok-feeds.feeds in
     subst (λ (d : Due). Called (RanShort [] (λ calls. FedCame c.args.job.now c.args.listings.items) c.args.sink.handle d) (g.W.World.seen c.args.world.now) (g.W.World.seen c.run.new.world)) (query_is c.args.job.now c.args.query.now ask c.args.sink.empty holds)
     (short_row (text_at g.C.Consumer.keep g.C.Consumer.output) (filled_at g.C.Consumer.keep g.C.Consumer.output) (HoldsAt g.C.Consumer.keep g.C.Consumer.output g.C.Consumer.represents) (λ p. 1) c.args.sink.handle (query_due c.args.job.now c.args.query.now c.args.sink.empty) _ c.in_ok-output.ensures
-    (λ calls met all. FeedsGave feeds c.run.new.source met all) (λ calls. FedCame c.args.job.now c.args.listings.items) (λ calls met. FeedsBegan feeds met) [] _ _ _
-    (λ calls met all. feeds_came c.args.job.now c.args.listings.items feeds c.run.new.source met all c.in_ok-feeds.ensures.comes c.requires.stated) (λ calls met all. feeds_late c.args.job.now c.args.listings.items met all)
+    _ (λ calls. FedCame c.args.job.now c.args.listings.items) (λ calls met. FeedsBegan feeds met) [] _ _ _
+    (λ calls met all p. feeds_came c.args.job.now c.args.listings.items feeds p.0 met all c.in_ok-feeds.ensures.comes c.requires.stated p.1) (λ calls met all. feeds_late c.args.job.now c.args.listings.items met all)
     (λ calls met. feeds_lacked c.args.job.now c.args.listings.items feeds met c.in_ok-feeds.ensures.comes c.requires.stated) c.in_err-end.ensures.short))
 
 pub returns-clause-ran : goal.returns-clause-ran
@@ -35,6 +37,6 @@ returns-clause-ran g c = λ ask holds.
     let feeds = c.in_ok-feeds.feeds in
     subst (λ (d : Due). Called (RanSo (RanFor [] (λ calls. FeedsCame c.args.job.now c.args.listings.items c.counted.result.run) (λ why calls met. ⊥) (RecordsOf [] c.args.job.now c.counted.result.run) c.args.sink.handle d (end_answer c.args.job.now) c.counted.result.fault)) (g.W.World.seen c.args.world.now) (g.W.World.seen c.run.new.world)) (query_is c.args.job.now c.args.query.now ask c.args.sink.empty holds)
     (ended_row (text_at g.C.Consumer.keep g.C.Consumer.output) (filled_at g.C.Consumer.keep g.C.Consumer.output) (HoldsAt g.C.Consumer.keep g.C.Consumer.output g.C.Consumer.represents) (λ p. 1) c.args.sink.handle (query_due c.args.job.now c.args.query.now c.args.sink.empty) _ c.in_ok-output.ensures
-    (λ calls met all. FeedsGave feeds c.run.new.source met all) (λ calls. FeedsCame c.args.job.now c.args.listings.items c.counted.result.run) _ (λ why calls met. ⊥) [] _ c.in-ByOutput.ending _ _ _ (RecordsOf [] c.args.job.now c.counted.result.run) (file_of c.args.job.now) _ _ c.in-ByOutput.is
-    (λ calls met all gave. stated_came c.args.job.now c.args.listings.items c.counted.result.run met all c.requires.stated (feeds_came c.args.job.now c.args.listings.items feeds c.run.new.source met all c.in_ok-feeds.ensures.comes c.requires.stated gave))
+    _ (λ calls. FeedsCame c.args.job.now c.args.listings.items c.counted.result.run) _ _ (λ why calls met. ⊥) [] _ c.in-ByOutput.ending _ _ _ (RecordsOf [] c.args.job.now c.counted.result.run) (file_of c.args.job.now) _ _ c.in-ByOutput.is (λ calls on p. none_read _ (ERRORS ∷ c.args.sink.handle ∷ []) calls on)
+    (λ calls met all p. stated_came c.args.job.now c.args.listings.items c.counted.result.run met all c.requires.stated (feeds_came c.args.job.now c.args.listings.items feeds p.0 met all c.in_ok-feeds.ensures.comes c.requires.stated p.1))
     (c.counted.ensures.fault ∙ rw (c.in_ok-written.ensures, c.written_name.ensures) at c.answer.ensures) (λ list is stated. c.counted.ensures.run list is) c.in_ok-end.ensures.ran)

@@ -1,7 +1,9 @@
 -- What was read, and what is made behind it, may be put by workers; and what came of the ring is recorded.
-use Rattle.std.proofs.Common.{[], refl, subst}
+use Rattle.std.proofs.Common.{◌∷◌, [], refl, subst}
 use Rattle.std.proofs.lemmas.Result.{err_from_is_err_and}
+use Rattle.vio.specs.declared.world.TheConstants.{ERRORS}
 use Rattle.vio.specs.Calls.{Called}
+use Rattle.one_run.proofs.RunLemmas.{none_read}
 use Rattle.fan_output.specs.Ends.{Due}
 use Rattle.text_printer.specs.Printer.{HoldsAt, filled_at, text_at}
 use Rattle.job_steps.specs.Jobs.{file_of}
@@ -32,7 +34,7 @@ returns-clause-ran g c = λ ask holds.
     let run = Closed ended.ring in
     subst (λ (d : Due). Called (RanSo (RanFor [] (λ calls. FeedsCame job c.args.listings.items run) (λ why calls met. ⊥) (RecordsOf [] job run) c.args.sink.handle d (end_answer job) c.answer.result)) (g.W.World.seen c.args.world.now) (g.W.World.seen c.run_live.new.world)) (query_is job c.args.query.now ask c.args.sink.empty holds)
     (ended_row (text_at g.C.Consumer.keep g.C.Consumer.output) (filled_at g.C.Consumer.keep g.C.Consumer.output) (HoldsAt g.C.Consumer.keep g.C.Consumer.output g.C.Consumer.represents) (λ p. 1) c.args.sink.handle (query_due c.args.job.now c.args.query.now c.args.sink.empty) _ c.in_ok-output.ensures
-    (λ calls. LiveCame c.in-Some.shape (feeds_of c.in_ok-writers.writers.items) ended.ring) (λ calls. FeedsCame job c.args.listings.items run) _ (λ why calls met. ⊥) [] _ c.in-ByOutput.ending _ _ _ (RecordsOf [] job run) (file_of job) _ _ c.in-ByOutput.is
+    (λ calls. LiveCame c.in-Some.shape (feeds_of c.in_ok-writers.writers.items) ended.ring) (λ calls. FeedsCame job c.args.listings.items run) _ _ (λ why calls met. ⊥) [] _ c.in-ByOutput.ending _ _ _ (RecordsOf [] job run) (file_of job) _ _ c.in-ByOutput.is (λ calls on p. none_read _ (ERRORS ∷ c.args.sink.handle ∷ []) calls on)
     (λ calls met all. live_came job c.args.listings.items c.in_ok-writers.writers.items c.in-Some.shape ended.ring run met all c.requires.threads c.in_ok-writers.ensures.made c.in-Some.ensures.shape refl)
     (rw (c.in_ok-written.ensures, c.written_name.ensures) at c.answer.ensures) (λ list is stated. absurd (never_both _ stated c.requires.threads)) c.in_ok-ended.ensures.ran)
 
