@@ -24,7 +24,7 @@ use Rattle.job_steps.specs.declared.steps.Counting.{Counting}
 use Rattle.job_steps.specs.declared.steps.Input.{Input}
 use Rattle.job_steps.specs.declared.steps.Opened.{Opened}
 use Rattle.job_steps.specs.declared.steps.Input.TheVariants as inputs
-use Rattle.job_steps.specs.Begun.{HasInput, IsBegun, IsCounting, IsOpened, IsShown}
+use Rattle.job_steps.specs.Begun.{HasInput, IsBegun, IsCounting, IsOpened}
 use Rattle.job_steps.specs.Jobs.{is_counting}
 use Rattle.job_steps.specs.Queries.{Ask, AreAsked, HoldsAsAsked}
 use Rattle.job_steps.specs.Steps.{Step, RefuseWords, Found, FoundListing, FoundNone, Passes, Stops, counter_steps, group_steps, job_steps, names_steps, word_steps, opens_of}
@@ -40,6 +40,7 @@ use Rattle.job_runs.specs.Rows.{IsAsked, JobRan, JobShort, RanFor, end_answer, j
 use Rattle.job_runs.specs.Runs.{CountsShort, RanShort, RanSo}
 use Rattle.varnish_tools.specs.Commands.{alone_of}
 use Rattle.varnish_tools.specs.Theorem.{StatedRan, asked_of}
+use Rattle.varnish_tools.specs.inside.Ready.{PassedRules}
 use Rattle.varnish_tools.specs.inside.Works.{IsWorked}
 use Rattle.varnish_tools.proofs.FoundLemmas.{CountingSo, FoundSo, found_behind, found_counting, found_feeds, found_file}
 use Rattle.varnish_tools.proofs.TouchLemmas.{asked_good}
@@ -59,10 +60,6 @@ of_words stated command r s t asks p = subst (λ (st : Result Command UsageFault
 pub rules_end : (job : Job) (halt : Halt ToolFault) (s : Seen) → Halted Passes Stops [] (word_steps job) halt [] → Called (IsWorked (Ok (ForTool job)) s (Err halt)) s s
 rules_end job (Fault fault) s p = record { calls = []; did = refl; is = early_first Passes Stops (StatedRan (Ok (ForTool job))) alone_of Nothing (word_steps job) (job_steps job) s fault [] p.0 refl }
 rules_end job NoMemory s p = record { calls = []; did = refl; is = inl (inl (tt, omega arith)) }
-
--- they are good
-abbrev pub PassedRules : Job → Showing → Type 0
-PassedRules job selection = PassedSo Passes Stops (IsShown job selection) (word_steps job) []
 
 module _ (job : Job) (selection : Showing) (rules : PassedRules job selection) where
   passed_rules : Passed Passes Stops (word_steps job) (FoundNone ∷ []) []

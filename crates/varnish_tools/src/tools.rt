@@ -1,6 +1,6 @@
 //! The top call.
 
-ghost use Rattle.std.specs.Prelude.{◌≡◌, [], false, true, map, Ok, IfOk, OnOk, OnErr};
+ghost use Rattle.std.specs.Prelude.{◌≡◌, [], false, true, map, Ok, Err, IfOk, IfErr, OnOk, OnErr};
 ghost use Rattle.std.specs.String.{string_bytes};
 ghost use Rattle.vio.specs.World.{Seen};
 ghost use Rattle.vio.specs.Calls.{Called};
@@ -13,6 +13,7 @@ ghost use Rattle.tool_words.specs.Sound.{IsSound};
 ghost use Rattle.job_steps.specs.Jobs.{is_on_threads};
 ghost use Rattle.varnish_tools.specs.Faults.{fault_message};
 ghost use Rattle.varnish_tools.specs.Theorem.{IsCutShort, IsFaithful, PrintsPlain, TouchesJob};
+ghost use Rattle.varnish_tools.specs.inside.Ready.{IsReady, PassedRules};
 ghost use Rattle.varnish_tools.specs.inside.Works.{IsWorked, SaysPartOf};
 
 use crate::laws::plain_logs_are_printed;
@@ -22,18 +23,77 @@ use job_runs::{
     Ran, convert_log, print_counters, print_feeds, print_live, print_live_counters, print_log,
 };
 use job_steps::{
-    Begun, Input, ToolFault, is_counting, is_on_threads, read_command, read_selection,
+    Begun, Counting, Input, ToolFault, is_counting, is_on_threads, read_command, read_selection,
     take_counter_steps, take_group_steps, take_names_steps,
 };
 use log_model::Halt;
 use one_command::say;
+use query_parser::Query;
 use std::alloc::Global;
 use std::sync::Wait;
 use std::thread::Threads;
-use tool_consumers::consumer_of;
+use tool_consumers::{ToolConsumer, consumer_of};
 use tool_words::{Command, Job, Names};
-use traffic_feed::Gate;
-use vio::{NoMemory, World};
+use traffic_feed::{Gate, Listing};
+use vio::{Created, NoMemory, World};
+use vsl_select::Selection;
+
+/// What is left of a job once its steps are taken, and its run where that is over a log.
+#[derive(Drop)]
+enum Ready<'s> {
+    /// Nothing: it ran.
+    Over(Ran),
+    /// The counters of feeds are to be printed.
+    Counters(Counting),
+    /// Groups of feeds are to be printed.
+    Groups {
+        consumer: ToolConsumer<'s>,
+        query: Query,
+        listings: Vec<Listing>,
+        sink: Created,
+    },
+}
+
+/// Takes the steps of a job behind its rules, and runs it where it has a log.
+fn begin<'s, W: World>(
+    alloc: Global,
+    job: &Job,
+    selection: &'s Selection,
+    world: &mut W,
+) -> Result<Ready<'s>, Halt<ToolFault>>
+    requires sound { IsSound job.now }
+    requires keeps { is_filled job.now.keep [] ≡ false }
+    requires rules { PassedRules job.now selection.now }
+    ensures ready { IfOk result
+        (λ ready. IsReady job.now ready (W.seen world.old) (W.seen world.new)) }
+    ensures ended { IfErr result
+        (λ halt. Called (IsWorked (Ok (ForTool job.now)) (W.seen world.new) (Err halt))
+        (W.seen world.old) (W.seen world.new)) }
+{
+    if is_counting(job.tool) {
+        let counting = take_counter_steps(alloc, job, world)?;
+        return Ok(Ready::Counters(counting));
+    }
+    let Begun {
+        query,
+        format,
+        input,
+        sink,
+    } = take_group_steps(alloc, job, world)?;
+    let consumer = consumer_of(alloc, job, selection, format)?;
+    match input {
+        Input::Log(handle) => {
+            let ran = print_log(alloc, job, consumer, &query, handle, sink, world)?;
+            Ok(Ready::Over(ran))
+        }
+        Input::Feeds(listings) => Ok(Ready::Groups {
+            consumer,
+            query,
+            listings,
+            sink,
+        }),
+    }
+}
 
 /// Works off a job that starts no thread, but for the message of a fault: takes its steps, and runs it.
 fn work_alone<W: World>(alloc: Global, job: &Job, world: &mut W) -> Result<Ran, Halt<ToolFault>>
@@ -44,22 +104,15 @@ fn work_alone<W: World>(alloc: Global, job: &Job, world: &mut W) -> Result<Ran, 
         (W.seen world.new) }
 {
     let selection = read_selection(alloc, job)?;
-    if is_counting(job.tool) {
-        let counting = take_counter_steps(alloc, job, world)?;
-        return Ok(print_counters(alloc, job, counting, world)?);
-    }
-    let Begun {
-        query,
-        format,
-        input,
-        sink,
-    } = take_group_steps(alloc, job, world)?;
-    let consumer = consumer_of(alloc, job, &selection, format)?;
-    match input {
-        Input::Log(handle) => Ok(print_log(alloc, job, consumer, &query, handle, sink, world)?),
-        Input::Feeds(listings) => {
-            Ok(print_feeds(alloc, job, consumer, &query, listings, sink, world)?)
-        }
+    match begin(alloc, job, &selection, world)? {
+        Ready::Over(ran) => Ok(ran),
+        Ready::Counters(counting) => Ok(print_counters(alloc, job, counting, world)?),
+        Ready::Groups {
+            consumer,
+            query,
+            listings,
+            sink,
+        } => Ok(print_feeds(alloc, job, consumer, &query, listings, sink, world)?),
     }
 }
 
@@ -78,24 +131,19 @@ fn work_on_threads<R: Threads + Wait + Sync, W: World, G: Gate>(
         (W.seen world.new) }
 {
     let selection = read_selection(alloc, job)?;
-    if is_counting(job.tool) {
-        let counting = take_counter_steps(alloc, job, world)?;
-        return Ok(print_live_counters(rt, alloc, job, counting, world, gate)?);
-    }
-    let Begun {
-        query,
-        format,
-        input,
-        sink,
-    } = take_group_steps(alloc, job, world)?;
-    let consumer = consumer_of(alloc, job, &selection, format)?;
-    match input {
-        Input::Log(handle) => Ok(print_log(alloc, job, consumer, &query, handle, sink, world)?),
-        Input::Feeds(listings) => {
-            Ok(print_live(
-                rt, alloc, job, consumer, &query, listings, sink, world, gate,
-            )?)
+    match begin(alloc, job, &selection, world)? {
+        Ready::Over(ran) => Ok(ran),
+        Ready::Counters(counting) => {
+            Ok(print_live_counters(rt, alloc, job, counting, world, gate)?)
         }
+        Ready::Groups {
+            consumer,
+            query,
+            listings,
+            sink,
+        } => Ok(print_live(
+            rt, alloc, job, consumer, &query, listings, sink, world, gate,
+        )?),
     }
 }
 
