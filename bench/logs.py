@@ -38,10 +38,10 @@ def fill(path, most):
 
 def varnish_records(data):
     """The records of a log as Varnish 7 writes them: its own tag numbers, and a zero byte behind each payload."""
-    numbers, words = {name: number for number, name in enumerate(varnish_log.NAMES)}, []
+    numbers, words = {name: number for number, name in enumerate(varnish_log.NARROW.names)}, []
     for vxid, mark, records in vslog.read_units(data):
         for tag, payload in records:
-            head = struct.pack("<II", numbers[tag] << 24 | len(payload) + 1, vxid | vslog.MARKS.index(mark) << 30)
+            head = struct.pack(varnish_log.NARROW.words, numbers[tag] << 24 | len(payload) + 1, vxid | vslog.MARKS.index(mark) << 30)
             words.append(head + payload + b"\0" * (4 - len(payload) % 4))
     return b"".join(words)
 

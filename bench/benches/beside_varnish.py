@@ -21,7 +21,7 @@ from vslog import HEADER
 from benches.varnish_traffic import make_log
 from logs import esi_trees, one_session, open_at_once, our_units, repeat, single_records, varnish_records
 from timing import RUNS, best, run
-from varnish_log import FILE_MARK
+from varnish_log import NARROW
 
 NEEDED = ["varnishlog", "varnishncsa", "varnishtop", "varnishd", "wrk"]
 COPIES = (1, 2, 4)
@@ -123,7 +123,7 @@ def made_logs_in(folder, name, units):
     ours, theirs = (os.path.join(folder, f"{name}-{whose}") for whose in ("ours.vslog", "theirs.vslog"))
     if not (os.path.exists(ours) and os.path.exists(theirs)):
         log = HEADER + b"".join(units())
-        for path, content in ((ours, log), (theirs, FILE_MARK + varnish_records(log))):
+        for path, content in ((ours, log), (theirs, NARROW.file_mark + varnish_records(log))):
             with open(path + ".part", "wb") as file:
                 file.write(content)
             os.replace(path + ".part", path)

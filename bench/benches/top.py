@@ -10,7 +10,7 @@ import tempfile
 import vslog
 from logs import REAL, real_units, repeat, varnish_records
 from timing import best, run
-from varnish_log import FILE_MARK
+from varnish_log import NARROW
 
 RUNS = 3
 RECORDS = 10_000_000
@@ -46,7 +46,7 @@ def over_many_records(program, commands, wanted):
                 for words in [*commands, ["varnishlog"]]
             ]
             if own_tool:
-                repeat(own, FILE_MARK, theirs, copies)
+                repeat(own, NARROW.file_mark, theirs, copies)
                 took = measure(f"Varnish's {tool}", [own_tool, *commands[0][1:], "-r", own], count)
                 print(f"{'ratio':22}{times[0] / took:19.3f}, of which at most {wanted} is wanted")
 

@@ -11,7 +11,7 @@ import tempfile
 import vslog
 from logs import real_units, repeat, varnish_records
 from timing import RUNS, run
-from varnish_log import FILE_MARK
+from varnish_log import NARROW
 
 GROUPINGS = ["vxid", "request", "session", "raw"]
 BEGIN, MIDDLE, END = ("Begin", b"req 1 rxreq"), ("Debug", b"in the middle"), ("End", b"")
@@ -56,7 +56,7 @@ def bench(program, _):
             ours = times_of([program, "varnishlog"], path)
             print_times(what, size, ours)
             if varnishlog:
-                size = repeat(own, FILE_MARK, varnish_records(vslog.HEADER + units), copies)
+                size = repeat(own, NARROW.file_mark, varnish_records(vslog.HEADER + units), copies)
                 theirs = times_of([varnishlog], own)
                 print_times("  Varnish", size, theirs)
                 print_times("  ratio", "", [a / b for a, b in zip(ours, theirs)], 2)

@@ -11,7 +11,7 @@ import tempfile
 
 from logs import repeat
 from timing import in_turn
-from varnish_log import FILE_MARK
+from varnish_log import NARROW
 
 RUNS = 3
 MOST_BYTES = 500_000_000
@@ -22,10 +22,10 @@ PIPED = 'taskset -c "$1" cat "$2" | { shift 2; exec taskset -c "$@"; }'
 def made_logs(folder):
     """The two logs, each with its size."""
     with open(LOG, "rb") as log, open(TEXT, "rb") as text:
-        records, lines = log.read()[len(FILE_MARK) :], text.read()
+        records, lines = log.read()[len(NARROW.file_mark) :], text.read()
     copies, paths = MOST_BYTES // len(records), [os.path.join(folder, name) for name in ("log.vsl", "log.raw")]
     return [
-        (paths[0], repeat(paths[0], FILE_MARK, records, copies)),
+        (paths[0], repeat(paths[0], NARROW.file_mark, records, copies)),
         (paths[1], repeat(paths[1], b"", lines, copies)),
     ]
 

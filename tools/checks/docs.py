@@ -1,7 +1,10 @@
 """Checks the documents beside the repository: crates, promises, version, messages, edits, and what is cited."""
 
 import functools
+import os
 import re
+import subprocess
+import sys
 
 import completion
 import definitions
@@ -329,13 +332,25 @@ def choices():
     return len(rows)
 
 
+def benches():
+    """Each bench can be read: what it takes from the reference scripts is there."""
+    names = sorted(path.stem for path in (TOP / "bench/benches").glob("*.py"))
+    call = "import importlib, sys\nfor name in sys.argv[1:]: importlib.import_module('benches.' + name)"
+    path = os.pathsep.join([str(TOP / "bench"), str(TOP / "tools/reference")])
+    words = [sys.executable, "-B", "-c", call, *names]
+    read = subprocess.run(words, env={**os.environ, "PYTHONPATH": path}, stderr=subprocess.PIPE, text=True)
+    if read.returncode:
+        raise Failed(f"a bench can't be read:\n{read.stderr}")
+    return len(names)
+
+
 def check(_):
     made()
     proof = read("docs/PROOF.md")
     cited = cited_definitions(proof) + promises(proof) + changes() + paths()
     counts = documents(), sections(), links(), crates(), cited, version(), messages(), formatters(), edits()
-    counts += choices(), citations()
+    counts += choices(), benches(), citations()
     return (
         "%d documents, %d sections of formats, %d links, %d crates, %d names, %d places of the version, %d messages, "
-        "%d formatters, %d edits, %d choices, %d files" % counts
+        "%d formatters, %d edits, %d choices, %d benches, %d files" % counts
     )
