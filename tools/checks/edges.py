@@ -3,6 +3,7 @@
 import contextlib
 import os
 import re
+import socket
 import subprocess
 import tempfile
 import threading
@@ -30,6 +31,7 @@ OVERRUN_LINE = rb"vtools: (log overrun at segment [0-9]+, counter [0-9]+|missed 
 UNWRITTEN = "vtools: -: write failed\n"
 NO_MEMORY = "vtools: out of memory\n"
 MOST_BYTES = 16777216  # of a feed
+PIECE = 65536  # bytes that are read at once, and of text that is held at most, but for that of one unit
 LITTLE = 30000  # KiB of address space
 KEYS, IN_A_UNIT = 300_000, 1000  # different texts of a report, and how many of them come together
 
@@ -192,6 +194,22 @@ def goes_on(edges, what, words, first, then, wanted):
         os.write(writing, then)
         os.close(writing)
         edges.ended(what, child, wanted, out, errors_file)
+
+
+def together(edges):
+    """What is due of units that are at hand is written together: a socket that keeps writes apart takes few."""
+    what, lines, writes = "units at hand", LINES.read_bytes(), []
+    reading, writing = socket.socketpair(socket.AF_UNIX, socket.SOCK_SEQPACKET)
+    with reading, tempfile.TemporaryFile() as nothing, tempfile.TemporaryFile() as errors_file:
+        child = edges.start(f"varnishlog -g raw -r {LOG}", [NOTHING, writing, errors_file])
+        writing.close()
+        while piece := reading.recv(2 * PIECE):
+            writes.append(piece)
+        edges.ended(what, child, Run(0, b"", b""), nothing, errors_file)
+    same_text(what, lines, b"".join(writes))
+    most = len(LOG.read_bytes()) // PIECE + len(lines) // PIECE + 2
+    if len(writes) > most:
+        raise Failed(f"{what}: {len(writes)} writes, where {most} do")
 
 
 def large(edges):
@@ -523,9 +541,9 @@ def cut_short(edges):
             edges.count += 1
 
 
-CHECKS = [outputs, errors, no_streams, pipes, large, written, appended, left_alone, wide, keys, memory, cut, overruns,
-          feed_errors, feed_outputs, no_streams_for_feeds, feed_pipes, large_feeds, feed_memory, feeds_written,
-          cut_short]
+CHECKS = [outputs, errors, no_streams, pipes, together, large, written, appended, left_alone, wide, keys, memory, cut,
+          overruns, feed_errors, feed_outputs, no_streams_for_feeds, feed_pipes, large_feeds, feed_memory,
+          feeds_written, cut_short]
 
 
 def check(program):
