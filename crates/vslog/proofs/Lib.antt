@@ -1,1 +1,3 @@
 mod WorkLemmas
+mod PartLemmas
+mod PlainLemmas

@@ -5,8 +5,8 @@
 //! `--version` alone its own text, and for all other words what `run::run_vslog` promises: the log that the words name is
 //! copied, record by record, as `varnish_log` says, to the file that they name.
 //!
-//! Start with `specs/Words.antt` and `specs/Theorem.antt`. Source: varnishlog(1), `-w` and `-g raw`; the words, the messages
-//! and the statuses are this project's choice.
+//! Start with `specs/Plain.antt`, and then `specs/Theorem.antt`. Source: varnishlog(1), `-w` and `-g raw`; the words, the
+//! messages and the statuses are this project's choice.
 #![tactic(auto)]
 
 mod answers;

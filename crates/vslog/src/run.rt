@@ -3,6 +3,7 @@
 ghost use Rattle.std.specs.Prelude.{◌≡◌, map, IfOk, OnErr};
 ghost use Rattle.std.specs.String.{string_bytes};
 ghost use Rattle.vio.specs.Calls.{Called};
+ghost use Rattle.vslog.specs.Plain.{PrintsPlain};
 ghost use Rattle.vslog.specs.Theorem.{Lacks, Runs};
 ghost use Rattle.vslog.specs.Words.{job_as, job_of};
 ghost use Rattle.vslog.specs.inside.Run.{IsWorked};
@@ -57,6 +58,8 @@ pub fn run_vslog<W: World>(
         (job_of (map string_bytes words.now)) ended) (W.seen world.old) (W.seen world.new)) }
     ensures lacks { OnErr result
         (Called (Lacks (map string_bytes words.now) (job_of (map string_bytes words.now)))
+        (W.seen world.old) (W.seen world.new)) }
+    ensures plain { IfOk result (λ ended. PrintsPlain (map string_bytes words.now) ended
         (W.seen world.old) (W.seen world.new)) }
 {
     let job = match read_job(words) {
