@@ -82,7 +82,7 @@ CopiesLog job bytes (NotALog looks) before now = (form_of job.asked.text (take 4
 CopiesLog job bytes Unread before now = Unit {0}
 CopiesLog job bytes (logs.Stopped fault) before now = CopiesBefore job bytes fault before now
 
--- what a log came to, by how the call ended
+-- what a log came to, by the fault that stopped the work
 abbrev pub CopiesStopped : Job → List ℕ → RunFault → Seen → Seen → Type 0
 CopiesStopped job bytes (CutShort left) before now = (counts : Counts) × CopiesAll job bytes left counts before now
 CopiesStopped job bytes (OfLog fault) before now = CopiesLog job bytes fault before now
@@ -90,6 +90,7 @@ CopiesStopped job bytes NoInput before now = Unit {0}
 CopiesStopped job bytes NoOutput before now = Unit {0}
 CopiesStopped job bytes NoHeader before now = Unit {0}
 
+-- the same, by how the call ended
 abbrev pub CopiesPlain : Job → List ℕ → Ended → Seen → Seen → Type 0
 CopiesPlain job bytes (Done copied) before now = CopiesAll job bytes copied.left copied.counts before now
 CopiesPlain job bytes (Stopped fault) before now = CopiesStopped job bytes fault before now
